@@ -1,0 +1,56 @@
+ghost use Rattle.std.specs.Prelude.{◌≡◌, ℕ, ◌+◌, ◌≤◌, ◌↔◌, IsSome, IfSome};
+ghost use Rattle.ocpp_scalars.specs.declared.instant.TheConstants.{LAST_SECOND};
+
+use std::marker::Model;
+
+/// The last second of the year 9999, in seconds since 1970-01-01T00:00:00Z.
+pub const LAST_SECOND: u64 = 253_402_300_799;
+
+/// A moment: whole seconds since 1970-01-01T00:00:00Z, from 0 to `LAST_SECOND` (RFC 3339's calendar,
+/// without leap seconds).
+#[derive(Clone, Copy, Debug, PartialEq, Eq, Hash, PartialOrd, Ord)]
+pub struct Instant {
+    seconds: u64,
+}
+
+impl Model for Instant {
+    ghost Value = { ℕ };
+
+    ghost view = { λ i. i.seconds };
+
+    ghost invariant = { λ i. i.seconds ≤ 253_402_300_799 };
+
+    ghost inverse = { λ n. record { seconds = n } };
+}
+
+impl Instant {
+    /// The instant of so many seconds, or `None` past the last one.
+    pub fn try_new(seconds: u64) -> Option<Instant>
+        ensures valid { IsSome result ↔ (seconds ≤ LAST_SECOND) }
+        ensures value { IfSome result (λ i. i ≡ seconds) }
+    {
+        if seconds <= LAST_SECOND {
+            Some(Instant { seconds })
+        } else {
+            None
+        }
+    }
+
+    /// Seconds since 1970-01-01T00:00:00Z.
+    pub fn seconds(self) -> u64
+        ensures value { result ≡ self }
+        ensures last { self ≤ LAST_SECOND }
+    {
+        self.seconds
+    }
+
+    /// The instant so many seconds later.
+    pub fn plus(self, seconds: u64) -> Instant
+        requires { self + seconds ≤ LAST_SECOND }
+        ensures { result ≡ self + seconds }
+    {
+        Instant {
+            seconds: self.seconds + seconds,
+        }
+    }
+}

@@ -1,0 +1,7 @@
+use crate::instant::Instant;
+
+/// A source of the present moment.
+pub trait Moments {
+    /// The present whole second, or `None` where it can't be told.
+    fn now(&self) -> Option<Instant>;
+}

@@ -1,0 +1,64 @@
+ghost use Rattle.std.specs.Prelude.{◌≡◌, Some};
+ghost use Rattle.ocpp_scalars.specs.Refusal.{refusal_name};
+
+use std::error::Error;
+use std::fmt;
+
+/// Why the central system refuses what it was asked, by name. After a refusal everything is as it
+/// was, and a value that was handed in comes back.
+#[derive(Clone, Copy, Debug, PartialEq, Eq, Hash)]
+pub enum Refusal {
+    /// The site has no point of this identity.
+    UnknownPoint,
+    /// The point has no connector of this number.
+    UnknownConnector,
+    /// The schedule's unit isn't the site's.
+    WrongUnit,
+    /// The stack level is above 99.
+    LevelTooHigh,
+    /// The schedule has more than 200 periods.
+    TooManyPeriods,
+    /// A period doesn't start later than the one before it.
+    PeriodsOutOfOrder,
+    /// The kind is Recurring and recurrencyKind is absent.
+    NoRecurrency,
+    /// The duration asked is 0 or above a week.
+    BadDuration,
+    /// The schedule asked would run past the last instant.
+    PastCalendar,
+    /// The composite schedule has more than 1,000 periods.
+    ResultTooLong,
+    /// Memory ran out.
+    OutOfMemory,
+}
+
+impl Refusal {
+    /// The refusal's name, as answers print it.
+    pub fn name(self) -> &'static str
+        ensures { result.now ≡ refusal_name self }
+    {
+        match self {
+            Refusal::UnknownPoint => "UnknownPoint",
+            Refusal::UnknownConnector => "UnknownConnector",
+            Refusal::WrongUnit => "WrongUnit",
+            Refusal::LevelTooHigh => "LevelTooHigh",
+            Refusal::TooManyPeriods => "TooManyPeriods",
+            Refusal::PeriodsOutOfOrder => "PeriodsOutOfOrder",
+            Refusal::NoRecurrency => "NoRecurrency",
+            Refusal::BadDuration => "BadDuration",
+            Refusal::PastCalendar => "PastCalendar",
+            Refusal::ResultTooLong => "ResultTooLong",
+            Refusal::OutOfMemory => "OutOfMemory",
+        }
+    }
+}
+
+impl fmt::Display for Refusal {
+    ghost output = { λ r. Some (refusal_name r) };
+
+    fn fmt<W: fmt::Write>(&self, f: &mut fmt::Formatter<W>) -> fmt::Result {
+        f.write_str(self.name())
+    }
+}
+
+impl Error for Refusal {}
