@@ -1,1 +1,12 @@
+pub mod CalendarDay
+pub mod Digits
+pub mod FaultText
+pub mod InstantReading
+pub mod InstantText
+pub mod InstantValue
+pub mod NumberParts
+pub mod NumberText
+pub mod NumberValue
+pub mod NumberReading
 pub mod Refusal
+pub mod TenthsText

@@ -3,9 +3,22 @@
 #![tactic(auto)]
 
 mod instant;
+mod instant_text;
+mod laws;
 mod moments;
+mod number;
+mod number_text;
 mod refusal;
+mod writing;
 
 pub use instant::{Instant, LAST_SECOND};
+pub use instant_text::{InstantFault, read_instant};
+pub use laws::{instant_texts, number_texts};
 pub use moments::Moments;
+pub use number::{NumberFault, read_tenths, read_whole};
+pub use number_text::is_number_text;
 pub use refusal::Refusal;
+pub use writing::{push_instant, push_tenths, write_instant, write_tenths};
+
+#[cfg(test)]
+mod tests;

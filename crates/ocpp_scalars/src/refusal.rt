@@ -1,6 +1,7 @@
 ghost use Rattle.std.specs.Prelude.{◌≡◌, Some};
 ghost use Rattle.ocpp_scalars.specs.Refusal.{refusal_name};
 
+use std::alloc::AllocError;
 use std::error::Error;
 use std::fmt;
 
@@ -62,3 +63,13 @@ impl fmt::Display for Refusal {
 }
 
 impl Error for Refusal {}
+
+impl From<AllocError> for Refusal {
+    ghost use Rattle.ocpp_scalars.specs.declared.refusal.Refusal.{Refusal};
+
+    ghost from_gives = { λ _ r. r ≡ Refusal.OutOfMemory };
+
+    fn from(_error: AllocError) -> Refusal {
+        Refusal::OutOfMemory
+    }
+}

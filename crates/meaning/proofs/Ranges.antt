@@ -1,0 +1,31 @@
+use Rattle.std.proofs.Common.{◌≡◌, ℕ, ◌+◌, zero, suc, Bool, true, false, List, [], ◌∷◌, ◌++◌, filter, cond, ap, ◌∙◌, min, arith}
+use Rattle.std.specs.List.{range_with_len, sum_by}
+use Rattle.std.proofs.lemmas.List.Elements.{filter-append}
+use Rattle.std.proofs.lemmas.List.Sums.{sum_by-append}
+
+-- a range with one number more
+pub range_more : (a n j : ℕ) → a + n ≡ j → range_with_len a (n + 1) ≡ range_with_len a n ++ j ∷ []
+range_more a zero j h = let e : a ≡ j = omega arith in ap (λ (x : ℕ). x ∷ []) e
+range_more a (suc n) j h =
+    let next : suc n + 1 ≡ suc (n + 1) = omega arith in
+    rw next (ap (λ (xs : List ℕ). a ∷ xs) (range_more (a + 1) n j (omega arith)))
+
+-- the step of a sum over the numbers of a range that pass a test
+pub sum_passing_more : (give : ℕ → ℕ) (test : ℕ → Bool) (a n j : ℕ) → a + n ≡ j
+    → sum_by give (filter test (range_with_len a (n + 1)))
+    ≡ cond (test j) (sum_by give (filter test (range_with_len a n)) + give j) (sum_by give (filter test (range_with_len a n)))
+sum_passing_more give test a n j h =
+    ap (λ (ns : List ℕ). sum_by give (filter test ns)) (range_more a n j h)
+    ∙ (ap (sum_by give) (filter-append test (range_with_len a n) (j ∷ []))
+    ∙ (sum_by-append give (filter test (range_with_len a n)) (filter test (j ∷ [])) ∙ go (test j)))
+  where
+    before : ℕ
+    before = sum_by give (filter test (range_with_len a n))
+
+    go : (b : Bool) → before + sum_by give (cond b (j ∷ []) []) ≡ cond b (before + give j) before
+    go true = omega arith
+    go false = omega arith
+
+-- a sum that stops at the most goes on as the whole sum does
+pub min_more : (most sum whole n : ℕ) → sum ≡ min most whole → min most (sum + n) ≡ min most (whole + n)
+min_more most sum whole n h = omega arith

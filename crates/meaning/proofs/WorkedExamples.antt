@@ -1,0 +1,197 @@
+use Rattle.std.specs.Prelude.{◌≡◌, ℕ, ◌+◌, ◌≤◌, List, [], ◌∷◌, map, Option, Some, None}
+use Rattle.std.proofs.Common.{refl, arith}
+use Rattle.std.specs.List.{range_with_len}
+use Rattle.std.proofs.Math.IntN.{pos}
+use Rattle.profile.specs.declared.charging_profile.TheConstants.{MOST_STACK_LEVEL}
+use Rattle.profile.specs.declared.kind.Kind.{Kind}
+use Rattle.profile.specs.declared.kind.Kind.TheVariants.{Absolute, Recurring, Relative}
+use Rattle.profile.specs.declared.kind.Recurrency.TheVariants.{Daily, Weekly}
+use Rattle.profile.specs.declared.period.Period.{Period}
+use Rattle.profile.specs.declared.purpose.Purpose.{Purpose}
+use Rattle.profile.specs.declared.purpose.Purpose.TheVariants.{ChargePointMaxProfile, TxDefaultProfile, TxProfile}
+use Rattle.profile.specs.declared.row.Row.{Row}
+use Rattle.profile.specs.declared.unit.Unit.TheVariants.{A}
+use Rattle.profile.specs.Purpose.{transaction_of}
+use Rattle.profile.specs.Kind.{start_of}
+use Rattle.meaning.specs.declared.composite.CompositePeriod.{CompositePeriod}
+use Rattle.meaning.specs.Book.{Book}
+use Rattle.meaning.specs.Limit.{limit}
+use Rattle.meaning.specs.ExactPeriods.{exact_periods}
+
+-- Examples computed by the definitions alone, against values found by hand. The point has a ceiling of
+-- 63.0 A and two connectors of 32.0 A; limits are in tenths.
+
+-- 2025-01-01T00:00:00Z
+abbrev midnight : ℕ
+midnight = 1735689600
+
+abbrev at_start : ℕ → Option ℕ
+at_start second = Some (midnight + second)
+
+abbrev period : ℕ → ℕ → Period
+period start limit = record { start = start; limit = limit; number_phases = None }
+
+abbrev span : ℕ → ℕ → CompositePeriod
+span start limit = record { start = start; limit = limit }
+
+pub no_transaction : (purpose : Purpose) → transaction_of purpose None ≡ None
+no_transaction ChargePointMaxProfile = refl
+no_transaction TxDefaultProfile = refl
+no_transaction TxProfile = refl
+
+-- a row, installed at midnight, valid until a second where one is given
+abbrev row_until : Option ℕ → ℕ → Purpose → (level : ℕ) → level ≤ MOST_STACK_LEVEL → (kind : Kind) (start : Option ℕ) → start_of kind start ≡ start → Option ℕ → List Period → Row
+row_until until connector purpose level low kind start own duration periods = record {
+  connector = connector;
+  moment = midnight;
+  profile = record {
+    id = pos 1;
+    transaction = None;
+    stack_level = level;
+    purpose = purpose;
+    kind = kind;
+    valid_from = None;
+    valid_to = until;
+    schedule = record { duration = duration; start = start; unit = A; periods = periods; min_charging_rate = None };
+    low = low;
+    own_transaction = no_transaction purpose;
+    own_start = own;
+  };
+}
+
+abbrev row : ℕ → Purpose → (level : ℕ) → level ≤ MOST_STACK_LEVEL → (kind : Kind) (start : Option ℕ) → start_of kind start ≡ start → Option ℕ → List Period → Row
+row = row_until None
+
+pub low0 : 0 ≤ MOST_STACK_LEVEL
+low0 = omega arith
+
+pub low1 : 1 ≤ MOST_STACK_LEVEL
+low1 = omega arith
+
+pub low2 : 2 ≤ MOST_STACK_LEVEL
+low2 = omega arith
+
+abbrev book : List (Option ℕ) → List Row → Book
+book starts rows = record { ceiling = 630; ceilings = 320 ∷ (320 ∷ []); starts = starts; rows = rows }
+
+abbrev idle : List (Option ℕ)
+idle = None ∷ (None ∷ [])
+
+abbrev on_first : List (Option ℕ)
+on_first = at_start 0 ∷ (None ∷ [])
+
+-- the exact schedule of a connector, asked so many seconds after midnight for so many seconds
+abbrev schedule : Book → ℕ → ℕ → ℕ → List CompositePeriod
+schedule b connector asked duration = exact_periods (λ second. limit b connector (midnight + asked) (midnight + asked + second)) duration
+
+-- the limits of so many seconds from one on, in such a schedule
+abbrev limits : Book → ℕ → ℕ → ℕ → ℕ → List ℕ
+limits b connector asked second many = map (λ (s : ℕ). limit b connector (midnight + asked) (midnight + asked + s)) (range_with_len second many)
+
+pub no_profile : schedule (book idle []) 1 0 60 ≡ span 0 320 ∷ []
+no_profile = refl
+
+pub no_transaction_at_the_point : schedule (book idle []) 0 0 60 ≡ span 0 0 ∷ []
+no_transaction_at_the_point = refl
+
+-- a daily profile from 22:00 to 06:00 above one that holds always
+abbrev night : Book
+night = book idle
+    (row 0 TxDefaultProfile 1 low1 (Recurring Daily) (at_start 79200) refl (Some 28800) (period 0 60 ∷ [])
+    ∷ (row 0 TxDefaultProfile 0 low0 Absolute (at_start 0) refl None (period 0 200 ∷ []) ∷ []))
+
+-- asked at 05:59:58 two days later
+pub two_levels : schedule night 1 194398 10 ≡ span 0 60 ∷ (span 2 200 ∷ [])
+two_levels = refl
+
+pub two_levels_at_night : limits night 1 194398 57600 4 ≡ 200 ∷ (200 ∷ (60 ∷ (60 ∷ [])))
+two_levels_at_night = refl
+
+-- a duration longer than the recurrence
+pub longer_than_a_day : schedule (book idle
+    (row 0 TxDefaultProfile 0 low0 (Recurring Daily) (at_start 0) refl (Some 100000) (period 0 100 ∷ (period 43200 200 ∷ [])) ∷ [])) 1 86399 2
+    ≡ span 0 200 ∷ (span 1 100 ∷ [])
+longer_than_a_day = refl
+
+-- the last second of a week and the first of the next
+pub weekly : schedule (book idle
+    (row 0 TxDefaultProfile 0 low0 (Recurring Weekly) (at_start 0) refl None (period 0 320 ∷ (period 432000 100 ∷ [])) ∷ [])) 1 604799 2
+    ≡ span 0 100 ∷ (span 1 320 ∷ [])
+weekly = refl
+
+abbrev default_row : Row
+default_row = row 0 TxDefaultProfile 0 low0 Absolute (at_start 0) refl None (period 0 100 ∷ [])
+
+abbrev transaction_row : Row
+transaction_row = row 1 TxProfile 0 low0 Relative None refl (Some 120) (period 0 60 ∷ (period 60 160 ∷ []))
+
+-- the default profile holds again once the transaction's own has run out
+pub transaction_profile : schedule (book on_first (transaction_row ∷ (default_row ∷ []))) 1 30 200 ≡ span 0 60 ∷ (span 30 160 ∷ (span 90 100 ∷ []))
+transaction_profile = refl
+
+pub transaction_stopped : schedule (book idle (default_row ∷ [])) 1 30 200 ≡ span 0 100 ∷ []
+transaction_stopped = refl
+
+-- a TxProfile without its transaction doesn't count
+pub transaction_missing : schedule (book idle (transaction_row ∷ (default_row ∷ []))) 1 30 200 ≡ span 0 100 ∷ []
+transaction_missing = refl
+
+pub transaction_begun_anew : schedule (book (at_start 20 ∷ (None ∷ [])) (default_row ∷ [])) 1 30 200 ≡ span 0 100 ∷ []
+transaction_begun_anew = refl
+
+abbrev own_default : Book
+own_default = book idle
+    (row 0 TxDefaultProfile 1 low1 Absolute (at_start 0) refl None (period 0 100 ∷ [])
+    ∷ (row 1 TxDefaultProfile 1 low1 Absolute (at_start 0) refl (Some 60) (period 0 120 ∷ [])
+    ∷ (row 0 TxDefaultProfile 0 low0 Absolute (at_start 0) refl None (period 0 80 ∷ []) ∷ [])))
+
+-- a connector's own default, run out by 01:00, still hides the point's default of its level
+pub hidden_by_level : schedule own_default 1 3600 60 ≡ span 0 80 ∷ []
+hidden_by_level = refl
+
+pub hidden_for_one_connector : schedule own_default 2 3600 60 ≡ span 0 100 ∷ []
+hidden_for_one_connector = refl
+
+-- periods of equal limits are one
+pub equal_neighbours : schedule (book idle
+    (row 0 TxDefaultProfile 2 low2 Absolute (at_start 0) refl (Some 60) (period 0 160 ∷ [])
+    ∷ (row 0 TxDefaultProfile 1 low1 Absolute (at_start 0) refl None (period 0 160 ∷ []) ∷ []))) 1 30 60
+    ≡ span 0 160 ∷ []
+equal_neighbours = refl
+
+abbrev shared : ℕ → Book
+shared most = book (at_start 0 ∷ (at_start 0 ∷ []))
+    (row 0 TxDefaultProfile 0 low0 Absolute (at_start 0) refl None (period 0 200 ∷ [])
+    ∷ (row 0 ChargePointMaxProfile 0 low0 Absolute (at_start 0) refl None (period 0 most ∷ []) ∷ []))
+
+pub sum_of_connectors : schedule (shared 500) 0 10 60 ≡ span 0 400 ∷ []
+sum_of_connectors = refl
+
+pub sum_above_the_point : schedule (shared 320) 0 10 60 ≡ span 0 320 ∷ []
+sum_above_the_point = refl
+
+-- without a startSchedule a default counts from the start of the ask, a maximum from its install
+pub from_the_ask : schedule (book idle (row 0 TxDefaultProfile 0 low0 Absolute None refl (Some 60) (period 0 100 ∷ []) ∷ [])) 1 30 100
+    ≡ span 0 100 ∷ (span 60 320 ∷ [])
+from_the_ask = refl
+
+pub from_the_install : schedule (book idle (row 0 ChargePointMaxProfile 0 low0 Absolute None refl (Some 60) (period 0 120 ∷ []) ∷ [])) 1 30 100
+    ≡ span 0 120 ∷ (span 30 320 ∷ [])
+from_the_install = refl
+
+pub until_valid_to : schedule (book idle (row_until (at_start 30) 0 TxDefaultProfile 0 low0 Absolute (at_start 0) refl None (period 0 100 ∷ []) ∷ [])) 1 29 2
+    ≡ span 0 100 ∷ (span 1 320 ∷ [])
+until_valid_to = refl
+
+abbrev from_the_transaction : Book
+from_the_transaction = book on_first (row 0 TxDefaultProfile 0 low0 Relative None refl (Some 60) (period 0 100 ∷ []) ∷ [])
+
+-- one row counts from another base at each connector, and for the point from that of the connector
+pub base_of_the_first : schedule from_the_transaction 1 30 60 ≡ span 0 100 ∷ (span 30 320 ∷ [])
+base_of_the_first = refl
+
+pub base_of_the_second : schedule from_the_transaction 2 30 60 ≡ span 0 100 ∷ []
+base_of_the_second = refl
+
+pub base_of_the_point : schedule from_the_transaction 0 30 60 ≡ span 0 100 ∷ (span 30 320 ∷ [])
+base_of_the_point = refl

@@ -1,0 +1,9 @@
+pub mod Book
+pub mod Prevailing
+pub mod Limit
+pub mod Schedule
+pub mod Exact
+pub mod ExactPeriods
+pub mod Right
+pub mod Asked
+pub mod SecondAdded

@@ -1,0 +1,78 @@
+ghost use Rattle.std.specs.Prelude.{◌≡◌, ℕ, List, IfOk, IsOkUnless};
+
+use ocpp_scalars::Refusal;
+use std::marker::Model;
+
+/// The most periods that a composite schedule has.
+pub const MOST_COMPOSITE_PERIODS: usize = 1_000;
+
+/// One step of a composite schedule (chapter 7, ChargingSchedulePeriod).
+#[derive(Clone, Copy, Debug, PartialEq, Eq, Hash)]
+pub struct CompositePeriod {
+    /// Seconds from the start of the schedule.
+    pub start: u32,
+    /// The limit from there on, in tenths of A or W.
+    pub limit: u32,
+}
+
+/// A composite schedule (chapter 5.7): the limits of a connector over a duration. Its periods begin
+/// at 0, each starts later than the one before it, and all within the duration.
+#[derive(Debug, Drop)]
+pub struct Composite {
+    /// Seconds.
+    duration: u32,
+    periods: Vec<CompositePeriod>,
+}
+
+impl Model for Composite {
+    ghost use Rattle.meaning.specs.Schedule.{Schedule, IsSchedule};
+
+    ghost Value = { Schedule };
+
+    ghost view = { λ c. record { duration = c.duration; periods = c.periods.items } };
+
+    ghost invariant = { λ c. IsSchedule c.duration c.periods.items };
+}
+
+impl Composite {
+    ghost use Rattle.meaning.specs.Schedule.{IsSchedule};
+
+    /// The schedule of these periods over so many seconds.
+    pub(crate) fn new(duration: u32, periods: Vec<CompositePeriod>) -> Composite
+        requires schedule { IsSchedule duration periods.items }
+        ensures lasts { result.duration ≡ duration }
+        ensures same { result.periods ≡ periods.items }
+    {
+        Composite { duration, periods }
+    }
+
+    /// How many seconds it covers.
+    pub fn duration(&self) -> u32
+        ensures { result ≡ self.now.duration }
+    {
+        self.duration
+    }
+
+    /// The periods in order.
+    pub fn periods(&self) -> &[CompositePeriod]
+        ensures value { result.now ≡ self.now.periods }
+        ensures schedule { IsSchedule self.now.duration self.now.periods }
+    {
+        self.periods.as_slice()
+    }
+
+    /// The same schedule once more; `OutOfMemory` is the one refusal.
+    pub fn copy(&self) -> Result<Composite, Refusal>
+        ensures copied { IfOk result (λ copy. copy ≡ self.now) }
+        ensures memory { IsOkUnless result Refusal.OutOfMemory }
+    {
+        let alloc = *self.periods.allocator();
+        match Vec::from_slice(alloc, self.periods()) {
+            Ok(periods) => Ok(Composite {
+                duration: self.duration(),
+                periods,
+            }),
+            Err(_) => Err(Refusal::OutOfMemory),
+        }
+    }
+}

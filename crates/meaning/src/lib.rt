@@ -1,0 +1,21 @@
+//! What the profiles of a charge point mean (OCPP 1.6, chapter 3.13): the limit of a connector at a
+//! second, and the composite schedule of an ask, found second by second. The definitions in `specs/`
+//! are what every faster body is proved against.
+#![tactic(auto)]
+
+mod ask;
+mod composite;
+mod limit;
+mod plain_compiler;
+mod prevailing;
+mod schedule_laws;
+#[cfg(test)]
+mod tests;
+mod view;
+
+pub use ask::{Ask, MOST_DURATION};
+pub use composite::{Composite, CompositePeriod, MOST_COMPOSITE_PERIODS};
+pub use limit::limit_at;
+pub use plain_compiler::compile_plain;
+pub use schedule_laws::{exact_schedule_exists, one_schedule};
+pub use view::View;

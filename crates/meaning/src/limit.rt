@@ -1,0 +1,83 @@
+ghost use Rattle.std.specs.Prelude.{◌≡◌, ℕ, ◌<◌, ◌≤◌, min, length, ◌+◌};
+ghost use Rattle.meaning.specs.Book.{book_of};
+ghost use Rattle.meaning.specs.Limit.{transaction_limit, own_limit, point_limit, shared_limit, limit};
+
+use crate::view::View;
+use ocpp_scalars::Instant;
+use profile::Purpose;
+
+/// The limit of a connector at a second, in tenths, in a schedule asked from `asked` on (chapter
+/// 3.13). Connector 0 is the whole point.
+pub fn limit_at(view: &View<'_>, connector: u32, asked: Instant, second: Instant) -> u32
+    requires has_connector { connector ≤ length view.now.ceilings.now }
+    ensures { result ≡ limit (book_of view.now) connector asked second }
+{
+    let point = view.point_limit(asked, second);
+    if connector == 0 {
+        view.shared_limit_within(point, asked, second)
+    } else {
+        point.min(view.own_limit(connector as usize, asked, second))
+    }
+}
+
+impl View<'_> {
+    /// The least of the point's ceiling and the prevailing ChargePointMaxProfile.
+    fn point_limit(&self, asked: Instant, second: Instant) -> u32
+        ensures { result ≡ point_limit (book_of self.now) asked second }
+    {
+        match self.prevailing(Purpose::ChargePointMaxProfile, 0, asked, second) {
+            Some(limit) => self.ceiling.min(limit),
+            None => self.ceiling,
+        }
+    }
+
+    /// The least of the connector's ceiling and its transaction limit.
+    fn own_limit(&self, connector: usize, asked: Instant, second: Instant) -> u32
+        requires above { 0 < connector }
+        requires has_connector { connector ≤ length self.now.ceilings.now }
+        ensures { result ≡ own_limit (book_of self.now) connector asked second }
+    {
+        let ceiling = self.ceilings[connector - 1];
+        match self.transaction_limit(connector, asked, second) {
+            Some(limit) => ceiling.min(limit),
+            None => ceiling,
+        }
+    }
+
+    /// What the prevailing TxProfile gives, or else the prevailing TxDefaultProfile.
+    fn transaction_limit(&self, connector: usize, asked: Instant, second: Instant) -> Option<u32>
+        ensures { result ≡ transaction_limit (book_of self.now) connector asked second }
+    {
+        match self.prevailing(Purpose::TxProfile, connector, asked, second) {
+            Some(limit) => Some(limit),
+            None => self.prevailing(Purpose::TxDefaultProfile, connector, asked, second),
+        }
+    }
+
+    /// What the active connectors may draw together, as far as it lies within `most`. The sum stops
+    /// there, so that no number of connectors makes it overflow.
+    fn shared_limit_within(&self, most: u32, asked: Instant, second: Instant) -> u32
+        ensures { result ≡ min most (shared_limit (book_of self.now) asked second) }
+    {
+        let mut sum = 0;
+        for index in 0..self.ceilings.len() {
+            let connector = index + 1;
+            if self.active_since(connector).is_some() {
+                let own = self.own_limit(connector, asked, second);
+                sum = least_sum(most, sum, own);
+            }
+        }
+        sum
+    }
+}
+
+/// The sum of two limits, or `most` where it is greater.
+fn least_sum(most: u32, sum: u32, limit: u32) -> u32
+    ensures { result ≡ min most (sum + limit) }
+{
+    if u64::from(sum) + u64::from(limit) < u64::from(most) {
+        sum + limit
+    } else {
+        most
+    }
+}

@@ -1,0 +1,104 @@
+ghost use Rattle.std.specs.Prelude.{◌≡◌, ℕ, [], ◌∷◌};
+ghost use Rattle.std.specs.List.{filter_map};
+ghost use Rattle.profile.specs.Greatest.{greatest};
+ghost use Rattle.profile.specs.Candidates.{is_replaced_at, is_candidate};
+ghost use Rattle.meaning.specs.Book.{book_of, active_since};
+ghost use Rattle.meaning.specs.Prevailing.{has_its_transaction, counts, rated, prevailing};
+
+use crate::view::View;
+use ocpp_scalars::Instant;
+use profile::{Purpose, Row};
+
+impl View<'_> {
+    /// The limit of a connector at a second by the prevailing profile of a purpose (chapter 3.13), in
+    /// tenths, or `None` where no profile of that purpose has one.
+    pub(crate) fn prevailing(
+        &self,
+        purpose: Purpose,
+        connector: usize,
+        asked: Instant,
+        second: Instant,
+    ) -> Option<u32>
+        ensures { result ≡ prevailing purpose (book_of self.now) connector asked second }
+    {
+        let mut best = None;
+        for row in self.rows {
+            if self.counts(purpose, connector, row) {
+                best = higher(best, self.rated(connector, asked, second, row));
+            }
+        }
+        best.map(|(_, limit)| limit)
+    }
+
+    /// Whether a row counts for a connector among the profiles of a purpose.
+    fn counts(&self, purpose: Purpose, connector: usize, row: &Row) -> bool
+        ensures { result ≡ counts purpose (book_of self.now) connector row.now }
+    {
+        self.is_candidate(purpose, connector, row)
+            && has_its_transaction(purpose, self.active_since(connector))
+    }
+
+    /// Whether a row speaks for a connector among the profiles of a purpose.
+    fn is_candidate(&self, purpose: Purpose, connector: usize, row: &Row) -> bool
+        ensures { result ≡ is_candidate purpose self.now.rows.now connector row.now }
+    {
+        match (purpose, row.profile.purpose) {
+            (Purpose::ChargePointMaxProfile, Purpose::ChargePointMaxProfile) => row.connector == 0,
+            (Purpose::TxDefaultProfile, Purpose::TxDefaultProfile) => {
+                row.connector as usize == connector
+                    || (row.connector == 0
+                        && !self.is_replaced_at(connector, row.profile.stack_level))
+            }
+            (Purpose::TxProfile, Purpose::TxProfile) => row.connector as usize == connector,
+            _ => false,
+        }
+    }
+
+    /// Whether a connector has a TxDefaultProfile of its own at a stack level.
+    fn is_replaced_at(&self, connector: usize, level: u32) -> bool
+        ensures { result ≡ is_replaced_at self.now.rows.now connector level }
+    {
+        self.rows.iter().any(|row| {
+            matches!(row.profile.purpose, Purpose::TxDefaultProfile)
+                && row.connector as usize == connector
+                && row.profile.stack_level == level
+        })
+    }
+
+    /// A row's stack level and its limit for a connector at a second, where it has one.
+    fn rated(
+        &self,
+        connector: usize,
+        asked: Instant,
+        second: Instant,
+        row: &Row,
+    ) -> Option<(u32, u32)>
+        ensures { result ≡ rated (book_of self.now) connector asked second row.now }
+    {
+        let base = row.base(self.active_since(connector), asked);
+        let limit = row.profile.rate(base, second)?;
+        Some((row.profile.stack_level, limit))
+    }
+}
+
+/// Whether a profile of a purpose has the transaction that it needs.
+fn has_its_transaction(purpose: Purpose, started: Option<Instant>) -> bool
+    ensures { result ≡ has_its_transaction purpose started }
+{
+    match purpose {
+        Purpose::ChargePointMaxProfile | Purpose::TxDefaultProfile => true,
+        Purpose::TxProfile => started.is_some(),
+    }
+}
+
+/// Of two limits, each with its stack level where it is there, the one of the higher level, and the
+/// first of equals.
+fn higher(best: Option<(u32, u32)>, next: Option<(u32, u32)>) -> Option<(u32, u32)>
+    ensures { result ≡ greatest (λ (limit : ℕ × ℕ). limit.0) (filter_map (λ limit. limit) (best ∷ (next ∷ []))) }
+{
+    match (best, next) {
+        (Some(first), Some(second)) if first.0 < second.0 => Some(second),
+        (None, _) => next,
+        (Some(_), _) => best,
+    }
+}

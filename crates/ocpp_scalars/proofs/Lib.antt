@@ -1,0 +1,9 @@
+pub mod Calendar
+pub mod Cases
+pub mod InstantGrammar
+pub mod InstantReadings
+pub mod NumberGrammar
+pub mod NumberReadings
+pub mod Scaling
+pub mod TenthsPrinted
+pub mod Texts

@@ -1,0 +1,264 @@
+ghost use Rattle.std.specs.Prelude.{◌≡◌, ℕ, ◌+◌, ◌*◌, ◌≤◌, ◌<◌, pos, neg_ℤ, ◌+ℤ◌, ◌-ℤ◌, ◌*ℤ◌, ◌≤ℤ◌, Some, None, option_map, IfSome, if◌then◌else◌};
+ghost use Rattle.jiff_core.specs.Calendar.{IsEpochDay, days_from_civil};
+ghost use Rattle.ocpp_scalars.specs.InstantValue.{digit_at, two_at, four_at, after_dash, after_colon, after_separator, is_day, date_at, minutes_at, time_at, after_fraction, clock_in, offset_in, zulu_in, total, seconds_of, in_range, instant_of};
+
+use crate::instant::{Instant, LAST_SECOND};
+use crate::number_text::split_digits;
+use jiff::civil::Date;
+use std::error::Error;
+use std::fmt;
+
+/// Why a text isn't read as an instant.
+#[derive(Clone, Copy, Debug, PartialEq, Eq)]
+pub enum InstantFault {
+    /// The text isn't a date and time of day (RFC 3339, section 5.6).
+    Form,
+    /// The moment is before 1970 or after the year 9999.
+    Range,
+}
+
+impl fmt::Display for InstantFault {
+    ghost use Rattle.ocpp_scalars.specs.FaultText.{instant_fault_text};
+
+    ghost output = { λ fault. Some (instant_fault_text fault) };
+
+    fn fmt<W: fmt::Write>(&self, f: &mut fmt::Formatter<W>) -> fmt::Result {
+        f.write_str(match self {
+            InstantFault::Form => "not a date and time",
+            InstantFault::Range => "a date and time out of range",
+        })
+    }
+}
+
+impl Error for InstantFault {}
+
+/// The instant that a text is worth: `YYYY-MM-DD`, `T`, `t` or a space, `hh:mm:ss`, an optional
+/// fraction of 1 to 9 digits, which is dropped, and `Z`, `z`, `+hh:mm`, `-hh:mm` or nothing, which is
+/// UTC. Another text is `Form`, and a moment before 1970 or after the year 9999 is `Range`.
+#[tactic(auto, unfolding(crate::specs::InstantValue::instant_of))]
+pub fn read_instant(text: &str) -> Result<Instant, InstantFault>
+    ensures { result ≡ instant_of text.now }
+{
+    let Some(seconds) = seconds(text.as_bytes()) else {
+        return Err(InstantFault::Form);
+    };
+    in_range(seconds)
+}
+
+fn in_range(seconds: i64) -> Result<Instant, InstantFault>
+    ensures { result ≡ in_range seconds }
+{
+    if seconds < 0 || seconds > LAST_SECOND as i64 {
+        return Err(InstantFault::Range);
+    }
+    match Instant::try_new(seconds as u64) {
+        Some(instant) => Ok(instant),
+        None => Err(InstantFault::Range),
+    }
+}
+
+/// The seconds since 1970-01-01T00:00:00Z of a whole text.
+#[tactic(auto, unfolding(crate::specs::InstantValue::seconds_of))]
+fn seconds(text: &[u8]) -> Option<i64>
+    ensures { result ≡ seconds_of text.now }
+{
+    let (date, text) = split_date(text)?;
+    let text = skip_separator(text)?;
+    let (time, text) = split_time(text)?;
+    let text = skip_fraction(text)?;
+    let offset = offset(text)?;
+    Some(total(date, time, offset))
+}
+
+fn total(date: i64, time: u32, offset: i64) -> i64
+    requires date { IsEpochDay date }
+    requires time { time < 86_400 }
+    requires low { neg_ℤ (pos 86_400) ≤ℤ offset }
+    requires high { offset ≤ℤ pos 86_400 }
+    ensures { result ≡ total date time offset }
+{
+    date * 86_400 + time as i64 - offset
+}
+
+/// The number of the day of a date, 0 for 1 January 1970, and what follows the date.
+#[tactic(auto, unfolding(crate::specs::InstantValue::date_at))]
+fn split_date(text: &[u8]) -> Option<(i64, &[u8])>
+    ensures value { option_map (λ x. (x.0, x.1.now)) result ≡ date_at text.now }
+    ensures bound { IfSome result (λ x. IsEpochDay x.0) }
+{
+    let (year, text) = split_four(text)?;
+    let text = skip_dash(text)?;
+    let (month, text) = split_two(text)?;
+    let text = skip_dash(text)?;
+    let (day, text) = split_two(text)?;
+    let number = day_number(year, month, day)?;
+    Some((number, text))
+}
+
+fn day_number(year: u16, month: u8, day: u8) -> Option<i64>
+    requires { year ≤ 9999 }
+    ensures bound { IfSome result IsEpochDay }
+    ensures value { result ≡ (if is_day year month day then Some (days_from_civil (pos year) month day) else None) }
+{
+    if month > 12 || day > 31 {
+        return None;
+    }
+    match Date::new(year as i16, month as i8, day as i8) {
+        Ok(date) => Some(date.to_plain().to_unix_epoch_day() as i64),
+        Err(_) => None,
+    }
+}
+
+/// The seconds since midnight, and what follows the time of day.
+#[tactic(auto, unfolding(crate::specs::InstantValue::time_at))]
+fn split_time(text: &[u8]) -> Option<(u32, &[u8])>
+    ensures value { option_map (λ x. (x.0, x.1.now)) result ≡ time_at text.now }
+    ensures bound { IfSome result (λ x. x.0 < 86_400) }
+{
+    let (minutes, text) = split_minutes(text)?;
+    let text = skip_colon(text)?;
+    let (second, text) = split_two(text)?;
+    if second < 60 {
+        Some((minutes * 60 + second as u32, text))
+    } else {
+        None
+    }
+}
+
+/// The minutes since midnight of an hour and a minute, and what follows them.
+#[tactic(auto, unfolding(crate::specs::InstantValue::minutes_at))]
+fn split_minutes(text: &[u8]) -> Option<(u32, &[u8])>
+    ensures value { option_map (λ x. (x.0, x.1.now)) result ≡ minutes_at text.now }
+    ensures bound { IfSome result (λ x. x.0 < 1_440) }
+{
+    let (hour, text) = split_two(text)?;
+    let text = skip_colon(text)?;
+    let (minute, text) = split_two(text)?;
+    if hour < 24 && minute < 60 {
+        Some((hour as u32 * 60 + minute as u32, text))
+    } else {
+        None
+    }
+}
+
+fn skip_fraction(text: &[u8]) -> Option<&[u8]>
+    ensures { option_map (λ x. x.now) result ≡ after_fraction text.now }
+{
+    let [b'.', text @ ..] = text else {
+        return Some(text);
+    };
+    let (digits, text) = split_digits(text);
+    if digits.len() >= 1 && digits.len() <= 9 {
+        Some(text)
+    } else {
+        None
+    }
+}
+
+/// The offset from UTC in seconds, to the end of the text.
+fn offset(text: &[u8]) -> Option<i64>
+    ensures value { result ≡ offset_in text.now }
+    ensures low { IfSome result (λ z. neg_ℤ (pos 86_400) ≤ℤ z) }
+    ensures high { IfSome result (λ z. z ≤ℤ pos 86_400) }
+{
+    match text {
+        [] => Some(0),
+        [b'Z' | b'z', rest @ ..] => zulu(rest),
+        [b'+', rest @ ..] => ahead(rest),
+        [b'-', rest @ ..] => behind(rest),
+        _ => None,
+    }
+}
+
+fn zulu(text: &[u8]) -> Option<i64>
+    ensures value { result ≡ zulu_in text.now }
+    ensures zero { IfSome result (λ z. z ≡ pos 0) }
+{
+    if text.is_empty() { Some(0) } else { None }
+}
+
+fn ahead(text: &[u8]) -> Option<i64>
+    ensures value { result ≡ option_map pos (clock_in text.now) }
+    ensures low { IfSome result (λ z. neg_ℤ (pos 86_400) ≤ℤ z) }
+    ensures high { IfSome result (λ z. z ≤ℤ pos 86_400) }
+{
+    let seconds = clock(text)?;
+    Some(seconds as i64)
+}
+
+fn behind(text: &[u8]) -> Option<i64>
+    ensures value { result ≡ option_map (λ n. neg_ℤ (pos n)) (clock_in text.now) }
+    ensures low { IfSome result (λ z. neg_ℤ (pos 86_400) ≤ℤ z) }
+    ensures high { IfSome result (λ z. z ≤ℤ pos 86_400) }
+{
+    let seconds = clock(text)?;
+    Some(-(seconds as i64))
+}
+
+/// An hour and a minute in seconds, to the end of the text.
+fn clock(text: &[u8]) -> Option<u32>
+    ensures value { result ≡ clock_in text.now }
+    ensures bound { IfSome result (λ n. n < 86_400) }
+{
+    let (minutes, rest) = split_minutes(text)?;
+    if rest.is_empty() {
+        Some(minutes * 60)
+    } else {
+        None
+    }
+}
+
+fn split_four(text: &[u8]) -> Option<(u16, &[u8])>
+    ensures value { option_map (λ x. (x.0, x.1.now)) result ≡ four_at text.now }
+    ensures bound { IfSome result (λ x. x.0 ≤ 9999) }
+{
+    let (high, text) = split_two(text)?;
+    let (low, text) = split_two(text)?;
+    Some((high as u16 * 100 + low as u16, text))
+}
+
+fn split_two(text: &[u8]) -> Option<(u8, &[u8])>
+    ensures value { option_map (λ x. (x.0, x.1.now)) result ≡ two_at text.now }
+    ensures bound { IfSome result (λ x. x.0 ≤ 99) }
+{
+    let (high, text) = split_digit(text)?;
+    let (low, text) = split_digit(text)?;
+    Some((high * 10 + low, text))
+}
+
+fn split_digit(text: &[u8]) -> Option<(u8, &[u8])>
+    ensures value { option_map (λ x. (x.0, x.1.now)) result ≡ digit_at text.now }
+    ensures bound { IfSome result (λ x. x.0 ≤ 9) }
+{
+    match text {
+        [digit @ b'0'..=b'9', rest @ ..] => Some((*digit - b'0', rest)),
+        _ => None,
+    }
+}
+
+fn skip_dash(text: &[u8]) -> Option<&[u8]>
+    ensures { option_map (λ x. x.now) result ≡ after_dash text.now }
+{
+    match text {
+        [b'-', rest @ ..] => Some(rest),
+        _ => None,
+    }
+}
+
+fn skip_colon(text: &[u8]) -> Option<&[u8]>
+    ensures { option_map (λ x. x.now) result ≡ after_colon text.now }
+{
+    match text {
+        [b':', rest @ ..] => Some(rest),
+        _ => None,
+    }
+}
+
+fn skip_separator(text: &[u8]) -> Option<&[u8]>
+    ensures { option_map (λ x. x.now) result ≡ after_separator text.now }
+{
+    match text {
+        [b'T' | b't' | b' ', rest @ ..] => Some(rest),
+        _ => None,
+    }
+}

@@ -1,0 +1,189 @@
+ghost use Rattle.std.specs.Prelude.{Some, ◌≡◌, ◌≢◌, ℕ, ◌+◌, ◌*◌, ◌^◌, ◌≤◌, ◌<◌, length, pos, neg_ℤ, ◌-ℤ◌, ◌≤ℤ◌, IfOk, IfSome, IfNone};
+ghost use Rattle.ocpp_scalars.specs.Digits.{AreDigits, value_after};
+ghost use Rattle.ocpp_scalars.specs.NumberText.{signed};
+ghost use Rattle.ocpp_scalars.specs.NumberValue.{number_in, scaled, at_most, tenths_of, whole_of};
+
+use crate::number_text::number_parts;
+use std::error::Error;
+use std::fmt;
+
+/// Why a text isn't read as tenths or as a whole number.
+#[derive(Clone, Copy, Debug, PartialEq, Eq)]
+pub enum NumberFault {
+    /// The text isn't a number's (RFC 8259, section 6).
+    Form,
+    /// The text has more than 32 bytes.
+    TooLong,
+    /// The value is out of bounds, or not a multiple of the unit.
+    Range,
+}
+
+impl fmt::Display for NumberFault {
+    ghost use Rattle.ocpp_scalars.specs.FaultText.{number_fault_text};
+
+    ghost output = { λ fault. Some (number_fault_text fault) };
+
+    fn fmt<W: fmt::Write>(&self, f: &mut fmt::Formatter<W>) -> fmt::Result {
+        f.write_str(match self {
+            NumberFault::Form => "not a number",
+            NumberFault::TooLong => "a number of more than 32 bytes",
+            NumberFault::Range => "a number out of range",
+        })
+    }
+}
+
+impl Error for NumberFault {}
+
+/// A number's sign, its digits as a whole number, and the power of ten that they are multiplied by.
+#[derive(Clone, Copy)]
+pub(crate) struct Number {
+    pub(crate) negative: bool,
+    pub(crate) digits: u128,
+    pub(crate) power: i128,
+}
+
+/// The tenths that a number's text is worth, from 0 to 1,000,000,000. A text of more than 32 bytes
+/// is `TooLong`, another that isn't a number's is `Form`, and any other value is `Range`.
+#[tactic(auto, unfolding(crate::specs::NumberValue::tenths_of))]
+pub fn read_tenths(text: &str) -> Result<u32, NumberFault>
+    ensures { result ≡ tenths_of text.now }
+{
+    let number = read_number(text)?;
+    let most = if number.negative { 0 } else { 1_000_000_000 };
+    match scaled_at_most(most, number.digits, number.power + 1) {
+        Some(tenths) => Ok(tenths),
+        None => Err(NumberFault::Range),
+    }
+}
+
+/// The whole number of 32 bits that a number's text is worth. A text of more than 32 bytes is
+/// `TooLong`, another that isn't a number's is `Form`, and any other value is `Range`.
+#[tactic(auto, unfolding(crate::specs::NumberValue::whole_of))]
+pub fn read_whole(text: &str) -> Result<i32, NumberFault>
+    ensures { result ≡ whole_of text.now }
+{
+    let number = read_number(text)?;
+    let most = if number.negative {
+        2_147_483_648
+    } else {
+        2_147_483_647
+    };
+    match scaled_at_most(most, number.digits, number.power) {
+        Some(value) if number.negative => Ok((-(value as i64)) as i32),
+        Some(value) => Ok(value as i32),
+        None => Err(NumberFault::Range),
+    }
+}
+
+#[tactic(auto, unfolding(crate::specs::NumberValue::number_in))]
+fn read_number(text: &str) -> Result<Number, NumberFault>
+    ensures value { result ≡ number_in text.now }
+    ensures bound { IfOk result (λ n. (n.digits < 10 ^ 32) × (neg_ℤ (pos (10 ^ 33)) ≤ℤ n.power) × (n.power ≤ℤ pos (10 ^ 33))) }
+{
+    if text.len() > 32 {
+        return Err(NumberFault::TooLong);
+    }
+    let Some(parts) = number_parts(text.as_bytes()) else {
+        return Err(NumberFault::Form);
+    };
+    let whole = read_digits(0, parts.whole);
+    let digits = read_digits(whole, parts.fraction);
+    let exponent = read_digits(0, parts.exponent);
+    Ok(Number {
+        negative: parts.negative,
+        digits,
+        power: power(parts.lowered, exponent, parts.fraction.len()),
+    })
+}
+
+/// The number that digits write after others of the value `start`.
+fn read_digits(start: u128, digits: &[u8]) -> u128
+    requires digits { AreDigits digits.now }
+    requires room { (start + 1) * 10 ^ length digits.now ≤ 10 ^ 32 }
+    ensures value { result ≡ value_after start digits.now }
+    ensures room { result + 1 ≤ (start + 1) * 10 ^ length digits.now }
+{
+    let mut value = start;
+    for digit in digits {
+        value = value * 10 + (*digit - b'0') as u128;
+    }
+    value
+}
+
+/// The power of ten of digits with so many places after the point.
+fn power(lowered: bool, exponent: u128, places: usize) -> i128
+    requires exponent { exponent < 10 ^ 32 }
+    requires places { places ≤ 32 }
+    ensures value { result ≡ signed lowered exponent -ℤ pos places }
+    ensures low { neg_ℤ (pos (10 ^ 33)) ≤ℤ result }
+    ensures high { result ≤ℤ pos (10 ^ 33) }
+{
+    if lowered {
+        -(exponent as i128) - places as i128
+    } else {
+        exponent as i128 - places as i128
+    }
+}
+
+/// The digits times the power of ten, where that is whole and at most `most`.
+#[tactic(auto, using(crate::proofs::Scaling::scaling))]
+fn scaled_at_most(most: u32, digits: u128, power: i128) -> Option<u32>
+    requires low { neg_ℤ (pos (10 ^ 34)) ≤ℤ power }
+    requires high { power ≤ℤ pos (10 ^ 34) }
+    ensures { result ≡ at_most most (scaled digits power) }
+{
+    if digits == 0 {
+        return Some(0);
+    }
+    let zeros = power.unsigned_abs();
+    if power < 0 {
+        within(most, lowered(digits, zeros)?)
+    } else {
+        within(most, raised(most, digits, zeros)?)
+    }
+}
+
+/// The value, where it is at most `most`.
+fn within(most: u32, value: u128) -> Option<u32>
+    ensures { result ≡ at_most most (Some value) }
+{
+    if value <= most as u128 {
+        Some(value as u32)
+    } else {
+        None
+    }
+}
+
+/// The digits with so many zeros more behind them, or `None` where that is past `most`.
+#[tactic(auto, using(crate::proofs::Scaling::scaling))]
+fn raised(most: u32, digits: u128, zeros: u128) -> Option<u128>
+    requires { 0 < digits }
+    ensures some { IfSome result (λ n. scaled digits (pos zeros) ≡ Some n) }
+    ensures none { IfNone result (at_most most (scaled digits (pos zeros)) ≡ None) }
+{
+    let mut value = digits;
+    for _ in 0..zeros {
+        if value > most as u128 {
+            return None;
+        }
+        value *= 10;
+    }
+    Some(value)
+}
+
+/// The digits without so many zeros behind them, or `None` where they have fewer.
+#[tactic(auto, using(crate::proofs::Scaling::scaling))]
+fn lowered(digits: u128, zeros: u128) -> Option<u128>
+    requires digits { 0 < digits }
+    requires zeros { 0 < zeros }
+    ensures { result ≡ scaled digits (neg_ℤ (pos zeros)) }
+{
+    let mut value = digits;
+    for _ in 0..zeros {
+        if value % 10 != 0 {
+            return None;
+        }
+        value /= 10;
+    }
+    Some(value)
+}

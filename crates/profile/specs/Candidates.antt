@@ -1,0 +1,27 @@
+use Rattle.std.specs.Prelude.{ℕ, ◌==◌, Bool, not, ◌&&◌, ◌||◌, List, filter}
+use Rattle.std.specs.List.{list_any}
+use Rattle.profile.specs.declared.purpose.Purpose.{Purpose}
+use Rattle.profile.specs.declared.purpose.Purpose.TheVariants.{ChargePointMaxProfile, TxDefaultProfile, TxProfile}
+use Rattle.profile.specs.declared.row.Row.{Row}
+use Rattle.profile.specs.Purpose.{is_charge_point_max, is_tx_default, is_tx}
+
+-- A TxDefaultProfile at a connector takes the place of the one of the same stack level at connector 0,
+-- also at seconds that it doesn't cover (OCPP 1.6, 3.13; the seconds are this system's choice).
+abbrev pub is_replaced_at : List Row → ℕ → ℕ → Bool
+is_replaced_at rows connector level =
+    list_any (λ (r : Row). is_tx_default r.profile.purpose && (r.connector == connector) && (r.profile.stack_level == level)) rows
+
+-- whether a row of a purpose speaks for a connector (OCPP 1.6, 3.13): ChargePointMaxProfile rows stand at
+-- connector 0 and speak for all, TxDefaultProfile rows at 0 for those that have none of their level
+abbrev pub is_candidate : Purpose → List Row → ℕ → Row → Bool
+is_candidate ChargePointMaxProfile rows connector row =
+    is_charge_point_max row.profile.purpose && (row.connector == 0)
+is_candidate TxDefaultProfile rows connector row =
+    is_tx_default row.profile.purpose
+    && ((row.connector == connector)
+    || ((row.connector == 0) && not (is_replaced_at rows connector row.profile.stack_level)))
+is_candidate TxProfile rows connector row = is_tx row.profile.purpose && (row.connector == connector)
+
+-- the rows of a purpose that speak for a connector
+abbrev pub candidates : Purpose → List Row → ℕ → List Row
+candidates purpose rows connector = filter (is_candidate purpose rows connector) rows

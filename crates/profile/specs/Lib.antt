@@ -1,0 +1,9 @@
+pub mod Greatest
+pub mod Periods
+pub mod Purpose
+pub mod Kind
+pub mod Rate
+pub mod Parts
+pub mod Made
+pub mod Base
+pub mod Candidates

@@ -1,0 +1,154 @@
+ghost use Rattle.std.specs.Prelude.{◌≡◌, ℕ, ◌<◌, ◌≤◌, length, nat_le, IsTrue, IfOk, IsOkUnless, MatchResult, Some, None};
+ghost use Rattle.profile.specs.declared.charging_profile.TheConstants.{MOST_STACK_LEVEL};
+ghost use Rattle.profile.specs.Purpose.{transaction_of};
+ghost use Rattle.profile.specs.Kind.{start_of};
+
+use crate::kind::Kind;
+use crate::parts::ProfileParts;
+use crate::periods::{MOST_PERIODS, Periods, are_in_order};
+use crate::purpose::Purpose;
+use crate::schedule::Schedule;
+use ocpp_scalars::{Instant, Refusal};
+
+/// The highest stack level.
+pub const MOST_STACK_LEVEL: u32 = 99;
+
+/// A well-formed charging profile (chapter 7, ChargingProfile).
+#[derive(Debug, Drop)]
+pub struct Profile {
+    /// chargingProfileId.
+    pub id: i32,
+    /// transactionId, of a TxProfile alone.
+    pub transaction: Option<i32>,
+    pub stack_level: u32,
+    /// chargingProfilePurpose.
+    pub purpose: Purpose,
+    /// chargingProfileKind, with its recurrencyKind.
+    pub kind: Kind,
+    /// The first second at which it is valid.
+    pub valid_from: Option<Instant>,
+    /// The first second at which it is valid no more.
+    pub valid_to: Option<Instant>,
+    /// chargingSchedule.
+    pub schedule: Schedule,
+    pub ghost low: { IsTrue (nat_le stack_level MOST_STACK_LEVEL) },
+    pub ghost own_transaction: { transaction_of purpose transaction ≡ transaction },
+    pub ghost own_start: { start_of kind schedule.start ≡ schedule.start },
+}
+
+impl Profile {
+    ghost use Rattle.profile.specs.Parts.{first_refusal, IsProfileOf};
+    ghost use Rattle.profile.specs.Made.{made_profile};
+    ghost use Rattle.profile.specs.Rate.{anchor, offset, is_valid_at, rate_within, rate};
+
+    /// The well-formed profile of these parts. What belongs to another purpose or kind is dropped: a
+    /// transactionId unless it is a TxProfile, a recurrencyKind unless it is Recurring, and the
+    /// startSchedule of a Relative one. The parts come back with the first cause of a refusal:
+    /// `LevelTooHigh`, `TooManyPeriods`, `PeriodsOutOfOrder` or `NoRecurrency`.
+    pub fn try_new(parts: ProfileParts) -> Result<Profile, (Refusal, ProfileParts)>
+        requires some { 0 < length parts.schedule.periods }
+        ensures judged { MatchResult result
+            (λ profile. (first_refusal parts ≡ None) × IsProfileOf parts profile)
+            (λ refused. (first_refusal parts ≡ Some refused.0) × (refused.1 ≡ parts)) }
+        ensures made { IfOk result (λ profile. made_profile parts ≡ Some profile) }
+    {
+        if parts.stack_level > MOST_STACK_LEVEL {
+            return Err((Refusal::LevelTooHigh, parts));
+        }
+        let periods = parts.schedule.periods.as_slice();
+        if periods.len() > MOST_PERIODS {
+            return Err((Refusal::TooManyPeriods, parts));
+        }
+        if !are_in_order(periods) {
+            return Err((Refusal::PeriodsOutOfOrder, parts));
+        }
+        let Some(kind) = Kind::of(parts.kind, parts.recurrency) else {
+            return Err((Refusal::NoRecurrency, parts));
+        };
+        let schedule = parts.schedule;
+        Ok(Profile {
+            id: parts.id,
+            transaction: parts.purpose.transaction_of(parts.transaction),
+            stack_level: parts.stack_level,
+            purpose: parts.purpose,
+            kind,
+            valid_from: parts.valid_from,
+            valid_to: parts.valid_to,
+            schedule: Schedule {
+                duration: schedule.duration,
+                start: kind.start_of(schedule.start),
+                unit: schedule.unit,
+                periods: Periods::new(schedule.periods),
+                min_charging_rate: schedule.min_charging_rate,
+            },
+        })
+    }
+
+    /// The same profile once more; `OutOfMemory` is the one refusal.
+    pub fn copy(&self) -> Result<Profile, Refusal>
+        ensures copied { IfOk result (λ copy. copy ≡ self.now) }
+        ensures memory { IsOkUnless result Refusal.OutOfMemory }
+    {
+        let schedule = self.schedule.copy()?;
+        Ok(Profile {
+            id: self.id,
+            transaction: self.transaction,
+            stack_level: self.stack_level,
+            purpose: self.purpose,
+            kind: self.kind,
+            valid_from: self.valid_from,
+            valid_to: self.valid_to,
+            schedule,
+        })
+    }
+
+    /// From which second on the profile counts, given the base that stands in for a startSchedule.
+    pub fn anchor(&self, base: Instant) -> Instant
+        ensures { result ≡ anchor self.now base }
+    {
+        self.kind.start_of(self.schedule.start).unwrap_or(base)
+    }
+
+    /// How many seconds into its schedule the profile is, or `None` before its anchor.
+    pub fn offset(&self, base: Instant, second: Instant) -> Option<u64>
+        ensures { result ≡ offset self.now base second }
+    {
+        let anchor = self.anchor(base);
+        if second < anchor {
+            return None;
+        }
+        Some(self.kind.offset_after(second.seconds() - anchor.seconds()))
+    }
+
+    /// The limit at a second, in tenths, counted from a base, or `None` where the profile has none:
+    /// outside its validity, before its anchor, past its duration, or before its first period.
+    pub fn rate(&self, base: Instant, second: Instant) -> Option<u32>
+        ensures { result ≡ rate self.now base second }
+    {
+        if !self.is_valid_at(second) {
+            return None;
+        }
+        let offset = self.offset(base, second)?;
+        self.rate_within(offset)
+    }
+
+    /// Whether a second lies within validFrom and validTo, each where given.
+    pub fn is_valid_at(&self, second: Instant) -> bool
+        ensures { result ≡ is_valid_at self.now second }
+    {
+        self.valid_from.is_none_or(|from| from <= second)
+            && self.valid_to.is_none_or(|to| second < to)
+    }
+
+    /// The limit at an offset, which has to lie within the schedule's duration.
+    fn rate_within(&self, offset: u64) -> Option<u32>
+        ensures { result ≡ rate_within self.now offset }
+    {
+        if let Some(duration) = self.schedule.duration {
+            if offset >= u64::from(duration) {
+                return None;
+            }
+        }
+        self.schedule.periods.limit_at(offset)
+    }
+}

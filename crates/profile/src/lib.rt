@@ -1,0 +1,28 @@
+//! Charging profiles of OCPP 1.6 (chapters 3.13 and 7): what a well-formed profile is, the rows that
+//! a point keeps of them, and what a profile's limit is at a second. The definitions that every crate
+//! above cites stand in `specs/`: anchor, offset, rate, base and candidates.
+#![tactic(auto)]
+
+mod charging_profile;
+mod criteria;
+mod kind;
+mod parts;
+mod period;
+mod period_list;
+mod periods;
+mod purpose;
+mod row;
+mod schedule;
+mod unit;
+
+pub use charging_profile::{MOST_STACK_LEVEL, Profile};
+pub use criteria::Criteria;
+pub use kind::{Kind, ProfileKind, Recurrency};
+pub use parts::{ProfileParts, ScheduleParts};
+pub use period::Period;
+pub use period_list::PeriodList;
+pub use periods::{MOST_PERIODS, Periods};
+pub use purpose::Purpose;
+pub use row::Row;
+pub use schedule::Schedule;
+pub use unit::Unit;

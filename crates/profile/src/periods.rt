@@ -1,0 +1,85 @@
+ghost use Rattle.std.specs.Prelude.{◌≡◌, ℕ, ◌<◌, ◌≤◌, List, length, IsTrue, IfOk, IsOkUnless, option_map};
+ghost use Rattle.profile.specs.declared.period.Period.{Period};
+ghost use Rattle.profile.specs.Periods.{are_in_order, AreSchedulePeriods, limit_in};
+
+use crate::period::Period;
+use crate::period_list::PeriodList;
+use ocpp_scalars::Refusal;
+use std::marker::Model;
+
+/// The most periods that a schedule has.
+pub const MOST_PERIODS: usize = 200;
+
+/// The periods of a schedule: 1 to 200 of them, each starting later than the one before.
+#[derive(Debug, Drop)]
+pub struct Periods {
+    items: Vec<Period>,
+}
+
+impl Model for Periods {
+    ghost Value = { List Period };
+
+    ghost view = { λ p. p.items.items };
+
+    ghost invariant = { λ p. AreSchedulePeriods p.items.items };
+}
+
+impl Periods {
+    /// The periods of this list.
+    pub fn new(list: PeriodList) -> Periods
+        requires { AreSchedulePeriods list }
+        ensures { result ≡ list }
+    {
+        Periods {
+            items: list.into_vec(),
+        }
+    }
+
+    /// The periods in order.
+    pub fn as_slice(&self) -> &[Period]
+        ensures value { result.now ≡ self.now }
+        ensures schedule { AreSchedulePeriods self.now }
+    {
+        self.items.as_slice()
+    }
+
+    /// The same periods once more; `OutOfMemory` is the one refusal.
+    pub fn copy(&self) -> Result<Periods, Refusal>
+        ensures copied { IfOk result (λ copy. copy ≡ self.now) }
+        ensures memory { IsOkUnless result Refusal.OutOfMemory }
+    {
+        let alloc = *self.items.allocator();
+        match Vec::from_slice(alloc, self.items.as_slice()) {
+            Ok(items) => Ok(Periods { items }),
+            Err(_) => Err(Refusal::OutOfMemory),
+        }
+    }
+
+    /// The limit at an offset in seconds from the schedule's start, in tenths: that of the period
+    /// with the greatest start up to there.
+    pub fn limit_at(&self, offset: u64) -> Option<u32>
+        ensures { result ≡ limit_in self.now offset }
+    {
+        let mut found = None;
+        for period in &self.items {
+            if u64::from(period.start) <= offset {
+                found = Some(period.limit);
+            }
+        }
+        found
+    }
+}
+
+/// Whether each period starts later than the one before it.
+pub fn are_in_order(periods: &[Period]) -> bool
+    ensures { result ≡ are_in_order periods.now }
+{
+    let mut previous = None;
+    for period in periods {
+        if previous.is_some_and(|start| period.start <= start) {
+            return false;
+        }
+        previous = Some(period.start);
+    }
+    true
+}

@@ -1,0 +1,25 @@
+ghost use Rattle.std.specs.Prelude.{◌≡◌};
+ghost use Rattle.profile.specs.Purpose.{transaction_of};
+
+/// What a charging profile is for (chapter 7, ChargingProfilePurposeType).
+#[derive(Clone, Copy, Debug, PartialEq, Eq, Hash)]
+pub enum Purpose {
+    /// Bounds the whole charge point.
+    ChargePointMaxProfile,
+    /// Bounds each transaction that has no profile of its own.
+    TxDefaultProfile,
+    /// Bounds one transaction.
+    TxProfile,
+}
+
+impl Purpose {
+    /// The transactionId that a profile of this purpose keeps.
+    pub fn transaction_of(self, transaction: Option<i32>) -> Option<i32>
+        ensures { result ≡ transaction_of self transaction }
+    {
+        match self {
+            Purpose::TxProfile => transaction,
+            Purpose::ChargePointMaxProfile | Purpose::TxDefaultProfile => None,
+        }
+    }
+}
