@@ -3,7 +3,7 @@ use Rattle.std.proofs.lemmas.List.{length-append}
 use Rattle.ocpp_scalars.specs.declared.refusal.Refusal.{Refusal}
 use Rattle.ocpp_scalars.specs.declared.refusal.Refusal.TheVariants.{ResultTooLong, OutOfMemory}
 use Rattle.meaning.specs.declared.composite.CompositePeriod.{CompositePeriod}
-use Rattle.meaning.specs.declared.composite.TheConstants.{MOST_COMPOSITE_PERIODS}
+use Rattle.meaning.specs.declared.composite.TheConstants.{MAX_COMPOSITE_PERIODS}
 use Rattle.meaning.specs.Schedule.{Schedule, IsSchedule}
 use Rattle.meaning.specs.ExactPeriods.{begins_period, period_from, exact_periods}
 use Rattle.meaning.specs.Right.{IsExactAnswer, IsTooLong, IsPermitted}
@@ -33,7 +33,7 @@ periods_added limit n periods before value h k e =
     ∙ (ap (λ (b : Bool). exact_periods limit n ++ cond b (period_from limit n ∷ []) []) (differs_is limit n)
     ∙ sym (periods_more limit n))))
 
-pub too_long : (limit : ℕ → ℕ) (duration n : ℕ) → n < duration → MOST_COMPOSITE_PERIODS < length (exact_periods limit (n + 1)) → IsTooLong limit duration
+pub too_long : (limit : ℕ → ℕ) (duration n : ℕ) → n < duration → MAX_COMPOSITE_PERIODS < length (exact_periods limit (n + 1)) → IsTooLong limit duration
 too_long limit duration n h many = record {
   more = λ periods exact.
       let rest : (n + 1) + (duration - (n + 1)) ≡ duration = omega arith in
@@ -53,7 +53,7 @@ permitted limit duration n periods before value OutOfMemory h k e below many = t
 permitted limit duration n periods before value other h k e below many = absurd many
 
 pub exact_answer : (limit : ℕ → ℕ) (duration : ℕ) (schedule : Schedule) → 0 < duration → schedule.duration ≡ duration
-    → schedule.periods ≡ exact_periods limit duration → length schedule.periods ≤ MOST_COMPOSITE_PERIODS → IsExactAnswer limit duration schedule
+    → schedule.periods ≡ exact_periods limit duration → length schedule.periods ≤ MAX_COMPOSITE_PERIODS → IsExactAnswer limit duration schedule
 exact_answer limit duration schedule some lasts same few = record {
   lasts = lasts;
   exact = rw same (exact_are limit duration some);

@@ -1,8 +1,8 @@
-use Rattle.std.specs.Prelude.{◌≡◌, ℕ, ◌+◌, ◌≤◌, List, [], ◌∷◌, map, Option, Some, None}
-use Rattle.std.proofs.Common.{refl, arith}
+use Rattle.std.specs.Prelude.{◌≡◌, ℕ, ◌+◌, nat_le, IsTrue, List, [], ◌∷◌, map, Option, Some, None}
+use Rattle.std.proofs.Common.{refl}
 use Rattle.std.specs.List.{range_with_len}
 use Rattle.std.proofs.Math.IntN.{pos}
-use Rattle.profile.specs.declared.charging_profile.TheConstants.{MOST_STACK_LEVEL}
+use Rattle.profile.specs.declared.charging_profile.TheConstants.{MAX_STACK_LEVEL}
 use Rattle.profile.specs.declared.kind.Kind.{Kind}
 use Rattle.profile.specs.declared.kind.Kind.TheVariants.{Absolute, Recurring, Relative}
 use Rattle.profile.specs.declared.kind.Recurrency.TheVariants.{Daily, Weekly}
@@ -40,7 +40,7 @@ no_transaction TxDefaultProfile = refl
 no_transaction TxProfile = refl
 
 -- a row, installed at midnight, valid until a second where one is given
-abbrev row_until : Option ℕ → ℕ → Purpose → (level : ℕ) → level ≤ MOST_STACK_LEVEL → (kind : Kind) (start : Option ℕ) → start_of kind start ≡ start → Option ℕ → List Period → Row
+abbrev row_until : Option ℕ → ℕ → Purpose → (level : ℕ) → IsTrue (nat_le level MAX_STACK_LEVEL) → (kind : Kind) (start : Option ℕ) → start_of kind start ≡ start → Option ℕ → List Period → Row
 row_until until connector purpose level low kind start own duration periods = record {
   connector = connector;
   moment = midnight;
@@ -59,17 +59,17 @@ row_until until connector purpose level low kind start own duration periods = re
   };
 }
 
-abbrev row : ℕ → Purpose → (level : ℕ) → level ≤ MOST_STACK_LEVEL → (kind : Kind) (start : Option ℕ) → start_of kind start ≡ start → Option ℕ → List Period → Row
+abbrev row : ℕ → Purpose → (level : ℕ) → IsTrue (nat_le level MAX_STACK_LEVEL) → (kind : Kind) (start : Option ℕ) → start_of kind start ≡ start → Option ℕ → List Period → Row
 row = row_until None
 
-pub low0 : 0 ≤ MOST_STACK_LEVEL
-low0 = omega arith
+pub low0 : IsTrue (nat_le 0 MAX_STACK_LEVEL)
+low0 = refl
 
-pub low1 : 1 ≤ MOST_STACK_LEVEL
-low1 = omega arith
+pub low1 : IsTrue (nat_le 1 MAX_STACK_LEVEL)
+low1 = refl
 
-pub low2 : 2 ≤ MOST_STACK_LEVEL
-low2 = omega arith
+pub low2 : IsTrue (nat_le 2 MAX_STACK_LEVEL)
+low2 = refl
 
 abbrev book : List (Option ℕ) → List Row → Book
 book starts rows = record { ceiling = 630; ceilings = 320 ∷ (320 ∷ []); starts = starts; rows = rows }

@@ -3,7 +3,7 @@ use Rattle.ocpp_scalars.specs.declared.refusal.Refusal.{Refusal}
 use Rattle.ocpp_scalars.specs.declared.refusal.Refusal.TheVariants.{BadDuration, PastCalendar}
 use Rattle.ocpp_scalars.specs.declared.instant.TheConstants.{LAST_SECOND}
 use Rattle.meaning.specs.declared.ask.Ask.{Ask}
-use Rattle.meaning.specs.declared.ask.TheConstants.{MOST_DURATION}
+use Rattle.meaning.specs.declared.ask.TheConstants.{MAX_DURATION}
 use Rattle.meaning.specs.Book.{Book}
 use Rattle.meaning.specs.Limit.{limit}
 
@@ -11,7 +11,7 @@ use Rattle.meaning.specs.Limit.{limit}
 -- 5.7; the bounds are this system's)
 abbrev pub ask_refusal : ℕ → ℕ → Option Refusal
 ask_refusal start duration =
-    if (duration == 0) || nat_lt MOST_DURATION duration then Some BadDuration
+    if (duration == 0) || nat_lt MAX_DURATION duration then Some BadDuration
     else (if nat_lt LAST_SECOND (start + duration - 1) then Some PastCalendar else None)
 
 -- the limit that an ask means at each second of its duration, read at the moment so many seconds after

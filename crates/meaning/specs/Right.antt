@@ -2,7 +2,7 @@ use Rattle.std.specs.Prelude.{◌≡◌, ℕ, ◌<◌, ◌≤◌, List, length, 
 use Rattle.ocpp_scalars.specs.declared.refusal.Refusal.{Refusal}
 use Rattle.ocpp_scalars.specs.declared.refusal.Refusal.TheVariants.{ResultTooLong, OutOfMemory}
 use Rattle.meaning.specs.declared.composite.CompositePeriod.{CompositePeriod}
-use Rattle.meaning.specs.declared.composite.TheConstants.{MOST_COMPOSITE_PERIODS}
+use Rattle.meaning.specs.declared.composite.TheConstants.{MAX_COMPOSITE_PERIODS}
 use Rattle.meaning.specs.Schedule.{Schedule}
 use Rattle.meaning.specs.Exact.{IsExact}
 
@@ -10,11 +10,11 @@ use Rattle.meaning.specs.Exact.{IsExact}
 pub record IsExactAnswer (limit : ℕ → ℕ) (duration : ℕ) (schedule : Schedule) : Type 0 where
   pub lasts : schedule.duration ≡ duration
   pub exact : IsExact limit duration schedule.periods
-  pub few : length schedule.periods ≤ MOST_COMPOSITE_PERIODS
+  pub few : length schedule.periods ≤ MAX_COMPOSITE_PERIODS
 
 -- the exact schedule has more periods than an answer may have
 pub record IsTooLong (limit : ℕ → ℕ) (duration : ℕ) : Type 0 where
-  pub more : (periods : List CompositePeriod) → IsExact limit duration periods → MOST_COMPOSITE_PERIODS < length periods
+  pub more : (periods : List CompositePeriod) → IsExact limit duration periods → MAX_COMPOSITE_PERIODS < length periods
 
 abbrev pub IsPermitted : (ℕ → ℕ) → ℕ → Refusal → Type 0
 IsPermitted limit duration ResultTooLong = IsTooLong limit duration

@@ -4,7 +4,7 @@ use ocpp_scalars::Refusal;
 use std::marker::Model;
 
 /// The most periods that a composite schedule has.
-pub const MOST_COMPOSITE_PERIODS: usize = 1_000;
+pub const MAX_COMPOSITE_PERIODS: usize = 1_000;
 
 /// One step of a composite schedule (chapter 7, ChargingSchedulePeriod).
 #[derive(Clone, Copy, Debug, PartialEq, Eq, Hash)]

@@ -13,8 +13,8 @@ mod schedule_laws;
 mod tests;
 mod view;
 
-pub use ask::{Ask, MOST_DURATION};
-pub use composite::{Composite, CompositePeriod, MOST_COMPOSITE_PERIODS};
+pub use ask::{Ask, MAX_DURATION};
+pub use composite::{Composite, CompositePeriod, MAX_COMPOSITE_PERIODS};
 pub use limit::limit_at;
 pub use plain_compiler::compile_plain;
 pub use schedule_laws::{exact_schedule_exists, one_schedule};

@@ -1,19 +1,19 @@
 ghost use Rattle.std.specs.Prelude.{◌≡◌, ℕ, ◌+◌, ◌≤◌, ◌++◌, length, MatchResult};
-ghost use Rattle.meaning.specs.declared.composite.TheConstants.{MOST_COMPOSITE_PERIODS};
+ghost use Rattle.meaning.specs.declared.composite.TheConstants.{MAX_COMPOSITE_PERIODS};
 ghost use Rattle.meaning.specs.Book.{book_of};
 ghost use Rattle.meaning.specs.Asked.{limit_asked};
 ghost use Rattle.meaning.specs.Right.{IsRight};
 ghost use Rattle.meaning.specs.SecondAdded.{period_added, IsAddRefused};
 
 use crate::ask::Ask;
-use crate::composite::{Composite, CompositePeriod, MOST_COMPOSITE_PERIODS};
+use crate::composite::{Composite, CompositePeriod, MAX_COMPOSITE_PERIODS};
 use crate::limit::limit_at;
 use crate::view::View;
 use ocpp_scalars::Refusal;
 use std::alloc::Global;
 
 /// The exact schedule of an ask, found second by second: `ResultTooLong` where it has more than
-/// `MOST_COMPOSITE_PERIODS` periods, and `OutOfMemory`.
+/// `MAX_COMPOSITE_PERIODS` periods, and `OutOfMemory`.
 pub fn compile_plain(alloc: Global, view: &View<'_>, ask: &Ask) -> Result<Composite, Refusal>
     requires has_connector { ask.now.connector ≤ length view.now.ceilings.now }
     ensures right { IsRight (limit_asked (book_of view.now) ask.now) ask.now.duration result }
@@ -39,15 +39,15 @@ fn add_second(
     before: Option<u32>,
     period: CompositePeriod,
 ) -> Result<(), Refusal>
-    requires few { length periods.old.items ≤ MOST_COMPOSITE_PERIODS }
+    requires few { length periods.old.items ≤ MAX_COMPOSITE_PERIODS }
     ensures { MatchResult result
-        (λ _. (periods.new.items ≡ periods.old.items ++ period_added before period) × (length periods.new.items ≤ MOST_COMPOSITE_PERIODS))
+        (λ _. (periods.new.items ≡ periods.old.items ++ period_added before period) × (length periods.new.items ≤ MAX_COMPOSITE_PERIODS))
         (λ refusal. IsAddRefused (length periods.old.items + length (period_added before period)) refusal) }
 {
     if before == Some(period.limit) {
         return Ok(());
     }
-    if periods.len() == MOST_COMPOSITE_PERIODS {
+    if periods.len() == MAX_COMPOSITE_PERIODS {
         return Err(Refusal::ResultTooLong);
     }
     match periods.push(period) {

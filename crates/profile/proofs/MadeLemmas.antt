@@ -4,7 +4,7 @@ use Rattle.std.proofs.Math.IntN.{ℤ_set}
 use Rattle.std.proofs.Math.Nat.{ℕ_set}
 use mathlib.Core.Sum.{⊎_set}
 use mathlib.Core.HLevel.{is_prop→PathP}
-use Rattle.profile.specs.declared.charging_profile.TheConstants.{MOST_STACK_LEVEL}
+use Rattle.profile.specs.declared.charging_profile.TheConstants.{MAX_STACK_LEVEL}
 use Rattle.profile.specs.declared.charging_profile.Profile.{Profile}
 use Rattle.profile.specs.declared.parts.ProfileParts.{ProfileParts}
 use Rattle.profile.specs.Kind.{start_of}
@@ -22,7 +22,7 @@ transactions = hlevel (⊎_set, ℤ_set)
 starts : IsSet (Option ℕ)
 starts = hlevel (⊎_set, ℕ_set)
 
-pub same_profile : (parts : ProfileParts) (profile : Profile) (low : nat_le parts.stack_level MOST_STACK_LEVEL ≡ true) → IsProfileOf parts profile → profile_with parts profile.kind low ≡ profile
+pub same_profile : (parts : ProfileParts) (profile : Profile) (low : nat_le parts.stack_level MAX_STACK_LEVEL ≡ true) → IsProfileOf parts profile → profile_with parts profile.kind low ≡ profile
 same_profile parts profile low is = λ i. record {
   id = sym is.id i;
   transaction = sym is.transaction i;
@@ -38,7 +38,7 @@ same_profile parts profile low is = λ i. record {
     periods = sym is.periods i;
     min_charging_rate = sym is.min_charging_rate i;
   };
-  low = is_prop→PathP (λ j. nat_le (sym is.stack_level j) MOST_STACK_LEVEL ≡ true) (λ j. Bool-set (nat_le (sym is.stack_level j) MOST_STACK_LEVEL) true) low profile.low i;
+  low = is_prop→PathP (λ j. nat_le (sym is.stack_level j) MAX_STACK_LEVEL ≡ true) (λ j. Bool-set (nat_le (sym is.stack_level j) MAX_STACK_LEVEL) true) low profile.low i;
   own_transaction = is_prop→PathP (λ j. transaction_of (sym is.purpose j) (sym is.transaction j) ≡ sym is.transaction j) (λ j. transactions (transaction_of (sym is.purpose j) (sym is.transaction j)) (sym is.transaction j)) (profile_with parts profile.kind low).own_transaction profile.own_transaction i;
   own_start = is_prop→PathP (λ j. start_of profile.kind (sym is.start j) ≡ sym is.start j) (λ j. starts (start_of profile.kind (sym is.start j)) (sym is.start j)) (profile_with parts profile.kind low).own_start profile.own_start i;
 }
@@ -46,5 +46,5 @@ same_profile parts profile low is = λ i. record {
 -- the profile of these parts is the one that they make
 pub made_profile-is : (parts : ProfileParts) (profile : Profile) → IsProfileOf parts profile → made_profile parts ≡ Some profile
 made_profile-is parts profile is =
-    let low : nat_le parts.stack_level MOST_STACK_LEVEL ≡ true = subst (λ n. nat_le n MOST_STACK_LEVEL ≡ true) is.stack_level profile.low in
-    rw (sym is.kind, fact_of-true (nat_le parts.stack_level MOST_STACK_LEVEL) low) (ap Some (same_profile parts profile low is))
+    let low : nat_le parts.stack_level MAX_STACK_LEVEL ≡ true = subst (λ n. nat_le n MAX_STACK_LEVEL ≡ true) is.stack_level profile.low in
+    rw (sym is.kind, fact_of-true (nat_le parts.stack_level MAX_STACK_LEVEL) low) (ap Some (same_profile parts profile low is))

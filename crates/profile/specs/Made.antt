@@ -3,7 +3,7 @@ use Rattle.profile.specs.declared.kind.Kind.{Kind}
 use Rattle.profile.specs.declared.kind.Kind.TheVariants.{Absolute, Recurring, Relative}
 use Rattle.profile.specs.declared.purpose.Purpose.{Purpose}
 use Rattle.profile.specs.declared.purpose.Purpose.TheVariants.{ChargePointMaxProfile, TxDefaultProfile, TxProfile}
-use Rattle.profile.specs.declared.charging_profile.TheConstants.{MOST_STACK_LEVEL}
+use Rattle.profile.specs.declared.charging_profile.TheConstants.{MAX_STACK_LEVEL}
 use Rattle.profile.specs.declared.charging_profile.Profile.{Profile}
 use Rattle.profile.specs.declared.parts.ProfileParts.{ProfileParts}
 use Rattle.profile.specs.Kind.{kind_of, start_of}
@@ -25,7 +25,7 @@ start_of_again Absolute start = refl
 start_of_again (Recurring recurrency) start = refl
 start_of_again Relative start = refl
 
-abbrev pub profile_with : (parts : ProfileParts) → Kind → nat_le parts.stack_level MOST_STACK_LEVEL ≡ true → Profile
+abbrev pub profile_with : (parts : ProfileParts) → Kind → nat_le parts.stack_level MAX_STACK_LEVEL ≡ true → Profile
 profile_with parts kind low = record {
   id = parts.id;
   transaction = transaction_of parts.purpose parts.transaction;
@@ -49,5 +49,5 @@ profile_with parts kind low = record {
 -- the profile of these parts as a value, where its level and kind let it be one
 abbrev pub made_profile : ProfileParts → Option Profile
 made_profile parts =
-    option_and_then (λ (kind : Kind). option_map (λ (low : nat_le parts.stack_level MOST_STACK_LEVEL ≡ true). profile_with parts kind low)
-    (fact_of (nat_le parts.stack_level MOST_STACK_LEVEL))) (kind_of parts.kind parts.recurrency)
+    option_and_then (λ (kind : Kind). option_map (λ (low : nat_le parts.stack_level MAX_STACK_LEVEL ≡ true). profile_with parts kind low)
+    (fact_of (nat_le parts.stack_level MAX_STACK_LEVEL))) (kind_of parts.kind parts.recurrency)

@@ -4,8 +4,8 @@ use Rattle.ocpp_scalars.specs.declared.refusal.Refusal.TheVariants.{LevelTooHigh
 use Rattle.profile.specs.declared.kind.Kind.{Kind}
 use Rattle.profile.specs.declared.parts.ProfileParts.{ProfileParts}
 use Rattle.profile.specs.declared.charging_profile.Profile.{Profile}
-use Rattle.profile.specs.declared.charging_profile.TheConstants.{MOST_STACK_LEVEL}
-use Rattle.profile.specs.declared.periods.TheConstants.{MOST_PERIODS}
+use Rattle.profile.specs.declared.charging_profile.TheConstants.{MAX_STACK_LEVEL}
+use Rattle.profile.specs.declared.periods.TheConstants.{MAX_PERIODS}
 use Rattle.profile.specs.Kind.{kind_of, start_of}
 use Rattle.profile.specs.Purpose.{transaction_of}
 use Rattle.profile.specs.Periods.{are_in_order}
@@ -17,8 +17,8 @@ refused_kind (Some kind) = None
 -- why these parts make no well-formed profile, the first cause in this order
 abbrev pub first_refusal : ProfileParts → Option Refusal
 first_refusal parts =
-    if nat_lt MOST_STACK_LEVEL parts.stack_level then Some LevelTooHigh
-    else (if nat_lt MOST_PERIODS (length parts.schedule.periods) then Some TooManyPeriods
+    if nat_lt MAX_STACK_LEVEL parts.stack_level then Some LevelTooHigh
+    else (if nat_lt MAX_PERIODS (length parts.schedule.periods) then Some TooManyPeriods
     else (if not (are_in_order parts.schedule.periods) then Some PeriodsOutOfOrder
     else refused_kind (kind_of parts.kind parts.recurrency)))
 

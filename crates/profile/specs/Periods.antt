@@ -1,6 +1,6 @@
 use Rattle.std.specs.Prelude.{◌≡◌, ℕ, ◌<◌, ◌≤◌, nat_le, nat_lt, Bool, true, ◌&&◌, IsTrue, List, [], ◌∷◌, length, filter, Option, Some, None, option_map}
 use Rattle.profile.specs.declared.period.Period.{Period}
-use Rattle.profile.specs.declared.periods.TheConstants.{MOST_PERIODS}
+use Rattle.profile.specs.declared.periods.TheConstants.{MAX_PERIODS}
 use Rattle.profile.specs.Greatest.{greatest}
 
 abbrev pub is_after : Option ℕ → ℕ → Bool
@@ -19,7 +19,7 @@ are_in_order periods = rise_after None periods
 -- what the periods of a schedule are: at least one, at most 200, in order
 pub record AreSchedulePeriods (periods : List Period) : Type 0 where
   pub some : 0 < length periods
-  pub few : length periods ≤ MOST_PERIODS
+  pub few : length periods ≤ MAX_PERIODS
   pub ordered : IsTrue (are_in_order periods)
 
 -- the limit at an offset: of the periods that have begun by then, that of the one with the greatest

@@ -1,17 +1,17 @@
 ghost use Rattle.std.specs.Prelude.{◌≡◌, ℕ, ◌<◌, ◌≤◌, length, nat_le, IsTrue, IfOk, IsOkUnless, MatchResult, Some, None};
-ghost use Rattle.profile.specs.declared.charging_profile.TheConstants.{MOST_STACK_LEVEL};
+ghost use Rattle.profile.specs.declared.charging_profile.TheConstants.{MAX_STACK_LEVEL};
 ghost use Rattle.profile.specs.Purpose.{transaction_of};
 ghost use Rattle.profile.specs.Kind.{start_of};
 
 use crate::kind::Kind;
 use crate::parts::ProfileParts;
-use crate::periods::{MOST_PERIODS, Periods, are_in_order};
+use crate::periods::{MAX_PERIODS, Periods, are_in_order};
 use crate::purpose::Purpose;
 use crate::schedule::Schedule;
 use ocpp_scalars::{Instant, Refusal};
 
 /// The highest stack level.
-pub const MOST_STACK_LEVEL: u32 = 99;
+pub const MAX_STACK_LEVEL: u32 = 99;
 
 /// A well-formed charging profile (chapter 7, ChargingProfile).
 #[derive(Debug, Drop)]
@@ -31,7 +31,7 @@ pub struct Profile {
     pub valid_to: Option<Instant>,
     /// chargingSchedule.
     pub schedule: Schedule,
-    pub ghost low: { IsTrue (nat_le stack_level MOST_STACK_LEVEL) },
+    pub ghost low: { IsTrue (nat_le stack_level MAX_STACK_LEVEL) },
     pub ghost own_transaction: { transaction_of purpose transaction ≡ transaction },
     pub ghost own_start: { start_of kind schedule.start ≡ schedule.start },
 }
@@ -52,11 +52,11 @@ impl Profile {
             (λ refused. (first_refusal parts ≡ Some refused.0) × (refused.1 ≡ parts)) }
         ensures made { IfOk result (λ profile. made_profile parts ≡ Some profile) }
     {
-        if parts.stack_level > MOST_STACK_LEVEL {
+        if parts.stack_level > MAX_STACK_LEVEL {
             return Err((Refusal::LevelTooHigh, parts));
         }
         let periods = parts.schedule.periods.as_slice();
-        if periods.len() > MOST_PERIODS {
+        if periods.len() > MAX_PERIODS {
             return Err((Refusal::TooManyPeriods, parts));
         }
         if !are_in_order(periods) {

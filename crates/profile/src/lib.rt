@@ -15,13 +15,13 @@ mod row;
 mod schedule;
 mod unit;
 
-pub use charging_profile::{MOST_STACK_LEVEL, Profile};
+pub use charging_profile::{MAX_STACK_LEVEL, Profile};
 pub use criteria::Criteria;
 pub use kind::{Kind, ProfileKind, Recurrency};
 pub use parts::{ProfileParts, ScheduleParts};
 pub use period::Period;
 pub use period_list::PeriodList;
-pub use periods::{MOST_PERIODS, Periods};
+pub use periods::{MAX_PERIODS, Periods};
 pub use purpose::Purpose;
 pub use row::Row;
 pub use schedule::Schedule;

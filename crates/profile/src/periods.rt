@@ -8,7 +8,7 @@ use ocpp_scalars::Refusal;
 use std::marker::Model;
 
 /// The most periods that a schedule has.
-pub const MOST_PERIODS: usize = 200;
+pub const MAX_PERIODS: usize = 200;
 
 /// The periods of a schedule: 1 to 200 of them, each starting later than the one before.
 #[derive(Debug, Drop)]

@@ -1,0 +1,89 @@
+-- The words of an operator's line are those of its form.
+use Rattle.std.proofs.Common.{◌≡◌, ◌↔◌, ℕ, ◌+◌, ◌<◌, ◌&&◌, List, ◌∷◌, ◌++◌, length, take, drop, get_or, codes, Bool, true, false, cond, nat_lt, Option, Some, None, refl, sym, ap, ◌∙◌, subst, arith, length-append, lit<}
+use Rattle.std.specs.List.{position_or_len, before_first, after_first}
+use Rattle.std.specs.Option.{option_and_then}
+use Rattle.std.specs.Str.{bytes_eq}
+use Rattle.std.proofs.lemmas.Bool.{ltb-true, lt-ltb, eqb-true, eqb-false, ne_eqb}
+use Rattle.std.proofs.lemmas.List.{length-take-le, get_or-take}
+use Rattle.std.proofs.lemmas.List.Sums.{split_at_first, passes_at_first, fails_before_first, position_or_len_is}
+use Rattle.std.proofs.lemmas.Slice.Eq.{bytes_eq-Decides}
+use Rattle.std.proofs.Math.ListN.{get_or-append}
+use Rattle.std.proofs.Math.Seq.{take-append_seam, drop-append-add, get_or-append_seam}
+use Rattle.central.specs.Line.{is_space, word_at, operator_words, IsWord, IsOperatorLine}
+
+-- both tests held where a choice gave its value
+both : {X : Type 0} (a b : Bool) (x y : X) → cond (a && b) (Some x) None ≡ Some y → (a ≡ true) × (b ≡ true) × (x ≡ y)
+both true true x y e = (refl, refl, cc)
+both true false x y e = absurd (cc)
+both false b x y e = absurd (cc)
+
+only : {X : Type 0} (a : Bool) (x y : X) → cond a (Some x) None ≡ Some y → (a ≡ true) × (x ≡ y)
+only true x y e = (refl, cc)
+only false x y e = absurd (cc)
+
+-- a step that gave a value had one before it
+bound : {A B : Type 0} (f : A → Option B) (o : Option A) (y : B) → option_and_then f o ≡ Some y → (x : A) × (o ≡ Some x) × (f x ≡ Some y)
+bound f None y e = absurd (cc)
+bound f (Some x) y e = (x, refl, e)
+
+-- the word that a text begins with
+word_is : (text : List ℕ) (parts : List ℕ × List ℕ) → word_at text ≡ Some parts → (text ≡ parts.0 ++ 32 ∷ parts.1) × IsWord parts.0
+word_is text parts some =
+    let place = position_or_len is_space text in
+    let cut = both (nat_lt 0 place) (nat_lt place (length text)) (before_first is_space text, after_first is_space text) parts some in
+    let inside : place < length text = ltb-true place (length text) cut.1 in
+    let size : length (take place text) ≡ place = length-take-le place text (omega arith) in
+    let space : get_or text place 0 ≡ 32 = eqb-true (get_or text place 0) 32 (passes_at_first is_space text 0 inside) in
+    let front : before_first is_space text ≡ parts.0 = ap (λ p. p.0) cut.2 in
+    let word : IsWord (before_first is_space text) = (
+      omega (arith, ltb-true 0 place cut.0, size),
+      λ k below here.
+          let low : k < place = omega (arith, size, below) in
+          eqb-false (get_or text k 0) 32 (fails_before_first is_space text k 0 low) (sym (get_or-take place text k 0 low) ∙ here),
+    ) in (
+      split_at_first is_space text 0 inside ∙ ap (λ b. before_first is_space text ++ b ∷ after_first is_space text) space ∙ ap (λ p. p.0 ++ 32 ∷ p.1) cut.2,
+      subst IsWord front word,
+    )
+
+-- a word, a space and a rest are cut at that space
+word_made : (word rest : List ℕ) → IsWord word → word_at (word ++ 32 ∷ rest) ≡ Some (word, rest)
+word_made word rest is =
+    let text = word ++ 32 ∷ rest in
+    let long : length word < length text = omega (arith, length-append word (32 ∷ rest)) in
+    let place : position_or_len is_space text ≡ length word =
+    position_or_len_is is_space text (length word) 0 (omega (arith, long))
+    (λ k below. ne_eqb (get_or text k 0) 32 (λ here. is.1 k below (sym (get_or-append word (32 ∷ rest) 0 k below) ∙ here)))
+    (λ _. ap is_space (get_or-append_seam word 32 rest 0)) in
+    let whole : Some (take (length word) text, drop (length word + 1) text) ≡ Some (word, rest) =
+    ap (λ l. Some (l, drop (length word + 1) text)) (take-append_seam word (32 ∷ rest)) ∙ ap (λ l. Some (word, l)) (drop-append-add word (32 ∷ rest) 1) in
+    ap (λ n. cond (nat_lt 0 n && nat_lt n (length text)) (Some (take n text, drop (n + 1) text)) None) place
+    ∙ rw (lt-ltb 0 (length word) is.0, lt-ltb (length word) (length text) long) whole
+
+-- `operator` is a word
+operator_word : IsWord (codes "operator")
+operator_word = (lit< tt, λ k below. eqb-false (get_or (codes "operator") k 0) 32 (fails_before_first is_space (codes "operator") k 0 below))
+
+form_is : (line instant point frame : List ℕ) → operator_words line ≡ Some (instant, point, frame) → IsOperatorLine line instant point frame
+unfolding operator_words
+form_is line instant point frame some =
+    let first = bound _ (word_at line) (instant, point, frame) some in
+    let second = bound _ (word_at first.0.1) (instant, point, frame) first.2 in
+    let third = bound _ (word_at second.0.1) (instant, point, frame) second.2 in
+    let last = only (bytes_eq second.0.0 (codes "operator")) (first.0.0, third.0.0, third.0.1) (instant, point, frame) third.2 in
+    let kind : second.0.0 ≡ codes "operator" = (bytes_eq-Decides second.0.0 (codes "operator")).0 last.0 in
+    let one = word_is line first.0 first.1 in
+    let two = word_is first.0.1 second.0 second.1 in
+    let three = word_is second.0.1 third.0 third.1 in
+    subst (λ (words : List ℕ × List ℕ × List ℕ). IsOperatorLine line words.0 words.1 words.2) last.1
+    (one.0 ∙ ap (λ l. first.0.0 ++ 32 ∷ l) (two.0 ∙ ap (λ k. k ++ 32 ∷ second.0.1) kind ∙ ap (λ l. codes "operator" ++ 32 ∷ l) three.0), one.1, three.1)
+
+form_made : (line instant point frame : List ℕ) → IsOperatorLine line instant point frame → operator_words line ≡ Some (instant, point, frame)
+unfolding operator_words
+form_made line instant point frame form =
+    let tail = point ++ 32 ∷ frame in
+    let middle = codes "operator" ++ 32 ∷ tail in
+    ap operator_words form.0
+    ∙ rw (word_made instant middle form.1) (rw (word_made (codes "operator") tail operator_word) (rw (word_made point frame form.2) refl))
+
+pub line_form : (line instant point frame : List ℕ) → (operator_words line ≡ Some (instant, point, frame)) ↔ IsOperatorLine line instant point frame
+line_form line instant point frame = (form_is line instant point frame, form_made line instant point frame)

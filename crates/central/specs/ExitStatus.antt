@@ -1,0 +1,25 @@
+-- The program's exit statuses: 0 done; 1 the site file has a fault; 2 the script has one; 3 a device
+-- failed or memory ran out; 4 no such command line.
+use Rattle.std.specs.Prelude.{ℕ, ◌==◌, if◌then◌else◌}
+use Rattle.central.specs.declared.replay.ReplayFault.{ReplayFault}
+use Rattle.central.specs.declared.replay.ReplayFault.TheVariants as replay_fault
+use Rattle.central.specs.declared.replay.Summary.{Summary}
+use Rattle.central.specs.declared.program_fault.ProgramFault.{ProgramFault}
+use Rattle.central.specs.declared.program_fault.ProgramFault.TheVariants.{Words, Site, SiteFile, Help, Replay, OutOfMemory}
+
+abbrev pub replay_status : ReplayFault → ℕ
+replay_status replay_fault.Read = 3
+replay_status replay_fault.ScriptTooLong = 2
+replay_status replay_fault.Write = 3
+replay_status replay_fault.OutOfMemory = 3
+
+abbrev pub fault_status : ProgramFault → ℕ
+fault_status Words = 4
+fault_status (Site fault) = 1
+fault_status SiteFile = 3
+fault_status Help = 3
+fault_status (Replay fault) = replay_status fault
+fault_status OutOfMemory = 3
+
+abbrev pub summary_status : Summary → ℕ
+summary_status summary = if summary.script_faults == 0 then 0 else 2

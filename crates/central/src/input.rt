@@ -1,0 +1,69 @@
+ghost use Rattle.std.specs.Prelude.{◌≡◌, ℕ, ◌+◌, ◌<◌, ◌≤◌, ◌^◌, length, vec_len, IfOk, IfSome, IsErrOf};
+ghost use Rattle.central.specs.Input.{GaveAtMost, GaveMoreThan, ReadOnto};
+
+use std::alloc::{AllocError, Global};
+use std::io::Read;
+
+/// How many bytes are asked for at a time.
+const PIECE: usize = 16_384;
+
+/// Why a whole input was not read.
+#[derive(Clone, Copy, Debug, PartialEq, Eq)]
+pub enum InputFault {
+    /// A read failed, an interrupted one included.
+    Read,
+    /// The input has more bytes than the limit.
+    TooLong,
+    /// Memory ran out.
+    OutOfMemory,
+}
+
+/// Room for the bytes of one read.
+fn new_piece(alloc: Global) -> Result<Vec<u8>, AllocError>
+    ensures { IfOk result (λ piece. vec_len piece ≡ PIECE) }
+{
+    vec![in alloc; 0u8; PIECE]
+}
+
+/// Reads once, and adds the bytes that came. Answers how many these are.
+fn read_onto<R: Read>(
+    reader: &mut R,
+    piece: &mut [u8],
+    bytes: &mut Vec<u8>,
+) -> Result<usize, InputFault>
+    requires { 0 < length piece.old }
+    ensures taken { ReadOnto (R.remaining reader.old) (R.remaining reader.new) bytes.old.items bytes.new.items (length piece.old) result }
+    ensures never_long { ¬ IsErrOf result InputFault.TooLong }
+{
+    let Ok(count) = reader.read(piece) else {
+        return Err(InputFault::Read);
+    };
+    let came = piece.split_at(count).0;
+    let Ok(_) = bytes.extend_from_slice(came) else {
+        return Err(InputFault::OutOfMemory);
+    };
+    Ok(count)
+}
+
+/// All bytes that a reader gives, `limit` at the most. It takes at most one byte more.
+pub fn read_all<R: Read>(alloc: Global, reader: &mut R, limit: usize) -> Result<Vec<u8>, InputFault>
+    requires { limit < 2 ^ 32 }
+    ensures whole { IfOk result (λ bytes. IfSome (R.remaining reader.old) (λ given. bytes.items ≡ given)) }
+    ensures short { IfOk result (λ bytes. vec_len bytes ≤ limit) }
+    ensures most { GaveAtMost (R.remaining reader.old) (R.remaining reader.new) (limit + 1) }
+    ensures long { IsErrOf result InputFault.TooLong → GaveMoreThan (R.remaining reader.old) (R.remaining reader.new) limit }
+{
+    let mut bytes = Vec::new(alloc);
+    let Ok(mut piece) = new_piece(alloc) else {
+        return Err(InputFault::OutOfMemory);
+    };
+    while bytes.len() <= limit {
+        let room = (limit + 1 - bytes.len()).min(PIECE);
+        match read_onto(reader, &mut piece[..room], &mut bytes) {
+            Ok(0) => return Ok(bytes),
+            Ok(_) => {}
+            Err(fault) => return Err(fault),
+        }
+    }
+    Err(InputFault::TooLong)
+}

@@ -1,0 +1,107 @@
+//! The central system as a program: `central replay --site F` plays a script from standard input on
+//! a site and writes its output to standard output.
+#![tactic(auto)]
+
+mod action;
+mod answer;
+mod call_fault;
+mod central_system;
+mod checks;
+mod command_line;
+mod field_name;
+mod fields;
+mod input;
+mod line;
+mod names;
+mod outcome;
+mod output;
+mod printing;
+mod profile_fields;
+mod program_fault;
+mod replay;
+mod script;
+mod site;
+mod site_fault;
+mod site_file;
+mod site_reading;
+#[cfg(test)]
+mod tests;
+
+use crate::command_line::{Job, job_of};
+use crate::program_fault::ProgramFault;
+use crate::replay::{Summary, replay};
+use crate::site_file::read_site_file;
+use clap::error::ErrorKind;
+use std::alloc::AllocGlobal;
+use std::io::BufWriter;
+use std::process::ExitCode;
+use std::rt::{Env, Files};
+use std::{env, io};
+
+fn main(rt: HostRuntime) -> ExitCode {
+    ExitCode::from(run(&rt))
+}
+
+/// Does what the command line says. Answers the exit status.
+fn run<R: Env + Files + Input + Print + Eprint + AllocGlobal>(rt: &R) -> u8 {
+    match play(rt) {
+        Ok(status) => status,
+        Err(fault) => {
+            let _ = rt.eprintln(&fault);
+            fault.status()
+        }
+    }
+}
+
+fn play<R: Env + Files + Input + Print + Eprint + AllocGlobal>(rt: &R) -> Result<u8, ProgramFault> {
+    let words = command_words(rt)?;
+    match job_of(rt.alloc(), words.as_slice()) {
+        Ok(Job::Replay { site }) => Ok(replay_file(rt, site)?.status()),
+        Err(error) => refuse(rt, error),
+    }
+}
+
+/// The words of the command line, the program's name first.
+fn command_words<R: Env + AllocGlobal>(rt: &R) -> Result<Vec<String>, ProgramFault> {
+    let words = match env::args(rt) {
+        Ok(words) => words,
+        Err(error) if error.kind() == io::ErrorKind::OutOfMemory => return Err(
+            ProgramFault::OutOfMemory,
+        ),
+        Err(_) => return Err(ProgramFault::Words),
+    };
+    let Ok(words) = words.collect(rt.alloc()) else {
+        return Err(ProgramFault::OutOfMemory);
+    };
+    Ok(words)
+}
+
+/// Plays the script of standard input on the site of a file.
+fn replay_file<R: Files + Input + Print + AllocGlobal>(
+    rt: &R,
+    path: &str,
+) -> Result<Summary, ProgramFault> {
+    let site = read_site_file(rt, path)?;
+    let Ok(mut writer) = BufWriter::new(rt.alloc(), io::writer(rt)) else {
+        return Err(ProgramFault::OutOfMemory);
+    };
+    match replay(rt.alloc(), &mut rt.reader(), &mut writer, site) {
+        Ok(summary) => Ok(summary),
+        Err(fault) => Err(ProgramFault::Replay(fault)),
+    }
+}
+
+/// Prints why a command line is no job, or the help that it asks for. Answers the exit status.
+fn refuse<R: Print + Eprint>(rt: &R, error: clap::Error) -> Result<u8, ProgramFault> {
+    if error.kind() == ErrorKind::OutOfMemory {
+        return Err(ProgramFault::OutOfMemory);
+    }
+    let printed = error.print(rt);
+    if error.use_stderr() {
+        return Ok(4);
+    }
+    match printed {
+        Ok(()) => Ok(0),
+        Err(_) => Err(ProgramFault::Help),
+    }
+}

@@ -1,0 +1,27 @@
+use crate::input::{InputFault, read_all};
+use crate::program_fault::ProgramFault;
+use crate::site::Site;
+use crate::site_fault::SiteFault;
+use crate::site_reading::{MAX_SITE_BYTES, read_site};
+use std::alloc::AllocGlobal;
+use std::fs;
+use std::io::ErrorKind;
+use std::rt::Files;
+
+/// Reads the site of a file.
+pub fn read_site_file<R: Files + AllocGlobal>(rt: &R, path: &str) -> Result<Site, ProgramFault> {
+    let mut file = match fs::open(rt, path) {
+        Ok(file) => file,
+        Err(error) if error.kind() == ErrorKind::OutOfMemory => return Err(
+            ProgramFault::OutOfMemory,
+        ),
+        Err(_) => return Err(ProgramFault::SiteFile),
+    };
+    let bytes = match read_all(rt.alloc(), &mut file, MAX_SITE_BYTES) {
+        Ok(bytes) => bytes,
+        Err(InputFault::Read) => return Err(ProgramFault::SiteFile),
+        Err(InputFault::TooLong) => return Err(ProgramFault::Site(SiteFault::TooLarge)),
+        Err(InputFault::OutOfMemory) => return Err(ProgramFault::OutOfMemory),
+    };
+    Ok(read_site(rt.alloc(), bytes.as_slice())?)
+}

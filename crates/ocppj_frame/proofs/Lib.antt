@@ -1,0 +1,4 @@
+pub mod MarkedText
+pub mod UnmarkedText
+pub mod TreeParts
+pub mod Elements

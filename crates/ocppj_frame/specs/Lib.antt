@@ -1,0 +1,11 @@
+pub mod Marked
+pub mod Tree
+pub mod TreeReading
+pub mod TreeFault
+pub mod Member
+pub mod Parts
+pub mod FieldReading
+pub mod Written
+pub mod Message
+pub mod FrameReading
+pub mod FrameFaultName

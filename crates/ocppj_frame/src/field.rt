@@ -1,0 +1,117 @@
+ghost use Rattle.std.specs.Prelude.{◌≡◌, option_map, Result};
+ghost use Rattle.ocppj_frame.specs.FieldReading.{field_map, instant_field_of, list_field_of, object_field_of, present_field, tenths_field_of, text_field_of, value_or_fault, whole_field_of};
+ghost use Rattle.ocppj_frame.specs.Parts.{entries_in, tree_at};
+
+use crate::payload::{Items, Part};
+use ocpp_scalars::{Instant, read_instant, read_tenths, read_whole};
+
+/// What an object has at the name of a field.
+#[derive(Clone, Copy, Debug, PartialEq, Eq)]
+pub enum Field<T> {
+    /// The field is missing or null, or the part is no object.
+    Absent,
+    /// Another kind of JSON value than the one asked for.
+    WrongKind,
+    /// The kind asked for, but no scalar of the values asked for.
+    WrongValue,
+    /// The field's value.
+    Value(T),
+}
+
+/// The text of a field. Never `WrongValue`.
+pub fn text_field<'a>(part: Part<'a>, name: &str) -> Field<&'a str>
+    ensures { field_map (λ t. t.now) result ≡ text_field_of name.now (tree_at part.entry) }
+{
+    let Some(field) = present_field(part, name) else {
+        return Field::Absent;
+    };
+    match field.text() {
+        Some(text) => Field::Value(text),
+        None => Field::WrongKind,
+    }
+}
+
+/// The whole number of a field, from -2,147,483,648 to 2,147,483,647.
+pub fn whole_field(part: Part<'_>, name: &str) -> Field<i32>
+    ensures { result ≡ whole_field_of name.now (tree_at part.entry) }
+{
+    let Some(field) = present_field(part, name) else {
+        return Field::Absent;
+    };
+    match field.number() {
+        Some(digits) => value_or_fault(read_whole(digits)),
+        None => Field::WrongKind,
+    }
+}
+
+/// The tenths of a field, from 0 to 1,000,000,000.
+pub fn tenths_field(part: Part<'_>, name: &str) -> Field<u32>
+    ensures { result ≡ tenths_field_of name.now (tree_at part.entry) }
+{
+    let Some(field) = present_field(part, name) else {
+        return Field::Absent;
+    };
+    match field.number() {
+        Some(digits) => value_or_fault(read_tenths(digits)),
+        None => Field::WrongKind,
+    }
+}
+
+/// The instant of a field, which is written as a text.
+pub fn instant_field(part: Part<'_>, name: &str) -> Field<Instant>
+    ensures { result ≡ instant_field_of name.now (tree_at part.entry) }
+{
+    let Some(field) = present_field(part, name) else {
+        return Field::Absent;
+    };
+    match field.text() {
+        Some(text) => value_or_fault(read_instant(text)),
+        None => Field::WrongKind,
+    }
+}
+
+/// The entries of a field that is a list. Never `WrongValue`.
+pub fn list_field<'a>(part: Part<'a>, name: &str) -> Field<Items<'a>>
+    ensures { field_map entries_in result ≡ list_field_of name.now (tree_at part.entry) }
+{
+    let Some(field) = present_field(part, name) else {
+        return Field::Absent;
+    };
+    match field.list() {
+        Some(items) => Field::Value(items),
+        None => Field::WrongKind,
+    }
+}
+
+/// The object of a field. Never `WrongValue`.
+pub fn object_field<'a>(part: Part<'a>, name: &str) -> Field<Part<'a>>
+    ensures { field_map tree_at result ≡ object_field_of name.now (tree_at part.entry) }
+{
+    let Some(field) = present_field(part, name) else {
+        return Field::Absent;
+    };
+    if field.is_object() {
+        Field::Value(field)
+    } else {
+        Field::WrongKind
+    }
+}
+
+/// The field, where it is there and not null.
+fn present_field<'a>(part: Part<'a>, name: &str) -> Option<Part<'a>>
+    ensures { option_map tree_at result ≡ present_field name.now (tree_at part.entry) }
+{
+    match part.field(name) {
+        Some(field) if !field.is_null() => Some(field),
+        _ => None,
+    }
+}
+
+fn value_or_fault<T, E: Drop>(read: Result<T, E>) -> Field<T>
+    ensures { result ≡ value_or_fault read }
+{
+    match read {
+        Ok(value) => Field::Value(value),
+        Err(_) => Field::WrongValue,
+    }
+}

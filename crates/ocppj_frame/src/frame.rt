@@ -1,0 +1,120 @@
+ghost use Rattle.std.specs.Prelude.{◌≡◌, IfErr, IfOk, MatchResult, Err, None, Ok, Some, drop, option_and_then, option_map, slice_get};
+ghost use Rattle.ocppj_frame.specs.FrameReading.{HasObject, IsFrameFault, message_in};
+ghost use Rattle.ocppj_frame.specs.Message.{call_of, message_by, message_of_text, message_of_tree, payload_of};
+ghost use Rattle.ocppj_frame.specs.Parts.{elements_left, tree_in};
+ghost use Rattle.ocppj_frame.specs.Tree.{as_text};
+
+use crate::action::ActionName;
+use crate::fault::FrameFault;
+use crate::message::{MessageType, message_id, message_type, payload_of};
+use crate::message_id::MessageId;
+use crate::payload::{Elements, Payload, read_tree};
+use std::alloc::Global;
+
+/// The most bytes of a frame's text.
+pub const MAX_FRAME_BYTES: usize = 1_048_576;
+
+/// A message (OCPP-J 1.6, section 4.2).
+#[derive(Drop)]
+pub enum Frame {
+    /// A CALL. The payload is an object.
+    Call {
+        id: MessageId,
+        action: ActionName,
+        payload: Payload,
+    },
+    /// A CALLRESULT. The payload is an object.
+    Reply {
+        id: MessageId,
+        payload: Payload,
+    },
+    /// A CALLERROR.
+    Fault {
+        id: MessageId,
+    },
+    /// A message of another type, which is ignored.
+    Other,
+}
+
+/// Reads a text as a message.
+pub fn read_frame(alloc: Global, text: &str) -> Result<Frame, FrameFault>
+    ensures frame { IfOk result (λ frame. message_of_text text.now ≡ Ok (message_in frame)) }
+    ensures object { IfOk result HasObject }
+    ensures fault { IfErr result (IsFrameFault (message_of_text text.now)) }
+{
+    if text.len() > MAX_FRAME_BYTES {
+        return Err(FrameFault::Dropped);
+    }
+    let tree = read_tree(alloc, text)?;
+    frame_of_tree(alloc, tree)
+}
+
+fn frame_of_tree(alloc: Global, tree: Payload) -> Result<Frame, FrameFault>
+    ensures frame { IfOk result (λ frame. message_of_tree (tree_in tree) ≡ Ok (message_in frame)) }
+    ensures object { IfOk result HasObject }
+    ensures fault { IfErr result (λ e. message_of_tree (tree_in tree) ≡ Err e) }
+{
+    let Some(mut elements) = tree.into_elements() else {
+        return Err(FrameFault::Dropped);
+    };
+    let kind = message_type(elements.next());
+    let id = message_id(elements.next());
+    let third = elements.next();
+    let fourth = elements.next();
+    frame_by(alloc, kind, id, third, fourth)
+}
+
+fn frame_by(
+    alloc: Global,
+    kind: Option<MessageType>,
+    id: Option<MessageId>,
+    third: Option<Payload>,
+    fourth: Option<Payload>,
+) -> Result<Frame, FrameFault>
+    ensures frame { IfOk result (λ frame. message_by kind id (option_map tree_in third) (option_map tree_in fourth) ≡ Ok (message_in frame)) }
+    ensures object { IfOk result HasObject }
+    ensures fault { IfErr result (λ e. message_by kind id (option_map tree_in third) (option_map tree_in fourth) ≡ Err e) }
+{
+    match (kind, id) {
+        (Some(MessageType::Other), _) => Ok(Frame::Other),
+        (Some(MessageType::Call), Some(id)) => call_of(alloc, id, third, fourth),
+        (Some(MessageType::CallResult), Some(id)) => Ok(Frame::Reply {
+            id,
+            payload: payload_of(alloc, third).unwrap_or(Payload::empty(alloc)),
+        }),
+        (Some(MessageType::CallError), Some(id)) => Ok(Frame::Fault { id }),
+        _ => Err(FrameFault::Dropped),
+    }
+}
+
+fn call_of(
+    alloc: Global,
+    id: MessageId,
+    third: Option<Payload>,
+    fourth: Option<Payload>,
+) -> Result<Frame, FrameFault>
+    ensures frame { IfOk result (λ frame. call_of id (option_and_then as_text (option_map tree_in third)) (payload_of (option_map tree_in fourth)) ≡ Ok (message_in frame)) }
+    ensures object { IfOk result HasObject }
+    ensures fault { IfErr result (λ e. call_of id (option_and_then as_text (option_map tree_in third)) (payload_of (option_map tree_in fourth)) ≡ Err e) }
+{
+    let Some(action) = action_of(third) else {
+        return Err(FrameFault::Formation { id });
+    };
+    let Some(payload) = payload_of(alloc, fourth) else {
+        return Err(FrameFault::Formation { id });
+    };
+    Ok(Frame::Call {
+        id,
+        action,
+        payload,
+    })
+}
+
+fn action_of(element: Option<Payload>) -> Option<ActionName>
+    ensures { result ≡ option_and_then as_text (option_map tree_in element) }
+{
+    match element?.into_text() {
+        Some(text) => Some(ActionName::new(text)),
+        None => None,
+    }
+}

@@ -1,0 +1,26 @@
+//! The frames of OCPP-J 1.6: a text is read as a JSON tree in which numbers keep their text, a tree as
+//! a CALL, a CALLRESULT or a CALLERROR, and frames are written.
+#![tactic(auto)]
+
+mod action;
+mod fault;
+mod field;
+mod frame;
+mod mark;
+mod message;
+mod message_id;
+mod payload;
+#[cfg(test)]
+mod tests;
+mod tree;
+mod write;
+
+pub use action::ActionName;
+pub use fault::FrameFault;
+pub use field::{
+    Field, instant_field, list_field, object_field, tenths_field, text_field, whole_field,
+};
+pub use frame::{Frame, MAX_FRAME_BYTES, read_frame};
+pub use message_id::{MAX_ID_CHARACTERS, MessageId};
+pub use payload::{Items, Part, Parts, Payload, read_tree};
+pub use write::{write_call, write_error, write_result};

@@ -1,0 +1,34 @@
+ghost use Rattle.std.specs.Prelude.{◌≡◌, is_some, true};
+ghost use Rattle.serde_json.specs.View.{items_view, view};
+ghost use Rattle.ocppj_frame.specs.TreeReading.{tree_of, trees_of};
+
+mod elements;
+mod entries;
+mod read;
+mod readers;
+
+pub(crate) use elements::Elements;
+pub use entries::Parts;
+pub use read::read_tree;
+use serde_json::Value;
+
+/// A JSON tree (RFC 8259) whose numbers keep their text.
+#[derive(Drop)]
+pub struct Payload {
+    value: Value,
+    ghost marked: { is_some (tree_of (view value)) ≡ true },
+}
+
+/// A part of a tree, borrowed.
+#[derive(Clone, Copy)]
+pub struct Part<'a> {
+    value: &'a Value,
+    ghost marked: { is_some (tree_of (view value.now)) ≡ true },
+}
+
+/// The entries of a list in a tree, borrowed.
+#[derive(Clone, Copy)]
+pub struct Items<'a> {
+    values: &'a [Value],
+    ghost marked: { is_some (trees_of (items_view values.now)) ≡ true },
+}

@@ -1,0 +1,131 @@
+#!/usr/bin/env python3
+"""program.py PROGRAM: runs the built program `central` on what no contract says, and prints 'N passed, M failed'.
+
+It replays each folder of examples/ and tests/replay/ (site.json, script, stdout, status) and compares the bytes of
+standard output, standard error and the exit status; then it tries command lines, site files and devices that fail.
+"""
+import os
+import subprocess
+import sys
+import tempfile
+
+TOP = os.path.dirname(os.path.dirname(os.path.abspath(__file__)))
+SITE = b'{"unit":"A","points":[{"id":"CP1","ceiling":63.0,"connectors":[32.0,32.0]}]}'
+
+
+def bytes_of(path):
+    with open(path, "rb") as file:
+        return file.read()
+
+
+def replay_cases():
+    """Each folder with a script: name, arguments, standard input, and what is wanted."""
+    for folder in ("examples", os.path.join("tests", "replay")):
+        top = os.path.join(TOP, folder)
+        for name in sorted(os.listdir(top)) if os.path.isdir(top) else []:
+            case = os.path.join(top, name)
+            if not os.path.isfile(os.path.join(case, "script")):
+                continue
+            status = os.path.join(case, "status")
+            yield (
+                f"{folder}/{name}",
+                ["replay", "--site", os.path.join(case, "site.json")],
+                bytes_of(os.path.join(case, "script")),
+                bytes_of(os.path.join(case, "stdout")),
+                b"",
+                int(bytes_of(status)) if os.path.isfile(status) else 0,
+            )
+
+
+def fault_cases(folder):
+    """Site files and scripts with a fault: name, arguments, standard input, and what is wanted."""
+
+    def site(name, content):
+        path = os.path.join(folder, name)
+        with open(path, "wb") as file:
+            file.write(content)
+        return ["replay", "--site", path]
+
+    point = b'{"id":"CP1","ceiling":63.0,"connectors":[32.0]}'
+    good = site("good", SITE)
+    for name, content in (
+        ("TooLarge", b" " * 16_777_217),
+        ("NotUtf8", b'{"unit":"\xff"}'),
+        ("NotJson", b'{"unit":"A","points":[}'),
+        ("NotAnObject", b"[]"),
+        ("BadUnit", b'{"unit":"kW","points":[]}'),
+        ("BadPoints", b'{"unit":"A","points":[]}'),
+        ("BadId", b'{"unit":"A","points":[{"id":"C P","ceiling":1,"connectors":[1]}]}'),
+        ("BadCeiling", b'{"unit":"A","points":[{"id":"CP1","ceiling":-1,"connectors":[1]}]}'),
+        ("BadConnectors", b'{"unit":"A","points":[{"id":"CP1","ceiling":1,"connectors":[]}]}'),
+    ):
+        yield name, site(name, content), b"x\n", b"", f"central: site: {name}\n".encode(), 1
+    yield "two points", site("two", b'{"unit":"A","points":[' + point + b"," + point + b"]}"), b"", b"", b"central: site: BadPoints\n", 1
+    yield "no site file", ["replay", "--site", os.path.join(folder, "none")], b"", b"", b"central: device: read\n", 3
+    yield "a folder as site file", ["replay", "--site", folder], b"", b"", b"central: device: read\n", 3
+    yield "an empty script", good, b"", b"", b"", 0
+    yield "a script of the limit", good, b"\n" * 16_777_216, b"", b"", 0
+    yield "a script past the limit", good, b"x\n" * 8_388_608 + b"x", b"", b"central: script: ScriptTooLong\n", 2
+    yield "a line of the limit", good, b"x" * 1_048_576 + b"\r\n", b"! 1 BadLine\n", b"", 2
+    yield "a line past the limit", good, b"\n" + b"x" * 1_048_577 + b"\r\ny", b"! 2 TooLong\n! 3 BadLine\n", b"", 2
+    yield "a line that is no text", good, b"\xff\n", b"! 1 BadText\n", b"", 2
+
+
+def run(program, arguments, given, stdout=subprocess.PIPE):
+    return subprocess.run([program, *arguments], input=given, stdout=stdout, stderr=subprocess.PIPE, timeout=120)
+
+
+def differences(done, want_out, want_err, want_status):
+    if done.stdout != want_out:
+        yield f"stdout {done.stdout[:200]!r}, wanted {want_out[:200]!r}"
+    if done.stderr != want_err:
+        yield f"stderr {done.stderr[:200]!r}, wanted {want_err[:200]!r}"
+    if done.returncode != want_status:
+        yield f"status {done.returncode}, wanted {want_status}"
+
+
+def command_line_problems(program):
+    """Command lines: the help on standard output with status 0, the refusals on standard error with status 4."""
+    for arguments in (["--help"], ["help"], ["replay", "--help"]):
+        done = run(program, arguments, b"")
+        ok = done.returncode == 0 and b"Usage" in done.stdout and not done.stderr
+        yield f"central {' '.join(arguments)}", [] if ok else [f"status {done.returncode}, {done.stderr[:200]!r}"]
+    for arguments in ([], ["replay"], ["replay", "--site"], ["replay", "--site", "a", "--site", "b"], ["play"], ["replay", "x"]):
+        done = run(program, arguments, b"")
+        ok = done.returncode == 4 and not done.stdout and done.stderr
+        yield f"central {' '.join(arguments)}", [] if ok else [f"status {done.returncode}, {done.stdout[:200]!r}"]
+
+
+def device_problems(program, folder):
+    """A full device as standard output, and a folder as standard input."""
+    arguments = ["replay", "--site", os.path.join(folder, "good")]
+    with open("/dev/full", "wb") as full:
+        done = run(program, arguments, b"x\n", stdout=full)
+    ok = done.returncode == 3 and done.stderr == b"central: device: write\n"
+    yield "standard output is full", [] if ok else [f"status {done.returncode}, {done.stderr!r}"]
+    handle = os.open(folder, os.O_RDONLY)
+    done = subprocess.run([program, *arguments], stdin=handle, capture_output=True, timeout=120)
+    os.close(handle)
+    ok = done.returncode == 3 and done.stderr == b"central: device: read\n" and not done.stdout
+    yield "standard input can't be read", [] if ok else [f"status {done.returncode}, {done.stderr!r}"]
+
+
+def main():
+    if len(sys.argv) != 2:
+        sys.exit(__doc__)
+    program = os.path.abspath(sys.argv[1])
+    results = []
+    with tempfile.TemporaryDirectory() as folder:
+        for name, arguments, given, *want in [*replay_cases(), *fault_cases(folder)]:
+            results.append((name, list(differences(run(program, arguments, given), *want))))
+        results.extend(command_line_problems(program))
+        results.extend(device_problems(program, folder))
+    for name, problems in results:
+        for problem in problems:
+            print(f"{name}: {problem}")
+    failed = sum(1 for _, problems in results if problems)
+    print(f"{len(results) - failed} passed, {failed} failed")
+    sys.exit(1 if failed else 0)
+
+
+main()
