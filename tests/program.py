@@ -2,7 +2,8 @@
 """program.py PROGRAM: runs the built program `central` on what no contract says, and prints 'N passed, M failed'.
 
 It replays each folder of examples/ and tests/replay/ (site.json, script, stdout, status) and compares the bytes of
-standard output, standard error and the exit status; then it tries command lines, site files and devices that fail.
+standard output, standard error and the exit status; then it tries command lines, site files, devices that fail and
+memory that is refused.
 """
 import os
 import subprocess
@@ -110,6 +111,31 @@ def device_problems(program, folder):
     yield "standard input can't be read", [] if ok else [f"status {done.returncode}, {done.stderr!r}"]
 
 
+def memory_problems(program, folder):
+    """The first example with each of its allocations refused in turn: a front of the output and OutOfMemory."""
+    library = os.path.join(folder, "refuse_allocation.so")
+    source = os.path.join(TOP, "tests", "refuse_allocation.c")
+    subprocess.run(["cc", "-O2", "-shared", "-fPIC", "-o", library, source, "-ldl"], check=True)
+    case = os.path.join(TOP, "examples", "first-schedule")
+    arguments = [program, "replay", "--site", os.path.join(case, "site.json")]
+    script, whole = bytes_of(os.path.join(case, "script")), bytes_of(os.path.join(case, "stdout"))
+    refused, without_effect, problems = 0, 0, []
+    for number in range(1, 10_000):
+        if without_effect == 50:
+            break  # the program makes fewer allocations
+        environment = {**os.environ, "LD_PRELOAD": library, "REFUSED_ALLOCATION": str(number)}
+        done = subprocess.run(arguments, input=script, capture_output=True, timeout=120, env=environment)
+        if (done.returncode, done.stdout, done.stderr) == (0, whole, b""):
+            without_effect += 1
+            continue
+        refused, without_effect = refused + 1, 0
+        if done.returncode != 3 or done.stderr != b"central: OutOfMemory\n" or not whole.startswith(done.stdout):
+            problems.append(f"allocation {number}: status {done.returncode}, {done.stdout!r}, {done.stderr!r}")
+    if refused < 20:
+        problems.append(f"only {refused} allocations were refused")
+    yield f"each of {refused} allocations refused", problems
+
+
 def main():
     if len(sys.argv) != 2:
         sys.exit(__doc__)
@@ -120,6 +146,7 @@ def main():
             results.append((name, list(differences(run(program, arguments, given), *want))))
         results.extend(command_line_problems(program))
         results.extend(device_problems(program, folder))
+        results.extend(memory_problems(program, folder))
     for name, problems in results:
         for problem in problems:
             print(f"{name}: {problem}")

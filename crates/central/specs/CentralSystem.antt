@@ -1,4 +1,4 @@
-use Rattle.std.specs.Prelude.{ℕ, ◌+◌, ◌==◌, nat_lt, Bool, true, false, not, ◌&&◌, ◌||◌, List, [], ◌∷◌, length, codes, Option, Some, None, Result, Ok, Err, if◌then◌else◌}
+use Rattle.std.specs.Prelude.{ℕ, ◌+◌, ◌==◌, nat_lt, Bool, true, false, not, ◌&&◌, List, [], ◌∷◌, length, codes, Option, Some, None, Result, Ok, Err, if◌then◌else◌}
 use Rattle.std.specs.Str.{bytes_eq}
 use Rattle.ocpp_scalars.specs.declared.refusal.Refusal.{Refusal}
 use Rattle.ocpp_scalars.specs.declared.refusal.Refusal.TheVariants.{UnknownPoint, UnknownConnector, WrongUnit, ResultTooLong}
@@ -9,7 +9,6 @@ use Rattle.profile.specs.declared.unit.Unit.{Unit}
 use Rattle.profile.specs.declared.unit.Unit.TheVariants as units
 use Rattle.profile.specs.declared.kind.Kind.{Kind}
 use Rattle.profile.specs.declared.kind.Kind.TheVariants.{Absolute, Recurring, Relative}
-use Rattle.profile.specs.declared.parts.ProfileParts.{ProfileParts}
 use Rattle.profile.specs.declared.charging_profile.Profile.{Profile}
 use Rattle.profile.specs.declared.row.Row.{Row}
 use Rattle.profile.specs.Parts.{first_refusal}
@@ -58,7 +57,7 @@ unit_eq units.A units.W = false
 unit_eq units.W units.A = false
 unit_eq units.W units.W = true
 
--- why a taken profile isn't installed, the first cause in this order
+-- why a profile isn't installed, the first cause in this order
 abbrev pub install_refusal : SiteView → List ℕ → Profile → Option Refusal
 install_refusal site point profile =
     if not (bytes_eq point site.point) then Some UnknownPoint
@@ -69,21 +68,21 @@ abbrev pub with_profile : SystemView → ℕ → ℕ → Profile → SystemView
 with_profile system moment connector profile =
     record { site = system.site; rows = record { connector = connector; moment = moment; profile = profile } ∷ [] }
 
-abbrev pub installed : SystemView → ℕ → ℕ → Profile → Option Refusal → SystemView × Outcome
-installed system moment connector profile (Some refusal) = (system, Rejected refusal)
-installed system moment connector profile None = (with_profile system moment connector profile, Accepted)
+abbrev pub install_result : SystemView → ℕ → ℕ → Profile → Option Refusal → SystemView × Outcome
+install_result system moment connector profile (Some refusal) = (system, Rejected refusal)
+install_result system moment connector profile None = (with_profile system moment connector profile, Accepted)
 
-abbrev pub taken : SystemView → ℕ → List ℕ → ℕ → Profile → SystemView × Outcome
-taken system moment point connector profile =
+abbrev pub profile_result : SystemView → ℕ → List ℕ → ℕ → Profile → SystemView × Outcome
+profile_result system moment point connector profile =
     if is_taken connector profile
-    then installed system moment connector profile (install_refusal system.site point profile)
+    then install_result system moment connector profile (install_refusal system.site point profile)
     else (system, NotImplemented)
 
--- the profile that the fields make, or why they make none
-abbrev pub judged : SystemView → ℕ → List ℕ → ℕ → Option Refusal → Option Profile → SystemView × Outcome
-judged system moment point connector (Some refusal) made = (system, Rejected refusal)
-judged system moment point connector None None = (system, NotImplemented)
-judged system moment point connector None (Some profile) = taken system moment point connector profile
+-- the profile that the fields make, or why they make none; parts that aren't refused make one
+abbrev pub parts_result : SystemView → ℕ → List ℕ → ℕ → Option Refusal → Option Profile → SystemView × Outcome
+parts_result system moment point connector (Some refusal) made = (system, Rejected refusal)
+parts_result system moment point connector None None = (system, NotImplemented)
+parts_result system moment point connector None (Some profile) = profile_result system moment point connector profile
 
 -- ---- GetCompositeSchedule (OCPP 1.6, 5.7)
 
@@ -103,12 +102,12 @@ abbrev pub book_in : SystemView → Book
 book_in system = record { ceiling = system.site.ceiling; ceilings = system.site.ceilings; starts = []; rows = system.rows }
 
 -- the periods of the exact schedule
-abbrev pub composed : SystemView → ℕ → ℕ → ℕ → List CompositePeriod
-composed system moment connector duration =
+abbrev pub composed_periods : SystemView → ℕ → ℕ → ℕ → List CompositePeriod
+composed_periods system moment connector duration =
     exact_periods (λ (second : ℕ). limit (book_in system) connector moment (moment + second)) duration
 
-abbrev pub scheduled : ℕ → ℕ → ℕ → List CompositePeriod → Outcome
-scheduled moment connector duration periods =
+abbrev pub schedule_outcome : ℕ → ℕ → ℕ → List CompositePeriod → Outcome
+schedule_outcome moment connector duration periods =
     if nat_lt MAX_COMPOSITE_PERIODS (length periods)
     then Rejected ResultTooLong
     else Scheduled connector moment (record { duration = duration; periods = periods })
@@ -120,12 +119,12 @@ schedule_or None outcome = outcome
 -- ---- an operator's CALL
 
 -- what an action does at a moment, and what comes of it
-abbrev pub performed : SystemView → ℕ → List ℕ → Action → SystemView × Outcome
-performed system moment point (SetChargingProfile connector parts) =
-    judged system moment point connector (first_refusal parts) (made_profile parts)
-performed system moment point (ClearChargingProfile criteria) = (system, NotImplemented)
-performed system moment point (GetCompositeSchedule connector duration unit) =
-    (system, schedule_or (schedule_refusal system.site moment point connector duration unit) (scheduled moment connector duration (composed system moment connector duration)))
+abbrev pub action_result : SystemView → ℕ → List ℕ → Action → SystemView × Outcome
+action_result system moment point (SetChargingProfile connector parts) =
+    parts_result system moment point connector (first_refusal parts) (made_profile parts)
+action_result system moment point (ClearChargingProfile criteria) = (system, NotImplemented)
+action_result system moment point (GetCompositeSchedule connector duration unit) =
+    (system, schedule_or (schedule_refusal system.site moment point connector duration unit) (schedule_outcome moment connector duration (composed_periods system moment connector duration)))
 
 -- the answer's text (OCPP-J 1.6, 4.2)
 abbrev pub outcome_text : List ℕ → Unit → Outcome → List ℕ
@@ -136,11 +135,11 @@ outcome_text id unit (Scheduled connector start schedule) = call_result_text id 
 
 -- a CALL is performed, or the first fault of its fields is answered
 abbrev pub state_of_call : SystemView → ℕ → List ℕ → Result Action CallFault → SystemView
-state_of_call system moment point (Ok action) = (performed system moment point action).0
+state_of_call system moment point (Ok action) = (action_result system moment point action).0
 state_of_call system moment point (Err fault) = system
 
 abbrev pub answer_of_call : SystemView → ℕ → List ℕ → List ℕ → Result Action CallFault → List ℕ
-answer_of_call system moment point id (Ok action) = outcome_text id system.site.unit (performed system moment point action).1
+answer_of_call system moment point id (Ok action) = outcome_text id system.site.unit (action_result system moment point action).1
 answer_of_call system moment point id (Err fault) = call_error_text id (fault_code fault) (fault_description fault)
 
 -- what the central system knows after a text; only a CALL changes it

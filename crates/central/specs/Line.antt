@@ -36,8 +36,8 @@ abbrev pub IsWord : List ℕ → Type 0
 IsWord word = (0 < length word) × EachIndex word (λ k. slice_index word k ≢ 32)
 
 -- what a line says that was read
-abbrev pub said : OperatorLine → Line
-said line = record { moment = line.moment; point = line.point.now; frame = line.frame.now }
+abbrev pub line_said : OperatorLine → Line
+line_said line = record { moment = line.moment; point = line.point.now; frame = line.frame.now }
 
 -- the form of an operator's line: words with one space between them, and the frame is the rest of the line
 abbrev pub IsOperatorLine : List ℕ → List ℕ → List ℕ → List ℕ → Type 0
@@ -45,13 +45,13 @@ IsOperatorLine line instant point frame =
     (line ≡ instant ++ (codes " operator " ++ (point ++ 32 ∷ frame))) × IsWord instant × IsWord point
 
 -- what a line of that form says, or that its instant is none
-abbrev pub dated : List ℕ → List ℕ → Result ℕ InstantFault → Result Line LineFault
-dated point frame (Ok moment) = Ok (record { moment = moment; point = point; frame = frame })
-dated point frame (Err fault) = Err BadInstant
+abbrev pub dated_line : List ℕ → List ℕ → Result ℕ InstantFault → Result Line LineFault
+dated_line point frame (Ok moment) = Ok (record { moment = moment; point = point; frame = frame })
+dated_line point frame (Err fault) = Err BadInstant
 
 abbrev pub of_words : Option (List ℕ × List ℕ × List ℕ) → Result Line LineFault
 of_words None = Err BadLine
-of_words (Some words) = dated words.1 words.2 (instant_of words.0)
+of_words (Some words) = dated_line words.1 words.2 (instant_of words.0)
 
 -- what a line says, or its first fault
 unfoldable pub line_of : List ℕ → Result Line LineFault

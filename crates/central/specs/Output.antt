@@ -17,9 +17,9 @@ answer_line (Some answer) = codes "> " ++ (answer ++ codes "\n")
 abbrev pub fault_line : ℕ → LineFault → List ℕ
 fault_line number fault = codes "! " ++ (decimal number ++ (codes " " ++ (fault_name fault ++ codes "\n")))
 
-abbrev pub printed : SystemView → ℕ → Result Line LineFault → List ℕ
-printed system number (Ok line) = answer_line (answer_to system line.moment line.point line.frame)
-printed system number (Err fault) = fault_line number fault
+abbrev pub printed_text : SystemView → ℕ → Result Line LineFault → List ℕ
+printed_text system number (Ok line) = answer_line (answer_to system line.moment line.point line.frame)
+printed_text system number (Err fault) = fault_line number fault
 
 abbrev pub known_after : SystemView → Result Line LineFault → SystemView
 known_after system (Ok line) = state_after system line.moment line.point line.frame
@@ -31,7 +31,7 @@ is_fault (Err fault) = true
 
 -- what the line of this number prints: an empty line nothing
 abbrev pub line_output : SystemView → ℕ → List ℕ → List ℕ
-line_output system number line = if length line == 0 then [] else printed system number (line_of line)
+line_output system number line = if length line == 0 then [] else printed_text system number (line_of line)
 
 -- what the central system knows after a line
 abbrev pub system_after : SystemView → List ℕ → SystemView

@@ -1,4 +1,4 @@
-use Rattle.std.specs.Prelude.{ℕ, List, [], ◌∷◌, Bool, true, false, Option, Some, None, Result, Ok, Err}
+use Rattle.std.specs.Prelude.{List, [], ◌∷◌, Bool, true, false, Result, Ok, Err}
 use Rattle.ocppj_frame.specs.Tree.{Tree, is_object}
 use Rattle.profile.specs.declared.period.Period.{Period}
 use Rattle.profile.specs.declared.parts.ProfileParts.{ProfileParts}

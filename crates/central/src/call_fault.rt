@@ -14,7 +14,7 @@ pub enum CallFault {
     TypeConstraintViolation(FieldName),
     /// A field's value is out of bounds, or isn't what it has to spell.
     PropertyConstraintViolation(FieldName),
-    /// Memory ran out; the error is InternalError.
+    /// Memory ran out. A replay ends with it; an answer would be InternalError.
     OutOfMemory,
 }
 

@@ -32,7 +32,7 @@ impl Model for CentralSystem {
 }
 
 impl CentralSystem {
-    ghost use Rattle.central.specs.CentralSystem.{first_state, state_after, answer_to, state_of_call, answer_of_call, performed, judged, taken, schedule_or, schedule_refusal, scheduled, composed, book_in};
+    ghost use Rattle.central.specs.CentralSystem.{first_state, state_after, answer_to, state_of_call, answer_of_call, action_result, parts_result, profile_result, schedule_or, schedule_refusal, schedule_outcome, composed_periods, book_in};
     ghost use Rattle.meaning.specs.Book.{book_of};
     ghost use Rattle.profile.specs.Parts.{first_refusal};
     ghost use Rattle.profile.specs.Made.{made_profile};
@@ -108,8 +108,8 @@ impl CentralSystem {
     /// Performs an action at a moment.
     fn perform(&mut self, moment: Instant, point: &str, action: Action) -> Result<Outcome, Refusal>
         requires { HasPeriods action }
-        ensures outcome { IfOk result (λ outcome. outcome ≡ (performed self.old moment point.now action).1) }
-        ensures after { OnOk result (self.new ≡ (performed self.old moment point.now action).0) }
+        ensures outcome { IfOk result (λ outcome. outcome ≡ (action_result self.old moment point.now action).1) }
+        ensures after { OnOk result (self.new ≡ (action_result self.old moment point.now action).0) }
     {
         match action {
             Action::SetChargingProfile { connector, profile } => {
@@ -133,8 +133,8 @@ impl CentralSystem {
         parts: ProfileParts,
     ) -> Result<Outcome, Refusal>
         requires { 0 < length parts.schedule.periods }
-        ensures outcome { IfOk result (λ outcome. outcome ≡ (judged self.old moment point.now connector (first_refusal parts) (made_profile parts)).1) }
-        ensures after { OnOk result (self.new ≡ (judged self.old moment point.now connector (first_refusal parts) (made_profile parts)).0) }
+        ensures outcome { IfOk result (λ outcome. outcome ≡ (parts_result self.old moment point.now connector (first_refusal parts) (made_profile parts)).1) }
+        ensures after { OnOk result (self.new ≡ (parts_result self.old moment point.now connector (first_refusal parts) (made_profile parts)).0) }
     {
         match Profile::try_new(parts) {
             Ok(profile) => self.install(moment, point, connector, profile),
@@ -150,8 +150,8 @@ impl CentralSystem {
         connector: u32,
         profile: Profile,
     ) -> Result<Outcome, Refusal>
-        ensures outcome { IfOk result (λ outcome. outcome ≡ (taken self.old moment point.now connector profile).1) }
-        ensures after { OnOk result (self.new ≡ (taken self.old moment point.now connector profile).0) }
+        ensures outcome { IfOk result (λ outcome. outcome ≡ (profile_result self.old moment point.now connector profile).1) }
+        ensures after { OnOk result (self.new ≡ (profile_result self.old moment point.now connector profile).0) }
     {
         if !is_taken(connector, &profile) {
             return Ok(Outcome::NotImplemented);
@@ -182,7 +182,7 @@ impl CentralSystem {
         unit: Option<Unit>,
     ) -> Result<Outcome, Refusal>
         ensures { IfOk result (λ outcome. outcome ≡ schedule_or (schedule_refusal self.now.site moment point.now connector duration unit)
-            (scheduled moment connector duration (composed self.now moment connector duration))) }
+            (schedule_outcome moment connector duration (composed_periods self.now moment connector duration))) }
     {
         match checked_ask(&self.site, moment, point, connector, duration, unit) {
             Ok(ask) => self.compose(&ask),
@@ -193,8 +193,8 @@ impl CentralSystem {
     /// Composes the schedule of an ask.
     fn compose(&self, ask: &Ask) -> Result<Outcome, Refusal>
         requires { ask.now.connector ≤ length self.now.site.ceilings }
-        ensures { IfOk result (λ outcome. outcome ≡ scheduled ask.now.start ask.now.connector ask.now.duration
-            (composed self.now ask.now.start ask.now.connector ask.now.duration)) }
+        ensures { IfOk result (λ outcome. outcome ≡ schedule_outcome ask.now.start ask.now.connector ask.now.duration
+            (composed_periods self.now ask.now.start ask.now.connector ask.now.duration)) }
     {
         let view = self.view();
         match compile_plain(self.alloc, &view, ask) {

@@ -1,6 +1,6 @@
 ghost use Rattle.std.specs.Prelude.{◌≡◌, ◌↔◌, ℕ, List, Some, option_map};
 ghost use Rattle.std.specs.Result.{result_map_both};
-ghost use Rattle.central.specs.Line.{IsOperatorLine, word_at, operator_words, of_words, line_of, said, fault_name};
+ghost use Rattle.central.specs.Line.{IsOperatorLine, word_at, operator_words, of_words, line_of, line_said, fault_name};
 
 use ocpp_scalars::{Instant, read_instant};
 use std::fmt;
@@ -57,7 +57,7 @@ pub struct OperatorLine<'a> {
 /// Reads a line of a script.
 #[tactic(auto, unfolding(crate::specs::Line::line_of))]
 pub fn read_line(line: &[u8]) -> Result<OperatorLine<'_>, LineFault>
-    ensures value { result_map_both said (λ fault. fault) result ≡ line_of line.now }
+    ensures value { result_map_both line_said (λ fault. fault) result ≡ line_of line.now }
     ensures form { (instant point frame : List ℕ) → ((operator_words line.now ≡ Some (instant, point, frame)) ↔ IsOperatorLine line.now instant point frame) }
 {
     if line.len() > MAX_LINE_BYTES {
@@ -71,7 +71,7 @@ pub fn read_line(line: &[u8]) -> Result<OperatorLine<'_>, LineFault>
 
 /// Reads a line that is short enough and UTF-8.
 fn read_text(text: &str) -> Result<OperatorLine<'_>, LineFault>
-    ensures { result_map_both said (λ fault. fault) result ≡ of_words (operator_words text.now) }
+    ensures { result_map_both line_said (λ fault. fault) result ≡ of_words (operator_words text.now) }
 {
     let Some((instant, point, frame)) = split_words(text) else {
         return Err(LineFault::BadLine);

@@ -33,7 +33,7 @@ use crate::replay::{Summary, replay};
 use crate::site_file::read_site_file;
 use clap::error::ErrorKind;
 use std::alloc::AllocGlobal;
-use std::io::BufWriter;
+use std::io::{BufWriter, Write};
 use std::process::ExitCode;
 use std::rt::{Env, Files};
 use std::{env, io};
@@ -87,7 +87,11 @@ fn replay_file<R: Files + Input + Print + AllocGlobal>(
     };
     match replay(rt.alloc(), &mut rt.reader(), &mut writer, site) {
         Ok(summary) => Ok(summary),
-        Err(fault) => Err(ProgramFault::Replay(fault)),
+        Err(fault) => {
+            // What was answered before the fault is worth having; where it can't be written, the fault stands.
+            let _ = writer.flush();
+            Err(ProgramFault::Replay(fault))
+        }
     }
 }
 

@@ -1,5 +1,5 @@
 ghost use Rattle.std.specs.Prelude.{◌≡◌, ℕ, IfOk, OnOk, string_bytes};
-ghost use Rattle.central.specs.Line.{said};
+ghost use Rattle.central.specs.Line.{line_said};
 ghost use Rattle.central.specs.CentralSystem.{answer_to, state_after};
 ghost use Rattle.central.specs.Output.{answer_line, line_output, system_after, has_fault};
 

@@ -21,8 +21,8 @@ counts purpose book connector row =
     is_candidate purpose book.rows connector row && has_its_transaction purpose (active_since book connector)
 
 -- a row's stack level and its limit at a second, where it has one
-abbrev pub rated : Book → ℕ → ℕ → ℕ → Row → Option (ℕ × ℕ)
-rated book connector asked second row =
+abbrev pub level_and_limit : Book → ℕ → ℕ → ℕ → Row → Option (ℕ × ℕ)
+level_and_limit book connector asked second row =
     option_map (λ (limit : ℕ). (row.profile.stack_level, limit)) (rate row.profile (base row (active_since book connector) asked) second)
 
 -- Of the profiles of one purpose the one with the highest stack level prevails, among those that have
@@ -31,4 +31,4 @@ abbrev pub prevailing : Purpose → Book → ℕ → ℕ → ℕ → Option ℕ
 prevailing purpose book connector asked second =
     option_map (λ (best : ℕ × ℕ). best.1)
     (greatest (λ (best : ℕ × ℕ). best.0)
-    (filter_map (rated book connector asked second) (filter (counts purpose book connector) book.rows)))
+    (filter_map (level_and_limit book connector asked second) (filter (counts purpose book connector) book.rows)))

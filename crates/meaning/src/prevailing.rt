@@ -3,7 +3,7 @@ ghost use Rattle.std.specs.List.{filter_map};
 ghost use Rattle.profile.specs.Greatest.{greatest};
 ghost use Rattle.profile.specs.Candidates.{is_replaced_at, is_candidate};
 ghost use Rattle.meaning.specs.Book.{book_of, active_since};
-ghost use Rattle.meaning.specs.Prevailing.{has_its_transaction, counts, rated, prevailing};
+ghost use Rattle.meaning.specs.Prevailing.{has_its_transaction, counts, level_and_limit, prevailing};
 
 use crate::view::View;
 use ocpp_scalars::Instant;
@@ -24,7 +24,7 @@ impl View<'_> {
         let mut best = None;
         for row in self.rows {
             if self.counts(purpose, connector, row) {
-                best = higher(best, self.rated(connector, asked, second, row));
+                best = higher(best, self.level_and_limit(connector, asked, second, row));
             }
         }
         best.map(|(_, limit)| limit)
@@ -66,14 +66,14 @@ impl View<'_> {
     }
 
     /// A row's stack level and its limit for a connector at a second, where it has one.
-    fn rated(
+    fn level_and_limit(
         &self,
         connector: usize,
         asked: Instant,
         second: Instant,
         row: &Row,
     ) -> Option<(u32, u32)>
-        ensures { result ≡ rated (book_of self.now) connector asked second row.now }
+        ensures { result ≡ level_and_limit (book_of self.now) connector asked second row.now }
     {
         let base = row.base(self.active_since(connector), asked);
         let limit = row.profile.rate(base, second)?;

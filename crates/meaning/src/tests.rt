@@ -5,7 +5,8 @@ use crate::plain_compiler::compile_plain;
 use crate::view::View;
 use ocpp_scalars::{Instant, Refusal};
 use profile::{
-    Period, Profile, ProfileKind, ProfileParts, Purpose, Recurrency, Row, ScheduleParts, Unit,
+    Period, PeriodList, Profile, ProfileKind, ProfileParts, Purpose, Recurrency, Row,
+    ScheduleParts, Unit,
 };
 use std::alloc::Global;
 use std::process::Abort;
@@ -61,7 +62,7 @@ fn row(
             duration: example.duration,
             start,
             unit: Unit::A,
-            periods: items,
+            periods: PeriodList::new(items),
             min_charging_rate: None,
         },
     };

@@ -1,7 +1,7 @@
-use Rattle.std.proofs.Common.{◌≡◌, ℕ, ◌<◌, nat_lt, Bool, true, false, List, [], ◌∷◌, ◌++◌, Option, Some, None, cond, refl, ap, arith, ltb-true}
+use Rattle.std.proofs.Common.{◌≡◌, ℕ, ◌<◌, List, [], ◌∷◌, ◌++◌, Some, refl, arith}
 use Rattle.std.specs.List.{AllByRecursion}
 use Rattle.std.proofs.lemmas.Bool.Decides.{nat_tests}
-use Rattle.profile.specs.Greatest.{greater, greatest}
+use Rattle.profile.specs.Greatest.{greatest}
 
 -- a last element above all the others is the greatest
 pub greatest-push : {X : Type 0} (key : X → ℕ) (xs : List X) (y : X) → AllByRecursion (λ x. key x < key y) xs → greatest key (xs ++ y ∷ []) ≡ Some y

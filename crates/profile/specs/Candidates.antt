@@ -5,8 +5,8 @@ use Rattle.profile.specs.declared.purpose.Purpose.TheVariants.{ChargePointMaxPro
 use Rattle.profile.specs.declared.row.Row.{Row}
 use Rattle.profile.specs.Purpose.{is_charge_point_max, is_tx_default, is_tx}
 
--- A TxDefaultProfile at a connector takes the place of the one of the same stack level at connector 0,
--- also at seconds that it doesn't cover (OCPP 1.6, 3.13; the seconds are this system's choice).
+-- A TxDefaultProfile at a connector takes the place of the one at connector 0 (OCPP 1.6, 3.13): of the one
+-- of the same stack level, and also at seconds that it doesn't cover (both are this system's choice).
 abbrev pub is_replaced_at : List Row → ℕ → ℕ → Bool
 is_replaced_at rows connector level =
     list_any (λ (r : Row). is_tx_default r.profile.purpose && (r.connector == connector) && (r.profile.stack_level == level)) rows

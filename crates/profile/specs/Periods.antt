@@ -1,4 +1,4 @@
-use Rattle.std.specs.Prelude.{◌≡◌, ℕ, ◌<◌, ◌≤◌, nat_le, nat_lt, Bool, true, ◌&&◌, IsTrue, List, [], ◌∷◌, length, filter, Option, Some, None, option_map}
+use Rattle.std.specs.Prelude.{ℕ, ◌<◌, ◌≤◌, nat_le, nat_lt, Bool, true, ◌&&◌, IsTrue, List, [], ◌∷◌, length, filter, Option, Some, None, option_map}
 use Rattle.profile.specs.declared.period.Period.{Period}
 use Rattle.profile.specs.declared.periods.TheConstants.{MAX_PERIODS}
 use Rattle.profile.specs.Greatest.{greatest}

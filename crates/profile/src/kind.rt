@@ -36,11 +36,11 @@ pub enum ProfileKind {
 /// it recurs.
 #[derive(Clone, Copy, Debug, PartialEq, Eq, Hash)]
 pub enum Kind {
-    /// From startSchedule on.
+    /// From its anchor on: the startSchedule, or the base where it has none.
     Absolute,
-    /// From startSchedule on, beginning anew every day or week.
+    /// From its anchor on, beginning anew every day or week.
     Recurring(Recurrency),
-    /// From the start of the transaction on.
+    /// From its base on, as the start of a transaction; it has no startSchedule.
     Relative,
 }
 

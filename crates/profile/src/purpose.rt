@@ -4,11 +4,11 @@ ghost use Rattle.profile.specs.Purpose.{transaction_of};
 /// What a charging profile is for (chapter 7, ChargingProfilePurposeType).
 #[derive(Clone, Copy, Debug, PartialEq, Eq, Hash)]
 pub enum Purpose {
-    /// Bounds the whole charge point.
+    /// Stands at connector 0 and bounds the whole charge point.
     ChargePointMaxProfile,
-    /// Bounds each transaction that has no profile of its own.
+    /// Bounds a connector wherever no TxProfile gives a limit.
     TxDefaultProfile,
-    /// Bounds one transaction.
+    /// Bounds a connector during its transaction.
     TxProfile,
 }
 
