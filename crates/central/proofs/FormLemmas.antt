@@ -1,5 +1,5 @@
--- The words of an operator's line are those of its form.
-use Rattle.std.proofs.Common.{◌≡◌, ◌↔◌, ℕ, ◌+◌, ◌<◌, ◌&&◌, List, ◌∷◌, ◌++◌, length, take, drop, get_or, codes, Bool, true, false, cond, nat_lt, Option, Some, None, refl, sym, ap, ◌∙◌, subst, arith, length-append, lit<}
+-- The words of a line are those of its form.
+use Rattle.std.proofs.Common.{◌≡◌, ◌↔◌, ℕ, ◌+◌, ◌<◌, ◌&&◌, List, ◌∷◌, ◌++◌, length, take, drop, get_or, codes, Bool, true, false, cond, nat_lt, Option, Some, None, unwrap_or, ◌⊎◌, inl, inr, refl, sym, ap, ◌∙◌, subst, arith, length-append, lit<}
 use Rattle.std.specs.List.{position_or_len, before_first, after_first}
 use Rattle.std.specs.Option.{option_and_then}
 use Rattle.std.specs.Str.{bytes_eq}
@@ -9,7 +9,9 @@ use Rattle.std.proofs.lemmas.List.Sums.{split_at_first, passes_at_first, fails_b
 use Rattle.std.proofs.lemmas.Slice.Eq.{bytes_eq-Decides}
 use Rattle.std.proofs.Math.ListN.{get_or-append}
 use Rattle.std.proofs.Math.Seq.{take-append_seam, drop-append-add, get_or-append_seam}
-use Rattle.central.specs.Line.{is_space, word_at, operator_words, IsWord, IsOperatorLine}
+use Rattle.messages.specs.declared.side.Side.{Side}
+use Rattle.messages.specs.declared.side.Side.TheVariants.{Operator, Point}
+use Rattle.central.specs.Line.{is_space, word_at, sender_named, sender_word, Words, line_words, IsWord, IsLine}
 
 -- both tests held where a choice gave its value
 both : {X : Type 0} (a b : Bool) (x y : X) → cond (a && b) (Some x) None ≡ Some y → (a ≡ true) × (b ≡ true) × (x ≡ y)
@@ -17,9 +19,11 @@ both true true x y e = (refl, refl, cc)
 both true false x y e = absurd (cc)
 both false b x y e = absurd (cc)
 
-only : {X : Type 0} (a : Bool) (x y : X) → cond a (Some x) None ≡ Some y → (a ≡ true) × (x ≡ y)
-only true x y e = (refl, cc)
-only false x y e = absurd (cc)
+-- one of two tests gave the value
+either : {X : Type 0} (a b : Bool) (x y z : X) → cond a (Some x) (cond b (Some y) None) ≡ Some z → ((a ≡ true) × (x ≡ z)) ⊎ ((b ≡ true) × (y ≡ z))
+either true b x y z e = inl (refl, cc)
+either false true x y z e = inr (refl, cc)
+either false false x y z e = absurd (cc)
 
 -- a step that gave a value had one before it
 bound : {A B : Type 0} (f : A → Option B) (o : Option A) (y : B) → option_and_then f o ≡ Some y → (x : A) × (o ≡ Some x) × (f x ≡ Some y)
@@ -59,31 +63,45 @@ word_made word rest is =
     ap (λ n. cond (nat_lt 0 n && nat_lt n (length text)) (Some (take n text, drop (n + 1) text)) None) place
     ∙ rw (lt-ltb 0 (length word) is.0, lt-ltb (length word) (length text) long) whole
 
--- `operator` is a word
-operator_word : IsWord (codes "operator")
-operator_word = (lit< tt, λ k below. eqb-false (get_or (codes "operator") k 0) 32 (fails_before_first is_space (codes "operator") k 0 below))
+-- a sender's word names it, and no other word does
+sender_is : (word : List ℕ) (sender : Side) → sender_named word ≡ Some sender → word ≡ sender_word sender
+sender_is word sender some =
+    elim (either (bytes_eq word (codes "operator")) (bytes_eq word (codes "point")) Operator Point sender some) [
+      | inl test ↦ (bytes_eq-Decides word (codes "operator")).0 test.0 ∙ ap sender_word test.1
+      | inr test ↦ (bytes_eq-Decides word (codes "point")).0 test.0 ∙ ap sender_word test.1
+    ]
 
-form_is : (line instant point frame : List ℕ) → operator_words line ≡ Some (instant, point, frame) → IsOperatorLine line instant point frame
-unfolding operator_words
-form_is line instant point frame some =
-    let first = bound _ (word_at line) (instant, point, frame) some in
-    let second = bound _ (word_at first.0.1) (instant, point, frame) first.2 in
-    let third = bound _ (word_at second.0.1) (instant, point, frame) second.2 in
-    let last = only (bytes_eq second.0.0 (codes "operator")) (first.0.0, third.0.0, third.0.1) (instant, point, frame) third.2 in
-    let kind : second.0.0 ≡ codes "operator" = (bytes_eq-Decides second.0.0 (codes "operator")).0 last.0 in
+sender_made : (sender : Side) → sender_named (sender_word sender) ≡ Some sender
+sender_made Operator = refl
+sender_made Point = refl
+
+sender_is_word : (sender : Side) → IsWord (sender_word sender)
+sender_is_word Operator = (lit< tt, λ k below. eqb-false (get_or (codes "operator") k 0) 32 (fails_before_first is_space (codes "operator") k 0 below))
+sender_is_word Point = (lit< tt, λ k below. eqb-false (get_or (codes "point") k 0) 32 (fails_before_first is_space (codes "point") k 0 below))
+
+form_is : (line instant : List ℕ) (sender : Side) (point frame : List ℕ) → line_words line ≡ Some (instant, sender, point, frame) → IsLine line instant sender point frame
+unfolding line_words
+form_is line instant sender point frame some =
+    let all : Words = (instant, sender, point, frame) in
+    let first = bound _ (word_at line) all some in
+    let second = bound _ (word_at first.0.1) all first.2 in
+    let third = bound _ (word_at second.0.1) all second.2 in
+    let last = bound _ (sender_named second.0.0) all third.2 in
+    let same : (first.0.0, last.0, third.0.0, third.0.1) ≡ all = ap (λ o. unwrap_or o all) last.2 in
+    let kind : second.0.0 ≡ sender_word last.0 = sender_is second.0.0 last.0 last.1 in
     let one = word_is line first.0 first.1 in
     let two = word_is first.0.1 second.0 second.1 in
     let three = word_is second.0.1 third.0 third.1 in
-    subst (λ (words : List ℕ × List ℕ × List ℕ). IsOperatorLine line words.0 words.1 words.2) last.1
-    (one.0 ∙ ap (λ l. first.0.0 ++ 32 ∷ l) (two.0 ∙ ap (λ k. k ++ 32 ∷ second.0.1) kind ∙ ap (λ l. codes "operator" ++ 32 ∷ l) three.0), one.1, three.1)
+    subst (λ (words : Words). IsLine line words.0 words.1 words.2 words.3) same
+    (one.0 ∙ ap (λ l. first.0.0 ++ 32 ∷ l) (two.0 ∙ ap (λ k. k ++ 32 ∷ second.0.1) kind ∙ ap (λ l. sender_word last.0 ++ 32 ∷ l) three.0), one.1, three.1)
 
-form_made : (line instant point frame : List ℕ) → IsOperatorLine line instant point frame → operator_words line ≡ Some (instant, point, frame)
-unfolding operator_words
-form_made line instant point frame form =
+form_made : (line instant : List ℕ) (sender : Side) (point frame : List ℕ) → IsLine line instant sender point frame → line_words line ≡ Some (instant, sender, point, frame)
+unfolding line_words
+form_made line instant sender point frame form =
     let tail = point ++ 32 ∷ frame in
-    let middle = codes "operator" ++ 32 ∷ tail in
-    ap operator_words form.0
-    ∙ rw (word_made instant middle form.1) (rw (word_made (codes "operator") tail operator_word) (rw (word_made point frame form.2) refl))
+    let middle = sender_word sender ++ 32 ∷ tail in
+    ap line_words form.0
+    ∙ rw (word_made instant middle form.1) (rw (word_made (sender_word sender) tail (sender_is_word sender)) (rw (word_made point frame form.2) (rw (sender_made sender) refl)))
 
-pub line_form : (line instant point frame : List ℕ) → (operator_words line ≡ Some (instant, point, frame)) ↔ IsOperatorLine line instant point frame
-line_form line instant point frame = (form_is line instant point frame, form_made line instant point frame)
+pub line_form : (line instant : List ℕ) (sender : Side) (point frame : List ℕ) → (line_words line ≡ Some (instant, sender, point, frame)) ↔ IsLine line instant sender point frame
+line_form line instant sender point frame = (form_is line instant sender point frame, form_made line instant sender point frame)

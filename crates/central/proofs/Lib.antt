@@ -2,9 +2,7 @@ pub mod CeilingsRead
 pub mod FormLemmas
 pub mod LineLemmas
 pub mod OutputLemmas
-pub mod PeriodsRead
 pub mod Scheduling
 pub mod ScriptLemmas
 pub mod SiteLemmas
-pub mod TextPieces
 pub mod WriteLemmas

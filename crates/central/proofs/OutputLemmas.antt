@@ -34,10 +34,10 @@ output_end system number rest done all none whole =
     sym (append-nil done) ∙ ap (λ r. done ++ output_from system number (script_lines r)) (sym (nil_from_length rest none)) ∙ whole
 
 -- the faults of one line more
-pub count_step : (rest line others : List ℕ) → script_lines rest ≡ line ∷ script_lines others
-    → count_by has_fault (script_lines rest) ≡ cond (has_fault line) 1 0 + count_by has_fault (script_lines others)
-count_step rest line others first =
-    ap (count_by has_fault) first ∙ sum_by-cons (λ l. cond (has_fault l) 1 0) line (script_lines others)
+pub count_step : (site : SiteView) (rest line others : List ℕ) → script_lines rest ≡ line ∷ script_lines others
+    → count_by (has_fault site) (script_lines rest) ≡ cond (has_fault site line) 1 0 + count_by (has_fault site) (script_lines others)
+count_step site rest line others first =
+    ap (count_by (has_fault site)) first ∙ sum_by-cons (λ l. cond (has_fault site l) 1 0) line (script_lines others)
 
 -- a test as a number counts its fault
 pub one_fault : (n : ℕ) (b fault : Bool) → n ≡ bool_byte b → b ≡ fault → n ≡ cond fault 1 0
@@ -48,8 +48,8 @@ pub cond_le : (b : Bool) → cond b 1 0 ≤ 1
 cond_le true = omega arith
 cond_le false = omega arith
 
-pub count_end : (rest : List ℕ) → length rest ≡ 0 → count_by has_fault (script_lines rest) ≡ 0
-count_end rest none = ap (λ r. count_by has_fault (script_lines r)) (nil_from_length rest none)
+pub count_end : (site : SiteView) (rest : List ℕ) → length rest ≡ 0 → count_by (has_fault site) (script_lines rest) ≡ 0
+count_end site rest none = ap (λ r. count_by (has_fault site) (script_lines r)) (nil_from_length rest none)
 
 -- a front of a text is a front of what the text is a front of
 front_within : (n : ℕ) (text more : List ℕ) → (m : ℕ) × (take n text ≡ take m (text ++ more))

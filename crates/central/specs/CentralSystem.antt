@@ -1,10 +1,11 @@
-use Rattle.std.specs.Prelude.{ℕ, ◌+◌, ◌==◌, nat_lt, Bool, true, false, not, ◌&&◌, List, [], ◌∷◌, length, codes, Option, Some, None, Result, Ok, Err, if◌then◌else◌}
+-- What the central system knows, and what it does at a text of an operator or of a charge point.
+use Rattle.std.specs.Prelude.{ℕ, ◌+◌, ◌==◌, nat_lt, Bool, true, false, not, ◌&&◌, List, [], ◌∷◌, length, Option, Some, None, Result, Ok, Err, if◌then◌else◌}
 use Rattle.std.specs.Str.{bytes_eq}
 use Rattle.ocpp_scalars.specs.declared.refusal.Refusal.{Refusal}
 use Rattle.ocpp_scalars.specs.declared.refusal.Refusal.TheVariants.{UnknownPoint, UnknownConnector, WrongUnit, ResultTooLong}
 use Rattle.ocppj_frame.specs.declared.fault.FrameFault.{FrameFault}
+use Rattle.ocppj_frame.specs.declared.fault.FrameFault.TheVariants.{Dropped, Formation, OutOfMemory}
 use Rattle.ocppj_frame.specs.Message.{Message, call, call_result, call_error, other, message_of_text}
-use Rattle.ocppj_frame.specs.Written.{call_result_text, call_error_text}
 use Rattle.profile.specs.declared.unit.Unit.{Unit}
 use Rattle.profile.specs.declared.unit.Unit.TheVariants as units
 use Rattle.profile.specs.declared.kind.Kind.{Kind}
@@ -20,15 +21,19 @@ use Rattle.meaning.specs.Limit.{limit}
 use Rattle.meaning.specs.ExactPeriods.{exact_periods}
 use Rattle.meaning.specs.Asked.{ask_refusal}
 use Rattle.meaning.specs.declared.composite.TheConstants.{MAX_COMPOSITE_PERIODS}
-use Rattle.central.specs.declared.action.Action.{Action}
-use Rattle.central.specs.declared.action.Action.TheVariants.{SetChargingProfile, ClearChargingProfile, GetCompositeSchedule}
-use Rattle.central.specs.declared.call_fault.CallFault.{CallFault}
-use Rattle.central.specs.declared.outcome.Outcome.{Outcome}
-use Rattle.central.specs.declared.outcome.Outcome.TheVariants.{Accepted, Rejected, NotImplemented, Scheduled}
-use Rattle.central.specs.Action.{action_of}
-use Rattle.central.specs.Answer.{accepted_text, rejected_text, composite_text}
-use Rattle.central.specs.CallFault.{fault_code, fault_description}
+use Rattle.messages.specs.declared.side.Side.{Side}
+use Rattle.messages.specs.declared.side.Side.TheVariants.{Operator, Point}
+use Rattle.messages.specs.declared.action.Action.{Action}
+use Rattle.messages.specs.declared.action.Action.TheVariants as actions
+use Rattle.messages.specs.declared.call_fault.CallFault.{CallFault}
+use Rattle.messages.specs.declared.call_fault.CallFault.TheVariants.{FormationViolation, NotImplemented}
+use Rattle.messages.specs.declared.answer.Answer.{Answer}
+use Rattle.messages.specs.declared.answer.Answer.TheVariants.{Accepted, Rejected, Schedule, BootNotification, Heartbeat, Authorize, Empty, UnknownVendorId, Fault}
+use Rattle.messages.specs.ActionKind.{side_of}
+use Rattle.messages.specs.Action.{action_of}
+use Rattle.messages.specs.Answer.{answer_text}
 use Rattle.central.specs.SiteView.{SiteView}
+use Rattle.central.specs.Line.{Line}
 
 -- what the central system knows: its site, and the profile that its point has, if any
 pub record SystemView : Type 0 where
@@ -45,6 +50,10 @@ abbrev pub is_absolute : Kind → Bool
 is_absolute Absolute = true
 is_absolute (Recurring recurrency) = false
 is_absolute Relative = false
+
+-- a well-formed CALL of what isn't taken yet
+abbrev pub not_taken : Answer
+not_taken = Fault NotImplemented
 
 -- which profiles are taken so far: an Absolute TxDefaultProfile of level 0 at connector 0
 abbrev pub is_taken : ℕ → Profile → Bool
@@ -68,20 +77,20 @@ abbrev pub with_profile : SystemView → ℕ → ℕ → Profile → SystemView
 with_profile system moment connector profile =
     record { site = system.site; rows = record { connector = connector; moment = moment; profile = profile } ∷ [] }
 
-abbrev pub install_result : SystemView → ℕ → ℕ → Profile → Option Refusal → SystemView × Outcome
+abbrev pub install_result : SystemView → ℕ → ℕ → Profile → Option Refusal → SystemView × Answer
 install_result system moment connector profile (Some refusal) = (system, Rejected refusal)
 install_result system moment connector profile None = (with_profile system moment connector profile, Accepted)
 
-abbrev pub profile_result : SystemView → ℕ → List ℕ → ℕ → Profile → SystemView × Outcome
+abbrev pub profile_result : SystemView → ℕ → List ℕ → ℕ → Profile → SystemView × Answer
 profile_result system moment point connector profile =
     if is_taken connector profile
     then install_result system moment connector profile (install_refusal system.site point profile)
-    else (system, NotImplemented)
+    else (system, not_taken)
 
 -- the profile that the fields make, or why they make none; parts that aren't refused make one
-abbrev pub parts_result : SystemView → ℕ → List ℕ → ℕ → Option Refusal → Option Profile → SystemView × Outcome
+abbrev pub parts_result : SystemView → ℕ → List ℕ → ℕ → Option Refusal → Option Profile → SystemView × Answer
 parts_result system moment point connector (Some refusal) made = (system, Rejected refusal)
-parts_result system moment point connector None None = (system, NotImplemented)
+parts_result system moment point connector None None = (system, not_taken)
 parts_result system moment point connector None (Some profile) = profile_result system moment point connector profile
 
 -- ---- GetCompositeSchedule (OCPP 1.6, 5.7)
@@ -106,62 +115,83 @@ abbrev pub composed_periods : SystemView → ℕ → ℕ → ℕ → List Compos
 composed_periods system moment connector duration =
     exact_periods (λ (second : ℕ). limit (book_in system) connector moment (moment + second)) duration
 
-abbrev pub schedule_outcome : ℕ → ℕ → ℕ → List CompositePeriod → Outcome
-schedule_outcome moment connector duration periods =
+abbrev pub schedule_answer : Unit → ℕ → ℕ → ℕ → List CompositePeriod → Answer
+schedule_answer unit moment connector duration periods =
     if nat_lt MAX_COMPOSITE_PERIODS (length periods)
     then Rejected ResultTooLong
-    else Scheduled connector moment (record { duration = duration; periods = periods })
+    else Schedule connector moment unit (record { duration = duration; periods = periods })
 
-abbrev pub schedule_or : Option Refusal → Outcome → Outcome
-schedule_or (Some refusal) outcome = Rejected refusal
-schedule_or None outcome = outcome
+abbrev pub schedule_or : Option Refusal → Answer → Answer
+schedule_or (Some refusal) answer = Rejected refusal
+schedule_or None answer = answer
 
--- ---- an operator's CALL
+abbrev pub ask_answer : SystemView → ℕ → List ℕ → ℕ → ℕ → Option Unit → Answer
+ask_answer system moment point connector duration unit =
+    schedule_or (schedule_refusal system.site moment point connector duration unit)
+    (schedule_answer system.site.unit moment connector duration (composed_periods system moment connector duration))
 
--- what an action does at a moment, and what comes of it
-abbrev pub action_result : SystemView → ℕ → List ℕ → Action → SystemView × Outcome
-action_result system moment point (SetChargingProfile connector parts) =
+-- ---- CALLs
+
+-- what an action does at a moment, and its answer; no CALL asks for nothing
+abbrev pub action_result : SystemView → ℕ → List ℕ → Action → SystemView × Answer
+action_result system moment point (actions.SetChargingProfile connector parts) =
     parts_result system moment point connector (first_refusal parts) (made_profile parts)
-action_result system moment point (ClearChargingProfile criteria) = (system, NotImplemented)
-action_result system moment point (GetCompositeSchedule connector duration unit) =
-    (system, schedule_or (schedule_refusal system.site moment point connector duration unit) (schedule_outcome moment connector duration (composed_periods system moment connector duration)))
+action_result system moment point (actions.ClearChargingProfile criteria) = (system, not_taken)
+action_result system moment point (actions.GetCompositeSchedule connector duration unit) =
+    (system, ask_answer system moment point connector duration unit)
+action_result system moment point actions.BootNotification = (system, BootNotification moment)
+action_result system moment point actions.Heartbeat = (system, Heartbeat moment)
+action_result system moment point actions.Authorize = (system, Authorize)
+action_result system moment point (actions.StartTransaction start) = (system, not_taken)
+action_result system moment point (actions.StopTransaction transaction) = (system, not_taken)
+action_result system moment point actions.StatusNotification = (system, Empty)
+action_result system moment point actions.MeterValues = (system, Empty)
+action_result system moment point actions.FirmwareStatusNotification = (system, Empty)
+action_result system moment point actions.DiagnosticsStatusNotification = (system, Empty)
+action_result system moment point actions.DataTransfer = (system, UnknownVendorId)
+action_result system moment point actions.NotACall = (system, not_taken)
 
--- the answer's text (OCPP-J 1.6, 4.2)
-abbrev pub outcome_text : List ℕ → Unit → Outcome → List ℕ
-outcome_text id unit Accepted = call_result_text id accepted_text
-outcome_text id unit (Rejected refusal) = call_result_text id (rejected_text refusal)
-outcome_text id unit NotImplemented = call_error_text id (codes "NotImplemented") []
-outcome_text id unit (Scheduled connector start schedule) = call_result_text id (composite_text connector start unit schedule)
+-- an action is performed, or the first fault of its CALL answered
+abbrev pub reading_result : SystemView → ℕ → List ℕ → Result Action CallFault → SystemView × Answer
+reading_result system moment point (Ok action) = action_result system moment point action
+reading_result system moment point (Err fault) = (system, Fault fault)
 
--- a CALL is performed, or the first fault of its fields is answered
-abbrev pub state_of_call : SystemView → ℕ → List ℕ → Result Action CallFault → SystemView
-state_of_call system moment point (Ok action) = (action_result system moment point action).0
-state_of_call system moment point (Err fault) = system
+abbrev pub is_side : Side → Option Side → Bool
+is_side side None = false
+is_side Operator (Some Operator) = true
+is_side Operator (Some Point) = false
+is_side Point (Some Operator) = false
+is_side Point (Some Point) = true
 
-abbrev pub answer_of_call : SystemView → ℕ → List ℕ → List ℕ → Result Action CallFault → List ℕ
-answer_of_call system moment point id (Ok action) = outcome_text id system.site.unit (action_result system moment point action).1
-answer_of_call system moment point id (Err fault) = call_error_text id (fault_code fault) (fault_description fault)
+-- a CALL of an action that isn't its sender's, or is nobody's, isn't taken, whatever its fields are
+abbrev pub call_result_of : SystemView → Line → List ℕ → Result Action CallFault → SystemView × Answer
+call_result_of system line name reading =
+    if is_side line.sender (side_of name) then reading_result system line.moment line.point reading else (system, not_taken)
 
--- what the central system knows after a text; only a CALL changes it
-abbrev pub state_of_message : SystemView → ℕ → List ℕ → Result Message FrameFault → SystemView
-state_of_message system moment point (Ok (call id action payload)) = state_of_call system moment point (action_of action payload)
-state_of_message system moment point (Ok (call_result id payload)) = system
-state_of_message system moment point (Ok (call_error id)) = system
-state_of_message system moment point (Ok other) = system
-state_of_message system moment point (Err fault) = system
+-- ---- texts
 
--- only a CALL is answered
-abbrev pub answer_of_message : SystemView → ℕ → List ℕ → Result Message FrameFault → Option (List ℕ)
-answer_of_message system moment point (Ok (call id action payload)) = Some (answer_of_call system moment point id (action_of action payload))
-answer_of_message system moment point (Ok (call_result id payload)) = None
-answer_of_message system moment point (Ok (call_error id)) = None
-answer_of_message system moment point (Ok other) = None
-answer_of_message system moment point (Err fault) = None
+-- only a CALL changes what is known
+abbrev pub state_of_message : SystemView → Line → Result Message FrameFault → SystemView
+state_of_message system line (Ok (call id name payload)) = (call_result_of system line name (action_of name payload)).0
+state_of_message system line (Ok (call_result id payload)) = system
+state_of_message system line (Ok (call_error id)) = system
+state_of_message system line (Ok other) = system
+state_of_message system line (Err fault) = system
 
--- what the central system knows after an operator's text for a point at a moment
-unfoldable pub state_after : SystemView → ℕ → List ℕ → List ℕ → SystemView
-state_after system moment point text = state_of_message system moment point (message_of_text text)
+-- only a CALL is answered, a malformed one too where it has an id
+abbrev pub answer_of_message : SystemView → Line → Result Message FrameFault → Option (List ℕ)
+answer_of_message system line (Ok (call id name payload)) = Some (answer_text id (call_result_of system line name (action_of name payload)).1)
+answer_of_message system line (Ok (call_result id payload)) = None
+answer_of_message system line (Ok (call_error id)) = None
+answer_of_message system line (Ok other) = None
+answer_of_message system line (Err (Formation id)) = Some (answer_text id (Fault FormationViolation))
+answer_of_message system line (Err Dropped) = None
+answer_of_message system line (Err OutOfMemory) = None
 
--- its answer to an operator's text for a point at a moment, if it has one
-unfoldable pub answer_to : SystemView → ℕ → List ℕ → List ℕ → Option (List ℕ)
-answer_to system moment point text = answer_of_message system moment point (message_of_text text)
+-- what the central system knows after a text
+unfoldable pub state_after : SystemView → Line → SystemView
+state_after system line = state_of_message system line (message_of_text line.frame)
+
+-- its answer to a text, if it has one
+unfoldable pub answer_to : SystemView → Line → Option (List ℕ)
+answer_to system line = answer_of_message system line (message_of_text line.frame)

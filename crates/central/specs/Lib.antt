@@ -1,16 +1,8 @@
-pub mod FieldName
-pub mod CallFault
-pub mod Names
-pub mod Fields
-pub mod Reading
-pub mod Profile
-pub mod Action
-pub mod Answer
 pub mod SiteView
 pub mod SiteFile
-pub mod CentralSystem
 pub mod Script
 pub mod Line
+pub mod CentralSystem
 pub mod Output
 pub mod Replay
 pub mod Input

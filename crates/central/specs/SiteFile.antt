@@ -7,12 +7,11 @@ use Rattle.ocppj_frame.specs.declared.field.Field.{Field}
 use Rattle.ocppj_frame.specs.declared.field.Field.TheVariants.{Absent, WrongKind, WrongValue, Value}
 use Rattle.ocppj_frame.specs.Tree.{Tree, is_object, as_number}
 use Rattle.ocppj_frame.specs.TreeReading.{tree_of_text}
-use Rattle.ocppj_frame.specs.FieldReading.{text_field_of, tenths_field_of, list_field_of}
+use Rattle.ocppj_frame.specs.FieldReading.{◌>>=◌, text_field_of, tenths_field_of, list_field_of}
 use Rattle.profile.specs.declared.unit.Unit.{Unit}
+use Rattle.profile.specs.Names.{unit_named}
 use Rattle.central.specs.declared.site_fault.SiteFault.{SiteFault}
 use Rattle.central.specs.declared.site_fault.SiteFault.TheVariants as faults
-use Rattle.central.specs.Names.{unit_named}
-use Rattle.central.specs.Fields.{◌>>=◌, one_of}
 use Rattle.central.specs.SiteView.{SiteView}
 
 -- a field's value; where it is absent, of another kind or of a wrong value, the fault is the same
@@ -21,6 +20,10 @@ or_fault fault Absent = Err fault
 or_fault fault WrongKind = Err fault
 or_fault fault WrongValue = Err fault
 or_fault fault (Value x) = Ok x
+
+abbrev pub some_or : {A : Type 0} → SiteFault → Option A → Result A SiteFault
+some_or fault None = Err fault
+some_or fault (Some x) = Ok x
 
 abbrev pub object_if : {A : Type 0} → SiteFault → A → Bool → Result A SiteFault
 object_if fault tree true = Ok tree
@@ -86,7 +89,8 @@ point_of unit point = do
 unfoldable pub site_of_tree : Tree → Result SiteView SiteFault
 site_of_tree tree = do
   fields ← object_or faults.NotAnObject tree
-  unit ← or_fault faults.BadUnit (one_of unit_named (text_field_of (codes "unit") fields))
+  unit_name ← or_fault faults.BadUnit (text_field_of (codes "unit") fields)
+  unit ← some_or faults.BadUnit (unit_named unit_name)
   points ← or_fault faults.BadPoints (list_field_of (codes "points") fields)
   point ← only_entry points
   point_of unit point

@@ -1,21 +1,24 @@
 ghost use Rattle.std.specs.Prelude.{◌≡◌, ◌<◌, ◌≤◌, length, IfOk, OnOk, option_map, string_bytes};
-ghost use Rattle.ocppj_frame.specs.Parts.{tree_at};
-ghost use Rattle.central.specs.Action.{action_of, HasPeriods};
+ghost use Rattle.ocppj_frame.specs.FrameReading.{message_in, HasObject};
+ghost use Rattle.messages.specs.Action.{action_in, HasPeriods};
+ghost use Rattle.central.specs.Line.{line_said};
 
-use crate::action::{Action, read_action};
-use crate::answer::write_outcome;
-use crate::call_fault::CallFault;
-use crate::checks::{checked_ask, install_refusal, is_taken};
-use crate::outcome::Outcome;
+use crate::checks::{checked_ask, install_refusal, is_sent_by, is_taken};
+use crate::line::ScriptLine;
 use crate::site::Site;
 use meaning::{Ask, View, compile_plain};
+use messages::{Action, Answer, CallFault, read_action, write_answer};
 use ocpp_scalars::{Instant, Refusal};
-use ocppj_frame::{Frame, FrameFault, Part, read_frame, write_error};
+use ocppj_frame::{Frame, FrameFault, read_frame};
 use profile::{Profile, ProfileParts, Row, Unit};
 use std::alloc::Global;
 use std::marker::Model;
 
-/// The central system of a site: what its point has installed, and the answers to its operators.
+/// What a well-formed CALL is answered whose action or profile isn't taken yet.
+const NOT_TAKEN: Answer = Answer::Fault(CallFault::NotImplemented);
+
+/// The central system of a site: what its point has installed, and the answers to its operators and
+/// to the point.
 #[derive(Drop)]
 pub struct CentralSystem {
     alloc: Global,
@@ -32,7 +35,8 @@ impl Model for CentralSystem {
 }
 
 impl CentralSystem {
-    ghost use Rattle.central.specs.CentralSystem.{first_state, state_after, answer_to, state_of_call, answer_of_call, action_result, parts_result, profile_result, schedule_or, schedule_refusal, schedule_outcome, composed_periods, book_in};
+    ghost use Rattle.central.specs.CentralSystem.{first_state, state_after, state_of_message, answer_to, answer_of_message, call_result_of, action_result, parts_result, profile_result, ask_answer, schedule_answer, composed_periods, book_in};
+    ghost use Rattle.std.specs.Prelude.{Ok};
     ghost use Rattle.meaning.specs.Book.{book_of};
     ghost use Rattle.profile.specs.Parts.{first_refusal};
     ghost use Rattle.profile.specs.Made.{made_profile};
@@ -48,79 +52,102 @@ impl CentralSystem {
         }
     }
 
-    /// Takes an operator's text for a point at a moment, and gives its answer, if it has one.
-    /// `OutOfMemory` is the one refusal.
-    #[tactic(auto, unfolding(crate::specs::CentralSystem::answer_to, crate::specs::CentralSystem::state_after))]
-    pub fn operator_text(
-        &mut self,
-        moment: Instant,
-        point: &str,
-        text: &str,
-    ) -> Result<Option<String>, Refusal>
-        ensures answer { IfOk result (λ answer. option_map string_bytes answer ≡ answer_to self.old moment point.now text.now) }
-        ensures after { OnOk result (self.new ≡ state_after self.old moment point.now text.now) }
+    /// The site.
+    pub fn site(&self) -> &Site
+        ensures { result.now ≡ self.now.site }
     {
-        match read_frame(self.alloc, text) {
-            Ok(
-                Frame::Call {
-                    id,
-                    action,
-                    payload,
-                },
-            ) => {
-                let answer = self.answer_call(
-                    moment,
-                    point,
-                    id.as_str(),
-                    action.as_str(),
-                    payload.root(),
-                )?;
-                Ok(Some(answer))
+        &self.site
+    }
+
+    /// Takes the text of a line, and gives its answer, if it has one. `OutOfMemory` is the one
+    /// refusal.
+    #[tactic(auto, unfolding(crate::specs::CentralSystem::answer_to, crate::specs::CentralSystem::state_after))]
+    pub fn take_text(&mut self, line: &ScriptLine<'_>) -> Result<Option<String>, Refusal>
+        ensures answer { IfOk result (λ answer. option_map string_bytes answer ≡ answer_to self.old (line_said line.now)) }
+        ensures after { OnOk result (self.new ≡ state_after self.old (line_said line.now)) }
+        ensures site { self.new.site ≡ self.old.site }
+    {
+        match read_frame(self.alloc, line.frame) {
+            Ok(frame) => self.take_message(line, &frame),
+            Err(FrameFault::Formation { id }) => {
+                let fault = Answer::Fault(CallFault::FormationViolation);
+                Ok(Some(write_answer(self.alloc, id.as_str(), &fault)?))
             }
-            Ok(_) => Ok(None),
+            Err(FrameFault::Dropped) => Ok(None),
             Err(FrameFault::OutOfMemory) => Err(Refusal::OutOfMemory),
-            Err(_) => Ok(None),
         }
     }
 
-    /// Takes an operator's CALL, and gives its answer.
-    fn answer_call(
+    /// Takes the message of a line, and gives its answer, if it has one.
+    fn take_message(
         &mut self,
-        moment: Instant,
-        point: &str,
-        id: &str,
-        action: &str,
-        payload: Part<'_>,
-    ) -> Result<String, Refusal>
-        ensures answer { IfOk result (λ s. string_bytes s ≡ answer_of_call self.old moment point.now id.now (action_of action.now (tree_at payload.entry))) }
-        ensures after { OnOk result (self.new ≡ state_of_call self.old moment point.now (action_of action.now (tree_at payload.entry))) }
+        line: &ScriptLine<'_>,
+        frame: &Frame,
+    ) -> Result<Option<String>, Refusal>
+        ensures answer { IfOk result (λ answer. option_map string_bytes answer ≡ answer_of_message self.old (line_said line.now) (Ok (message_in frame.now))) }
+        ensures after { OnOk result (self.new ≡ state_of_message self.old (line_said line.now) (Ok (message_in frame.now))) }
+        ensures site { self.new.site ≡ self.old.site }
     {
-        match read_action(self.alloc, action, payload) {
-            Ok(action) => {
-                let outcome = self.perform(moment, point, action)?;
-                write_outcome(self.alloc, id, self.site.unit(), &outcome)
-            }
+        let Frame::Call { id, action, .. } = frame else {
+            return Ok(None);
+        };
+        let answer = self.take_call(line, action.as_str(), frame)?;
+        Ok(Some(write_answer(self.alloc, id.as_str(), &answer)?))
+    }
+
+    /// Takes the CALL of a line for the action of a name, and gives its answer.
+    fn take_call(
+        &mut self,
+        line: &ScriptLine<'_>,
+        name: &str,
+        frame: &Frame,
+    ) -> Result<Answer, Refusal>
+        ensures answer { IfOk result (λ answer. answer ≡ (call_result_of self.old (line_said line.now) name.now (action_in (message_in frame.now))).1) }
+        ensures after { OnOk result (self.new ≡ (call_result_of self.old (line_said line.now) name.now (action_in (message_in frame.now))).0) }
+        ensures site { self.new.site ≡ self.old.site }
+    {
+        if !is_sent_by(line.sender, name) {
+            return Ok(NOT_TAKEN);
+        }
+        match read_action(self.alloc, frame) {
+            Ok(action) => self.perform(line.moment, line.point, action),
             Err(CallFault::OutOfMemory) => Err(Refusal::OutOfMemory),
-            Err(fault) => write_error(self.alloc, id, fault.code(), fault.description()),
+            Err(fault) => Ok(Answer::Fault(fault)),
         }
     }
 
     /// Performs an action at a moment.
-    fn perform(&mut self, moment: Instant, point: &str, action: Action) -> Result<Outcome, Refusal>
+    fn perform(&mut self, moment: Instant, point: &str, action: Action) -> Result<Answer, Refusal>
         requires { HasPeriods action }
-        ensures outcome { IfOk result (λ outcome. outcome ≡ (action_result self.old moment point.now action).1) }
+        ensures answer { IfOk result (λ answer. answer ≡ (action_result self.old moment point.now action).1) }
         ensures after { OnOk result (self.new ≡ (action_result self.old moment point.now action).0) }
+        ensures site { self.new.site ≡ self.old.site }
     {
         match action {
             Action::SetChargingProfile { connector, profile } => {
                 self.set_charging_profile(moment, point, connector, profile)
             }
-            Action::ClearChargingProfile(_) => Ok(Outcome::NotImplemented),
             Action::GetCompositeSchedule {
                 connector,
                 duration,
                 unit,
             } => self.get_composite_schedule(moment, point, connector, duration, unit),
+            Action::BootNotification => Ok(Answer::BootNotification {
+                current_time: moment,
+            }),
+            Action::Heartbeat => Ok(Answer::Heartbeat {
+                current_time: moment,
+            }),
+            Action::Authorize => Ok(Answer::Authorize),
+            Action::StatusNotification
+            | Action::MeterValues
+            | Action::FirmwareStatusNotification
+            | Action::DiagnosticsStatusNotification => Ok(Answer::Empty),
+            Action::DataTransfer => Ok(Answer::UnknownVendorId),
+            Action::ClearChargingProfile(_)
+            | Action::StartTransaction(_)
+            | Action::StopTransaction(_)
+            | Action::NotACall => Ok(NOT_TAKEN),
         }
     }
 
@@ -131,14 +158,15 @@ impl CentralSystem {
         point: &str,
         connector: u32,
         parts: ProfileParts,
-    ) -> Result<Outcome, Refusal>
+    ) -> Result<Answer, Refusal>
         requires { 0 < length parts.schedule.periods }
-        ensures outcome { IfOk result (λ outcome. outcome ≡ (parts_result self.old moment point.now connector (first_refusal parts) (made_profile parts)).1) }
+        ensures answer { IfOk result (λ answer. answer ≡ (parts_result self.old moment point.now connector (first_refusal parts) (made_profile parts)).1) }
         ensures after { OnOk result (self.new ≡ (parts_result self.old moment point.now connector (first_refusal parts) (made_profile parts)).0) }
+        ensures site { self.new.site ≡ self.old.site }
     {
         match Profile::try_new(parts) {
             Ok(profile) => self.install(moment, point, connector, profile),
-            Err((refusal, _)) => Ok(Outcome::Rejected(refusal)),
+            Err((refusal, _)) => Ok(Answer::Rejected(refusal)),
         }
     }
 
@@ -149,15 +177,16 @@ impl CentralSystem {
         point: &str,
         connector: u32,
         profile: Profile,
-    ) -> Result<Outcome, Refusal>
-        ensures outcome { IfOk result (λ outcome. outcome ≡ (profile_result self.old moment point.now connector profile).1) }
+    ) -> Result<Answer, Refusal>
+        ensures answer { IfOk result (λ answer. answer ≡ (profile_result self.old moment point.now connector profile).1) }
         ensures after { OnOk result (self.new ≡ (profile_result self.old moment point.now connector profile).0) }
+        ensures site { self.new.site ≡ self.old.site }
     {
         if !is_taken(connector, &profile) {
-            return Ok(Outcome::NotImplemented);
+            return Ok(NOT_TAKEN);
         }
         if let Some(refusal) = install_refusal(&self.site, point, &profile) {
-            return Ok(Outcome::Rejected(refusal));
+            return Ok(Answer::Rejected(refusal));
         }
         let mut rows = Vec::new(self.alloc);
         let row = Row {
@@ -169,7 +198,7 @@ impl CentralSystem {
             return Err(Refusal::OutOfMemory);
         }
         self.rows = rows;
-        Ok(Outcome::Accepted)
+        Ok(Answer::Accepted)
     }
 
     /// Composes the schedule of a connector from a moment on (chapter 5.7).
@@ -180,30 +209,30 @@ impl CentralSystem {
         connector: u32,
         duration: u32,
         unit: Option<Unit>,
-    ) -> Result<Outcome, Refusal>
-        ensures { IfOk result (λ outcome. outcome ≡ schedule_or (schedule_refusal self.now.site moment point.now connector duration unit)
-            (schedule_outcome moment connector duration (composed_periods self.now moment connector duration))) }
+    ) -> Result<Answer, Refusal>
+        ensures { IfOk result (λ answer. answer ≡ ask_answer self.now moment point.now connector duration unit) }
     {
         match checked_ask(&self.site, moment, point, connector, duration, unit) {
             Ok(ask) => self.compose(&ask),
-            Err(refusal) => Ok(Outcome::Rejected(refusal)),
+            Err(refusal) => Ok(Answer::Rejected(refusal)),
         }
     }
 
     /// Composes the schedule of an ask.
-    fn compose(&self, ask: &Ask) -> Result<Outcome, Refusal>
+    fn compose(&self, ask: &Ask) -> Result<Answer, Refusal>
         requires { ask.now.connector ≤ length self.now.site.ceilings }
-        ensures { IfOk result (λ outcome. outcome ≡ schedule_outcome ask.now.start ask.now.connector ask.now.duration
+        ensures { IfOk result (λ answer. answer ≡ schedule_answer self.now.site.unit ask.now.start ask.now.connector ask.now.duration
             (composed_periods self.now ask.now.start ask.now.connector ask.now.duration)) }
     {
         let view = self.view();
         match compile_plain(self.alloc, &view, ask) {
-            Ok(schedule) => Ok(Outcome::Scheduled {
+            Ok(schedule) => Ok(Answer::Schedule {
                 connector: ask.connector,
                 start: ask.start,
+                unit: self.site.unit(),
                 schedule,
             }),
-            Err(Refusal::ResultTooLong) => Ok(Outcome::Rejected(Refusal::ResultTooLong)),
+            Err(Refusal::ResultTooLong) => Ok(Answer::Rejected(Refusal::ResultTooLong)),
             Err(_) => Err(Refusal::OutOfMemory),
         }
     }

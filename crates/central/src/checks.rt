@@ -1,10 +1,22 @@
 ghost use Rattle.std.specs.Prelude.{◌≡◌, ◌≤◌, length, None, Some, IfOk, MatchResult};
-ghost use Rattle.central.specs.CentralSystem.{unit_eq, is_taken, install_refusal, is_other_unit, schedule_refusal};
+ghost use Rattle.messages.specs.ActionKind.{side_of};
+ghost use Rattle.central.specs.CentralSystem.{unit_eq, is_side, is_taken, install_refusal, is_other_unit, schedule_refusal};
 
 use crate::site::Site;
 use meaning::Ask;
+use messages::{Side, side_of};
 use ocpp_scalars::{Instant, Refusal};
 use profile::{Kind, Profile, Purpose, Unit};
+
+/// Whether the action of a name is one that this side sends.
+pub fn is_sent_by(sender: Side, action: &str) -> bool
+    ensures { result ≡ is_side sender (side_of action.now) }
+{
+    match (sender, side_of(action)) {
+        (Side::Operator, Some(Side::Operator)) | (Side::Point, Some(Side::Point)) => true,
+        _ => false,
+    }
+}
 
 /// Whether a profile is one of those that are taken so far: Absolute, TxDefaultProfile, stack level 0,
 /// at connector 0.

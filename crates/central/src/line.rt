@@ -1,7 +1,9 @@
 ghost use Rattle.std.specs.Prelude.{◌≡◌, ◌↔◌, ℕ, List, Some, option_map};
 ghost use Rattle.std.specs.Result.{result_map_both};
-ghost use Rattle.central.specs.Line.{IsOperatorLine, word_at, operator_words, of_words, line_of, line_said, fault_name};
+ghost use Rattle.messages.specs.declared.side.Side.{Side};
+ghost use Rattle.central.specs.Line.{IsLine, word_at, sender_named, line_words, is_stranger, of_words, line_of, line_said, fault_name};
 
+use messages::Side;
 use ocpp_scalars::{Instant, read_instant};
 use std::fmt;
 
@@ -15,10 +17,12 @@ pub enum LineFault {
     TooLong,
     /// The line isn't UTF-8.
     BadText,
-    /// The line isn't of the form `INSTANT operator ID FRAME`.
+    /// The line is neither of the form `INSTANT operator ID FRAME` nor `INSTANT point ID FRAME`.
     BadLine,
     /// The first word isn't an instant.
     BadInstant,
+    /// The site has no point of the identity that a point's line names.
+    UnknownPoint,
 }
 
 impl LineFault {
@@ -31,6 +35,7 @@ impl LineFault {
             LineFault::BadText => "BadText",
             LineFault::BadLine => "BadLine",
             LineFault::BadInstant => "BadInstant",
+            LineFault::UnknownPoint => "UnknownPoint",
         }
     }
 }
@@ -43,59 +48,85 @@ impl fmt::Display for LineFault {
     }
 }
 
-/// An operator's text for a point, at a moment.
+/// A text that a script hands to the central system.
 #[derive(Clone, Copy, Debug, PartialEq, Eq)]
-pub struct OperatorLine<'a> {
+pub struct ScriptLine<'a> {
     /// The moment of the text.
     pub moment: Instant,
-    /// The identity of the point.
+    /// Who sends it.
+    pub sender: Side,
+    /// The identity of the point that an operator's text is for, or that sends its own.
     pub point: &'a str,
     /// The text itself, an OCPP-J frame (OCPP-J 1.6, chapter 4).
     pub frame: &'a str,
 }
 
-/// Reads a line of a script.
+/// Reads a line of a script on the site of a point.
 #[tactic(auto, unfolding(crate::specs::Line::line_of))]
-pub fn read_line(line: &[u8]) -> Result<OperatorLine<'_>, LineFault>
-    ensures value { result_map_both line_said (λ fault. fault) result ≡ line_of line.now }
-    ensures form { (instant point frame : List ℕ) → ((operator_words line.now ≡ Some (instant, point, frame)) ↔ IsOperatorLine line.now instant point frame) }
+pub fn read_line<'a>(line: &'a [u8], site_point: &str) -> Result<ScriptLine<'a>, LineFault>
+    ensures value { result_map_both line_said (λ fault. fault) result ≡ line_of site_point.now line.now }
+    ensures form { (instant : List ℕ) (sender : Side) (point frame : List ℕ) → ((line_words line.now ≡ Some (instant, sender, point, frame)) ↔ IsLine line.now instant sender point frame) }
 {
     if line.len() > MAX_LINE_BYTES {
         return Err(LineFault::TooLong);
     }
     match std::str::from_utf8(line) {
-        Ok(text) => read_text(text),
+        Ok(text) => read_text(text, site_point),
         Err(_) => Err(LineFault::BadText),
     }
 }
 
 /// Reads a line that is short enough and UTF-8.
-fn read_text(text: &str) -> Result<OperatorLine<'_>, LineFault>
-    ensures { result_map_both line_said (λ fault. fault) result ≡ of_words (operator_words text.now) }
+fn read_text<'a>(text: &'a str, site_point: &str) -> Result<ScriptLine<'a>, LineFault>
+    ensures { result_map_both line_said (λ fault. fault) result ≡ of_words site_point.now (line_words text.now) }
 {
-    let Some((instant, point, frame)) = split_words(text) else {
+    let Some((instant, sender, point, frame)) = split_words(text) else {
         return Err(LineFault::BadLine);
     };
-    match read_instant(instant) {
-        Ok(moment) => Ok(OperatorLine {
-            moment,
-            point,
-            frame,
-        }),
-        Err(_) => Err(LineFault::BadInstant),
+    let Ok(moment) = read_instant(instant) else {
+        return Err(LineFault::BadInstant);
+    };
+    if is_stranger(site_point, sender, point) {
+        return Err(LineFault::UnknownPoint);
+    }
+    Ok(ScriptLine {
+        moment,
+        sender,
+        point,
+        frame,
+    })
+}
+
+/// Whether a point's own text names another point than the site's.
+fn is_stranger(site_point: &str, sender: Side, point: &str) -> bool
+    ensures { result ≡ is_stranger site_point.now sender point.now }
+{
+    match sender {
+        Side::Operator => false,
+        Side::Point => point != site_point,
     }
 }
 
-/// The instant's text, the point's identity and the frame of an operator's line.
-#[tactic(auto, unfolding(crate::specs::Line::operator_words))]
-fn split_words(text: &str) -> Option<(&str, &str, &str)>
-    ensures { option_map (λ words. (words.0.now, words.1.now, words.2.now)) result ≡ operator_words text.now }
+/// The instant's text, the sender, the point's identity and the frame of a line.
+#[tactic(auto, unfolding(crate::specs::Line::line_words))]
+fn split_words(text: &str) -> Option<(&str, Side, &str, &str)>
+    ensures { option_map (λ words. (words.0.now, words.1, words.2.now, words.3.now)) result ≡ line_words text.now }
 {
     let (instant, text) = split_word(text)?;
     let (kind, text) = split_word(text)?;
     let (point, frame) = split_word(text)?;
-    if kind == "operator" {
-        Some((instant, point, frame))
+    let sender = sender_named(kind)?;
+    Some((instant, sender, point, frame))
+}
+
+/// The sender that the second word of a line names.
+fn sender_named(word: &str) -> Option<Side>
+    ensures { result ≡ sender_named word.now }
+{
+    if word == "operator" {
+        Some(Side::Operator)
+    } else if word == "point" {
+        Some(Side::Point)
     } else {
         None
     }

@@ -2,21 +2,13 @@
 //! a site and writes its output to standard output.
 #![tactic(auto)]
 
-mod action;
-mod answer;
-mod call_fault;
 mod central_system;
 mod checks;
 mod command_line;
-mod field_name;
-mod fields;
 mod input;
 mod line;
-mod names;
-mod outcome;
 mod output;
 mod printing;
-mod profile_fields;
 mod program_fault;
 mod replay;
 mod script;

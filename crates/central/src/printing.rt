@@ -4,7 +4,7 @@ ghost use Rattle.central.specs.CentralSystem.{answer_to, state_after};
 ghost use Rattle.central.specs.Output.{answer_line, line_output, system_after, has_fault};
 
 use crate::central_system::CentralSystem;
-use crate::line::{OperatorLine, read_line};
+use crate::line::{ScriptLine, read_line};
 use std::alloc::{AllocError, Global};
 
 /// What a line of the script prints.
@@ -24,8 +24,9 @@ pub fn play_line(
     line: &[u8],
 ) -> Result<Printed, AllocError>
     ensures text { IfOk result (λ printed. string_bytes printed.text ≡ line_output system.old number line.now) }
-    ensures fault { IfOk result (λ printed. printed.is_fault ≡ has_fault line.now) }
+    ensures fault { IfOk result (λ printed. printed.is_fault ≡ has_fault system.old.site line.now) }
     ensures after { OnOk result (system.new ≡ system_after system.old line.now) }
+    ensures site { system.new.site ≡ system.old.site }
 {
     if line.is_empty() {
         return Ok(Printed {
@@ -33,9 +34,9 @@ pub fn play_line(
             is_fault: false,
         });
     }
-    match read_line(line) {
+    match read_line(line, system.site().point()) {
         Ok(line) => Ok(Printed {
-            text: answer_text(alloc, system, line)?,
+            text: answer_text(alloc, system, &line)?,
             is_fault: false,
         }),
         Err(fault) => Ok(Printed {
@@ -49,12 +50,13 @@ pub fn play_line(
 fn answer_text(
     alloc: Global,
     system: &mut CentralSystem,
-    line: OperatorLine<'_>,
+    line: &ScriptLine<'_>,
 ) -> Result<String, AllocError>
-    ensures text { IfOk result (λ text. string_bytes text ≡ answer_line (answer_to system.old line.entry.moment line.entry.point.now line.entry.frame.now)) }
-    ensures after { OnOk result (system.new ≡ state_after system.old line.entry.moment line.entry.point.now line.entry.frame.now) }
+    ensures text { IfOk result (λ text. string_bytes text ≡ answer_line (answer_to system.old (line_said line.now))) }
+    ensures after { OnOk result (system.new ≡ state_after system.old (line_said line.now)) }
+    ensures site { system.new.site ≡ system.old.site }
 {
-    match system.operator_text(line.moment, line.point, line.frame) {
+    match system.take_text(line) {
         Ok(Some(answer)) => format!(in alloc; "> {answer}\n"),
         Ok(None) => Ok(String::new(alloc)),
         Err(_) => Err(AllocError),

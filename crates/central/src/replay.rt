@@ -49,7 +49,7 @@ pub fn replay<R: Read, W: Write>(
     site: Site,
 ) -> Result<Summary, ReplayFault>
     ensures whole { OnOk result (IfSome (R.remaining reader.old) (λ script. Appends (W.contents writer.old) (W.contents writer.new) (output_of site script))) }
-    ensures faults { IfOk result (λ summary. IfSome (R.remaining reader.old) (λ script. summary.script_faults ≡ fault_count script)) }
+    ensures faults { IfOk result (λ summary. IfSome (R.remaining reader.old) (λ script. summary.script_faults ≡ fault_count site script)) }
     ensures front { IfSome (R.remaining reader.old) (λ script. AppendsFront (W.contents writer.old) (W.contents writer.new) (output_of site script)) }
     ensures early { IfErr result (λ fault. IsReading fault → Keeps (W.contents writer.old) (W.contents writer.new)) }
     ensures most { GaveAtMost (R.remaining reader.old) (R.remaining reader.new) 16_777_217 }
@@ -83,7 +83,7 @@ fn write_output<W: Write>(
 ) -> Result<Summary, ReplayFault>
     requires { length script.now ≤ 16_777_216 }
     ensures whole { OnOk result (Appends (W.contents writer.old) (W.contents writer.new) (output_of site script.now)) }
-    ensures faults { IfOk result (λ summary. summary.script_faults ≡ fault_count script.now) }
+    ensures faults { IfOk result (λ summary. summary.script_faults ≡ fault_count site script.now) }
     ensures front { AppendsFront (W.contents writer.old) (W.contents writer.new) (output_of site script.now) }
     ensures late { IfErr result IsWriting }
 {
@@ -104,7 +104,7 @@ fn write_lines<W: Write>(
 ) -> Result<Summary, ReplayFault>
     requires { length script.now ≤ 16_777_216 }
     ensures whole { OnOk result (Appends (W.contents writer.old) (W.contents writer.new) (output_from system.old 1 (script_lines script.now))) }
-    ensures faults { IfOk result (λ summary. summary.script_faults ≡ fault_count script.now) }
+    ensures faults { IfOk result (λ summary. summary.script_faults ≡ fault_count system.old.site script.now) }
     ensures front { AppendsFront (W.contents writer.old) (W.contents writer.new) (output_from system.old 1 (script_lines script.now)) }
     ensures late { IfErr result IsWriting }
 {
@@ -133,7 +133,8 @@ fn write_line<W: Write>(
 ) -> Result<bool, ReplayFault>
     ensures whole { OnOk result (Appends (W.contents writer.old) (W.contents writer.new) (line_output system.old number line.now)) }
     ensures after { OnOk result (system.new ≡ system_after system.old line.now) }
-    ensures fault { IfOk result (λ is_fault. is_fault ≡ has_fault line.now) }
+    ensures site { system.new.site ≡ system.old.site }
+    ensures fault { IfOk result (λ is_fault. is_fault ≡ has_fault system.old.site line.now) }
     ensures front { AppendsFront (W.contents writer.old) (W.contents writer.new) (line_output system.old number line.now) }
     ensures late { IfErr result IsWriting }
 {

@@ -3,16 +3,15 @@ ghost use Rattle.ocppj_frame.specs.FieldReading.{field_map};
 ghost use Rattle.std.specs.List.{list_all};
 ghost use Rattle.ocppj_frame.specs.TreeReading.{tree_of_text};
 ghost use Rattle.ocppj_frame.specs.Parts.{entries_in, tree_at};
-ghost use Rattle.central.specs.SiteFile.{or_fault, is_id_byte, is_point_id, id_or_wrong, only_entry, object_or, ceiling_of, ceilings_of, few_entries, point_of, site_of_tree, site_by, site_of, ReadsSite};
+ghost use Rattle.central.specs.SiteFile.{or_fault, some_or, is_id_byte, is_point_id, id_or_wrong, only_entry, object_or, ceiling_of, ceilings_of, few_entries, point_of, site_of_tree, site_by, site_of, ReadsSite};
 
-use crate::fields::name_from;
 use crate::site::Site;
 use crate::site_fault::SiteFault;
 use ocpp_scalars::read_tenths;
 use ocppj_frame::{
     Field, FrameFault, Items, Part, list_field, read_tree, tenths_field, text_field,
 };
-use profile::Unit;
+use profile::{Named, Unit};
 use std::alloc::Global;
 
 /// The most bytes of a site file.
@@ -53,7 +52,8 @@ fn read_site_tree(alloc: Global, tree: Part<'_>) -> Result<Site, SiteFault>
     ensures { ReadsSite (λ site. site) result (site_of_tree (tree_at tree.entry)) }
 {
     let fields = object_or(SiteFault::NotAnObject, tree)?;
-    let unit = or_fault(SiteFault::BadUnit, name_from(text_field(fields, "unit")))?;
+    let unit = or_fault(SiteFault::BadUnit, text_field(fields, "unit"))?;
+    let unit = some_or(SiteFault::BadUnit, Unit::named(unit))?;
     let entries = or_fault(SiteFault::BadPoints, list_field(fields, "points"))?;
     let point = only_entry(entries)?;
     read_point(alloc, unit, point)
@@ -82,6 +82,15 @@ fn or_fault<T: Drop>(fault: SiteFault, field: Field<T>) -> Result<T, SiteFault>
     match field {
         Field::Absent | Field::WrongKind | Field::WrongValue => Err(fault),
         Field::Value(value) => Ok(value),
+    }
+}
+
+fn some_or<T: Drop>(fault: SiteFault, value: Option<T>) -> Result<T, SiteFault>
+    ensures { result ≡ some_or fault value }
+{
+    match value {
+        None => Err(fault),
+        Some(value) => Ok(value),
     }
 }
 

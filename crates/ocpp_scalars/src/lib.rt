@@ -2,6 +2,8 @@
 //! written, beside what every crate above shares: the refusals by name and the source of moments.
 #![tactic(auto)]
 
+mod characters;
+mod id_tag;
 mod instant;
 mod instant_text;
 mod laws;
@@ -11,6 +13,8 @@ mod number_text;
 mod refusal;
 mod writing;
 
+pub use characters::character_count;
+pub use id_tag::{IdTag, MAX_ID_TAG_CHARACTERS};
 pub use instant::{Instant, LAST_SECOND};
 pub use instant_text::{InstantFault, read_instant};
 pub use laws::{instant_texts, number_texts};

@@ -1,6 +1,7 @@
 ghost use Rattle.std.specs.Prelude.{◌≡◌, ◌↔◌, ◌≤◌, IfErr, IfOk, IsOk, length, string_bytes};
 ghost use Rattle.std.specs.Str.{chars};
 
+use ocpp_scalars::character_count;
 use std::marker::Model;
 
 /// The most characters of a message id (OCPP-J 1.6, section 4.1.4).
@@ -51,10 +52,4 @@ impl MessageId {
         let MessageId { text } = self;
         text
     }
-}
-
-fn character_count(text: &str) -> usize
-    ensures { result ≡ length (chars text.now) }
-{
-    text.chars().count()
 }

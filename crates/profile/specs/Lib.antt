@@ -7,3 +7,4 @@ pub mod Parts
 pub mod Made
 pub mod Base
 pub mod Candidates
+pub mod Names

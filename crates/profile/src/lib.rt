@@ -6,6 +6,7 @@
 mod charging_profile;
 mod criteria;
 mod kind;
+mod names;
 mod parts;
 mod period;
 mod period_list;
@@ -18,6 +19,7 @@ mod unit;
 pub use charging_profile::{MAX_STACK_LEVEL, Profile};
 pub use criteria::Criteria;
 pub use kind::{Kind, ProfileKind, Recurrency};
+pub use names::Named;
 pub use parts::{ProfileParts, ScheduleParts};
 pub use period::Period;
 pub use period_list::PeriodList;

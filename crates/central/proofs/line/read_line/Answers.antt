@@ -1,6 +1,6 @@
 -- A line that is short enough is read as a text, or is none; its words are those of its form.
 use Rattle.std.proofs.Common.{◌∙◌, ap}
-use Rattle.central.specs.Line.{of_words, operator_words}
+use Rattle.central.specs.Line.{of_words, line_words}
 use Rattle.central.proofs.FormLemmas.{line_form}
 use Rattle.central.proofs.LineLemmas.{line_of-text, line_of-not_text}
 use Rattle.central.proofs.line.read_line.Goals as goal
@@ -10,14 +10,14 @@ returns-then-line-gt-MAX_LINE_BYTES-clause-form c = line_form c.args.line.now
 
 pub returns-in-Ok-clause-value : goal.returns-in-Ok-clause-value
 returns-in-Ok-clause-value c =
-    c.read_text.ensures ∙ ap (λ text. of_words (operator_words text)) c.in-Ok.ensures.cases.0
-    ∙ line_of-text c.args.line.now c.if-line-gt-MAX_LINE_BYTES.false c.in-Ok.ensures.cases.1
+    c.read_text.ensures ∙ ap (λ text. of_words c.args.site_point.now (line_words text)) c.in-Ok.ensures.cases.0
+    ∙ line_of-text c.args.site_point.now c.args.line.now c.if-line-gt-MAX_LINE_BYTES.false c.in-Ok.ensures.cases.1
 
 pub returns-in-Ok-clause-form : goal.returns-in-Ok-clause-form
 returns-in-Ok-clause-form c = line_form c.args.line.now
 
 pub returns-in-Err-clause-value : goal.returns-in-Err-clause-value
-returns-in-Err-clause-value c = line_of-not_text c.args.line.now c.if-line-gt-MAX_LINE_BYTES.false c.in-Err.ensures.cases.0
+returns-in-Err-clause-value c = line_of-not_text c.args.site_point.now c.args.line.now c.if-line-gt-MAX_LINE_BYTES.false c.in-Err.ensures.cases.0
 
 pub returns-in-Err-clause-form : goal.returns-in-Err-clause-form
 returns-in-Err-clause-form c = line_form c.args.line.now

@@ -1,0 +1,2 @@
+pub mod PeriodsRead
+pub mod TextPieces

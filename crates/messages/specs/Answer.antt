@@ -1,0 +1,103 @@
+use Rattle.std.specs.Prelude.{ℕ, List, [], ◌∷◌, ◌++◌, codes}
+use Rattle.std.specs.Fmt.{decimal}
+use Rattle.ocpp_scalars.specs.declared.refusal.Refusal.{Refusal}
+use Rattle.ocpp_scalars.specs.Refusal.{refusal_name}
+use Rattle.ocpp_scalars.specs.InstantText.{instant_text}
+use Rattle.ocpp_scalars.specs.TenthsText.{tenths_text}
+use Rattle.profile.specs.declared.unit.Unit.{Unit}
+use Rattle.profile.specs.declared.unit.Unit.TheVariants.{A, W}
+use Rattle.meaning.specs.declared.composite.CompositePeriod.{CompositePeriod}
+use Rattle.meaning.specs.Schedule as schedules
+use Rattle.ocpp_scalars.specs.declared.refusal.Refusal.TheVariants as refusals
+use Rattle.ocppj_frame.specs.Written.{call_result_text, call_error_text}
+use Rattle.messages.specs.declared.answer.Answer.{Answer}
+use Rattle.messages.specs.declared.answer.Answer.TheVariants.{Accepted, Rejected, Unknown, Schedule, BootNotification, Heartbeat, Authorize, StartTransaction, Empty, UnknownVendorId, Fault, Refused}
+use Rattle.messages.specs.CallFault.{fault_code, fault_description}
+
+-- what answers look like, byte for byte: keys in this order, no blanks, limits with one decimal
+
+abbrev pub accepted_text : List ℕ
+accepted_text = codes "{\"status\":\"Accepted\"}"
+
+-- OCPP 1.6, chapter 6, ClearChargingProfile.conf
+abbrev pub unknown_text : List ℕ
+unknown_text = codes "{\"status\":\"Unknown\"}"
+
+-- BootNotification.conf: the interval between heartbeats is in seconds
+abbrev pub boot_notification_text : ℕ → List ℕ
+boot_notification_text now = codes "{\"currentTime\":\"" ++ instant_text now ++ codes "\",\"interval\":300,\"status\":\"Accepted\"}"
+
+-- Heartbeat.conf
+abbrev pub heartbeat_text : ℕ → List ℕ
+heartbeat_text now = codes "{\"currentTime\":\"" ++ instant_text now ++ codes "\"}"
+
+-- Authorize.conf
+abbrev pub authorize_text : List ℕ
+authorize_text = codes "{\"idTagInfo\":{\"status\":\"Accepted\"}}"
+
+-- StartTransaction.conf
+abbrev pub start_transaction_text : ℕ → List ℕ
+start_transaction_text transaction = codes "{\"idTagInfo\":{\"status\":\"Accepted\"},\"transactionId\":" ++ decimal transaction ++ codes "}"
+
+-- DataTransfer.conf
+abbrev pub unknown_vendor_text : List ℕ
+unknown_vendor_text = codes "{\"status\":\"UnknownVendorId\"}"
+
+-- the reason is this system's own field
+abbrev pub rejected_text : Refusal → List ℕ
+rejected_text refusal = codes "{\"status\":\"Rejected\",\"reason\":\"" ++ refusal_name refusal ++ codes "\"}"
+
+abbrev pub unit_text : Unit → List ℕ
+unit_text A = codes "A"
+unit_text W = codes "W"
+
+abbrev pub period_text : CompositePeriod → List ℕ
+period_text period = codes "{\"startPeriod\":" ++ decimal period.start ++ codes ",\"limit\":" ++ tenths_text period.limit ++ codes "}"
+
+-- each behind a comma
+abbrev pub later_periods_text : List CompositePeriod → List ℕ
+later_periods_text [] = []
+later_periods_text (period ∷ periods) = 44 ∷ (period_text period ++ later_periods_text periods)
+
+abbrev pub periods_text : List CompositePeriod → List ℕ
+periods_text [] = []
+periods_text (period ∷ periods) = period_text period ++ later_periods_text periods
+
+-- the answer to an ask (OCPP 1.6, chapter 6, GetCompositeSchedule.conf)
+abbrev pub composite_text : ℕ → ℕ → Unit → schedules.Schedule → List ℕ
+composite_text connector start unit schedule =
+    codes "{\"status\":\"Accepted\",\"connectorId\":" ++ decimal connector
+    ++ codes ",\"scheduleStart\":\"" ++ instant_text start
+    ++ codes "\",\"chargingSchedule\":{\"duration\":" ++ decimal schedule.duration
+    ++ codes ",\"chargingRateUnit\":\"" ++ unit_text unit
+    ++ codes "\",\"chargingSchedulePeriod\":[" ++ periods_text schedule.periods ++ codes "]}}"
+
+-- the error code of a refused ClearChargingProfile, StartTransaction or StopTransaction
+abbrev pub refused_code : Refusal → List ℕ
+refused_code refusals.UnknownConnector = codes "PropertyConstraintViolation"
+refused_code refusals.UnknownPoint = codes "InternalError"
+refused_code refusals.WrongUnit = codes "InternalError"
+refused_code refusals.LevelTooHigh = codes "InternalError"
+refused_code refusals.TooManyPeriods = codes "InternalError"
+refused_code refusals.PeriodsOutOfOrder = codes "InternalError"
+refused_code refusals.NoRecurrency = codes "InternalError"
+refused_code refusals.BadDuration = codes "InternalError"
+refused_code refusals.PastCalendar = codes "InternalError"
+refused_code refusals.ResultTooLong = codes "InternalError"
+refused_code refusals.OutOfMemory = codes "InternalError"
+
+-- the text that answers the CALL of an id (OCPP-J 1.6, 4.2): a CALLRESULT, or a CALLERROR with the code and the
+-- description that name why
+abbrev pub answer_text : List ℕ → Answer → List ℕ
+answer_text id Accepted = call_result_text id accepted_text
+answer_text id (Rejected refusal) = call_result_text id (rejected_text refusal)
+answer_text id Unknown = call_result_text id unknown_text
+answer_text id (Schedule connector start unit schedule) = call_result_text id (composite_text connector start unit schedule)
+answer_text id (BootNotification now) = call_result_text id (boot_notification_text now)
+answer_text id (Heartbeat now) = call_result_text id (heartbeat_text now)
+answer_text id Authorize = call_result_text id authorize_text
+answer_text id (StartTransaction transaction) = call_result_text id (start_transaction_text transaction)
+answer_text id Empty = call_result_text id (codes "{}")
+answer_text id UnknownVendorId = call_result_text id unknown_vendor_text
+answer_text id (Fault fault) = call_error_text id (fault_code fault) (fault_description fault)
+answer_text id (Refused refusal) = call_error_text id (refused_code refusal) (refusal_name refusal)

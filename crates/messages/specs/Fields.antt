@@ -1,0 +1,82 @@
+-- The fields of an object: what stands at a field's name, and which fault it is where that won't do
+-- (OCPP-J 1.6, 4.2.3, for the three faults).
+use Rattle.std.specs.Prelude.{ℕ, ℤ, pos, negsuc, List, [], ◌∷◌, Option, Some, None, Result, Ok, Err}
+use Rattle.ocppj_frame.specs.declared.field.Field.{Field}
+use Rattle.ocppj_frame.specs.declared.field.Field.TheVariants.{Absent, WrongKind, WrongValue, Value}
+use Rattle.ocppj_frame.specs.Tree.{Tree}
+use Rattle.ocppj_frame.specs.FieldReading.{text_field_of, whole_field_of, tenths_field_of, instant_field_of, list_field_of, object_field_of}
+use Rattle.messages.specs.declared.field_name.FieldName.{FieldName}
+use Rattle.messages.specs.declared.fields.NamedField.{NamedField}
+use Rattle.messages.specs.declared.call_fault.CallFault.{CallFault}
+use Rattle.messages.specs.declared.call_fault.CallFault.TheVariants.{OccurenceConstraintViolation, TypeConstraintViolation, PropertyConstraintViolation}
+use Rattle.messages.specs.FieldName.{field_name}
+
+abbrev pub required_value : {A : Type 0} → FieldName → Field A → Result A CallFault
+required_value name Absent = Err (OccurenceConstraintViolation name)
+required_value name WrongKind = Err (TypeConstraintViolation name)
+required_value name WrongValue = Err (PropertyConstraintViolation name)
+required_value name (Value x) = Ok x
+
+abbrev pub optional_value : {A : Type 0} → FieldName → Field A → Result (Option A) CallFault
+optional_value name Absent = Ok None
+optional_value name WrongKind = Err (TypeConstraintViolation name)
+optional_value name WrongValue = Err (PropertyConstraintViolation name)
+optional_value name (Value x) = Ok (Some x)
+
+-- a field that has to be there
+abbrev pub required : {A : Type 0} → NamedField A → Result A CallFault
+required read = required_value read.name read.field
+
+-- a field that may be absent
+abbrev pub optional : {A : Type 0} → NamedField A → Result (Option A) CallFault
+optional read = optional_value read.name read.field
+
+abbrev pub whole : Tree → FieldName → NamedField ℤ
+whole fields name = record { name = name; field = whole_field_of (field_name name) fields }
+
+abbrev pub from_zero : Field ℤ → Field ℕ
+from_zero Absent = Absent
+from_zero WrongKind = WrongKind
+from_zero WrongValue = WrongValue
+from_zero (Value (pos n)) = Value n
+from_zero (Value (negsuc n)) = WrongValue
+
+abbrev pub whole_from_zero : Tree → FieldName → NamedField ℕ
+whole_from_zero fields name = record { name = name; field = from_zero (whole_field_of (field_name name) fields) }
+
+abbrev pub tenths : Tree → FieldName → NamedField ℕ
+tenths fields name = record { name = name; field = tenths_field_of (field_name name) fields }
+
+abbrev pub instant : Tree → FieldName → NamedField ℕ
+instant fields name = record { name = name; field = instant_field_of (field_name name) fields }
+
+abbrev pub value_or_wrong : {A : Type 0} → Option A → Field A
+value_or_wrong None = WrongValue
+value_or_wrong (Some x) = Value x
+
+abbrev pub one_of : {A : Type 0} → (List ℕ → Option A) → Field (List ℕ) → Field A
+one_of named Absent = Absent
+one_of named WrongKind = WrongKind
+one_of named WrongValue = WrongValue
+one_of named (Value text) = value_or_wrong (named text)
+
+-- a text that names one of a few values
+abbrev pub one_name_of : {A : Type 0} → (List ℕ → Option A) → Tree → FieldName → NamedField A
+one_name_of named fields name = record { name = name; field = one_of named (text_field_of (field_name name) fields) }
+
+-- a list that has entries; an empty one counts as absent
+abbrev pub with_entries : Field (List Tree) → Field (List Tree)
+with_entries Absent = Absent
+with_entries WrongKind = WrongKind
+with_entries WrongValue = WrongValue
+with_entries (Value []) = Absent
+with_entries (Value (entry ∷ entries)) = Value (entry ∷ entries)
+
+abbrev pub entries : Tree → FieldName → NamedField (List Tree)
+entries fields name = record { name = name; field = with_entries (list_field_of (field_name name) fields) }
+
+abbrev pub object : Tree → FieldName → NamedField Tree
+object fields name = record { name = name; field = object_field_of (field_name name) fields }
+
+abbrev pub text : Tree → FieldName → NamedField (List ℕ)
+text fields name = record { name = name; field = text_field_of (field_name name) fields }

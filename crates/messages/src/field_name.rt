@@ -1,0 +1,63 @@
+ghost use Rattle.std.specs.Prelude.{◌≡◌};
+ghost use Rattle.messages.specs.FieldName.{field_name};
+
+/// A field of a payload, under its OCPP name.
+#[derive(Clone, Copy, Debug, PartialEq, Eq)]
+pub enum FieldName {
+    ChargingProfileId,
+    ChargingProfileKind,
+    ChargingProfilePurpose,
+    ChargingRateUnit,
+    ChargingSchedule,
+    ChargingSchedulePeriod,
+    ConnectorId,
+    CsChargingProfiles,
+    Duration,
+    Id,
+    IdTag,
+    Limit,
+    MeterStart,
+    MinChargingRate,
+    NumberPhases,
+    RecurrencyKind,
+    StackLevel,
+    StartPeriod,
+    StartSchedule,
+    Timestamp,
+    TransactionId,
+    ValidFrom,
+    ValidTo,
+}
+
+impl FieldName {
+    /// The name as payloads have it.
+    pub fn text(self) -> &'static str
+        ensures { result.now ≡ field_name self }
+    {
+        match self {
+            FieldName::ChargingProfileId => "chargingProfileId",
+            FieldName::ChargingProfileKind => "chargingProfileKind",
+            FieldName::ChargingProfilePurpose => "chargingProfilePurpose",
+            FieldName::ChargingRateUnit => "chargingRateUnit",
+            FieldName::ChargingSchedule => "chargingSchedule",
+            FieldName::ChargingSchedulePeriod => "chargingSchedulePeriod",
+            FieldName::ConnectorId => "connectorId",
+            FieldName::CsChargingProfiles => "csChargingProfiles",
+            FieldName::Duration => "duration",
+            FieldName::Id => "id",
+            FieldName::IdTag => "idTag",
+            FieldName::Limit => "limit",
+            FieldName::MeterStart => "meterStart",
+            FieldName::MinChargingRate => "minChargingRate",
+            FieldName::NumberPhases => "numberPhases",
+            FieldName::RecurrencyKind => "recurrencyKind",
+            FieldName::StackLevel => "stackLevel",
+            FieldName::StartPeriod => "startPeriod",
+            FieldName::StartSchedule => "startSchedule",
+            FieldName::Timestamp => "timestamp",
+            FieldName::TransactionId => "transactionId",
+            FieldName::ValidFrom => "validFrom",
+            FieldName::ValidTo => "validTo",
+        }
+    }
+}

@@ -1,0 +1,171 @@
+//! The fields of an object, each read under its name and then taken as required or optional, so that
+//! the reading of an action stands as its table of fields does.
+ghost use Rattle.std.specs.Prelude.{◌≡◌, ◌<◌, length, Ok, Err, IfOk, MatchResult};
+ghost use Rattle.ocppj_frame.specs.FieldReading.{field_map};
+ghost use Rattle.ocppj_frame.specs.Parts.{entries_in, tree_at};
+ghost use Rattle.messages.specs.Fields.{required, optional, from_zero, one_of, value_or_wrong, whole, whole_from_zero, tenths, instant, one_name_of, text, with_entries, entries, object};
+
+use crate::call_fault::CallFault;
+use crate::field_name::FieldName;
+use ocpp_scalars::Instant;
+use ocppj_frame::{
+    Field, Items, Part, instant_field, list_field, object_field, tenths_field, text_field,
+    whole_field,
+};
+use profile::Named;
+
+/// What stands at the name of a field.
+#[derive(Debug, Drop)]
+pub struct NamedField<T> {
+    pub name: FieldName,
+    pub field: Field<T>,
+}
+
+impl<T: Drop> NamedField<T> {
+    /// The value of a field that has to be there.
+    pub fn required(self) -> Result<T, CallFault>
+        ensures { result ≡ required self }
+    {
+        match self.field {
+            Field::Absent => Err(CallFault::OccurenceConstraintViolation(self.name)),
+            Field::WrongKind => Err(CallFault::TypeConstraintViolation(self.name)),
+            Field::WrongValue => Err(CallFault::PropertyConstraintViolation(self.name)),
+            Field::Value(value) => Ok(value),
+        }
+    }
+
+    /// The value of a field that may be absent.
+    pub fn optional(self) -> Result<Option<T>, CallFault>
+        ensures { result ≡ optional self }
+    {
+        match self.field {
+            Field::Absent => Ok(None),
+            Field::WrongKind => Err(CallFault::TypeConstraintViolation(self.name)),
+            Field::WrongValue => Err(CallFault::PropertyConstraintViolation(self.name)),
+            Field::Value(value) => Ok(Some(value)),
+        }
+    }
+}
+
+/// A whole number.
+pub fn whole(fields: Part<'_>, name: FieldName) -> NamedField<i32>
+    ensures { result ≡ whole (tree_at fields.entry) name }
+{
+    NamedField {
+        name,
+        field: whole_field(fields, name.text()),
+    }
+}
+
+/// A whole number from 0.
+pub fn whole_from_zero(fields: Part<'_>, name: FieldName) -> NamedField<u32>
+    ensures { result ≡ whole_from_zero (tree_at fields.entry) name }
+{
+    NamedField {
+        name,
+        field: from_zero(whole_field(fields, name.text())),
+    }
+}
+
+fn from_zero(field: Field<i32>) -> Field<u32>
+    ensures { result ≡ from_zero field }
+{
+    match field {
+        Field::Absent => Field::Absent,
+        Field::WrongKind => Field::WrongKind,
+        Field::Value(value) if value >= 0 => Field::Value(value as u32),
+        Field::WrongValue | Field::Value(_) => Field::WrongValue,
+    }
+}
+
+/// Tenths of A or W.
+pub fn tenths(fields: Part<'_>, name: FieldName) -> NamedField<u32>
+    ensures { result ≡ tenths (tree_at fields.entry) name }
+{
+    NamedField {
+        name,
+        field: tenths_field(fields, name.text()),
+    }
+}
+
+/// An instant.
+pub fn instant(fields: Part<'_>, name: FieldName) -> NamedField<Instant>
+    ensures { result ≡ instant (tree_at fields.entry) name }
+{
+    NamedField {
+        name,
+        field: instant_field(fields, name.text()),
+    }
+}
+
+/// A value that is written as one of a few names.
+pub fn one_name_of<T: Named + Drop>(fields: Part<'_>, name: FieldName) -> NamedField<T>
+    ensures { result ≡ one_name_of T.named (tree_at fields.entry) name }
+{
+    NamedField {
+        name,
+        field: one_of(text_field(fields, name.text())),
+    }
+}
+
+fn one_of<T: Named + Drop>(field: Field<&str>) -> Field<T>
+    ensures { result ≡ one_of T.named (field_map (λ text. text.now) field.entry) }
+{
+    match field {
+        Field::Absent => Field::Absent,
+        Field::WrongKind => Field::WrongKind,
+        Field::WrongValue => Field::WrongValue,
+        Field::Value(text) => value_or_wrong(T::named(text)),
+    }
+}
+
+fn value_or_wrong<T: Drop>(value: Option<T>) -> Field<T>
+    ensures { result ≡ value_or_wrong value }
+{
+    match value {
+        None => Field::WrongValue,
+        Some(value) => Field::Value(value),
+    }
+}
+
+/// An object. What is at the name is a `Part` here, and its tree in the definition.
+pub fn object<'a>(fields: Part<'a>, name: FieldName) -> NamedField<Part<'a>>
+    ensures name { result.name ≡ name }
+    ensures field { field_map tree_at result.field ≡ (object (tree_at fields.entry) name).field }
+{
+    NamedField {
+        name,
+        field: object_field(fields, name.text()),
+    }
+}
+
+/// A text.
+pub fn text<'a>(fields: Part<'a>, name: FieldName) -> NamedField<&'a str>
+    ensures name { result.name ≡ name }
+    ensures field { field_map (λ text. text.now) result.field ≡ (text (tree_at fields.entry) name).field }
+{
+    NamedField {
+        name,
+        field: text_field(fields, name.text()),
+    }
+}
+
+/// A list with at least one entry: an empty list counts as absent.
+pub fn entries<'a>(fields: Part<'a>, name: FieldName) -> NamedField<Items<'a>>
+    ensures name { result.name ≡ name }
+    ensures field { field_map entries_in result.field ≡ (entries (tree_at fields.entry) name).field }
+{
+    NamedField {
+        name,
+        field: with_entries(list_field(fields, name.text())),
+    }
+}
+
+fn with_entries(field: Field<Items<'_>>) -> Field<Items<'_>>
+    ensures { field_map entries_in result ≡ with_entries (field_map entries_in field.entry) }
+{
+    match field {
+        Field::Value(entries) if entries.is_empty() => Field::Absent,
+        other => other,
+    }
+}

@@ -1,0 +1,98 @@
+ghost use Rattle.std.specs.Prelude.{◌≡◌, ◌<◌, length, IfOk};
+ghost use Rattle.ocppj_frame.specs.Parts.{entries_in, tree_at};
+ghost use Rattle.messages.specs.Profile.{period_of, periods_of, schedule_of, profile_of};
+ghost use Rattle.messages.specs.Reading.{Reads};
+
+use crate::call_fault::CallFault;
+use crate::field_name::FieldName::{
+    ChargingProfileId, ChargingProfileKind, ChargingProfilePurpose, ChargingRateUnit,
+    ChargingSchedule, ChargingSchedulePeriod, Duration, Limit, MinChargingRate, NumberPhases,
+    RecurrencyKind, StackLevel, StartPeriod, StartSchedule, TransactionId, ValidFrom, ValidTo,
+};
+use crate::fields::{entries, instant, object, one_name_of, tenths, whole, whole_from_zero};
+use ocppj_frame::{Items, Part};
+use profile::{Period, PeriodList, ProfileParts, ScheduleParts};
+use std::alloc::Global;
+
+/// Reads the fields of a profile (chapter 7, ChargingProfile), or names the first fault.
+#[tactic(auto, unfolding(crate::specs::Profile::profile_of))]
+pub fn read_profile(alloc: Global, fields: Part<'_>) -> Result<ProfileParts, CallFault>
+    ensures value { Reads (λ parts. parts) result (profile_of (tree_at fields.entry)) }
+    ensures some { IfOk result (λ parts. 0 < length parts.schedule.periods) }
+{
+    let id = whole(fields, ChargingProfileId).required()?;
+    let transaction = whole(fields, TransactionId).optional()?;
+    let stack_level = whole_from_zero(fields, StackLevel).required()?;
+    let purpose = one_name_of(fields, ChargingProfilePurpose).required()?;
+    let kind = one_name_of(fields, ChargingProfileKind).required()?;
+    let recurrency = one_name_of(fields, RecurrencyKind).optional()?;
+    let valid_from = instant(fields, ValidFrom).optional()?;
+    let valid_to = instant(fields, ValidTo).optional()?;
+    let schedule = object(fields, ChargingSchedule).required()?;
+    let schedule = read_schedule(alloc, schedule)?;
+    Ok(ProfileParts {
+        id,
+        transaction,
+        stack_level,
+        purpose,
+        kind,
+        recurrency,
+        valid_from,
+        valid_to,
+        schedule,
+    })
+}
+
+/// Reads the fields of a schedule (chapter 7, ChargingSchedule), or names the first fault.
+#[tactic(auto, unfolding(crate::specs::Profile::schedule_of))]
+fn read_schedule(alloc: Global, fields: Part<'_>) -> Result<ScheduleParts, CallFault>
+    ensures value { Reads (λ parts. parts) result (schedule_of (tree_at fields.entry)) }
+    ensures some { IfOk result (λ parts. 0 < length parts.periods) }
+{
+    let duration = whole_from_zero(fields, Duration).optional()?;
+    let start = instant(fields, StartSchedule).optional()?;
+    let unit = one_name_of(fields, ChargingRateUnit).required()?;
+    let periods = entries(fields, ChargingSchedulePeriod).required()?;
+    let periods = read_periods(alloc, periods)?;
+    let min_charging_rate = tenths(fields, MinChargingRate).optional()?;
+    Ok(ScheduleParts {
+        duration,
+        start,
+        unit,
+        periods,
+        min_charging_rate,
+    })
+}
+
+/// Reads the periods of a list, in order, or names the first fault.
+fn read_periods(alloc: Global, entries: Items<'_>) -> Result<PeriodList, CallFault>
+    ensures value { Reads (λ periods. periods) result (periods_of (entries_in entries.entry)) }
+    ensures count { IfOk result (λ periods. length periods ≡ length (entries_in entries.entry)) }
+{
+    let mut periods = Vec::new(alloc);
+    for entry in entries.iter() {
+        let period = read_period(entry)?;
+        if periods.push(period).is_err() {
+            return Err(CallFault::OutOfMemory);
+        }
+    }
+    Ok(PeriodList::new(periods))
+}
+
+/// Reads the fields of a period (chapter 7, ChargingSchedulePeriod), or names the first fault.
+#[tactic(auto, unfolding(crate::specs::Profile::period_of))]
+fn read_period(fields: Part<'_>) -> Result<Period, CallFault>
+    ensures { result ≡ period_of (tree_at fields.entry) }
+{
+    if !fields.is_object() {
+        return Err(CallFault::TypeConstraintViolation(ChargingSchedulePeriod));
+    }
+    let start = whole_from_zero(fields, StartPeriod).required()?;
+    let limit = tenths(fields, Limit).required()?;
+    let number_phases = whole_from_zero(fields, NumberPhases).optional()?;
+    Ok(Period {
+        start,
+        limit,
+        number_phases,
+    })
+}
