@@ -15,3 +15,4 @@ pub mod Output
 pub mod Replay
 pub mod Input
 pub mod ExitStatus
+pub mod SiteStop
