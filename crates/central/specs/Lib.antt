@@ -16,3 +16,4 @@ pub mod Replay
 pub mod Input
 pub mod ExitStatus
 pub mod SiteStop
+pub mod CommandLine
