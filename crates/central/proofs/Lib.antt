@@ -1,4 +1,5 @@
 pub mod CeilingsRead
+pub mod CommandLineLemmas
 pub mod FormLemmas
 pub mod LineLemmas
 pub mod OutputLemmas

@@ -1,8 +1,8 @@
 -- What a site file says, by its first fault.
-use Rattle.std.proofs.Common.{◌≡◌, ℕ, ◌≤◌, List, length, true, false, cond, nat_lt, Err, refl}
+use Rattle.std.proofs.Common.{◌≡◌, ℕ, ◌<◌, ◌≤◌, List, length, true, false, cond, nat_lt, Err, refl}
 use Rattle.std.specs.Str.{IsUtf8, is_utf8}
 use Rattle.std.proofs.lemmas.Str.{IsUtf8-from_is_utf8, is_utf8-from_IsUtf8}
-use Rattle.std.proofs.lemmas.Bool.{le-ltb}
+use Rattle.std.proofs.lemmas.Bool.{le-ltb, lt-ltb}
 use Rattle.ocppj_frame.specs.TreeReading.{tree_of_text}
 use Rattle.central.specs.SiteFile.{site_of, site_by}
 use Rattle.central.specs.declared.site_fault.SiteFault.TheVariants.{TooLarge, NotUtf8}
@@ -18,3 +18,7 @@ site_of-not_text bytes short other =
       | true ↦ λ here. absurd (other (IsUtf8-from_is_utf8 bytes here))
       | false ↦ λ here. rw (le-ltb 16_777_216 (length bytes) short) refl
     ] refl
+
+pub site_of-too_large : (bytes : List ℕ) → 16_777_216 < length bytes → site_of bytes ≡ Err TooLarge
+unfolding site_of
+site_of-too_large bytes long = rw (lt-ltb 16_777_216 (length bytes) long) refl

@@ -7,3 +7,5 @@ pub mod Output
 pub mod Replay
 pub mod Input
 pub mod ExitStatus
+pub mod SiteStop
+pub mod CommandLine

@@ -1,3 +1,8 @@
+ghost use Rattle.std.specs.Prelude.{◌≡◌, true, false, Some, IfOk, IfErr, map, string_bytes};
+ghost use Rattle.clap.specs.Words.{app_of, rule_of, kind_of};
+ghost use Rattle.central.specs.CommandLine.{required_option, central_app, is_taken, site_named, site_of_job};
+
+use clap::error::ErrorKind;
 use clap::{Arg, ArgAction, Command, Error};
 use std::alloc::{AllocError, Global};
 
@@ -9,7 +14,10 @@ pub enum Job<'a> {
 }
 
 /// The job of a command line, whose first word is the program's name.
-pub fn job_of<'a>(alloc: Global, words: &'a [String]) -> Result<Job<'a>, Error> {
+pub fn job_of<'a>(alloc: Global, words: &'a [String]) -> Result<Job<'a>, Error>
+    ensures job { IfOk result (λ job. site_named (map string_bytes words.now) ≡ Some (site_of_job job)) }
+    ensures taken { IfErr result (λ error. is_taken (map string_bytes words.now) ≡ true → kind_of error ≡ ErrorKind.OutOfMemory) }
+{
     let command = central_command(alloc)?;
     let matches = command.try_get_matches_from(words)?;
     let Some((_, given)) = matches.subcommand() else {
@@ -22,7 +30,10 @@ pub fn job_of<'a>(alloc: Global, words: &'a [String]) -> Result<Job<'a>, Error> 
 }
 
 /// `central replay --site F`.
-fn central_command<'a>(alloc: Global) -> Result<Command<'a>, AllocError> {
+#[tactic(auto, unfolding(crate::specs::CommandLine::central_app))]
+fn central_command<'a>(alloc: Global) -> Result<Command<'a>, AllocError>
+    ensures { IfOk result (λ command. app_of command ≡ central_app) }
+{
     let replay = Command::new(alloc, "replay").arg(required(alloc, "site"))?;
     Command::new(alloc, "central")
         .subcommand_required(true)
@@ -30,7 +41,10 @@ fn central_command<'a>(alloc: Global) -> Result<Command<'a>, AllocError> {
 }
 
 /// An option that is needed and takes one value.
-fn required<'a>(alloc: Global, name: &'a str) -> Arg<'a> {
+fn required<'a>(alloc: Global, name: &'a str) -> Arg<'a>
+    ensures rule { rule_of result ≡ required_option name.now }
+    ensures global { result.global ≡ false }
+{
     Arg::new(alloc, name)
         .long(name)
         .required(true)

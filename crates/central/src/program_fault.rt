@@ -52,6 +52,11 @@ impl Summary {
 }
 
 impl From<SiteFault> for ProgramFault {
+    ghost use Rattle.std.specs.Prelude.{◌≡◌};
+    ghost use Rattle.central.specs.SiteStop.{site_stop};
+
+    ghost from_gives = { λ fault stop. stop ≡ site_stop fault };
+
     fn from(fault: SiteFault) -> ProgramFault {
         match fault {
             SiteFault::OutOfMemory => ProgramFault::OutOfMemory,

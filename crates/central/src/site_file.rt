@@ -1,3 +1,7 @@
+ghost use Rattle.std.specs.Prelude.{◌≡◌, ℕ, List, Ok, IfOk, IfErr};
+ghost use Rattle.central.specs.SiteFile.{site_of};
+ghost use Rattle.central.specs.SiteStop.{IsSiteStop};
+
 use crate::input::{InputFault, read_all};
 use crate::program_fault::ProgramFault;
 use crate::site::Site;
@@ -9,7 +13,10 @@ use std::io::ErrorKind;
 use std::rt::Files;
 
 /// Reads the site of a file.
-pub fn read_site_file<R: Files + AllocGlobal>(rt: &R, path: &str) -> Result<Site, ProgramFault> {
+pub fn read_site_file<R: Files + AllocGlobal>(rt: &R, path: &str) -> Result<Site, ProgramFault>
+    ensures site { IfOk result (λ site. (bytes : List ℕ) × (site_of bytes ≡ Ok site)) }
+    ensures stop { IfErr result IsSiteStop }
+{
     let mut file = match fs::open(rt, path) {
         Ok(file) => file,
         Err(error) if error.kind() == ErrorKind::OutOfMemory => return Err(
