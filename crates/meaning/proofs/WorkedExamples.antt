@@ -59,8 +59,8 @@ row_until until connector purpose level low kind start own duration periods = re
   };
 }
 
-abbrev row : ℕ → Purpose → (level : ℕ) → IsTrue (nat_le level MAX_STACK_LEVEL) → (kind : Kind) (start : Option ℕ) → start_of kind start ≡ start → Option ℕ → List Period → Row
-row = row_until None
+abbrev row_at : ℕ → Purpose → (level : ℕ) → IsTrue (nat_le level MAX_STACK_LEVEL) → (kind : Kind) (start : Option ℕ) → start_of kind start ≡ start → Option ℕ → List Period → Row
+row_at = row_until None
 
 pub low0 : IsTrue (nat_le 0 MAX_STACK_LEVEL)
 low0 = refl
@@ -97,8 +97,8 @@ no_transaction_at_the_point = refl
 -- a daily profile from 22:00 to 06:00 above one that holds always
 abbrev night : Book
 night = book idle
-    (row 0 TxDefaultProfile 1 low1 (Recurring Daily) (at_start 79200) refl (Some 28800) (period 0 60 ∷ [])
-    ∷ (row 0 TxDefaultProfile 0 low0 Absolute (at_start 0) refl None (period 0 200 ∷ []) ∷ []))
+    (row_at 0 TxDefaultProfile 1 low1 (Recurring Daily) (at_start 79200) refl (Some 28800) (period 0 60 ∷ [])
+    ∷ (row_at 0 TxDefaultProfile 0 low0 Absolute (at_start 0) refl None (period 0 200 ∷ []) ∷ []))
 
 -- asked at 05:59:58 two days later
 pub two_levels : schedule night 1 194398 10 ≡ span 0 60 ∷ (span 2 200 ∷ [])
@@ -109,21 +109,21 @@ two_levels_at_night = refl
 
 -- a duration longer than the recurrence
 pub longer_than_a_day : schedule (book idle
-    (row 0 TxDefaultProfile 0 low0 (Recurring Daily) (at_start 0) refl (Some 100000) (period 0 100 ∷ (period 43200 200 ∷ [])) ∷ [])) 1 86399 2
+    (row_at 0 TxDefaultProfile 0 low0 (Recurring Daily) (at_start 0) refl (Some 100000) (period 0 100 ∷ (period 43200 200 ∷ [])) ∷ [])) 1 86399 2
     ≡ span 0 200 ∷ (span 1 100 ∷ [])
 longer_than_a_day = refl
 
 -- the last second of a week and the first of the next
 pub weekly : schedule (book idle
-    (row 0 TxDefaultProfile 0 low0 (Recurring Weekly) (at_start 0) refl None (period 0 320 ∷ (period 432000 100 ∷ [])) ∷ [])) 1 604799 2
+    (row_at 0 TxDefaultProfile 0 low0 (Recurring Weekly) (at_start 0) refl None (period 0 320 ∷ (period 432000 100 ∷ [])) ∷ [])) 1 604799 2
     ≡ span 0 100 ∷ (span 1 320 ∷ [])
 weekly = refl
 
 abbrev default_row : Row
-default_row = row 0 TxDefaultProfile 0 low0 Absolute (at_start 0) refl None (period 0 100 ∷ [])
+default_row = row_at 0 TxDefaultProfile 0 low0 Absolute (at_start 0) refl None (period 0 100 ∷ [])
 
 abbrev transaction_row : Row
-transaction_row = row 1 TxProfile 0 low0 Relative None refl (Some 120) (period 0 60 ∷ (period 60 160 ∷ []))
+transaction_row = row_at 1 TxProfile 0 low0 Relative None refl (Some 120) (period 0 60 ∷ (period 60 160 ∷ []))
 
 -- the default profile holds again once the transaction's own has run out
 pub transaction_profile : schedule (book on_first (transaction_row ∷ (default_row ∷ []))) 1 30 200 ≡ span 0 60 ∷ (span 30 160 ∷ (span 90 100 ∷ []))
@@ -141,9 +141,9 @@ transaction_begun_anew = refl
 
 abbrev own_default : Book
 own_default = book idle
-    (row 0 TxDefaultProfile 1 low1 Absolute (at_start 0) refl None (period 0 100 ∷ [])
-    ∷ (row 1 TxDefaultProfile 1 low1 Absolute (at_start 0) refl (Some 60) (period 0 120 ∷ [])
-    ∷ (row 0 TxDefaultProfile 0 low0 Absolute (at_start 0) refl None (period 0 80 ∷ []) ∷ [])))
+    (row_at 0 TxDefaultProfile 1 low1 Absolute (at_start 0) refl None (period 0 100 ∷ [])
+    ∷ (row_at 1 TxDefaultProfile 1 low1 Absolute (at_start 0) refl (Some 60) (period 0 120 ∷ [])
+    ∷ (row_at 0 TxDefaultProfile 0 low0 Absolute (at_start 0) refl None (period 0 80 ∷ []) ∷ [])))
 
 -- a connector's own default, run out by 01:00, still hides the point's default of its level
 pub hidden_by_level : schedule own_default 1 3600 60 ≡ span 0 80 ∷ []
@@ -154,15 +154,15 @@ hidden_for_one_connector = refl
 
 -- periods of equal limits are one
 pub equal_neighbours : schedule (book idle
-    (row 0 TxDefaultProfile 2 low2 Absolute (at_start 0) refl (Some 60) (period 0 160 ∷ [])
-    ∷ (row 0 TxDefaultProfile 1 low1 Absolute (at_start 0) refl None (period 0 160 ∷ []) ∷ []))) 1 30 60
+    (row_at 0 TxDefaultProfile 2 low2 Absolute (at_start 0) refl (Some 60) (period 0 160 ∷ [])
+    ∷ (row_at 0 TxDefaultProfile 1 low1 Absolute (at_start 0) refl None (period 0 160 ∷ []) ∷ []))) 1 30 60
     ≡ span 0 160 ∷ []
 equal_neighbours = refl
 
 abbrev shared : ℕ → Book
 shared most = book (at_start 0 ∷ (at_start 0 ∷ []))
-    (row 0 TxDefaultProfile 0 low0 Absolute (at_start 0) refl None (period 0 200 ∷ [])
-    ∷ (row 0 ChargePointMaxProfile 0 low0 Absolute (at_start 0) refl None (period 0 most ∷ []) ∷ []))
+    (row_at 0 TxDefaultProfile 0 low0 Absolute (at_start 0) refl None (period 0 200 ∷ [])
+    ∷ (row_at 0 ChargePointMaxProfile 0 low0 Absolute (at_start 0) refl None (period 0 most ∷ []) ∷ []))
 
 pub sum_of_connectors : schedule (shared 500) 0 10 60 ≡ span 0 400 ∷ []
 sum_of_connectors = refl
@@ -171,11 +171,11 @@ pub sum_above_the_point : schedule (shared 320) 0 10 60 ≡ span 0 320 ∷ []
 sum_above_the_point = refl
 
 -- without a startSchedule a default counts from the start of the ask, a maximum from its install
-pub from_the_ask : schedule (book idle (row 0 TxDefaultProfile 0 low0 Absolute None refl (Some 60) (period 0 100 ∷ []) ∷ [])) 1 30 100
+pub from_the_ask : schedule (book idle (row_at 0 TxDefaultProfile 0 low0 Absolute None refl (Some 60) (period 0 100 ∷ []) ∷ [])) 1 30 100
     ≡ span 0 100 ∷ (span 60 320 ∷ [])
 from_the_ask = refl
 
-pub from_the_install : schedule (book idle (row 0 ChargePointMaxProfile 0 low0 Absolute None refl (Some 60) (period 0 120 ∷ []) ∷ [])) 1 30 100
+pub from_the_install : schedule (book idle (row_at 0 ChargePointMaxProfile 0 low0 Absolute None refl (Some 60) (period 0 120 ∷ []) ∷ [])) 1 30 100
     ≡ span 0 120 ∷ (span 30 320 ∷ [])
 from_the_install = refl
 
@@ -184,7 +184,7 @@ pub until_valid_to : schedule (book idle (row_until (at_start 30) 0 TxDefaultPro
 until_valid_to = refl
 
 abbrev from_the_transaction : Book
-from_the_transaction = book on_first (row 0 TxDefaultProfile 0 low0 Relative None refl (Some 60) (period 0 100 ∷ []) ∷ [])
+from_the_transaction = book on_first (row_at 0 TxDefaultProfile 0 low0 Relative None refl (Some 60) (period 0 100 ∷ []) ∷ [])
 
 -- one row counts from another base at each connector, and for the point from that of the connector
 pub base_of_the_first : schedule from_the_transaction 1 30 60 ≡ span 0 100 ∷ (span 30 320 ∷ [])
