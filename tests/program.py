@@ -64,6 +64,11 @@ def fault_cases(folder):
     yield "two points", site("two", b'{"unit":"A","points":[' + point + b"," + point + b"]}"), b"", b"", b"central: site: BadPoints\n", 1
     yield "no site file", ["replay", "--site", os.path.join(folder, "none")], b"", b"", b"central: device: read\n", 3
     yield "a folder as site file", ["replay", "--site", folder], b"", b"", b"central: device: read\n", 3
+    yield from limit_cases(good)
+
+
+def limit_cases(good):
+    """Scripts, lines and frames at their bounds; good are the arguments that name a site file without a fault."""
     yield "an empty script", good, b"", b"", b"", 0
     yield "a script of the limit", good, b"\n" * 16_777_216, b"", b"", 0
     yield "a script past the limit", good, b"x\n" * 8_388_608 + b"x", b"", b"central: script: ScriptTooLong\n", 2
