@@ -77,7 +77,21 @@ impl fmt::Display for Instant {
         let day = day_of_year - (153 * month + 2) / 5 + 1;
         let (month, later) = if month < 10 { (month + 3, 0) } else { (month - 9, 1) };
         let year = era * 400 + year_of_era + later;
-        let (hour, minute, second) = (rest / 3_600, rest / 60 % 60, rest % 60);
-        write!(out, "{year:04}-{month:02}-{day:02}T{hour:02}:{minute:02}:{second:02}Z")
+        let mut text = *b"0000-00-00T00:00:00Z";
+        put(&mut text[..4], year);
+        put(&mut text[5..7], month);
+        put(&mut text[8..10], day);
+        put(&mut text[11..13], rest / 3_600);
+        put(&mut text[14..16], rest / 60 % 60);
+        put(&mut text[17..19], rest % 60);
+        out.write_str(std::str::from_utf8(&text).map_err(|_| fmt::Error)?)
+    }
+}
+
+/// Writes the last decimal digits of a number, as many as there is room for.
+fn put(room: &mut [u8], mut number: i64) {
+    for digit in room.iter_mut().rev() {
+        *digit = b'0' + (number % 10) as u8;
+        number /= 10;
     }
 }
