@@ -64,21 +64,41 @@ def fault_cases(folder):
     yield "two points", site("two", b'{"unit":"A","points":[' + point + b"," + point + b"]}"), b"", b"", b"central: site: BadPoints\n", 1
     yield "no site file", ["replay", "--site", os.path.join(folder, "none")], b"", b"", b"central: device: read\n", 3
     yield "a folder as site file", ["replay", "--site", folder], b"", b"", b"central: device: read\n", 3
+    yield from limit_cases(good)
+
+
+def limit_cases(good):
+    """Scripts, lines and frames at their bounds; good are the arguments that name a site file without a fault."""
     yield "an empty script", good, b"", b"", b"", 0
     yield "a script of the limit", good, b"\n" * 16_777_216, b"", b"", 0
     yield "a script past the limit", good, b"x\n" * 8_388_608 + b"x", b"", b"central: script: ScriptTooLong\n", 2
     yield "a line of the limit", good, b"x" * 1_048_576 + b"\r\n", b"! 1 BadLine\n", b"", 2
     yield "a line past the limit", good, b"\n" + b"x" * 1_048_577 + b"\r\ny", b"! 2 TooLong\n! 3 BadLine\n", b"", 2
     yield "a line that is no text", good, b"\xff\n", b"! 1 BadText\n", b"", 2
+    front, end = b'2025-01-01T00:00:00Z point CP1 [2,"1","Heartbeat",{"pad":"', b'"}]'
+    answer = b'> [3,"1",{"currentTime":"2025-01-01T00:00:00Z"}]\n'
+    room = 1_048_576 - len(front) - len(end)
+    yield "a frame on a line of the limit", good, front + b"x" * room + end + b"\n", answer, b"", 0
+    yield "a frame on a line past the limit", good, front + b"x" * (room + 1) + end + b"\n", b"! 1 TooLong\n", b"", 2
+    yield "a script of frames of the limit", good, (front + b"x" * (room - 1) + end + b"\n") * 16, answer * 16, b"", 0
 
 
 def run(program, arguments, given, stdout=subprocess.PIPE):
     return subprocess.run([program, *arguments], input=given, stdout=stdout, stderr=subprocess.PIPE, timeout=120)
 
 
+def first_difference(want, got):
+    """The first line that differs, of two outputs that aren't equal."""
+    wanted, given = want.split(b"\n") + [b"(end)"], got.split(b"\n") + [b"(end)"]
+    for number, (line, other) in enumerate(zip(wanted, given), 1):
+        if line != other:
+            return f"line {number} is {other[:300]!r}, wanted {line[:300]!r}"
+    return "it ends elsewhere"
+
+
 def differences(done, want_out, want_err, want_status):
     if done.stdout != want_out:
-        yield f"stdout {done.stdout[:200]!r}, wanted {want_out[:200]!r}"
+        yield f"stdout: {first_difference(want_out, done.stdout)}"
     if done.stderr != want_err:
         yield f"stderr {done.stderr[:200]!r}, wanted {want_err[:200]!r}"
     if done.returncode != want_status:
@@ -112,28 +132,35 @@ def device_problems(program, folder):
 
 
 def memory_problems(program, folder):
-    """The first example with each of its allocations refused in turn: a front of the output and OutOfMemory."""
+    """Examples with each of their allocations refused in turn: a front of the output and OutOfMemory."""
     library = os.path.join(folder, "refuse_allocation.so")
     source = os.path.join(TOP, "tests", "refuse_allocation.c")
     subprocess.run(["cc", "-O2", "-shared", "-fPIC", "-o", library, source, "-ldl"], check=True)
-    case = os.path.join(TOP, "examples", "first-schedule")
+    for name, least in (("first-schedule", 20), ("point-messages", 60)):
+        refused, problems = refusals(program, library, os.path.join(TOP, "examples", name))
+        if refused < least:
+            problems.append(f"only {refused} allocations were refused")
+        yield f"{name}: each of {refused} allocations refused", problems
+
+
+def refusals(program, library, case):
+    """How many allocations the run of this folder makes, and where a refused one ends it otherwise than it should."""
     arguments = [program, "replay", "--site", os.path.join(case, "site.json")]
-    script, whole = bytes_of(os.path.join(case, "script")), bytes_of(os.path.join(case, "stdout"))
+    script, whole, status = (bytes_of(os.path.join(case, name)) for name in ("script", "stdout", "status"))
+    unrefused = (int(status), whole, b"")
     refused, without_effect, problems = 0, 0, []
-    for number in range(1, 10_000):
-        if without_effect == 50:
-            break  # the program makes fewer allocations
+    for number in range(10_000):  # the run of number 0 refuses nothing
         environment = {**os.environ, "LD_PRELOAD": library, "REFUSED_ALLOCATION": str(number)}
         done = subprocess.run(arguments, input=script, capture_output=True, timeout=120, env=environment)
-        if (done.returncode, done.stdout, done.stderr) == (0, whole, b""):
-            without_effect += 1
-            continue
-        refused, without_effect = refused + 1, 0
-        if done.returncode != 3 or done.stderr != b"central: OutOfMemory\n" or not whole.startswith(done.stdout):
-            problems.append(f"allocation {number}: status {done.returncode}, {done.stdout!r}, {done.stderr!r}")
-    if refused < 20:
-        problems.append(f"only {refused} allocations were refused")
-    yield f"each of {refused} allocations refused", problems
+        if (done.returncode, done.stdout, done.stderr) == unrefused:
+            without_effect += number > 0
+        else:
+            refused, without_effect = refused + 1, 0
+            if done.returncode != 3 or done.stderr != b"central: OutOfMemory\n" or not whole.startswith(done.stdout):
+                problems.append(f"allocation {number}: status {done.returncode}, {done.stdout!r}, {done.stderr!r}")
+        if problems or without_effect == 50:
+            break  # it went wrong, or the program makes fewer allocations
+    return refused, problems
 
 
 def main():

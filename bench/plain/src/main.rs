@@ -1,0 +1,97 @@
+//! Plays the benchmark's scripts as `central replay` does, in ordinary Rust on serde_json's own values: what a
+//! central system costs without marked texts, exact fractions and proofs.
+mod action;
+mod instant;
+mod profile;
+
+use action::{answer, Answer};
+use instant::{read_instant, Instant};
+use profile::Profile;
+use serde_json::Value;
+use std::io::{self, BufWriter, Read, Write};
+
+const LONGEST_SCRIPT: usize = 16_777_216;
+const LONGEST_LINE: usize = 1_048_576;
+
+/// Who sent a text.
+#[derive(Clone, Copy, PartialEq)]
+pub enum Side {
+    Operator,
+    Point,
+}
+
+/// The site of the benchmark has one point; the point keeps one profile.
+#[derive(Default)]
+pub struct Site {
+    pub installed: Option<Profile>,
+}
+
+fn main() -> io::Result<()> {
+    let mut script = Vec::new();
+    io::stdin().lock().take(LONGEST_SCRIPT as u64 + 1).read_to_end(&mut script)?;
+    if script.len() > LONGEST_SCRIPT {
+        return Err(io::Error::other("ScriptTooLong"));
+    }
+    let mut output = BufWriter::new(io::stdout().lock());
+    let mut site = Site::default();
+    for (index, line) in script.split(|byte| *byte == b'\n').enumerate() {
+        let line = line.strip_suffix(b"\r").unwrap_or(line);
+        if line.is_empty() {
+            continue;
+        }
+        match play(&mut site, line) {
+            Ok(Some(text)) => writeln!(output, "> {text}")?,
+            Ok(None) => {}
+            Err(name) => writeln!(output, "! {} {name}", index + 1)?,
+        }
+    }
+    std::hint::black_box(&site); // what was installed counts as used
+    output.flush()
+}
+
+/// One line's answer, or the name of its fault.
+fn play(site: &mut Site, line: &[u8]) -> Result<Option<String>, &'static str> {
+    if line.len() > LONGEST_LINE {
+        return Err("TooLong");
+    }
+    let line = std::str::from_utf8(line).map_err(|_| "BadText")?;
+    let mut words = line.splitn(4, ' ');
+    let (Some(moment), Some(side), Some(point), Some(frame)) = (words.next(), words.next(), words.next(), words.next())
+    else {
+        return Err("BadLine");
+    };
+    let side = match side {
+        "operator" => Side::Operator,
+        "point" => Side::Point,
+        _ => return Err("BadLine"),
+    };
+    let now = read_instant(moment).ok_or("BadInstant")?;
+    if side == Side::Point && point != "CP1" {
+        return Err("UnknownPoint");
+    }
+    Ok(take_frame(site, side, now, frame))
+}
+
+/// The answer to a text; what isn't a CALL has none.
+fn take_frame(site: &mut Site, side: Side, now: Instant, text: &str) -> Option<String> {
+    let frame: Value = serde_json::from_str(text).ok()?;
+    let parts = frame.as_array()?;
+    if parts.first()?.as_i64()? != 2 {
+        return None;
+    }
+    let id = parts.get(1)?.as_str()?;
+    if id.chars().count() > 36 {
+        return None;
+    }
+    let id = serde_json::to_string(id).ok()?;
+    let nothing = Value::Object(serde_json::Map::new());
+    let (action, payload) = match (parts.get(2).and_then(Value::as_str), parts.get(3)) {
+        (Some(action), Some(payload @ Value::Object(_))) => (action, payload),
+        (Some(action), None | Some(Value::Null)) => (action, &nothing),
+        _ => return Some(format!(r#"[4,{id},"FormationViolation","",{{}}]"#)),
+    };
+    Some(match answer(site, side, now, action, payload) {
+        Answer::Result(payload) => format!("[3,{id},{payload}]"),
+        Answer::Fault(fault) => format!(r#"[4,{id},"{}","{}",{{}}]"#, fault.code, fault.field),
+    })
+}
