@@ -27,19 +27,29 @@ fn push_times(out: &mut String, piece: &str, times: u32) -> Result<(), AllocErro
     Ok(())
 }
 
-// A CALL whose payload has this value.
-fn with_value(alloc: Global, value: &str) -> Result<String, AllocError> {
-    let mut text = String::from_str(alloc, "[2,\"5\",\"Heartbeat\",{\"x\":")?;
-    text.push_str(value)?;
-    text.push_str("}]")?;
+// Three pieces in a row.
+fn joined(alloc: Global, first: &str, second: &str, third: &str) -> Result<String, AllocError> {
+    let mut text = String::from_str(alloc, first)?;
+    text.push_str(second)?;
+    text.push_str(third)?;
     Ok(text)
 }
 
-fn with_id(alloc: Global, piece: &str, times: u32) -> Result<String, AllocError> {
-    let mut text = String::from_str(alloc, "[4,\"")?;
-    push_times(&mut text, piece, times)?;
-    text.push_str("\"]")?;
-    Ok(text)
+fn outcome_of_joined(
+    alloc: Global,
+    first: &str,
+    second: &str,
+    third: &str,
+) -> Result<&'static str, AllocError> {
+    let text = joined(alloc, first, second, third)?;
+    Ok(outcome(alloc, text.as_str()))
+}
+
+// The outcome of a CALLERROR whose id has this many characters.
+fn outcome_with_id(alloc: Global, character: &str, times: u32) -> Result<&'static str, AllocError> {
+    let mut id = String::new(alloc);
+    push_times(&mut id, character, times)?;
+    outcome_of_joined(alloc, "[4,\"", id.as_str(), "\"]")
 }
 
 // On each line a text of the outcome.
@@ -157,15 +167,26 @@ fn texts_are_frames_by_their_elements(rt: HostRuntime) {
 }
 
 #[test]
-fn limits_stand_where_they_are_named(rt: HostRuntime) -> Result<(), Fail> {
+fn ids_have_at_most_36_characters(rt: HostRuntime) -> Result<(), AllocError> {
     let alloc = rt.alloc();
-    for character in ["a", "é", "😀", "\\\"", "\\u00e9", "\\uD83D\\uDE00"] {
-        let text = with_id(alloc, character, 36)?;
-        assert_eq!(rt; outcome(alloc, text.as_str()), "Fault", "{character}");
-        let text = with_id(alloc, character, 37)?;
-        assert_eq!(rt; outcome(alloc, text.as_str()), "Dropped", "{character}");
+    for character in ["a", "é", "😀", r#"\""#, r"\u00e9", r"\uD83D\uDE00"] {
+        assert_eq!(rt;
+            outcome_with_id(alloc, character, 36)?,
+            "Fault",
+            "{character}"
+        );
+        assert_eq!(rt;
+            outcome_with_id(alloc, character, 37)?,
+            "Dropped",
+            "{character}"
+        );
     }
+    Ok(())
+}
 
+#[test]
+fn frames_have_at_most_1048576_bytes(rt: HostRuntime) -> Result<(), AllocError> {
+    let alloc = rt.alloc();
     let mut text = String::from_str(alloc, "[7,\"5\"]")?;
     push_times(&mut text, " ", 1_048_569)?;
     assert_eq!(rt; text.len(), 1_048_576);
@@ -241,38 +262,39 @@ fn frames_are_written_without_blanks(rt: HostRuntime) -> Result<(), Fail> {
     Ok(())
 }
 
+// A CALLRESULT with the id that a CALLERROR has, as its string is written between the quotes.
+fn answered(alloc: Global, id: &str) -> Result<String, Fail> {
+    let text = joined(alloc, "[4,\"", id, "\"]")?;
+    let Ok(Frame::Fault { id }) = read_frame(alloc, text.as_str()) else {
+        return Err(Fail::new("no id"));
+    };
+    Ok(write_result(alloc, id.as_str(), "{}")?)
+}
+
 #[test]
 fn ids_are_written_as_json_strings(rt: HostRuntime) -> Result<(), Fail> {
-    let alloc = rt.alloc();
-    for (string, wanted) in [
-        (r#"\u0041\/é"#, "A/é"),
-        (r#"\"a\u0001\""#, r#"\"a\u0001\""#),
-        (r"\\\u005c\u002F/", r"\\\\//"),
-        (r"\u0022\u0027'", r#"\"''"#),
+    for (id, wanted) in [
+        (r"\u0041\/é", r#"[3,"A/é",{}]"#),
+        (r#"\"a\u0001\""#, r#"[3,"\"a\u0001\"",{}]"#),
+        (r"\\\u005c\u002F/", r#"[3,"\\\\//",{}]"#),
+        (r"\u0022\u0027'", r#"[3,"\"''",{}]"#),
         (
             r"\u0000\u0001\u0002\u0003\u0004\u0005\u0006\u0007\u0008\u0009\u000A\u000B\u000C\u000D\u000E\u000F",
-            r"\u0000\u0001\u0002\u0003\u0004\u0005\u0006\u0007\b\t\n\u000b\f\r\u000e\u000f",
+            r#"[3,"\u0000\u0001\u0002\u0003\u0004\u0005\u0006\u0007\b\t\n\u000b\f\r\u000e\u000f",{}]"#,
         ),
         (
             r"\u0010\u0011\u0012\u0013\u0014\u0015\u0016\u0017\u0018\u0019\u001A\u001B\u001C\u001D\u001E\u001F",
-            r"\u0010\u0011\u0012\u0013\u0014\u0015\u0016\u0017\u0018\u0019\u001a\u001b\u001c\u001d\u001e\u001f",
+            r#"[3,"\u0010\u0011\u0012\u0013\u0014\u0015\u0016\u0017\u0018\u0019\u001a\u001b\u001c\u001d\u001e\u001f",{}]"#,
         ),
-        (r"\b\f\n\r\t", r"\b\f\n\r\t"),
+        (r"\b\f\n\r\t", r#"[3,"\b\f\n\r\t",{}]"#),
         (
             r"\u007F\u0080\u2028\uFEFF\uFFFF",
-            "\u{7f}\u{80}\u{2028}\u{feff}\u{ffff}",
+            "[3,\"\u{7f}\u{80}\u{2028}\u{feff}\u{ffff}\",{}]",
         ),
-        (r"\uD83D\uDE00😀", "😀😀"),
+        (r"\uD83D\uDE00😀", "[3,\"😀😀\",{}]"),
     ] {
-        let text = with_id(alloc, string, 1)?;
-        let Ok(Frame::Fault { id }) = read_frame(alloc, text.as_str()) else {
-            return Err(Fail::new("no id"));
-        };
-        let mut result = String::from_str(alloc, "[3,\"")?;
-        result.push_str(wanted)?;
-        result.push_str("\",{}]")?;
-        let written = write_result(alloc, id.as_str(), "{}")?;
-        assert_eq!(rt; written.as_str(), result.as_str(), "{string}");
+        let written = answered(rt.alloc(), id)?;
+        assert_eq!(rt; written.as_str(), wanted);
     }
     Ok(())
 }

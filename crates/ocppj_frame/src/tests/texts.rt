@@ -1,10 +1,9 @@
 //! Texts as JSON conformance suites have them. The outcomes are those of RFC 8259, and where it leaves one
 //! open, as for nesting, lone surrogates and repeated keys, those of `serde_json`.
 
-use super::{outcome, push_times, with_value};
+use super::{joined, outcome, outcome_of_joined, push_times};
 use crate::{Field, read_tree, text_field, whole_field};
 use std::alloc::{AllocError, Global};
-use std::test::Fail;
 
 // On each line a value.
 const VALUES: &str = r#"null
@@ -221,60 +220,65 @@ a"
 "a"\
 \"#;
 
+// The outcome of a CALL whose payload has this value.
+fn outcome_with(alloc: Global, value: &str) -> Result<&'static str, AllocError> {
+    outcome_of_joined(alloc, "[2,\"5\",\"Heartbeat\",{\"x\":", value, "}]")
+}
+
 #[test]
-fn values_are_read(rt: HostRuntime) -> Result<(), Fail> {
-    let alloc = rt.alloc();
+fn values_are_read(rt: HostRuntime) -> Result<(), AllocError> {
     for value in VALUES.lines() {
-        let text = with_value(alloc, value)?;
-        assert_eq!(rt; outcome(alloc, text.as_str()), "Call", "{value}");
+        assert_eq!(rt; outcome_with(rt.alloc(), value)?, "Call", "{value}");
     }
     Ok(())
 }
 
 #[test]
-fn other_values_are_refused(rt: HostRuntime) -> Result<(), Fail> {
-    let alloc = rt.alloc();
+fn other_values_are_refused(rt: HostRuntime) -> Result<(), AllocError> {
     for value in NO_VALUES.lines() {
-        let text = with_value(alloc, value)?;
-        assert_eq!(rt; outcome(alloc, text.as_str()), "Dropped", "{value}");
+        assert_eq!(rt; outcome_with(rt.alloc(), value)?, "Dropped", "{value}");
     }
     Ok(())
 }
 
-// Inside a string, and between two values.
-fn with_character(alloc: Global, character: char) -> Result<(String, String), AllocError> {
-    let mut inside = String::from_str(alloc, "[7,\"a")?;
-    inside.push(character)?;
-    inside.push_str("b\"]")?;
-    let mut between = String::from_str(alloc, "[7,")?;
-    between.push(character)?;
-    between.push_str("\"ab\"]")?;
-    Ok((inside, between))
+fn outcome_around(
+    alloc: Global,
+    before: &str,
+    character: char,
+    after: &str,
+) -> Result<&'static str, AllocError> {
+    let mut piece = String::new(alloc);
+    piece.push(character)?;
+    outcome_of_joined(alloc, before, piece.as_str(), after)
+}
+
+fn outcome_inside(alloc: Global, character: char) -> Result<&'static str, AllocError> {
+    outcome_around(alloc, "[7,\"a", character, "b\"]")
+}
+
+fn outcome_between(alloc: Global, character: char) -> Result<&'static str, AllocError> {
+    outcome_around(alloc, "[7,", character, "\"ab\"]")
 }
 
 #[test]
-fn raw_characters_stand_where_they_may(rt: HostRuntime) -> Result<(), Fail> {
+fn control_characters_are_at_most_blanks(rt: HostRuntime) -> Result<(), AllocError> {
     let alloc = rt.alloc();
     for code in 0u8..32 {
-        let (inside, between) = with_character(alloc, code as char)?;
         let blank = matches!(code, b'\t' | b'\n' | b'\r');
         let wanted = if blank { "Other" } else { "Dropped" };
-        assert_eq!(rt; outcome(alloc, inside.as_str()), "Dropped", "{code}");
-        assert_eq!(rt; outcome(alloc, between.as_str()), wanted, "{code}");
+        assert_eq!(rt; outcome_between(alloc, code as char)?, wanted, "{code}");
+        assert_eq!(rt; outcome_inside(alloc, code as char)?, "Dropped", "{code}");
     }
-    for character in [
-        '\u{7f}',
-        '\u{a0}',
-        '\u{85}',
-        '\u{2028}',
-        '\u{2060}',
-        '\u{feff}',
-        '\u{fffe}',
-        '\u{10ffff}',
-    ] {
-        let (inside, between) = with_character(alloc, character)?;
-        assert_eq!(rt; outcome(alloc, inside.as_str()), "Other");
-        assert_eq!(rt; outcome(alloc, between.as_str()), "Dropped");
+    Ok(())
+}
+
+#[test]
+fn other_characters_stand_in_strings_alone(rt: HostRuntime) -> Result<(), AllocError> {
+    let alloc = rt.alloc();
+    for character in "\u{7f}\u{85}\u{a0}é１\u{2028}\u{2060}\u{feff}\u{fdd0}\u{ffff}😀\u{10ffff}".chars()
+    {
+        assert_eq!(rt; outcome_between(alloc, character)?, "Dropped");
+        assert_eq!(rt; outcome_inside(alloc, character)?, "Other");
     }
     Ok(())
 }
@@ -284,35 +288,38 @@ const WHOLE: &str =
     r#"[2,"5","Heartbeat",{"a\"\u0041":[-1.5e+3,true,false,null,{"b":"\uD83D\uDE00"}]}]"#;
 
 #[test]
-fn texts_that_end_early_are_dropped(rt: HostRuntime) -> Result<(), Fail> {
-    let alloc = rt.alloc();
-    let mut text = String::new(alloc);
+fn texts_that_end_early_are_dropped(rt: HostRuntime) -> Result<(), AllocError> {
+    let mut text = String::new(rt.alloc());
     for character in WHOLE.chars() {
-        assert_eq!(rt; outcome(alloc, text.as_str()), "Dropped", "{text}");
+        assert_eq!(rt; outcome(rt.alloc(), text.as_str()), "Dropped", "{text}");
         text.push(character)?;
     }
-    assert_eq!(rt; outcome(alloc, text.as_str()), "Call");
+    assert_eq!(rt; outcome(rt.alloc(), text.as_str()), "Call");
     Ok(())
 }
 
+// What may not stand before or after a text, separated by blanks.
+const STRAY: &str = "\u{feff} \u{a0} \u{c} \0 , : ] } [ [] {} \" \"a\" \\ 1 - null a # // /**/ '";
+
 #[test]
-fn a_text_stands_alone(rt: HostRuntime) -> Result<(), Fail> {
+fn a_text_stands_alone(rt: HostRuntime) -> Result<(), AllocError> {
     let alloc = rt.alloc();
-    for other in [
-        "\u{feff}", "\u{a0}", "\u{c}", "\0", ",", ":", "]", "}", "[", "[]", "{}", "\"", "\"a\"",
-        "\\", "1", "-", "null", "a", "#", "//", "/**/", "'",
-    ] {
-        let mut before = String::from_str(alloc, other)?;
-        before.push_str(WHOLE)?;
-        assert_eq!(rt; outcome(alloc, before.as_str()), "Dropped", "{other}");
-        let mut after = String::from_str(alloc, WHOLE)?;
-        after.push_str(other)?;
-        assert_eq!(rt; outcome(alloc, after.as_str()), "Dropped", "{other}");
+    for other in STRAY.split(' ') {
+        assert_eq!(rt;
+            outcome_of_joined(alloc, other, WHOLE, "")?,
+            "Dropped",
+            "{other}"
+        );
+        assert_eq!(rt;
+            outcome_of_joined(alloc, "", WHOLE, other)?,
+            "Dropped",
+            "{other}"
+        );
     }
-    let mut blanks = String::from_str(alloc, " \t\r\n")?;
-    blanks.push_str(WHOLE)?;
-    blanks.push_str("\n\r\t ")?;
-    assert_eq!(rt; outcome(alloc, blanks.as_str()), "Call");
+    assert_eq!(rt;
+        outcome_of_joined(alloc, " \t\r\n", WHOLE, "\n\r\t ")?,
+        "Call"
+    );
     Ok(())
 }
 
@@ -330,41 +337,81 @@ fn nested(
     Ok(text)
 }
 
+fn is_read(
+    alloc: Global,
+    open: &str,
+    inner: &str,
+    close: &str,
+    times: u32,
+) -> Result<bool, AllocError> {
+    let text = nested(alloc, open, inner, close, times)?;
+    Ok(read_tree(alloc, text.as_str()).is_ok())
+}
+
+// The outcome of a CALL whose payload has a nested value.
+fn outcome_with_nested(
+    alloc: Global,
+    open: &str,
+    inner: &str,
+    close: &str,
+    times: u32,
+) -> Result<&'static str, AllocError> {
+    let value = nested(alloc, open, inner, close, times)?;
+    outcome_with(alloc, value.as_str())
+}
+
 #[test]
-fn texts_nest_to_127_levels(rt: HostRuntime) -> Result<(), Fail> {
+fn texts_nest_to_127_levels(rt: HostRuntime) -> Result<(), AllocError> {
     let alloc = rt.alloc();
     for (open, inner, close) in [
         ("[", "[]", "]"),
         ("{\"a\":", "{}", "}"),
         ("[", "{}", "]"),
-        ("{\"a\":", "[]", "}"),
-        ("[", "[0,\"a\",null]", "]"),
+        ("{\"a\":", "[0,\"a\",null]", "}"),
     ] {
-        // 127 and 128 levels
-        let tree = nested(alloc, open, inner, close, 126)?;
-        assert!(rt; read_tree(alloc, tree.as_str()).is_ok(), "{open}");
-        let tree = nested(alloc, open, inner, close, 127)?;
-        assert!(rt; read_tree(alloc, tree.as_str()).is_err(), "{open}");
-
-        // the frame and its payload are two of the levels
-        let value = nested(alloc, open, inner, close, 124)?;
-        let text = with_value(alloc, value.as_str())?;
-        assert_eq!(rt; outcome(alloc, text.as_str()), "Call", "{open}");
-        let value = nested(alloc, open, inner, close, 125)?;
-        let text = with_value(alloc, value.as_str())?;
-        assert_eq!(rt; outcome(alloc, text.as_str()), "Dropped", "{open}");
-    }
-    for open in ["[", "{\"a\":", "[{\"a\":"] {
-        let text = nested(alloc, open, "", "", 100_000)?;
-        assert_eq!(rt; outcome(alloc, text.as_str()), "Dropped", "{open}");
+        // the inner value is a level of its own
+        assert!(rt; is_read(alloc, open, inner, close, 126)?, "{open}{inner}");
+        assert!(rt; !is_read(alloc, open, inner, close, 127)?, "{open}{inner}");
+        // and so are the frame and its payload
+        assert_eq!(rt;
+            outcome_with_nested(alloc, open, inner, close, 124)?,
+            "Call"
+        );
+        assert_eq!(rt;
+            outcome_with_nested(alloc, open, inner, close, 125)?,
+            "Dropped"
+        );
     }
     Ok(())
 }
 
 #[test]
-fn strings_have_their_text(rt: HostRuntime) -> Result<(), Fail> {
-    let alloc = rt.alloc();
-    for (string, wanted) in [
+fn deep_texts_are_refused(rt: HostRuntime) -> Result<(), AllocError> {
+    for open in ["[", "{\"a\":", "[{\"a\":"] {
+        assert_eq!(rt;
+            outcome_with_nested(rt.alloc(), open, "", "", 100_000)?,
+            "Dropped"
+        );
+    }
+    assert_eq!(rt;
+        outcome_with_nested(rt.alloc(), "[", "", "]", 100_000)?,
+        "Dropped"
+    );
+    Ok(())
+}
+
+// Whether the string between these quotes has this text.
+fn has_text(alloc: Global, string: &str, text: &str) -> Result<bool, AllocError> {
+    let whole = joined(alloc, "{\"x\":\"", string, "\"}")?;
+    Ok(match read_tree(alloc, whole.as_str()) {
+        Ok(payload) => text_field(payload.root(), "x") == Field::Value(text),
+        Err(_) => false,
+    })
+}
+
+#[test]
+fn strings_have_their_text(rt: HostRuntime) -> Result<(), AllocError> {
+    for (string, text) in [
         ("", ""),
         ("s", "s"),
         ("n5", "n5"),
@@ -391,23 +438,20 @@ fn strings_have_their_text(rt: HostRuntime) -> Result<(), Fail> {
         (r#"\\\"\\"#, "\\\"\\"),
         ("\u{7f}\u{2028}\u{feff}é😀", "\u{7f}\u{2028}\u{feff}é😀"),
     ] {
-        let mut text = String::from_str(alloc, "{\"x\":\"")?;
-        text.push_str(string)?;
-        text.push_str("\"}")?;
-        let Ok(payload) = read_tree(alloc, text.as_str()) else {
-            return Err(Fail::new("no tree"));
-        };
-        assert_eq!(rt;
-            text_field(payload.root(), "x"),
-            Field::Value(wanted),
-            "{string}"
-        );
+        assert!(rt; has_text(rt.alloc(), string, text)?, "{string}");
     }
     Ok(())
 }
 
+fn whole_at(alloc: Global, text: &str, name: &str) -> Field<i32> {
+    match read_tree(alloc, text) {
+        Ok(payload) => whole_field(payload.root(), name),
+        Err(_) => Field::Absent,
+    }
+}
+
 #[test]
-fn the_last_field_of_a_name_counts(rt: HostRuntime) -> Result<(), Fail> {
+fn the_last_field_of_a_name_counts(rt: HostRuntime) {
     for (text, name, wanted) in [
         ("{\"a\":1,\"a\":2}", "a", 2),
         (r#"{"a":1,"b":7,"\u0061":2}"#, "a", 2),
@@ -422,14 +466,10 @@ fn the_last_field_of_a_name_counts(rt: HostRuntime) -> Result<(), Fail> {
         (r#"{"\"\\\/":9}"#, "\"\\/", 9),
         ("{\"12\":10}", "12", 10),
     ] {
-        let Ok(payload) = read_tree(rt.alloc(), text) else {
-            return Err(Fail::new("no tree"));
-        };
         assert_eq!(rt;
-            whole_field(payload.root(), name),
+            whole_at(rt.alloc(), text, name),
             Field::Value(wanted),
             "{text}"
         );
     }
-    Ok(())
 }
