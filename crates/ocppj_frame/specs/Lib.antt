@@ -1,4 +1,5 @@
 pub mod Marked
+pub mod Marking
 pub mod Tree
 pub mod TreeReading
 pub mod TreeFault

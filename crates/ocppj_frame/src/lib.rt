@@ -6,6 +6,7 @@ mod action;
 mod fault;
 mod field;
 mod frame;
+mod laws;
 mod mark;
 mod message;
 mod message_id;
@@ -21,6 +22,7 @@ pub use field::{
     Field, instant_field, list_field, object_field, tenths_field, text_field, whole_field,
 };
 pub use frame::{Frame, MAX_FRAME_BYTES, read_frame};
+pub use laws::marked_texts;
 pub use message_id::{MAX_ID_CHARACTERS, MessageId};
 pub use payload::{Items, Part, Parts, Payload, read_tree};
 pub use write::{write_call, write_error, write_result};

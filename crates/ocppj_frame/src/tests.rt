@@ -4,8 +4,9 @@ use crate::{
 };
 use ocpp_scalars::Instant;
 use std::alloc::{AllocError, Global};
-use std::process::Abort;
 use std::test::Fail;
+
+mod texts;
 
 fn outcome(alloc: Global, text: &str) -> &'static str {
     match read_frame(alloc, text) {
@@ -26,80 +27,166 @@ fn push_times(out: &mut String, piece: &str, times: u32) -> Result<(), AllocErro
     Ok(())
 }
 
-fn nested(alloc: Global, depth: u32) -> Result<String, AllocError> {
-    let mut text = String::from_str(alloc, "[2,\"5\",\"Heartbeat\",{\"x\":")?;
-    push_times(&mut text, "[", depth)?;
-    push_times(&mut text, "]", depth)?;
-    text.push_str("}]")?;
+// Three pieces in a row.
+fn joined(alloc: Global, first: &str, second: &str, third: &str) -> Result<String, AllocError> {
+    let mut text = String::from_str(alloc, first)?;
+    text.push_str(second)?;
+    text.push_str(third)?;
     Ok(text)
 }
 
-fn with_id(alloc: Global, piece: &str, times: u32) -> Result<String, AllocError> {
-    let mut text = String::from_str(alloc, "[4,\"")?;
-    push_times(&mut text, piece, times)?;
-    text.push_str("\"]")?;
-    Ok(text)
+fn outcome_of_joined(
+    alloc: Global,
+    first: &str,
+    second: &str,
+    third: &str,
+) -> Result<&'static str, AllocError> {
+    let text = joined(alloc, first, second, third)?;
+    Ok(outcome(alloc, text.as_str()))
 }
 
-// On each line an outcome and a text.
-const FRAMES: &str = r#"Dropped [2,"5","Heartbeat",{"x":1-2}]
-Dropped [2,"5","Heartbeat",{1:2}]
-Other [7,"5"]
-Other [7]
-Call [2,"5","Heartbeat",{}]
-Call [2.0,"5","Heartbeat"]
-Call [20e-1,"5","Heartbeat",null]
-Dropped ["2","5","Heartbeat",{}]
-Dropped [2e40,"5","Heartbeat",{}]
-Dropped [2.5,"5","Heartbeat",{}]
-Dropped [null,"5"]
-Dropped []
-Dropped [2]
-Dropped {}
-Dropped 
-Formation [2,"5"]
-Formation [2,"5",7,{}]
-Formation [2,"5","Heartbeat",[]]
-Formation [2,"5","Heartbeat",""]
-Dropped [2,5,"Heartbeat",{}]
-Dropped [3]
-Dropped [4,7]
-Reply [3,"1"]
-Reply [3,"1",7]
-Fault [4,"1"]
-Dropped [2,"5","Heartbeat",{"x":01}]
-Dropped [2,"5","Heartbeat",{"x":.5}]
-Dropped [2,"5","Heartbeat",{"x":+1}]
-Dropped [2,"5","Heartbeat",{"x":1.}]
-Dropped [2,"5","Heartbeat",{"x":1e}]
-Dropped [2,"5","Heartbeat",{"x":-}]
-Dropped [2,"5","Heartbeat",{"x":1"a"}]
-Call [2,"5","Heartbeat",{"x":-1.5E+3}]"#;
+// The outcome of a CALLERROR whose id has this many characters.
+fn outcome_with_id(alloc: Global, character: &str, times: u32) -> Result<&'static str, AllocError> {
+    let mut id = String::new(alloc);
+    push_times(&mut id, character, times)?;
+    outcome_of_joined(alloc, "[4,\"", id.as_str(), "\"]")
+}
 
-fn assert_outcomes(rt: &impl Abort, alloc: Global, table: &str) {
-    for line in table.lines() {
-        if let Some((want, text)) = line.split_once(' ') {
-            assert_eq!(rt; outcome(alloc, text), want, "{text}");
+// On each line a text of the outcome.
+const CALLS: &str = r#"[2,"5","Heartbeat",{}]
+[2,"5","Heartbeat"]
+[2,"5","Heartbeat",null]
+[2,"5","Heartbeat",{},7,[],null]
+[2,"","",{}]
+[2.0,"5","Heartbeat",{}]
+[20e-1,"5","Heartbeat",{}]
+[0.2E+1,"5","Heartbeat",{}]
+[2.000000000000000000000000000000,"5","Heartbeat",{}]
+[2,"5","Heartbeat",{"x":-1.5E+3}]
+[2,"5","Heartbeat",{"k\"1":"-5e"}]"#;
+
+const REPLIES: &str = r#"[3,"1"]
+[3,"1",7]
+[3,"1",null]
+[3,"1",{}]
+[3,"1",[],{}]
+[30E-1,"1",{}]"#;
+
+const FAULTS: &str = r#"[4,"1"]
+[4,"1",7,null,[]]
+[4,"1","GenericError","",{}]
+[4000000000000000000000000000e-27,"1"]"#;
+
+const OTHERS: &str = r#"[7,"5"]
+[7]
+[5]
+[7,7,7]
+[0,"5"]
+[-0,"5"]
+[0e999,"5"]
+[0e99999999999999999999999999999,"5"]
+[-2,"5","Heartbeat",{}]
+[1,"5","Heartbeat",{}]
+[22,"5","Heartbeat",{}]
+[2147483647]
+[-2147483648]"#;
+
+const FORMATIONS: &str = r#"[2,"5"]
+[2,"5",7,{}]
+[2,"5",null,{}]
+[2,"5",["Heartbeat"],{}]
+[2,"5",{},{}]
+[2,"5",true]
+[2,"5","Heartbeat",[]]
+[2,"5","Heartbeat",""]
+[2,"5","Heartbeat",7]
+[2,"5","Heartbeat",false]
+[2,"5","Heartbeat",[{}]]"#;
+
+const DROPPED: &str = r#"
+null
+true
+2
+"2"
+{}
+{"2":"5"}
+[]
+[[]]
+[null,"5"]
+[true,"5"]
+["2","5","Heartbeat",{}]
+["n2","5","Heartbeat",{}]
+[[2],"5","Heartbeat",{}]
+[{},"5","Heartbeat",{}]
+[2.5,"5","Heartbeat",{}]
+[2e-1,"5","Heartbeat",{}]
+[2e40,"5","Heartbeat",{}]
+[2E400,"5","Heartbeat",{}]
+[2e99999999999999999999999999999,"5","Heartbeat",{}]
+[2e-9999999999999999999999999999,"5","Heartbeat",{}]
+[2147483648]
+[-2147483649]
+[2.0000000000000000000000000000000,"5","Heartbeat",{}]
+[40000000000000000000000000000e-28,"1"]
+[02,"5","Heartbeat",{}]
+[+2,"5","Heartbeat",{}]
+[2.,"5","Heartbeat",{}]
+[2e,"5","Heartbeat",{}]
+[2-0,"5","Heartbeat",{}]
+[7-]
+[2]
+[2,5,"Heartbeat",{}]
+[2,null,"Heartbeat",{}]
+[2,["5"],"Heartbeat",{}]
+[2,{},"Heartbeat",{}]
+[3]
+[3,1,{}]
+[4]
+[4,7]
+[4,null]
+2,"5","Heartbeat",{}
+[2,"5","Heartbeat",{}],
+[2,"5","Heartbeat",{},]
+[2,"5","Heartbeat",{"x":1-2}]
+[2,"5","Heartbeat",{1:2}]"#;
+
+#[test]
+fn texts_are_frames_by_their_elements(rt: HostRuntime) {
+    for (wanted, texts) in [
+        ("Call", CALLS),
+        ("Reply", REPLIES),
+        ("Fault", FAULTS),
+        ("Other", OTHERS),
+        ("Formation", FORMATIONS),
+        ("Dropped", DROPPED),
+    ] {
+        for text in texts.lines() {
+            assert_eq!(rt; outcome(rt.alloc(), text), wanted, "{text}");
         }
     }
 }
 
 #[test]
-fn texts_are_frames_by_their_elements(rt: HostRuntime) {
-    assert_outcomes(&rt, rt.alloc(), FRAMES);
+fn ids_have_at_most_36_characters(rt: HostRuntime) -> Result<(), AllocError> {
+    let alloc = rt.alloc();
+    for character in ["a", "é", "😀", r#"\""#, r"\u00e9", r"\uD83D\uDE00"] {
+        assert_eq!(rt;
+            outcome_with_id(alloc, character, 36)?,
+            "Fault",
+            "{character}"
+        );
+        assert_eq!(rt;
+            outcome_with_id(alloc, character, 37)?,
+            "Dropped",
+            "{character}"
+        );
+    }
+    Ok(())
 }
 
 #[test]
-fn limits_stand_where_they_are_named(rt: HostRuntime) -> Result<(), Fail> {
+fn frames_have_at_most_1048576_bytes(rt: HostRuntime) -> Result<(), AllocError> {
     let alloc = rt.alloc();
-    assert_eq!(rt; outcome(alloc, nested(alloc, 100)?.as_str()), "Call");
-    assert_eq!(rt; outcome(alloc, nested(alloc, 200)?.as_str()), "Dropped");
-    assert_eq!(rt; outcome(alloc, with_id(alloc, "é", 36)?.as_str()), "Fault");
-    assert_eq!(rt;
-        outcome(alloc, with_id(alloc, "é", 37)?.as_str()),
-        "Dropped"
-    );
-
     let mut text = String::from_str(alloc, "[7,\"5\"]")?;
     push_times(&mut text, " ", 1_048_569)?;
     assert_eq!(rt; text.len(), 1_048_576);
@@ -164,14 +251,50 @@ fn fields_are_read_by_kind(rt: HostRuntime) -> Result<(), Fail> {
 #[test]
 fn frames_are_written_without_blanks(rt: HostRuntime) -> Result<(), Fail> {
     let alloc = rt.alloc();
-    let call = write_call(alloc, "7", "Reset", "{\"a\":1}")?;
-    assert_eq!(rt; call.as_str(), "[2,\"7\",\"Reset\",{\"a\":1}]");
+    let call = write_call(alloc, "7", "Re\"set", "{\"a\":1}")?;
+    assert_eq!(rt; call.as_str(), r#"[2,"7","Re\"set",{"a":1}]"#);
     let result = write_result(alloc, "é/", "{}")?;
-    assert_eq!(rt; result.as_str(), "[3,\"é/\",{}]");
+    assert_eq!(rt; result.as_str(), r#"[3,"é/",{}]"#);
     let error = write_error(alloc, "a\"\u{1}\n", "GenericError", "")?;
-    assert_eq!(rt;
-        error.as_str(),
-        "[4,\"a\\\"\\u0001\\n\",\"GenericError\",\"\",{}]"
-    );
+    assert_eq!(rt; error.as_str(), r#"[4,"a\"\u0001\n","GenericError","",{}]"#);
+    let error = write_error(alloc, "", "a\tb", "c\\d")?;
+    assert_eq!(rt; error.as_str(), r#"[4,"","a\tb","c\\d",{}]"#);
+    Ok(())
+}
+
+// A CALLRESULT with the id that a CALLERROR has, as its string is written between the quotes.
+fn answered(alloc: Global, id: &str) -> Result<String, Fail> {
+    let text = joined(alloc, "[4,\"", id, "\"]")?;
+    let Ok(Frame::Fault { id }) = read_frame(alloc, text.as_str()) else {
+        return Err(Fail::new("no id"));
+    };
+    Ok(write_result(alloc, id.as_str(), "{}")?)
+}
+
+#[test]
+fn ids_are_written_as_json_strings(rt: HostRuntime) -> Result<(), Fail> {
+    for (id, wanted) in [
+        (r"\u0041\/é", r#"[3,"A/é",{}]"#),
+        (r#"\"a\u0001\""#, r#"[3,"\"a\u0001\"",{}]"#),
+        (r"\\\u005c\u002F/", r#"[3,"\\\\//",{}]"#),
+        (r"\u0022\u0027'", r#"[3,"\"''",{}]"#),
+        (
+            r"\u0000\u0001\u0002\u0003\u0004\u0005\u0006\u0007\u0008\u0009\u000A\u000B\u000C\u000D\u000E\u000F",
+            r#"[3,"\u0000\u0001\u0002\u0003\u0004\u0005\u0006\u0007\b\t\n\u000b\f\r\u000e\u000f",{}]"#,
+        ),
+        (
+            r"\u0010\u0011\u0012\u0013\u0014\u0015\u0016\u0017\u0018\u0019\u001A\u001B\u001C\u001D\u001E\u001F",
+            r#"[3,"\u0010\u0011\u0012\u0013\u0014\u0015\u0016\u0017\u0018\u0019\u001a\u001b\u001c\u001d\u001e\u001f",{}]"#,
+        ),
+        (r"\b\f\n\r\t", r#"[3,"\b\f\n\r\t",{}]"#),
+        (
+            r"\u007F\u0080\u2028\uFEFF\uFFFF",
+            "[3,\"\u{7f}\u{80}\u{2028}\u{feff}\u{ffff}\",{}]",
+        ),
+        (r"\uD83D\uDE00😀", "[3,\"😀😀\",{}]"),
+    ] {
+        let written = answered(rt.alloc(), id)?;
+        assert_eq!(rt; written.as_str(), wanted);
+    }
     Ok(())
 }
