@@ -3,7 +3,7 @@ use Rattle.std.specs.Prelude.{⊤, ℕ, ◌<◌, nat_le, List, length, Option, S
 use Rattle.std.specs.Str.{chars}
 use Rattle.ocppj_frame.specs.FieldReading.{◌>>=◌}
 use Rattle.ocppj_frame.specs.Tree.{Tree}
-use Rattle.ocppj_frame.specs.Message.{Message, call, call_result, call_error, other}
+use Rattle.ocppj_frame.specs.Message.{Message, call}
 use Rattle.profile.specs.Names.{purpose_named, unit_named}
 use Rattle.messages.specs.declared.action.Action.{Action}
 use Rattle.messages.specs.declared.action.Action.TheVariants.{SetChargingProfile, ClearChargingProfile, GetCompositeSchedule, BootNotification, Heartbeat, Authorize, StartTransaction, StopTransaction, StatusNotification, MeterValues, FirmwareStatusNotification, DiagnosticsStatusNotification, DataTransfer, NotACall}
@@ -93,23 +93,9 @@ action_of name payload = action_if_known (action_named name) payload
 -- what a message asks for; nothing where it is no CALL
 abbrev pub action_in : Message → Result Action CallFault
 action_in (call id name payload) = action_of name payload
-action_in (call_result id payload) = Ok NotACall
-action_in (call_error id) = Ok NotACall
-action_in other = Ok NotACall
+action_in _ = Ok NotACall
 
 -- a profile that is read has at least one period
 abbrev pub HasPeriods : Action → Type 0
 HasPeriods (SetChargingProfile connector profile) = 0 < length profile.schedule.periods
-HasPeriods (ClearChargingProfile criteria) = ⊤
-HasPeriods (GetCompositeSchedule connector duration unit) = ⊤
-HasPeriods BootNotification = ⊤
-HasPeriods Heartbeat = ⊤
-HasPeriods Authorize = ⊤
-HasPeriods (StartTransaction start) = ⊤
-HasPeriods (StopTransaction transaction) = ⊤
-HasPeriods StatusNotification = ⊤
-HasPeriods MeterValues = ⊤
-HasPeriods FirmwareStatusNotification = ⊤
-HasPeriods DiagnosticsStatusNotification = ⊤
-HasPeriods DataTransfer = ⊤
-HasPeriods NotACall = ⊤
+HasPeriods _ = ⊤

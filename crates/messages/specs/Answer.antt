@@ -8,7 +8,7 @@ use Rattle.profile.specs.declared.unit.Unit.{Unit}
 use Rattle.profile.specs.declared.unit.Unit.TheVariants.{A, W}
 use Rattle.meaning.specs.declared.composite.CompositePeriod.{CompositePeriod}
 use Rattle.meaning.specs.Schedule as schedules
-use Rattle.ocpp_scalars.specs.declared.refusal.Refusal.TheVariants as refusals
+use Rattle.ocpp_scalars.specs.declared.refusal.Refusal.TheVariants.{UnknownConnector}
 use Rattle.ocppj_frame.specs.Written.{call_result_text, call_error_text}
 use Rattle.messages.specs.declared.answer.Answer.{Answer}
 use Rattle.messages.specs.declared.answer.Answer.TheVariants.{Accepted, Rejected, Unknown, Schedule, BootNotification, Heartbeat, Authorize, StartTransaction, Empty, UnknownVendorId, Fault, Refused}
@@ -57,7 +57,7 @@ period_text period = codes "{\"startPeriod\":" ++ decimal period.start ++ codes 
 -- each behind a comma
 abbrev pub later_periods_text : List CompositePeriod → List ℕ
 later_periods_text [] = []
-later_periods_text (period ∷ periods) = 44 ∷ (period_text period ++ later_periods_text periods)
+later_periods_text (period ∷ periods) = codes "," ++ period_text period ++ later_periods_text periods
 
 abbrev pub periods_text : List CompositePeriod → List ℕ
 periods_text [] = []
@@ -74,17 +74,8 @@ composite_text connector start unit schedule =
 
 -- the error code of a refused ClearChargingProfile, StartTransaction or StopTransaction
 abbrev pub refused_code : Refusal → List ℕ
-refused_code refusals.UnknownConnector = codes "PropertyConstraintViolation"
-refused_code refusals.UnknownPoint = codes "InternalError"
-refused_code refusals.WrongUnit = codes "InternalError"
-refused_code refusals.LevelTooHigh = codes "InternalError"
-refused_code refusals.TooManyPeriods = codes "InternalError"
-refused_code refusals.PeriodsOutOfOrder = codes "InternalError"
-refused_code refusals.NoRecurrency = codes "InternalError"
-refused_code refusals.BadDuration = codes "InternalError"
-refused_code refusals.PastCalendar = codes "InternalError"
-refused_code refusals.ResultTooLong = codes "InternalError"
-refused_code refusals.OutOfMemory = codes "InternalError"
+refused_code UnknownConnector = codes "PropertyConstraintViolation"
+refused_code _ = codes "InternalError"
 
 -- the text that answers the CALL of an id (OCPP-J 1.6, 4.2): a CALLRESULT, or a CALLERROR with the code and the
 -- description that name why

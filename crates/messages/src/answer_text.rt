@@ -16,10 +16,7 @@ pub fn write_answer(alloc: Global, id: &str, answer: &Answer) -> Result<String, 
 {
     match answer {
         Answer::Accepted => write_result(alloc, id, r#"{"status":"Accepted"}"#),
-        Answer::Rejected(refusal) => {
-            let payload = rejected(alloc, *refusal)?;
-            write_result(alloc, id, payload.as_str())
-        }
+        Answer::Rejected(refusal) => write_result(alloc, id, rejected(alloc, *refusal)?.as_str()),
         Answer::Unknown => write_result(alloc, id, r#"{"status":"Unknown"}"#),
         Answer::Schedule {
             connector,
@@ -31,17 +28,14 @@ pub fn write_answer(alloc: Global, id: &str, answer: &Answer) -> Result<String, 
             write_result(alloc, id, payload.as_str())
         }
         Answer::BootNotification { current_time } => {
-            let payload = boot_notification(alloc, *current_time)?;
-            write_result(alloc, id, payload.as_str())
+            write_result(alloc, id, boot_notification(alloc, *current_time)?.as_str())
         }
         Answer::Heartbeat { current_time } => {
-            let payload = heartbeat(alloc, *current_time)?;
-            write_result(alloc, id, payload.as_str())
+            write_result(alloc, id, heartbeat(alloc, *current_time)?.as_str())
         }
         Answer::Authorize => write_result(alloc, id, r#"{"idTagInfo":{"status":"Accepted"}}"#),
         Answer::StartTransaction { transaction } => {
-            let payload = start_transaction(alloc, *transaction)?;
-            write_result(alloc, id, payload.as_str())
+            write_result(alloc, id, start_transaction(alloc, *transaction)?.as_str())
         }
         Answer::Empty => write_result(alloc, id, "{}"),
         Answer::UnknownVendorId => write_result(alloc, id, r#"{"status":"UnknownVendorId"}"#),
