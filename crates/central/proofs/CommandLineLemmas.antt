@@ -1,14 +1,18 @@
 -- What clap says of a command line, said of this program's command.
 use Rattle.std.proofs.Common.{◌≡◌, List, Option, Some, None, codes, option_map, option_and_then, true, refl, sym, ap, ◌∙◌, subst}
-use Rattle.clap.specs.Words.{App, HasMatchesOf, Row, Text, first_of, first_value, found_of, is_simple, rows_of, subcommand_of, subcommand_rows_of, takes}
+use Rattle.clap.specs.Words.{App, HasMatchesOf, Kinds, Row, Text, fault_of, first_of, first_value, found_of, is_simple, is_simple_and_free, rows_of, subcommand_of, subcommand_rows_of}
 use Rattle.clap.specs.declared.parser.matches.ArgMatches.{ArgMatches}
 use Rattle.clap.proofs.OnLiterals.{clap_on_literals}
 use Rattle.clap.proofs.WalkLemmas.{first_value-rows}
-use Rattle.central.specs.CommandLine.{central_app, is_taken, site_named}
+use Rattle.central.specs.CommandLine.{central_app, line_faults, site_named}
 
-pub fails_untaken : (app : App) (words : List Text) (P : Type 0) → app ≡ central_app → (takes app words ≡ true → P) → is_taken words ≡ true → P
-unfolding is_taken
-fails_untaken app words P same fails taken = fails (ap (λ (a : App). takes a words) same ∙ taken)
+central_is_free : is_simple_and_free central_app ≡ true
+unfolding central_app clap_on_literals
+central_is_free = refl
+
+pub fails_as : (app : App) (words : List Text) (P : Kinds → Type 0) → app ≡ central_app → (is_simple_and_free app ≡ true → P (fault_of app words)) → P (line_faults words)
+unfolding line_faults
+fails_as app words P same fails = subst (λ (a : App). P (fault_of a words)) same (fails (ap is_simple_and_free same ∙ central_is_free))
 
 central_is_simple : is_simple central_app ≡ true
 unfolding central_app clap_on_literals

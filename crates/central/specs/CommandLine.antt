@@ -1,6 +1,6 @@
 -- What a command line says, by clap's definition of how words are read.
-use Rattle.std.specs.Prelude.{true, Bool, List, codes, Option, Some, option_and_then}
-use Rattle.clap.specs.Words.{App, Rule, Text, first_of, new_app, new_rule, subcommand_of, takes, with_rule, with_subcommand}
+use Rattle.std.specs.Prelude.{true, List, codes, Option, Some, option_and_then}
+use Rattle.clap.specs.Words.{App, Kinds, Rule, Text, fault_of, first_of, new_app, new_rule, subcommand_of, with_rule, with_subcommand}
 use Rattle.clap.specs.declared.builder.action.ArgAction.TheVariants.{Set}
 use Rattle.central.specs.declared.command_line.Job.{Job}
 use Rattle.central.specs.declared.command_line.Job.TheVariants.{Replay}
@@ -17,9 +17,9 @@ with_one_subcommand command only = with_subcommand (record command { top = recor
 unfoldable pub central_app : App
 central_app = with_one_subcommand (new_app (codes "central")) (with_rule (new_app (codes "replay")) (required_option (codes "site")))
 
--- whether clap takes the words
-unfoldable pub is_taken : List Text → Bool
-is_taken words = takes central_app words
+-- the kinds of error that the words give, none where clap takes them
+unfoldable pub line_faults : List Text → Kinds
+line_faults words = fault_of central_app words
 
 -- the site file that the words name
 unfoldable pub site_named : List Text → Option Text

@@ -1,8 +1,7 @@
-ghost use Rattle.std.specs.Prelude.{◌≡◌, true, false, Some, IfOk, IfErr, map, string_bytes};
-ghost use Rattle.clap.specs.Words.{app_of, rule_of, kind_of};
-ghost use Rattle.central.specs.CommandLine.{required_option, central_app, is_taken, site_named, site_of_job};
+ghost use Rattle.std.specs.Prelude.{◌≡◌, false, Some, IfOk, map, string_bytes};
+ghost use Rattle.clap.specs.Words.{FailsBy, app_of, rule_of};
+ghost use Rattle.central.specs.CommandLine.{required_option, central_app, line_faults, site_named, site_of_job};
 
-use clap::error::ErrorKind;
 use clap::{Arg, ArgAction, Command, Error};
 use std::alloc::{AllocError, Global};
 
@@ -16,7 +15,7 @@ pub enum Job<'a> {
 /// The job of a command line, whose first word is the program's name.
 pub fn job_of<'a>(alloc: Global, words: &'a [String]) -> Result<Job<'a>, Error>
     ensures job { IfOk result (λ job. site_named (map string_bytes words.now) ≡ Some (site_of_job job)) }
-    ensures taken { IfErr result (λ error. is_taken (map string_bytes words.now) ≡ true → kind_of error ≡ ErrorKind.OutOfMemory) }
+    ensures faults { FailsBy (line_faults (map string_bytes words.now)) result }
 {
     let command = central_command(alloc)?;
     let matches = command.try_get_matches_from(words)?;

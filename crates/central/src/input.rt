@@ -1,4 +1,5 @@
-ghost use Rattle.std.specs.Prelude.{◌≡◌, ℕ, ◌+◌, ◌<◌, ◌≤◌, ◌^◌, length, vec_len, IfOk, IfSome, IsErrOf};
+ghost use Rattle.std.specs.Prelude.{◌≡◌, ℕ, ◌+◌, ◌<◌, ◌≤◌, ◌^◌, length, vec_len, IfOk, IfSome, IsErrOf, OnOk};
+ghost use Rattle.std.specs.Io.KnownBytes.{IsAtEnd};
 ghost use Rattle.central.specs.Input.{GaveAtMost, GaveMoreThan, ReadOnto};
 
 use std::alloc::{AllocError, Global};
@@ -49,6 +50,7 @@ fn read_onto<R: Read>(
 pub fn read_all<R: Read>(alloc: Global, reader: &mut R, limit: usize) -> Result<Vec<u8>, InputFault>
     requires { limit < 2 ^ 32 }
     ensures whole { IfOk result (λ bytes. IfSome (R.remaining reader.old) (λ given. bytes.items ≡ given)) }
+    ensures end { OnOk result (IsAtEnd (R.remaining reader.new)) }
     ensures short { IfOk result (λ bytes. vec_len bytes ≤ limit) }
     ensures most { GaveAtMost (R.remaining reader.old) (R.remaining reader.new) (limit + 1) }
     ensures long { IsErrOf result InputFault.TooLong → GaveMoreThan (R.remaining reader.old) (R.remaining reader.new) limit }
