@@ -4,8 +4,8 @@ use Rattle.std.specs.Str.{bytes_eq}
 use Rattle.ocpp_scalars.specs.declared.refusal.Refusal.{Refusal}
 use Rattle.ocpp_scalars.specs.declared.refusal.Refusal.TheVariants.{UnknownPoint, UnknownConnector, WrongUnit, ResultTooLong}
 use Rattle.ocppj_frame.specs.declared.fault.FrameFault.{FrameFault}
-use Rattle.ocppj_frame.specs.declared.fault.FrameFault.TheVariants.{Dropped, Formation, OutOfMemory}
-use Rattle.ocppj_frame.specs.Message.{Message, call, call_result, call_error, other, message_of_text}
+use Rattle.ocppj_frame.specs.declared.fault.FrameFault.TheVariants.{Formation}
+use Rattle.ocppj_frame.specs.Message.{Message, call, message_of_text}
 use Rattle.profile.specs.declared.unit.Unit.{Unit}
 use Rattle.profile.specs.declared.unit.Unit.TheVariants as units
 use Rattle.profile.specs.declared.kind.Kind.{Kind}
@@ -157,11 +157,9 @@ reading_result system moment point (Ok action) = action_result system moment poi
 reading_result system moment point (Err fault) = (system, Fault fault)
 
 abbrev pub is_side : Side → Option Side → Bool
-is_side side None = false
 is_side Operator (Some Operator) = true
-is_side Operator (Some Point) = false
-is_side Point (Some Operator) = false
 is_side Point (Some Point) = true
+is_side _ _ = false
 
 -- a CALL of an action that isn't its sender's, or is nobody's, isn't taken, whatever its fields are
 abbrev pub call_result_of : SystemView → Line → List ℕ → Result Action CallFault → SystemView × Answer
@@ -173,20 +171,13 @@ call_result_of system line name reading =
 -- only a CALL changes what is known
 abbrev pub state_of_message : SystemView → Line → Result Message FrameFault → SystemView
 state_of_message system line (Ok (call id name payload)) = (call_result_of system line name (action_of name payload)).0
-state_of_message system line (Ok (call_result id payload)) = system
-state_of_message system line (Ok (call_error id)) = system
-state_of_message system line (Ok other) = system
-state_of_message system line (Err fault) = system
+state_of_message system line _ = system
 
 -- only a CALL is answered, a malformed one too where it has an id
 abbrev pub answer_of_message : SystemView → Line → Result Message FrameFault → Option (List ℕ)
 answer_of_message system line (Ok (call id name payload)) = Some (answer_text id (call_result_of system line name (action_of name payload)).1)
-answer_of_message system line (Ok (call_result id payload)) = None
-answer_of_message system line (Ok (call_error id)) = None
-answer_of_message system line (Ok other) = None
 answer_of_message system line (Err (Formation id)) = Some (answer_text id (Fault FormationViolation))
-answer_of_message system line (Err Dropped) = None
-answer_of_message system line (Err OutOfMemory) = None
+answer_of_message system line _ = None
 
 -- what the central system knows after a text
 unfoldable pub state_after : SystemView → Line → SystemView

@@ -2,7 +2,7 @@ ghost use Rattle.std.specs.Prelude.{◌≡◌, ◌≤◌, ℕ, List, IfOk, OnOk,
 ghost use Rattle.std.specs.Io.KnownBytes.{Appends, Keeps};
 ghost use Rattle.central.specs.Script.{script_lines};
 ghost use Rattle.central.specs.Input.{GaveAtMost, GaveMoreThan};
-ghost use Rattle.central.specs.Output.{AppendsFront, line_output, system_after, has_fault, output_from, output_of, fault_count};
+ghost use Rattle.central.specs.Output.{AppendsFront, AppendsPart, line_output, system_after, has_fault, output_from, output_of, fault_count};
 ghost use Rattle.central.specs.Replay.{IsReading, IsWriting};
 
 use crate::central_system::CentralSystem;
@@ -136,6 +136,7 @@ fn write_line<W: Write>(
     ensures site { system.new.site ≡ system.old.site }
     ensures fault { IfOk result (λ is_fault. is_fault ≡ has_fault system.old.site line.now) }
     ensures front { AppendsFront (W.contents writer.old) (W.contents writer.new) (line_output system.old number line.now) }
+    ensures part { IsErrOf result ReplayFault.Write → AppendsPart (W.contents writer.old) (W.contents writer.new) (line_output system.old number line.now) }
     ensures late { IfErr result IsWriting }
 {
     let Ok(printed) = play_line(alloc, system, number, line) else {
