@@ -1,4 +1,4 @@
-ghost use Rattle.std.specs.Prelude.{◌≡◌, ◌<◌, ◌≤◌, length, IfOk, OnOk, option_map, string_bytes};
+ghost use Rattle.std.specs.Prelude.{◌≡◌, ◌<◌, ◌≤◌, length, IfOk, IsOkUnless, OnOk, option_map, string_bytes};
 ghost use Rattle.ocppj_frame.specs.FrameReading.{message_in, HasObject};
 ghost use Rattle.messages.specs.Action.{action_in, HasPeriods};
 ghost use Rattle.central.specs.Line.{line_said};
@@ -66,6 +66,7 @@ impl CentralSystem {
         ensures answer { IfOk result (λ answer. option_map string_bytes answer ≡ answer_to self.old (line_said line.now)) }
         ensures after { OnOk result (self.new ≡ state_after self.old (line_said line.now)) }
         ensures site { self.new.site ≡ self.old.site }
+        ensures memory { IsOkUnless result Refusal.OutOfMemory }
     {
         match read_frame(self.alloc, line.frame) {
             Ok(frame) => self.take_message(line, &frame),
@@ -87,6 +88,7 @@ impl CentralSystem {
         ensures answer { IfOk result (λ answer. option_map string_bytes answer ≡ answer_of_message self.old (line_said line.now) (Ok (message_in frame.now))) }
         ensures after { OnOk result (self.new ≡ state_of_message self.old (line_said line.now) (Ok (message_in frame.now))) }
         ensures site { self.new.site ≡ self.old.site }
+        ensures memory { IsOkUnless result Refusal.OutOfMemory }
     {
         let Frame::Call { id, action, .. } = frame else {
             return Ok(None);
@@ -105,6 +107,7 @@ impl CentralSystem {
         ensures answer { IfOk result (λ answer. answer ≡ (call_result_of self.old (line_said line.now) name.now (action_in (message_in frame.now))).1) }
         ensures after { OnOk result (self.new ≡ (call_result_of self.old (line_said line.now) name.now (action_in (message_in frame.now))).0) }
         ensures site { self.new.site ≡ self.old.site }
+        ensures memory { IsOkUnless result Refusal.OutOfMemory }
     {
         if !is_sent_by(line.sender, name) {
             return Ok(NOT_TAKEN);
@@ -122,6 +125,7 @@ impl CentralSystem {
         ensures answer { IfOk result (λ answer. answer ≡ (action_result self.old moment point.now action).1) }
         ensures after { OnOk result (self.new ≡ (action_result self.old moment point.now action).0) }
         ensures site { self.new.site ≡ self.old.site }
+        ensures memory { IsOkUnless result Refusal.OutOfMemory }
     {
         match action {
             Action::SetChargingProfile { connector, profile } => {
@@ -163,6 +167,7 @@ impl CentralSystem {
         ensures answer { IfOk result (λ answer. answer ≡ (parts_result self.old moment point.now connector (first_refusal parts) (made_profile parts)).1) }
         ensures after { OnOk result (self.new ≡ (parts_result self.old moment point.now connector (first_refusal parts) (made_profile parts)).0) }
         ensures site { self.new.site ≡ self.old.site }
+        ensures memory { IsOkUnless result Refusal.OutOfMemory }
     {
         match Profile::try_new(parts) {
             Ok(profile) => self.install(moment, point, connector, profile),
@@ -181,6 +186,7 @@ impl CentralSystem {
         ensures answer { IfOk result (λ answer. answer ≡ (profile_result self.old moment point.now connector profile).1) }
         ensures after { OnOk result (self.new ≡ (profile_result self.old moment point.now connector profile).0) }
         ensures site { self.new.site ≡ self.old.site }
+        ensures memory { IsOkUnless result Refusal.OutOfMemory }
     {
         if !is_taken(connector, &profile) {
             return Ok(NOT_TAKEN);
@@ -210,7 +216,8 @@ impl CentralSystem {
         duration: u32,
         unit: Option<Unit>,
     ) -> Result<Answer, Refusal>
-        ensures { IfOk result (λ answer. answer ≡ ask_answer self.now moment point.now connector duration unit) }
+        ensures answer { IfOk result (λ answer. answer ≡ ask_answer self.now moment point.now connector duration unit) }
+        ensures memory { IsOkUnless result Refusal.OutOfMemory }
     {
         match checked_ask(&self.site, moment, point, connector, duration, unit) {
             Ok(ask) => self.compose(&ask),
@@ -221,8 +228,9 @@ impl CentralSystem {
     /// Composes the schedule of an ask.
     fn compose(&self, ask: &Ask) -> Result<Answer, Refusal>
         requires { ask.now.connector ≤ length self.now.site.ceilings }
-        ensures { IfOk result (λ answer. answer ≡ schedule_answer self.now.site.unit ask.now.start ask.now.connector ask.now.duration
+        ensures answer { IfOk result (λ answer. answer ≡ schedule_answer self.now.site.unit ask.now.start ask.now.connector ask.now.duration
             (composed_periods self.now ask.now.start ask.now.connector ask.now.duration)) }
+        ensures memory { IsOkUnless result Refusal.OutOfMemory }
     {
         let view = self.view();
         match compile_plain(self.alloc, &view, ask) {
