@@ -72,7 +72,8 @@ composite_text connector start unit schedule =
     ++ codes ",\"chargingRateUnit\":\"" ++ unit_text unit
     ++ codes "\",\"chargingSchedulePeriod\":[" ++ periods_text schedule.periods ++ codes "]}}"
 
--- the error code of a refused ClearChargingProfile, StartTransaction or StopTransaction
+-- the error code of a refused ClearChargingProfile, StartTransaction or StopTransaction; the first is never refused for
+-- its connector
 abbrev pub refused_code : Refusal → List ℕ
 refused_code UnknownConnector = codes "PropertyConstraintViolation"
 refused_code _ = codes "InternalError"

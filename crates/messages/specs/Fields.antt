@@ -11,29 +11,31 @@ use Rattle.messages.specs.declared.call_fault.CallFault.{CallFault}
 use Rattle.messages.specs.declared.call_fault.CallFault.TheVariants.{OccurenceConstraintViolation, TypeConstraintViolation, PropertyConstraintViolation}
 use Rattle.messages.specs.FieldName.{field_name}
 
+-- the value of a field that has to be there, else its fault
 abbrev pub required_value : {A : Type 0} → FieldName → Field A → Result A CallFault
 required_value name Absent = Err (OccurenceConstraintViolation name)
 required_value name WrongKind = Err (TypeConstraintViolation name)
 required_value name WrongValue = Err (PropertyConstraintViolation name)
 required_value name (Value x) = Ok x
 
+-- the value of a field that may be absent
 abbrev pub optional_value : {A : Type 0} → FieldName → Field A → Result (Option A) CallFault
 optional_value name Absent = Ok None
 optional_value name WrongKind = Err (TypeConstraintViolation name)
 optional_value name WrongValue = Err (PropertyConstraintViolation name)
 optional_value name (Value x) = Ok (Some x)
 
--- a field that has to be there
 abbrev pub required : {A : Type 0} → NamedField A → Result A CallFault
 required read = required_value read.name read.field
 
--- a field that may be absent
 abbrev pub optional : {A : Type 0} → NamedField A → Result (Option A) CallFault
 optional read = optional_value read.name read.field
 
+-- a whole number of 32 bits
 abbrev pub whole : Tree → FieldName → NamedField ℤ
 whole fields name = record { name = name; field = whole_field_of (field_name name) fields }
 
+-- a whole number below 0 is a wrong value
 abbrev pub from_zero : Field ℤ → Field ℕ
 from_zero Absent = Absent
 from_zero WrongKind = WrongKind
@@ -44,12 +46,14 @@ from_zero (Value (negsuc n)) = WrongValue
 abbrev pub whole_from_zero : Tree → FieldName → NamedField ℕ
 whole_from_zero fields name = record { name = name; field = from_zero (whole_field_of (field_name name) fields) }
 
+-- tenths of A or W
 abbrev pub tenths : Tree → FieldName → NamedField ℕ
 tenths fields name = record { name = name; field = tenths_field_of (field_name name) fields }
 
 abbrev pub instant : Tree → FieldName → NamedField ℕ
 instant fields name = record { name = name; field = instant_field_of (field_name name) fields }
 
+-- a text that is no such name is a wrong value
 abbrev pub value_or_wrong : {A : Type 0} → Option A → Field A
 value_or_wrong None = WrongValue
 value_or_wrong (Some x) = Value x

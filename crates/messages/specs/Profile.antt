@@ -27,7 +27,10 @@ period_of entry = do
 -- the periods of a list, in order
 abbrev pub periods_of : List Tree → Result (List Period) CallFault
 periods_of [] = Ok []
-periods_of (entry ∷ entries) = period_of entry >>= (λ (period : Period). periods_of entries >>= (λ (periods : List Period). Ok (period ∷ periods)))
+periods_of (entry ∷ entries) = do
+  period ← period_of entry
+  periods ← periods_of entries
+  Ok (period ∷ periods)
 
 -- the fields of a schedule (OCPP 1.6, chapter 7, ChargingSchedule)
 unfoldable pub schedule_of : Tree → Result ScheduleParts CallFault
