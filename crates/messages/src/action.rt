@@ -82,6 +82,7 @@ fn read_call(alloc: Global, name: &str, payload: Part<'_>) -> Result<Action, Cal
     }
 }
 
+#[tactic(auto, unfolding(crate::specs::Action::clear_charging_profile_of, crate::specs::Action::get_composite_schedule_of, crate::specs::Action::start_transaction_of, crate::specs::Action::stop_transaction_of))]
 fn read_payload(alloc: Global, kind: ActionKind, payload: Part<'_>) -> Result<Action, CallFault>
     ensures value { Reads (λ action. action) result (action_of_kind kind (tree_at payload.entry)) }
     ensures some { IfOk result HasPeriods }
