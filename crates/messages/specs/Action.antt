@@ -99,3 +99,16 @@ action_in _ = Ok NotACall
 abbrev pub HasPeriods : Action → Type 0
 HasPeriods (SetChargingProfile connector profile) = 0 < length profile.schedule.periods
 HasPeriods _ = ⊤
+
+-- ---- memory
+
+-- the action that a message asks for by its name, where it is a known one
+abbrev pub kind_asked : Message → Option ActionKind
+kind_asked (call id name payload) = action_named name
+kind_asked _ = None
+
+-- only a profile's periods and an idTag take memory to be read
+abbrev pub TakesNoMemory : Option ActionKind → Type 0
+TakesNoMemory (Some kinds.SetChargingProfile) = ⊥
+TakesNoMemory (Some kinds.StartTransaction) = ⊥
+TakesNoMemory _ = ⊤

@@ -1,7 +1,8 @@
-ghost use Rattle.std.specs.Prelude.{IfOk};
+ghost use Rattle.std.specs.Prelude.{◌≡◌, IfOk, Some};
 ghost use Rattle.ocppj_frame.specs.FrameReading.{message_in};
 ghost use Rattle.ocppj_frame.specs.Parts.{tree_at};
-ghost use Rattle.messages.specs.Action.{action_of, action_of_kind, action_in, HasPeriods};
+ghost use Rattle.messages.specs.Action.{action_of, action_of_kind, action_in, kind_asked, HasPeriods, TakesNoMemory};
+ghost use Rattle.messages.specs.ActionKind.{action_named};
 ghost use Rattle.messages.specs.Reading.{Reads};
 
 use crate::action_kind::ActionKind;
@@ -61,6 +62,7 @@ pub struct StartTransaction {
 pub fn read_action(alloc: Global, frame: &Frame) -> Result<Action, CallFault>
     ensures value { Reads (λ action. action) result (action_in (message_in frame.now)) }
     ensures some { IfOk result HasPeriods }
+    ensures exact { TakesNoMemory (kind_asked (message_in frame.now)) → result ≡ action_in (message_in frame.now) }
 {
     match frame {
         Frame::Call {
@@ -75,6 +77,7 @@ pub fn read_action(alloc: Global, frame: &Frame) -> Result<Action, CallFault>
 fn read_call(alloc: Global, name: &str, payload: Part<'_>) -> Result<Action, CallFault>
     ensures value { Reads (λ action. action) result (action_of name.now (tree_at payload.entry)) }
     ensures some { IfOk result HasPeriods }
+    ensures exact { TakesNoMemory (action_named name.now) → result ≡ action_of name.now (tree_at payload.entry) }
 {
     match ActionKind::named(name) {
         Some(kind) => read_payload(alloc, kind, payload),
@@ -82,9 +85,11 @@ fn read_call(alloc: Global, name: &str, payload: Part<'_>) -> Result<Action, Cal
     }
 }
 
+#[tactic(auto, unfolding(crate::specs::Action::clear_charging_profile_of, crate::specs::Action::get_composite_schedule_of, crate::specs::Action::start_transaction_of, crate::specs::Action::stop_transaction_of))]
 fn read_payload(alloc: Global, kind: ActionKind, payload: Part<'_>) -> Result<Action, CallFault>
     ensures value { Reads (λ action. action) result (action_of_kind kind (tree_at payload.entry)) }
     ensures some { IfOk result HasPeriods }
+    ensures exact { TakesNoMemory (Some kind) → result ≡ action_of_kind kind (tree_at payload.entry) }
 {
     match kind {
         ActionKind::SetChargingProfile => read_set_charging_profile(alloc, payload),

@@ -31,7 +31,6 @@ pub fn read_set_charging_profile(alloc: Global, payload: Part<'_>) -> Result<Act
 #[tactic(auto, unfolding(crate::specs::Action::clear_charging_profile_of))]
 pub fn read_clear_charging_profile(payload: Part<'_>) -> Result<Action, CallFault>
     ensures value { result ≡ clear_charging_profile_of (tree_at payload.entry) }
-    ensures some { IfOk result HasPeriods }
 {
     let id = whole(payload, Id).optional()?;
     let connector = whole_from_zero(payload, ConnectorId).optional()?;
@@ -49,7 +48,6 @@ pub fn read_clear_charging_profile(payload: Part<'_>) -> Result<Action, CallFaul
 #[tactic(auto, unfolding(crate::specs::Action::get_composite_schedule_of))]
 pub fn read_get_composite_schedule(payload: Part<'_>) -> Result<Action, CallFault>
     ensures value { result ≡ get_composite_schedule_of (tree_at payload.entry) }
-    ensures some { IfOk result HasPeriods }
 {
     let connector = whole_from_zero(payload, ConnectorId).required()?;
     let duration = whole_from_zero(payload, Duration).required()?;

@@ -1,6 +1,6 @@
-ghost use Rattle.std.specs.Prelude.{◌≡◌, IfOk};
+ghost use Rattle.std.specs.Prelude.{◌≡◌};
 ghost use Rattle.ocppj_frame.specs.Parts.{tree_at};
-ghost use Rattle.messages.specs.Action.{HasPeriods, start_transaction_of, stop_transaction_of, id_tag_of};
+ghost use Rattle.messages.specs.Action.{start_transaction_of, stop_transaction_of, id_tag_of};
 ghost use Rattle.messages.specs.Reading.{Reads};
 
 use crate::action::{Action, StartTransaction};
@@ -15,7 +15,6 @@ use std::alloc::Global;
 #[tactic(auto, unfolding(crate::specs::Action::start_transaction_of))]
 pub fn read_start_transaction(alloc: Global, payload: Part<'_>) -> Result<Action, CallFault>
     ensures value { Reads (λ action. action) result (start_transaction_of (tree_at payload.entry)) }
-    ensures some { IfOk result HasPeriods }
 {
     let connector = whole_from_zero(payload, ConnectorId).required()?;
     let id_tag = read_id_tag(alloc, payload)?;
@@ -48,7 +47,6 @@ fn read_id_tag(alloc: Global, payload: Part<'_>) -> Result<IdTag, CallFault>
 #[tactic(auto, unfolding(crate::specs::Action::stop_transaction_of))]
 pub fn read_stop_transaction(payload: Part<'_>) -> Result<Action, CallFault>
     ensures value { result ≡ stop_transaction_of (tree_at payload.entry) }
-    ensures some { IfOk result HasPeriods }
 {
     let transaction = whole(payload, TransactionId).required()?;
     Ok(Action::StopTransaction(transaction))
