@@ -1,4 +1,4 @@
-use Rattle.std.specs.Prelude.{ℕ, List, [], ◌∷◌, ◌++◌, codes}
+use Rattle.std.specs.Prelude.{Bool, true, false, if◌then◌else◌, ℕ, List, [], ◌∷◌, ◌++◌, codes}
 use Rattle.std.specs.Fmt.{decimal}
 use Rattle.ocpp_scalars.specs.declared.refusal.Refusal.{Refusal}
 use Rattle.ocpp_scalars.specs.Refusal.{refusal_name}
@@ -8,7 +8,7 @@ use Rattle.profile.specs.declared.unit.Unit.{Unit}
 use Rattle.profile.specs.declared.unit.Unit.TheVariants.{A, W}
 use Rattle.meaning.specs.declared.composite.CompositePeriod.{CompositePeriod}
 use Rattle.meaning.specs.Schedule as schedules
-use Rattle.ocpp_scalars.specs.declared.refusal.Refusal.TheVariants.{UnknownConnector}
+use Rattle.ocpp_scalars.specs.declared.refusal.Refusal.TheVariants.{UnknownConnector, OutOfMemory}
 use Rattle.ocppj_frame.specs.Written.{call_result_text, call_error_text}
 use Rattle.messages.specs.declared.answer.Answer.{Answer}
 use Rattle.messages.specs.declared.answer.Answer.TheVariants.{Accepted, Rejected, Unknown, Schedule, BootNotification, Heartbeat, Authorize, StartTransaction, Empty, UnknownVendorId, Fault, Refused}
@@ -78,11 +78,21 @@ abbrev pub refused_code : Refusal → List ℕ
 refused_code UnknownConnector = codes "PropertyConstraintViolation"
 refused_code _ = codes "InternalError"
 
+abbrev pub is_want_of_memory : Refusal → Bool
+is_want_of_memory OutOfMemory = true
+is_want_of_memory _ = false
+
+-- a refused install or ask is a result; want of memory is an error, as it is for every action
+abbrev pub refusal_text : List ℕ → Refusal → List ℕ
+refusal_text id refusal =
+    if is_want_of_memory refusal then call_error_text id (codes "InternalError") (codes "OutOfMemory")
+    else call_result_text id (rejected_text refusal)
+
 -- the text that answers the CALL of an id (OCPP-J 1.6, 4.2): a CALLRESULT, or a CALLERROR with the code and the
 -- description that name why
 abbrev pub answer_text : List ℕ → Answer → List ℕ
 answer_text id Accepted = call_result_text id accepted_text
-answer_text id (Rejected refusal) = call_result_text id (rejected_text refusal)
+answer_text id (Rejected refusal) = refusal_text id refusal
 answer_text id Unknown = call_result_text id unknown_text
 answer_text id (Schedule connector start unit schedule) = call_result_text id (composite_text connector start unit schedule)
 answer_text id (BootNotification now) = call_result_text id (boot_notification_text now)

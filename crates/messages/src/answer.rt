@@ -8,7 +8,8 @@ use profile::Unit;
 pub enum Answer {
     /// A profile was installed, or a ClearChargingProfile removed some.
     Accepted,
-    /// An install or an ask is refused.
+    /// An install or an ask is refused. Want of memory is answered as an InternalError, as of every
+    /// action.
     Rejected(Refusal),
     /// A ClearChargingProfile matched no profile.
     Unknown,

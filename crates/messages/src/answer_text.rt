@@ -1,5 +1,5 @@
 ghost use Rattle.std.specs.Prelude.{◌≡◌, ◌++◌, OnOk, IfOk, IsOkUnless, string_bytes};
-ghost use Rattle.messages.specs.Answer.{accepted_text, answer_text, boot_notification_text, composite_text, heartbeat_text, period_text, periods_text, refused_code, rejected_text, start_transaction_text, unit_text};
+ghost use Rattle.messages.specs.Answer.{accepted_text, answer_text, boot_notification_text, composite_text, heartbeat_text, is_want_of_memory, period_text, periods_text, refusal_text, refused_code, rejected_text, start_transaction_text, unit_text};
 
 use crate::answer::Answer;
 use meaning::{Composite, CompositePeriod};
@@ -16,7 +16,7 @@ pub fn write_answer(alloc: Global, id: &str, answer: &Answer) -> Result<String, 
 {
     match answer {
         Answer::Accepted => write_result(alloc, id, r#"{"status":"Accepted"}"#),
-        Answer::Rejected(refusal) => write_result(alloc, id, rejected(alloc, *refusal)?.as_str()),
+        Answer::Rejected(refusal) => write_rejected(alloc, id, *refusal),
         Answer::Unknown => write_result(alloc, id, r#"{"status":"Unknown"}"#),
         Answer::Schedule {
             connector,
@@ -52,6 +52,23 @@ fn refused_code(refusal: Refusal) -> &'static str
         Refusal::UnknownConnector => "PropertyConstraintViolation",
         _ => "InternalError",
     }
+}
+
+/// The answer to a refused install or ask. Want of memory is an error, as it is for every action.
+fn write_rejected(alloc: Global, id: &str, refusal: Refusal) -> Result<String, Refusal>
+    ensures text { IfOk result (λ s. string_bytes s ≡ refusal_text id.now refusal) }
+    ensures memory { IsOkUnless result Refusal.OutOfMemory }
+{
+    if is_want_of_memory(refusal) {
+        return write_error(alloc, id, "InternalError", "OutOfMemory");
+    }
+    write_result(alloc, id, rejected(alloc, refusal)?.as_str())
+}
+
+fn is_want_of_memory(refusal: Refusal) -> bool
+    ensures { result ≡ is_want_of_memory refusal }
+{
+    matches!(refusal, Refusal::OutOfMemory)
 }
 
 /// The payload that rejects with a refusal's name as the reason.

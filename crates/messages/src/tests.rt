@@ -48,7 +48,7 @@ OccurenceConstraintViolation idTag [2,"d","StartTransaction",{"connectorId":1,"m
 TypeConstraintViolation idTag [2,"d","StartTransaction",{"connectorId":1,"idTag":20}]
 PropertyConstraintViolation idTag [2,"d","StartTransaction",{"connectorId":1,"idTag":"ééééééééééééééééééééé","meterStart":0.5}]
 PropertyConstraintViolation meterStart [2,"d","StartTransaction",{"connectorId":1,"idTag":"","meterStart":0.5,"timestamp":"now"}]
-PropertyConstraintViolation timestamp [2,"d","StartTransaction",{"connectorId":1,"idTag":"T1","meterStart":-1,"timestamp":"1969-12-31T23:59:59Z"}]
+PropertyConstraintViolation timestamp [2,"d","StartTransaction",{"connectorId":1,"idTag":"ABC","meterStart":-1,"timestamp":"1969-12-31T23:59:59Z"}]
 OccurenceConstraintViolation transactionId [2,"d","StopTransaction",{"timestamp":7}]
 PropertyConstraintViolation transactionId [2,"d","StopTransaction",{"transactionId":2147483648}]
 NotImplemented  [2,"d","heartbeat",{}]
@@ -181,6 +181,10 @@ fn errors_are_written(rt: HostRuntime) -> Result<(), Fail> {
         (
             Answer::Fault(CallFault::TypeConstraintViolation(FieldName::Limit)),
             r#""TypeConstraintViolation","limit""#,
+        ),
+        (
+            Answer::Rejected(Refusal::OutOfMemory),
+            r#""InternalError","OutOfMemory""#,
         ),
         (
             Answer::Fault(CallFault::OutOfMemory),
