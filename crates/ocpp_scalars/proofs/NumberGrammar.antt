@@ -1,14 +1,14 @@
 -- A number's text is cut into its parts exactly as RFC 8259's grammar has it.
-use Rattle.std.proofs.Common.{◌≡◌, ℕ, ◌+◌, ◌-◌, ◌*◌, ◌≤◌, Bool, true, false, not, ◌||◌, ◌==◌, if◌then◌else◌, inl, inr, List, [], ◌∷◌, ◌++◌, length, ℤ, pos, ◌-ℤ◌, Option, Some, None, option_and_then, refl, sym, ap, subst, ◌∙◌, append-nil, arith}
+use Rattle.std.proofs.Common.{◌≡◌, ℕ, ◌+◌, ◌-◌, ◌*◌, ◌≤◌, Bool, true, false, not, ◌||◌, ◌==◌, if◌then◌else◌, inl, inr, List, [], ◌∷◌, ◌++◌, length, ℤ, pos, ◌-ℤ◌, Option, Some, None, refl, sym, ap, subst, ◌∙◌, append-nil, arith}
 use Rattle.std.specs.Char.{is_ascii_digit}
 use Rattle.std.proofs.lemmas.Bool.{cond_both, eqb-true, ne_eqb}
 use Rattle.ocpp_scalars.specs.Digits.{IsDigit, AreDigits, value_after, decimal_value}
 use Rattle.ocpp_scalars.specs.ByCases.Digits.{digits_of, after_digits, is_empty}
-use Rattle.ocpp_scalars.specs.ByCases.NumberText.{Parts, parts_made, sign_at, is_whole, whole_at, digits_at, fraction_at, exponent_sign_at, exponent_in, parts_of}
+use Rattle.ocpp_scalars.specs.ByCases.NumberText.{Parts, sign_at, is_whole, whole_at, digits_at, fraction_at, exponent_sign_at, exponent_digits, exponent_in, parts_of}
 use Rattle.ocpp_scalars.specs.NumberText.{AreSomeDigits, IsMinus, no_minus, minus_sign, IsWhole, IsFraction, no_fraction, decimal_point, IsE, IsExponent, no_exponent, unsigned_exponent, plus_exponent, minus_exponent, SpellsNumber}
 use Rattle.ocpp_scalars.specs.Number.{with_sign}
 use Rattle.ocpp_scalars.specs.ByCases.Number.{number_of_parts}
-use Rattle.ocpp_scalars.proofs.Cases.{by_test, and_then-some, test-some, test-none, or-true}
+use Rattle.ocpp_scalars.proofs.Cases.{by_test, step-some, same-some, test-some, test-none, or-true}
 use Rattle.ocpp_scalars.proofs.Texts.{AreDigits-digits_of}
 
 pub value_after-append : (n : ℕ) (xs bs : List ℕ) → value_after n (xs ++ bs) ≡ value_after (value_after n xs) bs
@@ -96,7 +96,7 @@ exponent_found [] x e =
 exponent_found (b ∷ bs) x e =
     by_test ((b == 101) || (b == 69))
     (λ held.
-    let (d, is, end) = and_then-some (λ (d : List ℕ × List ℕ). if is_empty d.1 then Some ((exponent_sign_at bs).0, d.0) else None) (digits_at (exponent_sign_at bs).1) x (rw held at e) in
+    let (d, is, end) = step-some (digits_at (exponent_sign_at bs).1) x (rw held at e) in
     let t = test-some (is_empty d.1) ((exponent_sign_at bs).0, d.0) x end in
     let h = digits_found (exponent_sign_at bs).1 d is in
     let all : (exponent_sign_at bs).1 ≡ d.0 = h.1 ∙ ap (λ r. d.0 ++ r) (is_empty-nil d.1 t.0) ∙ append-nil d.0 in
@@ -107,11 +107,11 @@ pub parts_found : (text : List ℕ) (p : Parts) → parts_of text ≡ Some p →
 unfolding parts_of
 parts_found text p e =
     let s = sign_found text in
-    let (w, w_is, e1) = and_then-some (λ (whole : List ℕ × List ℕ). option_and_then (λ (fraction : List ℕ × List ℕ). option_and_then (λ (exponent : Bool × List ℕ). parts_made (sign_at text).0 whole.0 fraction.0 exponent) (exponent_in fraction.1)) (fraction_at whole.1)) (whole_at (sign_at text).1) p e in
-    let (f, f_is, e2) = and_then-some (λ (fraction : List ℕ × List ℕ). option_and_then (λ (exponent : Bool × List ℕ). parts_made (sign_at text).0 w.0 fraction.0 exponent) (exponent_in fraction.1)) (fraction_at w.1) p e1 in
-    let (x, x_is, e3) = and_then-some (λ (exponent : Bool × List ℕ). parts_made (sign_at text).0 w.0 f.0 exponent) (exponent_in f.1) p e2 in
+    let (w, w_is, e1) = step-some (whole_at (sign_at text).1) p e in
+    let (f, f_is, e2) = step-some (fraction_at w.1) p e1 in
+    let (x, x_is, e3) = step-some (exponent_in f.1) p e2 in
     let made : Parts = record { negative = (sign_at text).0; whole = w.0; fraction = f.0; negative_exponent = x.0; exponent = x.1 } in
-    let same : made ≡ p = cc in
+    let same : made ≡ p = same-some e3 in
     let whole = whole_found (sign_at text).1 w w_is in
     let fraction = fraction_found w.1 f f_is in
     subst (λ (p : Parts). SpellsNumber text p.negative (number_of_parts p).digits (number_of_parts p).power) {x = made} same (record {
