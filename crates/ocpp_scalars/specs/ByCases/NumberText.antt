@@ -1,7 +1,9 @@
 -- A number's text cut into its parts. By the law `number_texts` it is what `NumberText` says.
-use Rattle.std.specs.Prelude.{ℕ, Bool, true, false, not, ◌||◌, ◌==◌, if◌then◌else◌, List, [], ◌∷◌, Option, Some, None, is_some}
+use Rattle.std.specs.Prelude.{ℕ, ◌+◌, ◌≤◌, length, Bool, true, false, not, ◌||◌, ◌==◌, if◌then◌else◌, List, [], ◌∷◌, Option, Some, None, is_some}
+use Rattle.ocpp_scalars.specs.declared.number_text.NumberParts.{NumberParts}
 use Rattle.ocpp_scalars.specs.Ascii.{plus, minus, dot, digit_zero, upper_e, lower_e}
 use Rattle.ocpp_scalars.specs.ByCases.Digits.{digits_of, after_digits, is_empty}
+use Rattle.ocpp_scalars.specs.Digits.{AreDigits}
 use Rattle.ocpp_scalars.specs.OptionSteps.{◌>>=◌}
 
 -- minus or not, the digits of the whole part and of the fraction, a negative exponent or not and its digits
@@ -11,6 +13,18 @@ pub record Parts : Type 0 where
   pub fraction : List ℕ
   pub negative_exponent : Bool
   pub exponent : List ℕ
+
+-- as the code has them
+abbrev pub parts_seen : NumberParts → Parts
+parts_seen p =
+    record { negative = p.negative; whole = p.whole.now; fraction = p.fraction.now; negative_exponent = p.negative_exponent; exponent = p.exponent.now }
+
+-- each of the parts has digits alone, and they are no longer than so much
+pub record FitIn (size : ℕ) (p : Parts) : Type 0 where
+  pub whole_digits : AreDigits p.whole
+  pub fraction_digits : AreDigits p.fraction
+  pub exponent_digits : AreDigits p.exponent
+  pub lengths : length p.whole + length p.fraction + length p.exponent ≤ size
 
 -- a sign, and what follows it
 abbrev pub sign_at : List ℕ → Bool × List ℕ
