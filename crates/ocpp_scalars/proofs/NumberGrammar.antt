@@ -4,7 +4,7 @@ use Rattle.std.specs.Char.{is_ascii_digit}
 use Rattle.std.proofs.lemmas.Bool.{cond_both, eqb-true, ne_eqb}
 use Rattle.ocpp_scalars.specs.Digits.{IsDigit, AreDigits, value_after, decimal_value}
 use Rattle.ocpp_scalars.specs.ByCases.Digits.{digits_of, after_digits, is_empty}
-use Rattle.ocpp_scalars.specs.ByCases.NumberText.{Parts, sign_at, is_whole, whole_at, digits_at, fraction_at, exponent_sign_at, exponent_digits, exponent_in, parts_of, FitIn}
+use Rattle.ocpp_scalars.specs.ByCases.NumberText.{Parts, sign_at, is_whole, whole_at, digits_at, fraction_at, exponent_sign_at, exponent_in, parts_of, FitIn}
 use Rattle.ocpp_scalars.specs.NumberText.{AreSomeDigits, IsMinus, no_minus, minus_sign, IsWhole, IsFraction, no_fraction, decimal_point, IsE, IsExponent, no_exponent, unsigned_exponent, plus_exponent, minus_exponent, SpellsNumber}
 use Rattle.ocpp_scalars.specs.Number.{with_sign}
 use Rattle.ocpp_scalars.specs.ByCases.Number.{number_of_parts}

@@ -64,6 +64,11 @@ pub record SpellsInstant (text : List ℕ) (seconds : ℤ) : Type 0 where
   pub is_offset : IsOffset offset offset_text
   pub is_seconds : seconds ≡ (days_from_civil (pos year) month day *ℤ pos 86_400 +ℤ pos ((hour * 60 + minute) * 60 + second)) -ℤ offset
 
+-- the text spells this instant and no other moment
+abbrev pub SpellsOnlyInstant : List ℕ → ℕ → Type 0
+SpellsOnlyInstant text instant =
+    SpellsInstant text (pos instant) × ((seconds : ℤ) → SpellsInstant text seconds → seconds ≡ pos instant)
+
 -- what reading a text gives: the instant is the one that the text spells; a text that spells none breaks the form,
 -- and one before 1970 or after the year 9999 is out of range
 abbrev pub IsInstantReading : List ℕ → Result ℕ InstantFault → Type 0

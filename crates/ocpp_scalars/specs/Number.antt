@@ -16,6 +16,10 @@ SpellsTenths text tenths =
     (negative : Bool) × (digits : ℕ) × (power : ℤ) × SpellsNumber text negative digits power
     × IsScaled (10 * digits) power tenths × (negative ≡ true → tenths ≡ 0)
 
+-- the text spells these tenths and no others
+abbrev pub SpellsOnlyTenths : List ℕ → ℕ → Type 0
+SpellsOnlyTenths text tenths = SpellsTenths text tenths × ((others : ℕ) → SpellsTenths text others → others ≡ tenths)
+
 -- the number with its sign
 abbrev pub with_sign : Bool → ℕ → ℤ
 with_sign true n = neg_ℤ (pos n)

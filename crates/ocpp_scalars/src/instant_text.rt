@@ -1,6 +1,7 @@
 ghost use Rattle.std.specs.Prelude.{◌≡◌, ℕ, ◌+◌, ◌*◌, ◌≤◌, ◌<◌, pos, neg_ℤ, ◌+ℤ◌, ◌-ℤ◌, ◌*ℤ◌, ◌≤ℤ◌, Some, None, option_map, IfSome, if◌then◌else◌};
 ghost use Rattle.jiff_core.specs.Calendar.{IsEpochDay, days_from_civil};
-ghost use Rattle.ocpp_scalars.specs.ByCases.InstantText.{digit_at, two_at, four_at, after_dash, after_colon, after_separator, is_day, day_number, date_at, minutes_at, time_at, after_fraction, clock_in, offset_in, zulu_in, IsWithinDay, total_seconds, seconds_of, in_range, instant_of};
+ghost use Rattle.ocpp_scalars.specs.ByCases.Bounds.{IsWithin};
+ghost use Rattle.ocpp_scalars.specs.ByCases.InstantText.{digit_at, two_at, four_at, after_dash, after_colon, after_separator, is_day, day_number, date_at, minutes_at, time_at, after_fraction, clock_in, offset_in, zulu_in, total_seconds, seconds_of, in_range, instant_of};
 
 use crate::instant::{Instant, LAST_SECOND};
 use crate::number_text::split_digits;
@@ -73,7 +74,7 @@ fn seconds(text: &[u8]) -> Option<i64>
 fn total_seconds(date: i64, time: u32, offset: i64) -> i64
     requires date { IsEpochDay date }
     requires time { time < 86_400 }
-    requires offset { IsWithinDay offset }
+    requires offset { IsWithin 86_400 offset }
     ensures { result ≡ total_seconds date time offset }
 {
     date * 86_400 + time as i64 - offset
@@ -157,7 +158,7 @@ fn skip_fraction(text: &[u8]) -> Option<&[u8]>
 /// The offset from UTC in seconds, to the end of the text.
 fn offset(text: &[u8]) -> Option<i64>
     ensures value { result ≡ offset_in text.now }
-    ensures bound { IfSome result IsWithinDay }
+    ensures bound { IfSome result (IsWithin 86_400) }
 {
     match text {
         [] => Some(0),
@@ -177,7 +178,7 @@ fn zulu(text: &[u8]) -> Option<i64>
 
 fn ahead_of_utc(text: &[u8]) -> Option<i64>
     ensures value { result ≡ option_map pos (clock_in text.now) }
-    ensures bound { IfSome result IsWithinDay }
+    ensures bound { IfSome result (IsWithin 86_400) }
 {
     let seconds = clock(text)?;
     Some(seconds as i64)
@@ -185,7 +186,7 @@ fn ahead_of_utc(text: &[u8]) -> Option<i64>
 
 fn behind_utc(text: &[u8]) -> Option<i64>
     ensures value { result ≡ option_map (λ n. neg_ℤ (pos n)) (clock_in text.now) }
-    ensures bound { IfSome result IsWithinDay }
+    ensures bound { IfSome result (IsWithin 86_400) }
 {
     let seconds = clock(text)?;
     Some(-(seconds as i64))

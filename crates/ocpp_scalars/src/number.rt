@@ -1,5 +1,6 @@
 ghost use Rattle.std.specs.Prelude.{Some, ◌≡◌, ◌≢◌, ℕ, ◌+◌, ◌*◌, ◌^◌, ◌≤◌, ◌<◌, length, pos, neg_ℤ, ◌-ℤ◌, ◌≤ℤ◌, IfOk, IfSome, IfNone};
 ghost use Rattle.ocpp_scalars.specs.Digits.{AreDigits, value_after};
+ghost use Rattle.ocpp_scalars.specs.ByCases.Bounds.{IsWithin};
 ghost use Rattle.ocpp_scalars.specs.Number.{with_sign};
 ghost use Rattle.ocpp_scalars.specs.ByCases.Number.{number_in, times_power, at_most, tenths_of, whole_of};
 
@@ -78,7 +79,8 @@ pub fn read_whole(text: &str) -> Result<i32, NumberFault>
 #[tactic(auto, unfolding(crate::specs::ByCases::Number::number_in))]
 fn read_number(text: &str) -> Result<Number, NumberFault>
     ensures value { result ≡ number_in text.now }
-    ensures bound { IfOk result (λ n. (n.digits < 10 ^ 32) × (neg_ℤ (pos (10 ^ 33)) ≤ℤ n.power) × (n.power ≤ℤ pos (10 ^ 33))) }
+    ensures digits { IfOk result (λ n. n.digits < 10 ^ 32) }
+    ensures power { IfOk result (λ n. IsWithin (10 ^ 33) n.power) }
 {
     if text.len() > 32 {
         return Err(NumberFault::TooLong);
@@ -115,8 +117,7 @@ fn power(negative: bool, exponent: u128, places: usize) -> i128
     requires exponent { exponent < 10 ^ 32 }
     requires places { places ≤ 32 }
     ensures value { result ≡ with_sign negative exponent -ℤ pos places }
-    ensures low { neg_ℤ (pos (10 ^ 33)) ≤ℤ result }
-    ensures high { result ≤ℤ pos (10 ^ 33) }
+    ensures bound { IsWithin (10 ^ 33) result }
 {
     if negative {
         -(exponent as i128) - places as i128
@@ -128,8 +129,7 @@ fn power(negative: bool, exponent: u128, places: usize) -> i128
 /// The digits times the power of ten, where that is whole and at most `most`.
 #[tactic(auto, using(crate::proofs::Scaling::scaling))]
 fn times_power_at_most(most: u32, digits: u128, power: i128) -> Option<u32>
-    requires low { neg_ℤ (pos (10 ^ 34)) ≤ℤ power }
-    requires high { power ≤ℤ pos (10 ^ 34) }
+    requires { IsWithin (10 ^ 34) power }
     ensures { result ≡ at_most most (times_power digits power) }
 {
     if digits == 0 {

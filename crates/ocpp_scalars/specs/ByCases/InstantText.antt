@@ -1,5 +1,5 @@
 -- What an instant's text is worth, or the fault. By the law `instant_texts` it is what `InstantText` says.
-use Rattle.std.specs.Prelude.{ℕ, ◌+◌, ◌-◌, ◌*◌, Bool, ◌==◌, ◌&&◌, ◌||◌, nat_le, nat_lt, int_le, if◌then◌else◌, List, [], ◌∷◌, length, ℤ, pos, neg_ℤ, ◌+ℤ◌, ◌-ℤ◌, ◌*ℤ◌, ◌≤ℤ◌, unsigned_abs, Option, Some, None, option_map, Result, Ok, Err}
+use Rattle.std.specs.Prelude.{ℕ, ◌+◌, ◌-◌, ◌*◌, Bool, ◌==◌, ◌&&◌, ◌||◌, nat_le, nat_lt, int_le, if◌then◌else◌, List, [], ◌∷◌, length, ℤ, pos, neg_ℤ, ◌+ℤ◌, ◌-ℤ◌, ◌*ℤ◌, unsigned_abs, Option, Some, None, option_map, Result, Ok, Err}
 use Rattle.std.specs.Char.{is_ascii_digit}
 use Rattle.jiff_core.specs.Calendar.{days_from_civil, days_in_month}
 use Rattle.ocpp_scalars.specs.declared.instant_text.InstantFault.{InstantFault}
@@ -105,10 +105,6 @@ offset_in (b ∷ bs) =
     else if b == plus then option_map pos (clock_in bs)
     else if b == minus then option_map (λ n. neg_ℤ (pos n)) (clock_in bs)
     else None
-
--- an offset is at most a day
-abbrev pub IsWithinDay : ℤ → Type 0
-IsWithinDay offset = (neg_ℤ (pos 86_400) ≤ℤ offset) × (offset ≤ℤ pos 86_400)
 
 -- the seconds at so many after midnight of a day, less the offset
 abbrev pub total_seconds : ℤ → ℕ → ℤ → ℤ
