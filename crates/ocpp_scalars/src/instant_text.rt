@@ -1,3 +1,4 @@
+//! Instants, read from their texts.
 ghost use Rattle.std.specs.Prelude.{◌≡◌, ℕ, ◌+◌, ◌*◌, ◌≤◌, ◌<◌, pos, neg_ℤ, ◌+ℤ◌, ◌-ℤ◌, ◌*ℤ◌, ◌≤ℤ◌, Some, None, option_map, IfSome, if◌then◌else◌};
 ghost use Rattle.jiff_core.specs.Calendar.{IsEpochDay, days_from_civil};
 ghost use Rattle.ocpp_scalars.specs.ByCases.Bounds.{IsWithin};
@@ -6,32 +7,21 @@ ghost use Rattle.ocpp_scalars.specs.ByCases.InstantText.{digit_at, two_at, four_
 use crate::instant::{Instant, LAST_SECOND};
 use crate::number_text::split_digits;
 use jiff::civil::Date;
-use std::error::Error;
-use std::fmt;
+use thiserror::Error;
+
+/// The most digits of a fraction of a second: nanoseconds.
+const MAX_FRACTION_DIGITS: usize = 9;
 
 /// Why a text isn't read as an instant.
-#[derive(Clone, Copy, Debug, PartialEq, Eq)]
+#[derive(Clone, Copy, Debug, PartialEq, Eq, Error)]
 pub enum InstantFault {
     /// The text isn't a date and time of day (RFC 3339, section 5.6).
+    #[error("not a date and time")]
     Form,
     /// The moment is before 1970 or after the year 9999.
+    #[error("a date and time out of range")]
     Range,
 }
-
-impl fmt::Display for InstantFault {
-    ghost use Rattle.ocpp_scalars.specs.FaultText.{instant_fault_text};
-
-    ghost output = { λ fault. Some (instant_fault_text fault) };
-
-    fn fmt<W: fmt::Write>(&self, f: &mut fmt::Formatter<W>) -> fmt::Result {
-        f.write_str(match self {
-            InstantFault::Form => "not a date and time",
-            InstantFault::Range => "a date and time out of range",
-        })
-    }
-}
-
-impl Error for InstantFault {}
 
 /// The instant that a text is worth: `YYYY-MM-DD`, `T`, `t` or a space, `hh:mm:ss`, an optional
 /// fraction of 1 to 9 digits, which is dropped, and `Z`, `z`, `+hh:mm`, `-hh:mm` or nothing, which is
@@ -148,7 +138,7 @@ fn skip_fraction(text: &[u8]) -> Option<&[u8]>
         return Some(text);
     };
     let (digits, text) = split_digits(text);
-    if digits.len() >= 1 && digits.len() <= 9 {
+    if !digits.is_empty() && digits.len() <= MAX_FRACTION_DIGITS {
         Some(text)
     } else {
         None

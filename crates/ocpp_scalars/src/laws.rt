@@ -16,8 +16,10 @@ ghost use Rattle.ocpp_scalars.specs.ByCases.Number.{tenths_of, whole_of};
 /// at most.)
 pub fn number_texts()
     ensures form { (text : List ℕ) → IsTrue (is_number_text text) ↔ IsNumber text }
-    ensures tenths { (text : List ℕ) (reading : Result ℕ NumberFault) → (tenths_of text ≡ reading) ↔ IsTenthsReading text reading }
-    ensures whole { (text : List ℕ) (reading : Result ℤ NumberFault) → (whole_of text ≡ reading) ↔ IsWholeReading text reading }
+    ensures tenths { (text : List ℕ) (reading : Result ℕ NumberFault) →
+        (tenths_of text ≡ reading) ↔ IsTenthsReading text reading }
+    ensures whole { (text : List ℕ) (reading : Result ℤ NumberFault) →
+        (whole_of text ≡ reading) ↔ IsWholeReading text reading }
     ensures printed { (tenths : ℕ) → tenths < 10 ^ 64 → SpellsOnlyTenths (tenths_text tenths) tenths }
     ensures again { (tenths : ℕ) → tenths ≤ max_tenths → tenths_of (tenths_text tenths) ≡ Ok tenths }
 {}
@@ -25,7 +27,8 @@ pub fn number_texts()
 /// What the reader of instants returns is what the grammar of dates and times has, in both directions;
 /// and a printed instant spells itself and no other, and is read as itself.
 pub fn instant_texts()
-    ensures reading { (text : List ℕ) (reading : Result ℕ InstantFault) → (instant_of text ≡ reading) ↔ IsInstantReading text reading }
+    ensures reading { (text : List ℕ) (reading : Result ℕ InstantFault) →
+        (instant_of text ≡ reading) ↔ IsInstantReading text reading }
     ensures printed { (instant : ℕ) → instant ≤ last_second → SpellsOnlyInstant (instant_text instant) instant }
     ensures again { (instant : ℕ) → instant ≤ last_second → instant_of (instant_text instant) ≡ Ok instant }
 {}

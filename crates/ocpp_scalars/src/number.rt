@@ -1,3 +1,4 @@
+//! Numbers, read as tenths and as whole numbers.
 ghost use Rattle.std.specs.Prelude.{Some, ◌≡◌, ◌≢◌, ℕ, ◌+◌, ◌*◌, ◌^◌, ◌≤◌, ◌<◌, length, pos, neg_ℤ, ◌-ℤ◌, ◌≤ℤ◌, IfOk, IfSome, IfNone};
 ghost use Rattle.ocpp_scalars.specs.Digits.{AreDigits, value_after};
 ghost use Rattle.ocpp_scalars.specs.ByCases.Bounds.{IsWithin};
@@ -5,35 +6,33 @@ ghost use Rattle.ocpp_scalars.specs.Number.{with_sign};
 ghost use Rattle.ocpp_scalars.specs.ByCases.Number.{number_in, times_power, at_most, tenths_of, whole_of};
 
 use crate::number_text::number_parts;
-use std::error::Error;
-use std::fmt;
+use thiserror::Error;
+
+/// The most bytes of a number's text.
+const MAX_NUMBER_BYTES: usize = 32;
+
+/// The most tenths that are read.
+const MAX_TENTHS: u32 = 1_000_000_000;
+
+/// The largest whole number that is read.
+const MAX_WHOLE: u32 = 2_147_483_647;
+
+/// The size of the least whole number that is read.
+const MAX_NEGATIVE_WHOLE: u32 = 2_147_483_648;
 
 /// Why a text isn't read as tenths or as a whole number.
-#[derive(Clone, Copy, Debug, PartialEq, Eq)]
+#[derive(Clone, Copy, Debug, PartialEq, Eq, Error)]
 pub enum NumberFault {
     /// The text isn't a number's (RFC 8259, section 6).
+    #[error("not a number")]
     Form,
-    /// The text has more than 32 bytes.
+    /// The text has more bytes than the limit.
+    #[error("a number of more than {MAX_NUMBER_BYTES} bytes")]
     TooLong,
     /// The value is out of bounds, or not a multiple of the unit.
+    #[error("a number out of range")]
     Range,
 }
-
-impl fmt::Display for NumberFault {
-    ghost use Rattle.ocpp_scalars.specs.FaultText.{number_fault_text};
-
-    ghost output = { λ fault. Some (number_fault_text fault) };
-
-    fn fmt<W: fmt::Write>(&self, f: &mut fmt::Formatter<W>) -> fmt::Result {
-        f.write_str(match self {
-            NumberFault::Form => "not a number",
-            NumberFault::TooLong => "a number of more than 32 bytes",
-            NumberFault::Range => "a number out of range",
-        })
-    }
-}
-
-impl Error for NumberFault {}
 
 /// A number's sign, its digits as a whole number, and the power of ten that they are multiplied by.
 #[derive(Clone, Copy)]
@@ -50,7 +49,7 @@ pub fn read_tenths(text: &str) -> Result<u32, NumberFault>
     ensures { result ≡ tenths_of text.now }
 {
     let number = read_number(text)?;
-    let most = if number.negative { 0 } else { 1_000_000_000 };
+    let most = if number.negative { 0 } else { MAX_TENTHS };
     match times_power_at_most(most, number.digits, number.power + 1) {
         Some(tenths) => Ok(tenths),
         None => Err(NumberFault::Range),
@@ -65,9 +64,9 @@ pub fn read_whole(text: &str) -> Result<i32, NumberFault>
 {
     let number = read_number(text)?;
     let most = if number.negative {
-        2_147_483_648
+        MAX_NEGATIVE_WHOLE
     } else {
-        2_147_483_647
+        MAX_WHOLE
     };
     match times_power_at_most(most, number.digits, number.power) {
         Some(value) if number.negative => Ok((-(value as i64)) as i32),
@@ -82,7 +81,7 @@ fn read_number(text: &str) -> Result<Number, NumberFault>
     ensures digits { IfOk result (λ n. n.digits < 10 ^ 32) }
     ensures power { IfOk result (λ n. IsWithin (10 ^ 33) n.power) }
 {
-    if text.len() > 32 {
+    if text.len() > MAX_NUMBER_BYTES {
         return Err(NumberFault::TooLong);
     }
     let Some(parts) = number_parts(text.as_bytes()) else {
