@@ -2,7 +2,8 @@
 ghost use Rattle.std.specs.Prelude.{◌≡◌, ℕ, ℤ, ◌≤◌, ◌<◌, ◌^◌, ◌↔◌, List, IsTrue, Result, Ok};
 ghost use Rattle.ocpp_scalars.specs.declared.instant_text.InstantFault.{InstantFault};
 ghost use Rattle.ocpp_scalars.specs.declared.number.NumberFault.{NumberFault};
-ghost use Rattle.ocpp_scalars.specs.Limits.{last_second, max_tenths};
+ghost use Rattle.ocpp_scalars.specs.declared.id_tag.TheConstants.{MAX_ID_TAG_CHARACTERS};
+ghost use Rattle.ocpp_scalars.specs.Limits.{last_second, max_id_tag_characters, max_tenths};
 ghost use Rattle.ocpp_scalars.specs.InstantText.{IsInstantReading, SpellsOnlyInstant};
 ghost use Rattle.ocpp_scalars.specs.Number.{IsTenthsReading, IsWholeReading, SpellsOnlyTenths};
 ghost use Rattle.ocpp_scalars.specs.NumberText.{IsNumber};
@@ -29,6 +30,13 @@ pub fn number_texts()
 pub fn instant_texts()
     ensures reading { (text : List ℕ) (reading : Result ℕ InstantFault) →
         (instant_of text ≡ reading) ↔ IsInstantReading text reading }
-    ensures printed { (instant : ℕ) → instant ≤ last_second → SpellsOnlyInstant (instant_text instant) instant }
-    ensures again { (instant : ℕ) → instant ≤ last_second → instant_of (instant_text instant) ≡ Ok instant }
+    ensures printed { (instant : ℕ) → instant ≤ last_second →
+        SpellsOnlyInstant (instant_text instant) instant }
+    ensures again { (instant : ℕ) → instant ≤ last_second →
+        instant_of (instant_text instant) ≡ Ok instant }
+{}
+
+/// The bound of an `IdTag` is OCPP's.
+pub fn id_tags()
+    ensures { MAX_ID_TAG_CHARACTERS ≡ max_id_tag_characters }
 {}
