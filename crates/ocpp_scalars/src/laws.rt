@@ -12,9 +12,8 @@ ghost use Rattle.ocpp_scalars.specs.ByCases.InstantText.{instant_of};
 ghost use Rattle.ocpp_scalars.specs.ByCases.NumberText.{is_number_text};
 ghost use Rattle.ocpp_scalars.specs.ByCases.Number.{tenths_of, whole_of};
 
-/// What the readers of numbers return is what RFC 8259's grammar has, in both directions; and printed
-/// tenths spell their own value and no other, and are read as it. (The kit's `decimal` prints 64 digits
-/// at most.)
+/// What the readers of numbers return is what RFC 8259's grammar has, in both directions. Printed tenths
+/// spell their own value and no other, and are read as it. (`decimal` prints 64 digits at most.)
 pub fn number_texts()
     ensures form { (text : List ℕ) → IsTrue (is_number_text text) ↔ IsNumber text }
     ensures tenths { (text : List ℕ) (reading : Result ℕ NumberFault) →
@@ -25,8 +24,8 @@ pub fn number_texts()
     ensures again { (tenths : ℕ) → tenths ≤ max_tenths → tenths_of (tenths_text tenths) ≡ Ok tenths }
 {}
 
-/// What the reader of instants returns is what the grammar of dates and times has, in both directions;
-/// and a printed instant spells itself and no other, and is read as itself.
+/// What the reader of instants returns is what the grammar of dates and times has, in both directions.
+/// A printed instant spells itself and no other, and is read as itself.
 pub fn instant_texts()
     ensures reading { (text : List ℕ) (reading : Result ℕ InstantFault) →
         (instant_of text ≡ reading) ↔ IsInstantReading text reading }

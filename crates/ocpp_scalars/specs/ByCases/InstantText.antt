@@ -80,12 +80,15 @@ time_at text = do
   (second, rest) ← two_at second_text
   if nat_lt second 60 then Some (minutes * 60 + second, rest) else None
 
--- what follows a point with 1 to 9 digits, or no point
+-- what follows so many digits of a fraction
+abbrev pub after_some_digits : ℕ → List ℕ → Option (List ℕ)
+after_some_digits count rest = if nat_le 1 count && nat_le count max_fraction_digits then Some rest else None
+
+-- what follows a point with digits, or no point
 abbrev pub after_fraction : List ℕ → Option (List ℕ)
 after_fraction [] = Some []
 after_fraction (b ∷ bs) =
-    if b == dot then
-    if nat_le 1 (length (digits_of bs)) && nat_le (length (digits_of bs)) max_fraction_digits then Some (after_digits bs) else None
+    if b == dot then after_some_digits (length (digits_of bs)) (after_digits bs)
     else Some (b ∷ bs)
 
 -- `hh:mm` to the end of the text, in seconds

@@ -14,10 +14,16 @@ pub record Parts : Type 0 where
   pub negative_exponent : Bool
   pub exponent : List ℕ
 
--- as the code has them
+-- the parts as the code has them
 abbrev pub parts_seen : NumberParts → Parts
 parts_seen p =
-    record { negative = p.negative; whole = p.whole.now; fraction = p.fraction.now; negative_exponent = p.negative_exponent; exponent = p.exponent.now }
+    record {
+      negative = p.negative;
+      whole = p.whole.now;
+      fraction = p.fraction.now;
+      negative_exponent = p.negative_exponent;
+      exponent = p.exponent.now;
+    }
 
 -- each of the parts has digits alone, and they are no longer than so much
 pub record FitIn (size : ℕ) (p : Parts) : Type 0 where
@@ -76,7 +82,13 @@ parts_of text = do
   (whole, after_whole) ← whole_at (sign_at text).1
   (fraction, after_fraction) ← fraction_at after_whole
   (negative_exponent, exponent) ← exponent_in after_fraction
-  Some (record { negative = (sign_at text).0; whole = whole; fraction = fraction; negative_exponent = negative_exponent; exponent = exponent })
+  Some (record {
+    negative = (sign_at text).0;
+    whole = whole;
+    fraction = fraction;
+    negative_exponent = negative_exponent;
+    exponent = exponent;
+  })
 
 -- the test for a number's text
 unfoldable pub is_number_text : List ℕ → Bool
