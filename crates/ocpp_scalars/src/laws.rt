@@ -12,20 +12,22 @@ ghost use Rattle.ocpp_scalars.specs.ByCases.InstantText.{instant_of};
 ghost use Rattle.ocpp_scalars.specs.ByCases.NumberText.{is_number_text};
 ghost use Rattle.ocpp_scalars.specs.ByCases.Number.{tenths_of, whole_of};
 
-/// What the readers of numbers return is what RFC 8259's grammar has, in both directions. Printed tenths
-/// spell their own value and no other, and are read as it. (`decimal` prints 64 digits at most.)
+/// What the readers of numbers return is what RFC 8259's grammar has, in both directions. Printed
+/// tenths spell their own value and no other, and are read as it. (`decimal` prints 64 digits.)
 pub fn number_texts()
     ensures form { (text : List ℕ) → IsTrue (is_number_text text) ↔ IsNumber text }
     ensures tenths { (text : List ℕ) (reading : Result ℕ NumberFault) →
         (tenths_of text ≡ reading) ↔ IsTenthsReading text reading }
     ensures whole { (text : List ℕ) (reading : Result ℤ NumberFault) →
         (whole_of text ≡ reading) ↔ IsWholeReading text reading }
-    ensures printed { (tenths : ℕ) → tenths < 10 ^ 64 → SpellsOnlyTenths (tenths_text tenths) tenths }
-    ensures again { (tenths : ℕ) → tenths ≤ max_tenths → tenths_of (tenths_text tenths) ≡ Ok tenths }
+    ensures printed { (tenths : ℕ) → tenths < 10 ^ 64 →
+        SpellsOnlyTenths (tenths_text tenths) tenths }
+    ensures again { (tenths : ℕ) → tenths ≤ max_tenths →
+        tenths_of (tenths_text tenths) ≡ Ok tenths }
 {}
 
-/// What the reader of instants returns is what the grammar of dates and times has, in both directions.
-/// A printed instant spells itself and no other, and is read as itself.
+/// What the reader of instants returns is what the grammar of dates and times has, in both
+/// directions. A printed instant spells itself and no other, and is read as itself.
 pub fn instant_texts()
     ensures reading { (text : List ℕ) (reading : Result ℕ InstantFault) →
         (instant_of text ≡ reading) ↔ IsInstantReading text reading }

@@ -45,7 +45,8 @@ fn push_seconds(out: &mut String, seconds: u64) -> Result<(), AllocError>
 /// Appends the date of the day that comes so many days after 1 January 1970.
 fn push_day(out: &mut String, day: u64) -> Result<(), AllocError>
     requires { day ≤ last_day }
-    ensures { OnOk result (string_bytes out.new ≡ string_bytes out.old ++ day_text (calendar_day day)) }
+    ensures { OnOk result (
+        string_bytes out.new ≡ string_bytes out.old ++ day_text (calendar_day day)) }
 {
     let (year, month, day) = civil_date(day);
     push_two(out, (year / 100) as u8)?;
@@ -71,7 +72,8 @@ fn civil_date(day: u64) -> (u16, u8, u8)
 /// Appends a time of day, `hh:mm:ss`.
 fn push_time(out: &mut String, seconds: u32) -> Result<(), AllocError>
     requires { seconds < 86_400 }
-    ensures { OnOk result (string_bytes out.new ≡ string_bytes out.old ++ time_of_day_text seconds) }
+    ensures { OnOk result (
+        string_bytes out.new ≡ string_bytes out.old ++ time_of_day_text seconds) }
 {
     push_two(out, (seconds / 3600) as u8)?;
     out.push(':')?;
