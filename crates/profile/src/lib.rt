@@ -5,6 +5,7 @@
 
 mod charging_profile;
 mod criteria;
+mod greatest;
 mod kind;
 mod names;
 mod parts;
@@ -18,6 +19,7 @@ mod unit;
 
 pub use charging_profile::{MAX_STACK_LEVEL, Profile};
 pub use criteria::Criteria;
+pub use greatest::greatest_is_greatest;
 pub use kind::{Kind, ProfileKind, Recurrency};
 pub use names::Named;
 pub use parts::{ProfileParts, ScheduleParts};

@@ -1,3 +1,5 @@
+//! The names that payloads write for the values of a few fields.
+
 ghost use Rattle.std.specs.Prelude.{◌≡◌, ℕ, List, Option};
 ghost use Rattle.profile.specs.Names.{purpose_named, kind_named, recurrency_named, unit_named};
 
@@ -5,7 +7,7 @@ use crate::kind::{ProfileKind, Recurrency};
 use crate::purpose::Purpose;
 use crate::unit::Unit;
 
-/// A value that payloads write as one of a few names, each taken exactly as written.
+/// A value that payloads write as one of a few names, each accepted exactly as written.
 pub trait Named {
     /// The value of a name.
     ghost named: { List ℕ → Option Self };

@@ -1,0 +1,4 @@
+pub mod ResultSteps
+pub mod Periods
+pub mod Parts
+pub mod Same
