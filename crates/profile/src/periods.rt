@@ -66,13 +66,13 @@ impl Periods {
     pub fn limit_in_force(&self, offset: u64) -> Option<u32>
         ensures { result ≡ limit_in self.now offset }
     {
-        let mut found = None;
-        for period in &self.items {
-            if u64::from(period.start) <= offset {
-                found = Some(period.limit);
-            }
+        let periods = self.as_slice();
+        // They are in order, so those that have begun stand first.
+        let begun = periods.partition_point(|period| u64::from(period.start) <= offset);
+        if begun == 0 {
+            return None;
         }
-        found
+        Some(periods[begun - 1].limit)
     }
 }
 
