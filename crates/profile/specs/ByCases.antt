@@ -1,4 +1,3 @@
-pub mod ResultSteps
 pub mod Periods
 pub mod Parts
 pub mod Same

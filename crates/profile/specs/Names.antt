@@ -11,37 +11,38 @@ use Rattle.profile.specs.declared.unit.Unit.{Unit}
 use Rattle.profile.specs.declared.unit.Unit.TheVariants.{A, W}
 
 -- the value of a name in a table, none where the table lacks it
-abbrev pub value_named : {X : Type 0} → List (List ℕ × X) → List ℕ → Option X
-value_named [] text = None
-value_named (entry ∷ entries) text = if bytes_eq text entry.0 then Some entry.1 else value_named entries text
+abbrev pub named_in : {X : Type 0} → List (List ℕ × X) → List ℕ → Option X
+named_in [] text = None
+named_in (row ∷ rows) text = if bytes_eq text row.0 then Some row.1 else named_in rows text
 
 -- OCPP 1.6, chapter 7, ChargingProfilePurposeType
-abbrev pub purpose_names : List (List ℕ × Purpose)
-purpose_names =
+abbrev pub purposes : List (List ℕ × Purpose)
+purposes =
     (codes "ChargePointMaxProfile", ChargePointMaxProfile)
-    ∷ ((codes "TxDefaultProfile", TxDefaultProfile)
-    ∷ ((codes "TxProfile", TxProfile) ∷ []))
+    ∷ (codes "TxDefaultProfile", TxDefaultProfile)
+    ∷ (codes "TxProfile", TxProfile)
+    ∷ []
 
 -- OCPP 1.6, chapter 7, ChargingProfileKindType
-abbrev pub kind_names : List (List ℕ × ProfileKind)
-kind_names = (codes "Absolute", Absolute) ∷ ((codes "Recurring", Recurring) ∷ ((codes "Relative", Relative) ∷ []))
+abbrev pub kinds : List (List ℕ × ProfileKind)
+kinds = (codes "Absolute", Absolute) ∷ (codes "Recurring", Recurring) ∷ (codes "Relative", Relative) ∷ []
 
 -- OCPP 1.6, chapter 7, RecurrencyKindType
-abbrev pub recurrency_names : List (List ℕ × Recurrency)
-recurrency_names = (codes "Daily", Daily) ∷ ((codes "Weekly", Weekly) ∷ [])
+abbrev pub recurrencies : List (List ℕ × Recurrency)
+recurrencies = (codes "Daily", Daily) ∷ (codes "Weekly", Weekly) ∷ []
 
 -- OCPP 1.6, chapter 7, ChargingRateUnitType
-abbrev pub unit_names : List (List ℕ × Unit)
-unit_names = (codes "A", A) ∷ ((codes "W", W) ∷ [])
+abbrev pub units : List (List ℕ × Unit)
+units = (codes "A", A) ∷ (codes "W", W) ∷ []
 
 abbrev pub purpose_named : List ℕ → Option Purpose
-purpose_named text = value_named purpose_names text
+purpose_named text = named_in purposes text
 
 abbrev pub kind_named : List ℕ → Option ProfileKind
-kind_named text = value_named kind_names text
+kind_named text = named_in kinds text
 
 abbrev pub recurrency_named : List ℕ → Option Recurrency
-recurrency_named text = value_named recurrency_names text
+recurrency_named text = named_in recurrencies text
 
 abbrev pub unit_named : List ℕ → Option Unit
-unit_named text = value_named unit_names text
+unit_named text = named_in units text

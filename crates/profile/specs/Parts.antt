@@ -8,7 +8,7 @@ use Rattle.profile.specs.Limits.{max_stack_level, max_periods}
 use Rattle.profile.specs.Kind.{kind_of, start_of}
 use Rattle.profile.specs.Purpose.{transaction_of}
 use Rattle.profile.specs.Periods.{are_in_order}
-use Rattle.profile.specs.ByCases.ResultSteps.{◌>>=◌}
+use Rattle.ocpp_scalars.specs.ResultSteps.{◌>>=◌}
 use Rattle.profile.specs.ByCases.Parts.{fact_or, value_or, profile_with}
 
 -- the well-formed profile of these fields: what belongs to another purpose or kind is dropped, and all

@@ -21,7 +21,7 @@ pub use charging_profile::{MAX_STACK_LEVEL, Profile};
 pub use criteria::Criteria;
 pub use greatest::greatest_is_greatest;
 pub use kind::{Kind, ProfileKind, Recurrency};
-pub use names::Named;
+pub use names::{Named, named_in};
 pub use parts::{ProfileParts, ScheduleParts};
 pub use period::Period;
 pub use period_list::PeriodList;

@@ -1,7 +1,0 @@
--- Of private clauses: the steps of a `do`, of which the first that fails decides.
-use Rattle.std.specs.Prelude.{Result, Ok, Err}
-
-infixl 10 ◌>>=◌
-abbrev pub ◌>>=◌ : {A B E : Type 0} → Result A E → (A → Result B E) → Result B E
-(Ok a) >>= next = next a
-(Err fault) >>= next = Err fault
