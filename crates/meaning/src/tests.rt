@@ -94,7 +94,7 @@ fn from_midnight(connector: u32, start: u32, duration: u32) -> Asked {
     }
 }
 
-/// What the view answers an ask, against the periods expected.
+/// The schedule of an ask, against the periods expected.
 fn expect(
     rt: &impl Abort,
     alloc: Global,
