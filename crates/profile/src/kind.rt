@@ -1,3 +1,5 @@
+//! The kinds of profiles, and how each counts its seconds.
+
 ghost use Rattle.std.specs.Prelude.{◌≡◌, ℕ};
 ghost use Rattle.profile.specs.Kind.{recurrence_length, kind_of, start_of, offset_after};
 
@@ -45,7 +47,8 @@ pub enum Kind {
 }
 
 impl Kind {
-    /// The kind of a profile of these fields, or `None` where a Recurring one lacks its recurrencyKind.
+    /// The kind of a profile of these fields, or `None` where a Recurring one lacks its
+    /// recurrencyKind.
     pub fn of(kind: ProfileKind, recurrency: Option<Recurrency>) -> Option<Kind>
         ensures { result ≡ kind_of kind recurrency }
     {

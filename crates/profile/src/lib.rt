@@ -1,10 +1,11 @@
-//! Charging profiles of OCPP 1.6 (chapters 3.13 and 7): what a well-formed profile is, the rows that
-//! a point keeps of them, and what a profile's limit is at a second. The definitions that every crate
-//! above cites stand in `specs/`: anchor, offset, rate, base and candidates.
+//! Charging profiles of OCPP 1.6 (chapters 3.13 and 7): what a well-formed profile is, the rows
+//! that a point keeps of them, and what a profile's limit is at an instant. The definitions that
+//! every crate above cites stand in `specs/`: anchor, offset, rate, base and candidates.
 #![tactic(auto)]
 
 mod charging_profile;
 mod criteria;
+mod greatest;
 mod kind;
 mod names;
 mod parts;
@@ -18,8 +19,9 @@ mod unit;
 
 pub use charging_profile::{MAX_STACK_LEVEL, Profile};
 pub use criteria::Criteria;
+pub use greatest::greatest_is_greatest;
 pub use kind::{Kind, ProfileKind, Recurrency};
-pub use names::Named;
+pub use names::{Named, named_in};
 pub use parts::{ProfileParts, ScheduleParts};
 pub use period::Period;
 pub use period_list::PeriodList;
