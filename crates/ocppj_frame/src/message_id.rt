@@ -1,3 +1,4 @@
+//! The id of a message.
 ghost use Rattle.std.specs.Prelude.{◌≡◌, ◌↔◌, ◌≤◌, IfErr, IfOk, IsOk, length, string_bytes};
 ghost use Rattle.std.specs.Str.{chars};
 
@@ -43,13 +44,5 @@ impl MessageId {
         ensures short { length (chars self.now) ≤ MAX_ID_CHARACTERS }
     {
         self.text.as_str()
-    }
-
-    /// The id's text, given back.
-    pub fn into_string(self) -> String
-        ensures text { string_bytes result ≡ self }
-    {
-        let MessageId { text } = self;
-        text
     }
 }

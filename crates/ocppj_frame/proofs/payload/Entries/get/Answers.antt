@@ -1,10 +1,10 @@
 use Rattle.std.proofs.Common.{◌≡◌, ◌∙◌, ap, subst, sym, is_some, true, Some}
 use Rattle.serde_json.specs.View.{view}
 use Rattle.serde_json.specs.declared.value.Value.{Value}
-use Rattle.ocppj_frame.specs.Parts.{value_tree}
-use Rattle.ocppj_frame.specs.TreeReading.{tree_of}
+use Rattle.ocppj_frame.specs.Payload.{value_tree}
+use Rattle.ocppj_frame.specs.Read.{tree_of}
 use Rattle.ocppj_frame.proofs.TreeParts.{entry_is_tree, entry_past, entry_tree}
-use Rattle.ocppj_frame.proofs.payload.Items.get.Goals as goal
+use Rattle.ocppj_frame.proofs.payload.Entries.get.Goals as goal
 
 pub invariant_of-result : goal.invariant_of-result
 invariant_of-result c =

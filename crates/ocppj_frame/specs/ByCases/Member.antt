@@ -1,9 +1,9 @@
--- A member of an object of the marked text, by its unmarked name.
+-- A member of an object of the marked text, by its name. Of private clauses.
 use Rattle.std.specs.Prelude.{ℕ, List, Bool, Option, Some, None, false, if◌then◌else◌}
 use Rattle.std.specs.Option.{option_map_or}
 use Rattle.std.specs.Str.{bytes_eq}
 use Rattle.serde_json.specs.Data.{Data, Members, no_members, member}
-use Rattle.ocppj_frame.specs.TreeReading.{name_of_key}
+use Rattle.ocppj_frame.specs.Read.{name_of_key}
 
 abbrev pub is_key_of : List ℕ → List ℕ → Bool
 is_key_of name key = option_map_or (λ other. bytes_eq other name) (name_of_key key) false

@@ -53,9 +53,3 @@ list_field_of name tree = of_kind as_list (present_field name tree)
 
 abbrev pub object_field_of : List ℕ → Tree → Field Tree
 object_field_of name tree = of_kind as_object (present_field name tree)
-
--- one reading and then the next, up to the first fault
-infixl 10 ◌>>=◌
-abbrev pub ◌>>=◌ : {A B E : Type 0} → Result A E → (A → Result B E) → Result B E
-(Ok a) >>= next = next a
-(Err fault) >>= next = Err fault

@@ -1,9 +1,10 @@
--- The tree of a text: `serde_json`'s reading of the marked text, with the marks taken off.
+-- The tree of a text: `serde_json`'s reading of the marked text, with the marks removed.
 use Rattle.std.specs.Prelude.{ℕ, List, Option, Some, None, option_map, option_and_then, if◌then◌else◌}
 use Rattle.ocpp_scalars.specs.NumberText.{is_number_text}
 use Rattle.serde_json.specs.Data as json
 use Rattle.serde_json.specs.Read.{read}
-use Rattle.ocppj_frame.specs.Marked.{marked, unmarked, text_mark, number_mark}
+use Rattle.ocppj_frame.specs.Mark.{after_mark, text_mark, number_mark}
+use Rattle.ocppj_frame.specs.ByCases.Mark.{marked_text}
 use Rattle.ocppj_frame.specs.Tree.{Tree, null, boolean, text, number, list, object, Trees, no_entries, entry, Fields, no_fields, field}
 
 -- a string with the mark `s` is a text, and one with the mark `n` a number where it has RFC 8259's grammar
@@ -13,11 +14,11 @@ tree_of_marked None (Some bytes) = if is_number_text bytes then Some (number byt
 tree_of_marked None None = None
 
 abbrev pub tree_of_string : List ℕ → Option Tree
-tree_of_string bytes = tree_of_marked (unmarked text_mark bytes) (unmarked number_mark bytes)
+tree_of_string bytes = tree_of_marked (after_mark text_mark bytes) (after_mark number_mark bytes)
 
 -- a key is a text
 abbrev pub name_of_key : List ℕ → Option (List ℕ)
-name_of_key bytes = unmarked text_mark bytes
+name_of_key bytes = after_mark text_mark bytes
 
 -- a marked text has no numbers
 abbrev mutual
@@ -39,4 +40,4 @@ abbrev mutual
 
 -- the tree of a text, or `None` where the text is refused
 abbrev pub tree_of_text : List ℕ → Option Tree
-tree_of_text bytes = option_and_then tree_of (read (marked bytes))
+tree_of_text bytes = option_and_then tree_of (read (marked_text bytes))

@@ -1,6 +1,6 @@
 use Rattle.std.proofs.Common.{◌∙◌, ap, option_map}
 use Rattle.ocppj_frame.proofs.TreeParts.{data_tree, value_field, value_member}
-use Rattle.ocppj_frame.proofs.payload.Part.field.Goals as goal
+use Rattle.ocppj_frame.proofs.payload.Node.field.Goals as goal
 
 pub returns-in-Some : goal.returns-in-Some
 returns-in-Some c = ap (option_map data_tree) c.in-Some.ensures ∙ value_field c.args.name.now _ c.in-Object.members c.in-Object.is c.args.self.marked

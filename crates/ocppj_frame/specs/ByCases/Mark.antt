@@ -1,45 +1,25 @@
--- The marked text: a JSON text (RFC 8259) in which each number has become a string, so that a reader of JSON keeps its
--- digits. A string's content begins with the letter `s` where it was a string, and with `n` where it was a number.
-use Rattle.std.specs.Prelude.{ℕ, List, [], ◌∷◌, ◌++◌, Bool, ◌==◌, ◌||◌, ◌&&◌, nat_le, Option, Some, None, if◌then◌else◌}
+-- The marked text byte by byte. Equal to that of `Mark` by the law `marked_texts`.
+use Rattle.std.specs.Prelude.{ℕ, List, [], ◌∷◌, ◌++◌, ◌==◌, if◌then◌else◌}
+use Rattle.json.specs.Ascii.{quote, backslash}
+use Rattle.ocppj_frame.specs.Mark.{text_mark, number_mark, begins_number, continues_number}
 use Rattle.ocppj_frame.specs.declared.mark.Place.{Place}
 use Rattle.ocppj_frame.specs.declared.mark.Place.TheVariants.{Outside, Inside, Escaped, Number}
 
--- `"`, `\`, `s` and `n`
-abbrev pub quote : ℕ
-quote = 34
-
-abbrev pub backslash : ℕ
-backslash = 92
-
-abbrev pub text_mark : ℕ
-text_mark = 115
-
-abbrev pub number_mark : ℕ
-number_mark = 110
-
--- a digit or `-`
-abbrev pub begins_number : ℕ → Bool
-begins_number b = (nat_le 48 b && nat_le b 57) || (b == 45)
-
--- a digit, `-`, `+`, `.`, `e` or `E`
-abbrev pub continues_number : ℕ → Bool
-continues_number b = begins_number b || (b == 43) || (b == 46) || (b == 101) || (b == 69)
-
 -- outside strings a quote begins a string, and a digit or `-` begins a number
 abbrev pub place_outside : ℕ → Place
-place_outside b = if b == quote then Inside else (if begins_number b then Number else Outside)
+place_outside b = if b == quote then Inside else if begins_number b then Number else Outside
 
 -- where the text goes on after a byte: a backslash takes the next byte along, a quote that it did not take ends the
 -- string, and a number is the longest stretch of its bytes
 abbrev pub place_after : Place → ℕ → Place
 place_after Outside b = place_outside b
-place_after Inside b = if b == backslash then Escaped else (if b == quote then Outside else Inside)
+place_after Inside b = if b == backslash then Escaped else if b == quote then Outside else Inside
 place_after Escaped b = Inside
 place_after Number b = if continues_number b then Number else place_outside b
 
 -- outside strings an opening quote gets its mark, and a number its quote and its mark
 abbrev pub marked_outside : ℕ → List ℕ
-marked_outside b = if b == quote then quote ∷ text_mark ∷ [] else (if begins_number b then quote ∷ number_mark ∷ b ∷ [] else b ∷ [])
+marked_outside b = if b == quote then quote ∷ text_mark ∷ [] else if begins_number b then quote ∷ number_mark ∷ b ∷ [] else b ∷ []
 
 -- what is written for a byte; the first byte after a number closes the number's quote
 abbrev pub marked_byte : Place → ℕ → List ℕ
@@ -59,10 +39,5 @@ abbrev pub marked_from : Place → List ℕ → List ℕ
 marked_from place [] = marked_end place
 marked_from place (b ∷ bs) = marked_byte place b ++ marked_from (place_after place b) bs
 
-abbrev pub marked : List ℕ → List ℕ
-marked text = marked_from Outside text
-
--- what follows a mark
-abbrev pub unmarked : ℕ → List ℕ → Option (List ℕ)
-unmarked mark [] = None
-unmarked mark (b ∷ bs) = if b == mark then Some bs else None
+abbrev pub marked_text : List ℕ → List ℕ
+marked_text text = marked_from Outside text
