@@ -1,7 +1,7 @@
 -- A zero put behind multiplies by ten; past the bound no further zero leads back.
 use Rattle.std.proofs.Common.{arith}
 use Rattle.ocpp_scalars.proofs.Scaling.{scaled-over, raised_step}
-use Rattle.ocpp_scalars.proofs.number.raised.Goals as goal
+use Rattle.ocpp_scalars.proofs.number.with_zeros.Goals as goal
 
 pub returns-then-value-most-clause-none : goal.returns-then-value-most-clause-none
 returns-then-value-most-clause-none c =

@@ -1,10 +1,12 @@
--- What an instant's text is worth, or the fault.
+-- What an instant's text is worth, or the fault. By the law `instant_texts` it is what `InstantText` says.
 use Rattle.std.specs.Prelude.{ℕ, ◌+◌, ◌-◌, ◌*◌, Bool, ◌==◌, ◌&&◌, ◌||◌, nat_le, nat_lt, int_le, if◌then◌else◌, List, [], ◌∷◌, length, ℤ, pos, neg_ℤ, ◌+ℤ◌, ◌-ℤ◌, ◌*ℤ◌, unsigned_abs, Option, Some, None, option_map, option_and_then, Result, Ok, Err}
 use Rattle.std.specs.Char.{is_ascii_digit}
 use Rattle.jiff_core.specs.Calendar.{days_from_civil, days_in_month}
 use Rattle.ocpp_scalars.specs.declared.instant_text.InstantFault.{InstantFault}
 use Rattle.ocpp_scalars.specs.declared.instant_text.InstantFault.TheVariants.{Form, Range}
-use Rattle.ocpp_scalars.specs.Digits.{digits_of, after_digits, is_empty}
+use Rattle.ocpp_scalars.specs.Ascii.{space, plus, minus, dot, digit_zero, colon, upper_t, upper_z, lower_t, lower_z}
+use Rattle.ocpp_scalars.specs.ByCases.Digits.{digits_of, after_digits, is_empty}
+use Rattle.ocpp_scalars.specs.Limits.{last_second, max_fraction_digits}
 
 -- the value of what a text begins with, and what follows it
 abbrev pub Part : Type 0 → Type 0
@@ -12,7 +14,7 @@ Part A = Option (A × List ℕ)
 
 abbrev pub digit_at : List ℕ → Part ℕ
 digit_at [] = None
-digit_at (b ∷ bs) = if is_ascii_digit b then Some (b - 48, bs) else None
+digit_at (b ∷ bs) = if is_ascii_digit b then Some (b - digit_zero, bs) else None
 
 abbrev pub two_at : List ℕ → Part ℕ
 two_at text =
@@ -28,14 +30,14 @@ after_byte test [] = None
 after_byte test (b ∷ bs) = if test b then Some bs else None
 
 abbrev pub after_dash : List ℕ → Option (List ℕ)
-after_dash text = after_byte (λ b. b == 45) text
+after_dash text = after_byte (λ b. b == minus) text
 
 abbrev pub after_colon : List ℕ → Option (List ℕ)
-after_colon text = after_byte (λ b. b == 58) text
+after_colon text = after_byte (λ b. b == colon) text
 
 -- what follows `T`, `t` or a space
 abbrev pub after_separator : List ℕ → Option (List ℕ)
-after_separator text = after_byte (λ b. (b == 84) || ((b == 116) || (b == 32))) text
+after_separator text = after_byte (λ b. (b == upper_t) || ((b == lower_t) || (b == space))) text
 
 -- the calendar has this day
 abbrev pub is_day : ℕ → ℕ → ℕ → Bool
@@ -67,7 +69,7 @@ time_at text =
 abbrev pub after_fraction : List ℕ → Option (List ℕ)
 after_fraction [] = Some []
 after_fraction (b ∷ bs) =
-    if b == 46 then (if nat_le 1 (length (digits_of bs)) && nat_le (length (digits_of bs)) 9 then Some (after_digits bs) else None)
+    if b == dot then (if nat_le 1 (length (digits_of bs)) && nat_le (length (digits_of bs)) max_fraction_digits then Some (after_digits bs) else None)
     else Some (b ∷ bs)
 
 -- `hh:mm` to the end of the text, in seconds
@@ -81,23 +83,24 @@ zulu_in text = if is_empty text then Some (pos 0) else None
 abbrev pub offset_in : List ℕ → Option ℤ
 offset_in [] = Some (pos 0)
 offset_in (b ∷ bs) =
-    if (b == 90) || (b == 122) then zulu_in bs
-    else (if b == 43 then option_map pos (clock_in bs)
-    else (if b == 45 then option_map (λ n. neg_ℤ (pos n)) (clock_in bs) else None))
+    if (b == upper_z) || (b == lower_z) then zulu_in bs
+    else if b == plus then option_map pos (clock_in bs)
+    else if b == minus then option_map (λ n. neg_ℤ (pos n)) (clock_in bs)
+    else None
 
 -- the seconds at so many after midnight of a day, less the offset
-abbrev pub total : ℤ → ℕ → ℤ → ℤ
-total date time offset = (date *ℤ pos 86_400 +ℤ pos time) -ℤ offset
+abbrev pub total_seconds : ℤ → ℕ → ℤ → ℤ
+total_seconds date time offset = (date *ℤ pos 86_400 +ℤ pos time) -ℤ offset
 
 -- the seconds since 1970-01-01T00:00:00Z of a whole text
 unfoldable pub seconds_of : List ℕ → Option ℤ
 seconds_of text =
-    option_and_then (λ date. option_and_then (λ a. option_and_then (λ time. option_and_then (λ b. option_map (λ offset. total date.0 time.0 offset)
+    option_and_then (λ date. option_and_then (λ a. option_and_then (λ time. option_and_then (λ b. option_map (λ offset. total_seconds date.0 time.0 offset)
     (offset_in b)) (after_fraction time.1)) (time_at a)) (after_separator date.1)) (date_at text)
 
 -- from 1970 to the end of the year 9999
 abbrev pub in_range : ℤ → Result ℕ InstantFault
-in_range z = if int_le (pos 0) z && int_le z (pos 253_402_300_799) then Ok (unsigned_abs z) else Err Range
+in_range z = if int_le (pos 0) z && int_le z (pos last_second) then Ok (unsigned_abs z) else Err Range
 
 abbrev pub reading : Option ℤ → Result ℕ InstantFault
 reading None = Err Form

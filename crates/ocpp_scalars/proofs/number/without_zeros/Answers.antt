@@ -1,7 +1,7 @@
 -- A zero taken off divides by ten; with all taken off the value is the quotient.
 use Rattle.std.proofs.Common.{◌≡◌, ◌*◌, ◌^◌, sym, ap, ◌∙◌, arith}
 use Rattle.ocpp_scalars.proofs.Scaling.{scaled-lowered, lowered_step}
-use Rattle.ocpp_scalars.proofs.number.lowered.Goals as goal
+use Rattle.ocpp_scalars.proofs.number.without_zeros.Goals as goal
 
 pub loop-preserved : goal.loop-preserved
 loop-preserved c = lowered_step c.args.digits c.loop.counter c.loop.value c.loop.invariant.0 c.if-value-ne0.false c.loop.invariant.1
