@@ -1,8 +1,8 @@
 -- The fields of an object. A field that is null counts as absent.
 use Rattle.std.specs.Prelude.{ℕ, ℤ, List, Option, Some, None, Result, Ok, Err, option_and_then, if◌then◌else◌}
 use Rattle.std.specs.Option.{option_map_or}
-use Rattle.ocpp_scalars.specs.NumberValue.{whole_of, tenths_of}
-use Rattle.ocpp_scalars.specs.InstantValue.{instant_of}
+use Rattle.ocpp_scalars.specs.ByCases.Number.{whole_of, tenths_of}
+use Rattle.ocpp_scalars.specs.ByCases.InstantText.{instant_of}
 use Rattle.ocppj_frame.specs.Tree.{Tree, as_list, as_number, as_object, as_text, field_of, is_null}
 use Rattle.ocppj_frame.specs.declared.field.Field.{Field}
 use Rattle.ocppj_frame.specs.declared.field.Field.TheVariants.{Absent, WrongKind, WrongValue, Value}

@@ -9,4 +9,3 @@ pub mod Message
 pub mod Fault
 pub mod Frame
 pub mod Write
-pub mod Reading

@@ -1,6 +1,6 @@
 -- The tree of a text: `serde_json`'s reading of the marked text, with the marks removed.
 use Rattle.std.specs.Prelude.{ℕ, List, Option, Some, None, option_map, option_and_then, if◌then◌else◌}
-use Rattle.ocpp_scalars.specs.NumberText.{is_number_text}
+use Rattle.ocpp_scalars.specs.ByCases.NumberText.{is_number_text}
 use Rattle.serde_json.specs.Data as json
 use Rattle.serde_json.specs.Read.{read}
 use Rattle.ocppj_frame.specs.Mark.{after_mark, text_mark, number_mark}

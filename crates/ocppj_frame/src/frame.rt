@@ -1,6 +1,6 @@
 //! From a text to a frame.
 ghost use Rattle.std.specs.Prelude.{◌≡◌, IfErr, IfOk, MatchResult, Err, None, Ok, Some, drop, option_and_then, option_map, slice_get};
-ghost use Rattle.ocppj_frame.specs.Reading.{ReadsUnless};
+ghost use Rattle.ocpp_scalars.specs.Reading.{ReadsUnless};
 ghost use Rattle.ocppj_frame.specs.Fault.{is_memory};
 ghost use Rattle.ocppj_frame.specs.Frame.{HasObject, message_in};
 ghost use Rattle.ocppj_frame.specs.ByCases.Message.{call_of, message_by, message_of_text, message_of_tree, payload_of};

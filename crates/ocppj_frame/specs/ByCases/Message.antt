@@ -4,7 +4,7 @@ use Rattle.std.specs.Prelude.{ℕ, ℤ, pos, negsuc, ◌==◌, length, List, Opt
 use Rattle.std.specs.Option.{option_map_or}
 use Rattle.std.specs.Result.{result_ok}
 use Rattle.std.specs.Str.{chars}
-use Rattle.ocpp_scalars.specs.NumberValue.{whole_of}
+use Rattle.ocpp_scalars.specs.ByCases.Number.{whole_of}
 use Rattle.ocppj_frame.specs.Limits.{max_frame_bytes, max_id_characters}
 use Rattle.ocppj_frame.specs.Tree.{Tree, as_list, as_number, as_object, as_text, is_null}
 use Rattle.ocppj_frame.specs.Read.{tree_of_text}

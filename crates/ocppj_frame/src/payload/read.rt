@@ -1,6 +1,6 @@
 //! From a JSON text to a tree.
 ghost use Rattle.std.specs.Prelude.{ok_or};
-ghost use Rattle.ocppj_frame.specs.Reading.{ReadsUnless};
+ghost use Rattle.ocpp_scalars.specs.Reading.{ReadsUnless};
 ghost use Rattle.ocppj_frame.specs.Fault.{is_memory};
 ghost use Rattle.ocppj_frame.specs.Payload.{tree_in};
 ghost use Rattle.ocppj_frame.specs.Read.{tree_of_text};
