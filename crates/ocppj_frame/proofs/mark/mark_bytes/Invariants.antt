@@ -6,7 +6,7 @@ use Rattle.ocppj_frame.proofs.mark.mark_bytes.Given as goal
 abbrev pub invariant-loop-byte : goal.invariant-loop-byte
 invariant-loop-byte l = record {
   marked : l.out.items ++ marked_from outside l.left ≡ marked_text l.text;
-  room : vec_len l.out + 4 * length l.left ≤ vec_capacity l.out
+  room : vec_len l.out + 4 * length l.left ≤ vec_capacity l.out;
 }
 
 abbrev pub decreases-loop-byte : goal.decreases-loop-byte

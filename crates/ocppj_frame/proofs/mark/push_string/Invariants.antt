@@ -8,7 +8,7 @@ invariant-loop-byte l = record {
   marked : l.out.items ++ marked_from inside l.left ≡ l.fn.out.items ++ marked_from inside l.fn.text;
   room : vec_len l.out + length l.left ≡ vec_len l.fn.out + length l.fn.text;
   capacity : vec_capacity l.out ≡ vec_capacity l.fn.out;
-  shorter : length l.left ≤ length l.fn.text
+  shorter : length l.left ≤ length l.fn.text;
 }
 
 abbrev pub decreases-loop-byte : goal.decreases-loop-byte
