@@ -188,7 +188,7 @@ typed digits others (pos n) k = by_test (n == 2)
     (λ not_3. by_test (n == 4)
     (λ is. rw (not_2, not_3, is) (with_error digits others _ (k ∙ ap (λ (m : ℕ). Ok (pos m)) (eqb-true n 4 is)) (first_of others)))
     (λ not_4. rw (not_2, not_3, not_4) (other_row digits (pos n) others k
-        ((λ e. eqb-false n 2 not_2 (pos_is n 2 e)), (λ e. eqb-false n 3 not_3 (pos_is n 3 e)), (λ e. eqb-false n 4 not_4 (pos_is n 4 e)))))))
+    ((λ e. eqb-false n 2 not_2 (pos_is n 2 e)), (λ e. eqb-false n 3 not_3 (pos_is n 3 e)), (λ e. eqb-false n 4 not_4 (pos_is n 4 e)))))))
   where
     pos_is : (m o : ℕ) → pos m ≡ pos o → m ≡ o
     pos_is m o e = cc
