@@ -1,5 +1,6 @@
-//! What no replayed script shows: which frames get no answer and why, texts of their largest size, fields by kind,
-//! and written frames. `tests/replay` at the top of the repository has the texts of JSON conformance suites.
+//! What no replayed script shows: which frames get no answer and why, texts of their largest size,
+//! fields by kind, and written frames. `tests/replay` at the top of the repository has the texts of
+//! JSON conformance suites.
 use crate::{
     Field, Frame, FrameFault, instant_field, list_field, object_field, push_call_head, push_error,
     push_frame_end, push_result_head, read_frame, read_tree, tenths_field, text_field, whole_field,
