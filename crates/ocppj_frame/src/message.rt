@@ -1,6 +1,7 @@
+//! The elements of a message.
 ghost use Rattle.std.specs.Prelude.{◌≡◌, IfSome, Some, option_map, true};
-ghost use Rattle.ocppj_frame.specs.Message.{message_id, message_type, payload_of, type_of_number};
-ghost use Rattle.ocppj_frame.specs.Parts.{tree_in};
+ghost use Rattle.ocppj_frame.specs.ByCases.Message.{message_id, message_type, payload_of, type_of_number};
+ghost use Rattle.ocppj_frame.specs.Payload.{tree_in};
 ghost use Rattle.ocppj_frame.specs.Tree.{is_object};
 
 use crate::message_id::MessageId;
@@ -41,7 +42,7 @@ fn type_of_number(number: i32) -> MessageType
     }
 }
 
-/// The id that the second element gives.
+/// The id in the second element.
 pub(crate) fn message_id(element: Option<Payload>) -> Option<MessageId>
     ensures { result ≡ message_id (option_map tree_in element) }
 {
@@ -52,8 +53,8 @@ pub(crate) fn message_id(element: Option<Payload>) -> Option<MessageId>
     }
 }
 
-/// The payload that an element gives: the empty object where it is absent or null, `None` where it is
-/// no object. Takes no memory.
+/// The payload in an element: the empty object where it is absent or null, `None` where it is
+/// no object. Needs no memory.
 pub(crate) fn payload_of(alloc: Global, element: Option<Payload>) -> Option<Payload>
     ensures value { option_map tree_in result ≡ payload_of (option_map tree_in element) }
     ensures object { IfSome result (λ payload. is_object (tree_in payload) ≡ true) }
