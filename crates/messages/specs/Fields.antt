@@ -25,14 +25,14 @@ optional_value name WrongKind = Err (TypeConstraintViolation name)
 optional_value name WrongValue = Err (PropertyConstraintViolation name)
 optional_value name (Value x) = Ok (Some x)
 
-abbrev pub required : {A : Type 0} → NamedField A → Result A CallFault
+unfoldable pub required : {A : Type 0} → NamedField A → Result A CallFault
 required read = required_value read.name read.field
 
-abbrev pub optional : {A : Type 0} → NamedField A → Result (Option A) CallFault
+unfoldable pub optional : {A : Type 0} → NamedField A → Result (Option A) CallFault
 optional read = optional_value read.name read.field
 
 -- a whole number of 32 bits
-abbrev pub whole : Tree → FieldName → NamedField ℤ
+unfoldable pub whole : Tree → FieldName → NamedField ℤ
 whole fields name = record { name = name; field = whole_field_of (field_name name) fields }
 
 -- a whole number below 0 is a wrong value
@@ -43,14 +43,14 @@ from_zero WrongValue = WrongValue
 from_zero (Value (pos n)) = Value n
 from_zero (Value (negsuc n)) = WrongValue
 
-abbrev pub whole_from_zero : Tree → FieldName → NamedField ℕ
+unfoldable pub whole_from_zero : Tree → FieldName → NamedField ℕ
 whole_from_zero fields name = record { name = name; field = from_zero (whole_field_of (field_name name) fields) }
 
 -- tenths of A or W
-abbrev pub tenths : Tree → FieldName → NamedField ℕ
+unfoldable pub tenths : Tree → FieldName → NamedField ℕ
 tenths fields name = record { name = name; field = tenths_field_of (field_name name) fields }
 
-abbrev pub instant : Tree → FieldName → NamedField ℕ
+unfoldable pub instant : Tree → FieldName → NamedField ℕ
 instant fields name = record { name = name; field = instant_field_of (field_name name) fields }
 
 -- a text that is no such name is a wrong value
@@ -65,7 +65,7 @@ one_of named WrongValue = WrongValue
 one_of named (Value text) = value_or_wrong (named text)
 
 -- a text that names one of a few values
-abbrev pub one_name_of : {A : Type 0} → (List ℕ → Option A) → Tree → FieldName → NamedField A
+unfoldable pub one_name_of : {A : Type 0} → (List ℕ → Option A) → Tree → FieldName → NamedField A
 one_name_of named fields name = record { name = name; field = one_of named (text_field_of (field_name name) fields) }
 
 -- a list that has entries; an empty one counts as absent
@@ -76,11 +76,11 @@ with_entries WrongValue = WrongValue
 with_entries (Value []) = Absent
 with_entries (Value (entry ∷ entries)) = Value (entry ∷ entries)
 
-abbrev pub entries : Tree → FieldName → NamedField (List Tree)
+unfoldable pub entries : Tree → FieldName → NamedField (List Tree)
 entries fields name = record { name = name; field = with_entries (list_field_of (field_name name) fields) }
 
-abbrev pub object : Tree → FieldName → NamedField Tree
+unfoldable pub object : Tree → FieldName → NamedField Tree
 object fields name = record { name = name; field = object_field_of (field_name name) fields }
 
-abbrev pub text : Tree → FieldName → NamedField (List ℕ)
+unfoldable pub text : Tree → FieldName → NamedField (List ℕ)
 text fields name = record { name = name; field = text_field_of (field_name name) fields }

@@ -4,5 +4,7 @@ pub mod ActionKind
 pub mod Fields
 pub mod Reading
 pub mod ProfileFields
+pub mod OperatorActions
+pub mod PointActions
 pub mod Action
 pub mod ResponseText

@@ -86,7 +86,7 @@ pub fn read_action(alloc: Global, frame: &Frame) -> Result<Action, CallFault>
 /// Reads the fields of an action from the payload of its CALL, or names the first fault in the order of
 /// the action's fields. `Refused(OutOfMemory)` comes only from a SetChargingProfile or a
 /// StartTransaction.
-#[tactic(auto, unfolding(crate::specs::Action::clear_charging_profile_of, crate::specs::Action::get_composite_schedule_of, crate::specs::Action::start_transaction_of, crate::specs::Action::stop_transaction_of))]
+#[tactic(auto, unfolding(crate::specs::OperatorActions::clear_charging_profile_of, crate::specs::OperatorActions::get_composite_schedule_of, crate::specs::PointActions::start_transaction_of, crate::specs::PointActions::stop_transaction_of))]
 pub fn read_fields(alloc: Global, kind: ActionKind, payload: Part<'_>) -> Result<Action, CallFault>
     ensures value { Reads (λ action. action) result (action_of_kind kind (tree_at payload.entry)) }
     ensures some { IfOk result HasPeriods }

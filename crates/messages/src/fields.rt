@@ -23,6 +23,7 @@ pub struct NamedField<T> {
 
 impl<T: Drop> NamedField<T> {
     /// The value of a field that has to be there.
+    #[tactic(auto, unfolding(crate::specs::Fields::required))]
     pub fn required(self) -> Result<T, CallFault>
         ensures { result ≡ required self }
     {
@@ -35,6 +36,7 @@ impl<T: Drop> NamedField<T> {
     }
 
     /// The value of a field that may be absent.
+    #[tactic(auto, unfolding(crate::specs::Fields::optional))]
     pub fn optional(self) -> Result<Option<T>, CallFault>
         ensures { result ≡ optional self }
     {
@@ -48,6 +50,7 @@ impl<T: Drop> NamedField<T> {
 }
 
 /// A whole number.
+#[tactic(auto, unfolding(crate::specs::Fields::whole))]
 pub fn whole(fields: Part<'_>, name: FieldName) -> NamedField<i32>
     ensures { result ≡ whole (tree_at fields.entry) name }
 {
@@ -58,6 +61,7 @@ pub fn whole(fields: Part<'_>, name: FieldName) -> NamedField<i32>
 }
 
 /// A whole number from 0.
+#[tactic(auto, unfolding(crate::specs::Fields::whole_from_zero))]
 pub fn whole_from_zero(fields: Part<'_>, name: FieldName) -> NamedField<u32>
     ensures { result ≡ whole_from_zero (tree_at fields.entry) name }
 {
@@ -79,6 +83,7 @@ fn from_zero(field: Field<i32>) -> Field<u32>
 }
 
 /// Tenths of A or W.
+#[tactic(auto, unfolding(crate::specs::Fields::tenths))]
 pub fn tenths(fields: Part<'_>, name: FieldName) -> NamedField<u32>
     ensures { result ≡ tenths (tree_at fields.entry) name }
 {
@@ -89,6 +94,7 @@ pub fn tenths(fields: Part<'_>, name: FieldName) -> NamedField<u32>
 }
 
 /// An instant.
+#[tactic(auto, unfolding(crate::specs::Fields::instant))]
 pub fn instant(fields: Part<'_>, name: FieldName) -> NamedField<Instant>
     ensures { result ≡ instant (tree_at fields.entry) name }
 {
@@ -99,6 +105,7 @@ pub fn instant(fields: Part<'_>, name: FieldName) -> NamedField<Instant>
 }
 
 /// A value that is written as one of a few names.
+#[tactic(auto, unfolding(crate::specs::Fields::one_name_of))]
 pub fn one_name_of<T: Named + Drop>(fields: Part<'_>, name: FieldName) -> NamedField<T>
     ensures { result ≡ one_name_of T.named (tree_at fields.entry) name }
 {
@@ -128,37 +135,44 @@ fn value_or_wrong<T: Drop>(value: Option<T>) -> Field<T>
     }
 }
 
-/// An object. What is at the name is a `Part` here, and its tree in the definition.
-pub fn object<'a>(fields: Part<'a>, name: FieldName) -> NamedField<Part<'a>>
-    ensures name { result.name ≡ name }
-    ensures field { field_map tree_at result.field ≡ (object (tree_at fields.entry) name).field }
+/// The object of a field that has to be there.
+#[tactic(auto, unfolding(crate::specs::Fields::required, crate::specs::Fields::object))]
+pub fn required_object<'a>(fields: Part<'a>, name: FieldName) -> Result<Part<'a>, CallFault>
+    ensures { MatchResult result (λ part. required (object (tree_at fields.entry) name) ≡ Ok (tree_at part))
+        (λ fault. required (object (tree_at fields.entry) name) ≡ Err fault) }
 {
     NamedField {
         name,
         field: object_field(fields, name.text()),
     }
+    .required()
 }
 
-/// A text.
-pub fn text<'a>(fields: Part<'a>, name: FieldName) -> NamedField<&'a str>
-    ensures name { result.name ≡ name }
-    ensures field { field_map (λ text. text.now) result.field ≡ (text (tree_at fields.entry) name).field }
+/// The text of a field that has to be there.
+#[tactic(auto, unfolding(crate::specs::Fields::required, crate::specs::Fields::text))]
+pub fn required_text<'a>(fields: Part<'a>, name: FieldName) -> Result<&'a str, CallFault>
+    ensures { MatchResult result (λ part. required (text (tree_at fields.entry) name) ≡ Ok part.now)
+        (λ fault. required (text (tree_at fields.entry) name) ≡ Err fault) }
 {
     NamedField {
         name,
         field: text_field(fields, name.text()),
     }
+    .required()
 }
 
-/// A list with at least one entry: an empty list counts as absent.
-pub fn entries<'a>(fields: Part<'a>, name: FieldName) -> NamedField<Items<'a>>
-    ensures name { result.name ≡ name }
-    ensures field { field_map entries_in result.field ≡ (entries (tree_at fields.entry) name).field }
+/// The entries of a list that has to have at least one: an empty list counts as absent.
+#[tactic(auto, unfolding(crate::specs::Fields::required, crate::specs::Fields::entries))]
+pub fn required_entries<'a>(fields: Part<'a>, name: FieldName) -> Result<Items<'a>, CallFault>
+    ensures read { MatchResult result (λ items. required (entries (tree_at fields.entry) name) ≡ Ok (entries_in items))
+        (λ fault. required (entries (tree_at fields.entry) name) ≡ Err fault) }
+    ensures some { IfOk result (λ items. 0 < length (entries_in items)) }
 {
     NamedField {
         name,
         field: with_entries(list_field(fields, name.text())),
     }
+    .required()
 }
 
 fn with_entries(field: Field<Items<'_>>) -> Field<Items<'_>>

@@ -10,7 +10,9 @@ use crate::field_name::FieldName::{
     ChargingSchedule, ChargingSchedulePeriod, Duration, Limit, MinChargingRate, NumberPhases,
     RecurrencyKind, StackLevel, StartPeriod, StartSchedule, TransactionId, ValidFrom, ValidTo,
 };
-use crate::fields::{entries, instant, object, one_name_of, tenths, whole, whole_from_zero};
+use crate::fields::{
+    instant, one_name_of, required_entries, required_object, tenths, whole, whole_from_zero,
+};
 use ocppj_frame::{Items, Part};
 use profile::{Period, PeriodList, ProfileParts, ScheduleParts};
 use std::alloc::Global;
@@ -29,8 +31,8 @@ pub fn read_profile(alloc: Global, fields: Part<'_>) -> Result<ProfileParts, Cal
     let recurrency = one_name_of(fields, RecurrencyKind).optional()?;
     let valid_from = instant(fields, ValidFrom).optional()?;
     let valid_to = instant(fields, ValidTo).optional()?;
-    let schedule = object(fields, ChargingSchedule).required()?;
-    let schedule = read_schedule(alloc, schedule)?;
+    let schedule_fields = required_object(fields, ChargingSchedule)?;
+    let schedule = read_schedule(alloc, schedule_fields)?;
     Ok(ProfileParts {
         id,
         transaction,
@@ -53,8 +55,8 @@ fn read_schedule(alloc: Global, fields: Part<'_>) -> Result<ScheduleParts, CallF
     let duration = whole_from_zero(fields, Duration).optional()?;
     let start = instant(fields, StartSchedule).optional()?;
     let unit = one_name_of(fields, ChargingRateUnit).required()?;
-    let periods = entries(fields, ChargingSchedulePeriod).required()?;
-    let periods = read_periods(alloc, periods)?;
+    let entries = required_entries(fields, ChargingSchedulePeriod)?;
+    let periods = read_periods(alloc, entries)?;
     let min_charging_rate = tenths(fields, MinChargingRate).optional()?;
     Ok(ScheduleParts {
         duration,
