@@ -1,10 +1,12 @@
+pub mod Limits
 pub mod Greatest
 pub mod Periods
 pub mod Purpose
 pub mod Kind
-pub mod Rate
-pub mod Parts
-pub mod Made
-pub mod Base
-pub mod Candidates
+pub mod Unit
 pub mod Names
+pub mod ChargingProfile
+pub mod Parts
+pub mod Row
+pub mod Candidates
+pub mod ByCases

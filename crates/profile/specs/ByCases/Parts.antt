@@ -1,18 +1,26 @@
-use Rattle.std.specs.Prelude.{◌≡◌, ℕ, ℤ, nat_le, Bool, true, false, Option, Some, None, option_map, option_and_then, refl}
+-- The profile that fields make, as a value. The clause `fields` of `Profile::try_new` ties it to
+-- IsProfileOf of Parts.antt.
+use Rattle.std.specs.Prelude.{◌≡◌, ℕ, ℤ, nat_le, Bool, true, false, Option, Some, None, Result, Ok, Err, refl}
+use Rattle.ocpp_scalars.specs.declared.refusal.Refusal.{Refusal}
 use Rattle.profile.specs.declared.kind.Kind.{Kind}
 use Rattle.profile.specs.declared.kind.Kind.TheVariants.{Absolute, Recurring, Relative}
 use Rattle.profile.specs.declared.purpose.Purpose.{Purpose}
 use Rattle.profile.specs.declared.purpose.Purpose.TheVariants.{ChargePointMaxProfile, TxDefaultProfile, TxProfile}
-use Rattle.profile.specs.declared.charging_profile.TheConstants.{MAX_STACK_LEVEL}
 use Rattle.profile.specs.declared.charging_profile.Profile.{Profile}
 use Rattle.profile.specs.declared.parts.ProfileParts.{ProfileParts}
-use Rattle.profile.specs.Kind.{kind_of, start_of}
+use Rattle.profile.specs.Limits.{max_stack_level}
+use Rattle.profile.specs.Kind.{start_of}
 use Rattle.profile.specs.Purpose.{transaction_of}
 
--- a test that holds, as a fact
-abbrev pub fact_of : (test : Bool) → Option (test ≡ true)
-fact_of true = Some refl
-fact_of false = None
+-- that a test holds, or else a refusal
+abbrev pub fact_or : Refusal → (test : Bool) → Result (test ≡ true) Refusal
+fact_or refusal true = Ok refl
+fact_or refusal false = Err refusal
+
+-- a value that is there, or else a refusal
+abbrev pub value_or : {X : Type 0} → Refusal → Option X → Result X Refusal
+value_or refusal (Some value) = Ok value
+value_or refusal None = Err refusal
 
 -- what is dropped once stays dropped
 pub transaction_of_again : (purpose : Purpose) (transaction : Option ℤ) → transaction_of purpose (transaction_of purpose transaction) ≡ transaction_of purpose transaction
@@ -25,7 +33,8 @@ start_of_again Absolute start = refl
 start_of_again (Recurring recurrency) start = refl
 start_of_again Relative start = refl
 
-abbrev pub profile_with : (parts : ProfileParts) → Kind → nat_le parts.stack_level MAX_STACK_LEVEL ≡ true → Profile
+-- the profile of these fields, of a kind, where their level is low enough
+abbrev pub profile_with : (parts : ProfileParts) → Kind → nat_le parts.stack_level max_stack_level ≡ true → Profile
 profile_with parts kind low = record {
   id = parts.id;
   transaction = transaction_of parts.purpose parts.transaction;
@@ -45,9 +54,3 @@ profile_with parts kind low = record {
   own_transaction = transaction_of_again parts.purpose parts.transaction;
   own_start = start_of_again kind parts.schedule.start;
 }
-
--- the profile of these parts as a value, where its level and kind let it be one
-abbrev pub made_profile : ProfileParts → Option Profile
-made_profile parts =
-    option_and_then (λ (kind : Kind). option_map (λ (low : nat_le parts.stack_level MAX_STACK_LEVEL ≡ true). profile_with parts kind low)
-    (fact_of (nat_le parts.stack_level MAX_STACK_LEVEL))) (kind_of parts.kind parts.recurrency)

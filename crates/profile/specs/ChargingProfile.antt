@@ -1,3 +1,4 @@
+-- The limit of a profile at a second.
 use Rattle.std.specs.Prelude.{ℕ, ◌-◌, nat_le, nat_lt, Bool, true, ◌&&◌, Option, Some, None, unwrap_or, option_and_then, if◌then◌else◌}
 use Rattle.profile.specs.declared.charging_profile.Profile.{Profile}
 use Rattle.profile.specs.Kind.{start_of, offset_after}

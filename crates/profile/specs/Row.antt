@@ -1,3 +1,4 @@
+-- From where the profile of a row counts its seconds.
 use Rattle.std.specs.Prelude.{ℕ, Option, unwrap_or}
 use Rattle.profile.specs.declared.purpose.Purpose.{Purpose}
 use Rattle.profile.specs.declared.purpose.Purpose.TheVariants.{ChargePointMaxProfile, TxDefaultProfile, TxProfile}
