@@ -1,9 +1,9 @@
 -- What a CALL asks for by its action and its payload, or its first fault (OCPP 1.6, chapters 4 to 6).
-use Rattle.std.specs.Prelude.{⊤, ℕ, ◌<◌, List, length, Option, Some, None, Result, Ok, Err}
+use Rattle.std.specs.Prelude.{⊤, ℕ, List, Option, Some, None, Result, Ok, Err}
 use Rattle.ocppj_frame.specs.Tree.{Tree}
 use Rattle.ocppj_frame.specs.Message.{Message, call}
 use Rattle.messages.specs.declared.action.Action.{Action}
-use Rattle.messages.specs.declared.action.Action.TheVariants.{SetChargingProfile, BootNotification, Heartbeat, Authorize, StatusNotification, MeterValues, FirmwareStatusNotification, DiagnosticsStatusNotification, DataTransfer, NotACall}
+use Rattle.messages.specs.declared.action.Action.TheVariants.{BootNotification, Heartbeat, Authorize, StatusNotification, MeterValues, FirmwareStatusNotification, DiagnosticsStatusNotification, DataTransfer, NotACall}
 use Rattle.messages.specs.declared.action_kind.ActionKind.{ActionKind}
 use Rattle.messages.specs.declared.action_kind.ActionKind.TheVariants as kinds
 use Rattle.messages.specs.declared.call_fault.CallFault.{CallFault}
@@ -41,11 +41,6 @@ action_of name payload = action_if_supported (action_named name) payload
 abbrev pub action_in : Message → Result Action CallFault
 action_in (call id name payload) = action_of name payload
 action_in _ = Ok NotACall
-
--- A profile that is read has at least one period.
-abbrev pub HasPeriods : Action → Type 0
-HasPeriods (SetChargingProfile connector profile) = 0 < length profile.schedule.periods
-HasPeriods _ = ⊤
 
 -- ---- memory
 

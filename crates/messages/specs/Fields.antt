@@ -1,10 +1,10 @@
 -- The fields of an object: what stands at a field's name, and which fault it is where that won't do
 -- (OCPP-J 1.6, 4.2.3, for the three faults).
-use Rattle.std.specs.Prelude.{ℕ, ℤ, pos, negsuc, List, [], ◌∷◌, Option, Some, None, Result, Ok, Err}
+use Rattle.std.specs.Prelude.{ℕ, ℤ, pos, negsuc, List, Option, Some, None, Result, Ok, Err}
 use Rattle.ocppj_frame.specs.declared.field.Field.{Field}
 use Rattle.ocppj_frame.specs.declared.field.Field.TheVariants.{Absent, WrongKind, WrongValue, Value}
 use Rattle.ocppj_frame.specs.Tree.{Tree}
-use Rattle.ocppj_frame.specs.FieldReading.{text_field_of, whole_field_of, tenths_field_of, instant_field_of, list_field_of, object_field_of}
+use Rattle.ocppj_frame.specs.Field.{text_field_of, whole_field_of, tenths_field_of, instant_field_of, list_field_of, object_field_of}
 use Rattle.messages.specs.declared.field_name.FieldName.{FieldName}
 use Rattle.messages.specs.declared.fields.NamedField.{NamedField}
 use Rattle.messages.specs.declared.call_fault.CallFault.{CallFault}
@@ -68,16 +68,8 @@ one_of named (Value text) = value_or_wrong (named text)
 unfoldable pub one_name_of : {A : Type 0} → (List ℕ → Option A) → Tree → FieldName → NamedField A
 one_name_of named fields name = record { name = name; field = one_of named (text_field_of (field_name name) fields) }
 
--- a list that has entries; an empty one counts as absent
-abbrev pub with_entries : Field (List Tree) → Field (List Tree)
-with_entries Absent = Absent
-with_entries WrongKind = WrongKind
-with_entries WrongValue = WrongValue
-with_entries (Value []) = Absent
-with_entries (Value (entry ∷ entries)) = Value (entry ∷ entries)
-
-unfoldable pub entries : Tree → FieldName → NamedField (List Tree)
-entries fields name = record { name = name; field = with_entries (list_field_of (field_name name) fields) }
+unfoldable pub list : Tree → FieldName → NamedField (List Tree)
+list fields name = record { name = name; field = list_field_of (field_name name) fields }
 
 unfoldable pub object : Tree → FieldName → NamedField Tree
 object fields name = record { name = name; field = object_field_of (field_name name) fields }

@@ -1,6 +1,6 @@
 -- The fields of an operator's actions, in the order in which they are checked (OCPP 1.6, chapter 6).
 use Rattle.std.specs.Prelude.{Result, Ok, Err}
-use Rattle.ocppj_frame.specs.FieldReading.{◌>>=◌}
+use Rattle.ocpp_scalars.specs.ResultSteps.{◌>>=◌}
 use Rattle.ocppj_frame.specs.Tree.{Tree}
 use Rattle.profile.specs.Names.{purpose_named, unit_named}
 use Rattle.messages.specs.declared.action.Action.{Action}

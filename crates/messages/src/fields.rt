@@ -1,15 +1,15 @@
 //! The fields of an object, each read under its name and then taken as required or optional, so that
 //! the reading of an action stands as its table of fields does.
-ghost use Rattle.std.specs.Prelude.{◌≡◌, ◌<◌, length, Ok, Err, IfOk, MatchResult};
-ghost use Rattle.ocppj_frame.specs.FieldReading.{field_map};
-ghost use Rattle.ocppj_frame.specs.Parts.{entries_in, tree_at};
-ghost use Rattle.messages.specs.Fields.{required, optional, from_zero, one_of, value_or_wrong, whole, whole_from_zero, tenths, instant, one_name_of, text, with_entries, entries, object};
+ghost use Rattle.std.specs.Prelude.{◌≡◌, Ok, Err, MatchResult};
+ghost use Rattle.ocppj_frame.specs.Field.{field_map};
+ghost use Rattle.ocppj_frame.specs.Payload.{entries_in, tree_at};
+ghost use Rattle.messages.specs.Fields.{required, optional, from_zero, one_of, value_or_wrong, whole, whole_from_zero, tenths, instant, one_name_of, text, list, object};
 
 use crate::call_fault::CallFault;
 use crate::field_name::FieldName;
 use ocpp_scalars::Instant;
 use ocppj_frame::{
-    Field, Items, Part, instant_field, list_field, object_field, tenths_field, text_field,
+    Entries, Field, Node, instant_field, list_field, object_field, tenths_field, text_field,
     whole_field,
 };
 use profile::Named;
@@ -51,7 +51,7 @@ impl<T: Drop> NamedField<T> {
 
 /// A whole number.
 #[tactic(auto, unfolding(crate::specs::Fields::whole))]
-pub fn whole(fields: Part<'_>, name: FieldName) -> NamedField<i32>
+pub fn whole(fields: Node<'_>, name: FieldName) -> NamedField<i32>
     ensures { result ≡ whole (tree_at fields.entry) name }
 {
     NamedField {
@@ -62,7 +62,7 @@ pub fn whole(fields: Part<'_>, name: FieldName) -> NamedField<i32>
 
 /// A whole number from 0.
 #[tactic(auto, unfolding(crate::specs::Fields::whole_from_zero))]
-pub fn whole_from_zero(fields: Part<'_>, name: FieldName) -> NamedField<u32>
+pub fn whole_from_zero(fields: Node<'_>, name: FieldName) -> NamedField<u32>
     ensures { result ≡ whole_from_zero (tree_at fields.entry) name }
 {
     NamedField {
@@ -84,7 +84,7 @@ fn from_zero(field: Field<i32>) -> Field<u32>
 
 /// Tenths of A or W.
 #[tactic(auto, unfolding(crate::specs::Fields::tenths))]
-pub fn tenths(fields: Part<'_>, name: FieldName) -> NamedField<u32>
+pub fn tenths(fields: Node<'_>, name: FieldName) -> NamedField<u32>
     ensures { result ≡ tenths (tree_at fields.entry) name }
 {
     NamedField {
@@ -95,7 +95,7 @@ pub fn tenths(fields: Part<'_>, name: FieldName) -> NamedField<u32>
 
 /// An instant.
 #[tactic(auto, unfolding(crate::specs::Fields::instant))]
-pub fn instant(fields: Part<'_>, name: FieldName) -> NamedField<Instant>
+pub fn instant(fields: Node<'_>, name: FieldName) -> NamedField<Instant>
     ensures { result ≡ instant (tree_at fields.entry) name }
 {
     NamedField {
@@ -106,7 +106,7 @@ pub fn instant(fields: Part<'_>, name: FieldName) -> NamedField<Instant>
 
 /// A value that is written as one of a few names.
 #[tactic(auto, unfolding(crate::specs::Fields::one_name_of))]
-pub fn one_name_of<T: Named + Drop>(fields: Part<'_>, name: FieldName) -> NamedField<T>
+pub fn one_name_of<T: Named + Drop>(fields: Node<'_>, name: FieldName) -> NamedField<T>
     ensures { result ≡ one_name_of T.named (tree_at fields.entry) name }
 {
     NamedField {
@@ -137,8 +137,9 @@ fn value_or_wrong<T: Drop>(value: Option<T>) -> Field<T>
 
 /// The object of a field that has to be there.
 #[tactic(auto, unfolding(crate::specs::Fields::required, crate::specs::Fields::object))]
-pub fn required_object<'a>(fields: Part<'a>, name: FieldName) -> Result<Part<'a>, CallFault>
-    ensures { MatchResult result (λ part. required (object (tree_at fields.entry) name) ≡ Ok (tree_at part))
+pub fn required_object<'a>(fields: Node<'a>, name: FieldName) -> Result<Node<'a>, CallFault>
+    ensures { MatchResult result
+        (λ node. required (object (tree_at fields.entry) name) ≡ Ok (tree_at node))
         (λ fault. required (object (tree_at fields.entry) name) ≡ Err fault) }
 {
     NamedField {
@@ -150,8 +151,9 @@ pub fn required_object<'a>(fields: Part<'a>, name: FieldName) -> Result<Part<'a>
 
 /// The text of a field that has to be there.
 #[tactic(auto, unfolding(crate::specs::Fields::required, crate::specs::Fields::text))]
-pub fn required_text<'a>(fields: Part<'a>, name: FieldName) -> Result<&'a str, CallFault>
-    ensures { MatchResult result (λ part. required (text (tree_at fields.entry) name) ≡ Ok part.now)
+pub fn required_text<'a>(fields: Node<'a>, name: FieldName) -> Result<&'a str, CallFault>
+    ensures { MatchResult result
+        (λ found. required (text (tree_at fields.entry) name) ≡ Ok found.now)
         (λ fault. required (text (tree_at fields.entry) name) ≡ Err fault) }
 {
     NamedField {
@@ -161,25 +163,16 @@ pub fn required_text<'a>(fields: Part<'a>, name: FieldName) -> Result<&'a str, C
     .required()
 }
 
-/// The entries of a list that has to have at least one: an empty list counts as absent.
-#[tactic(auto, unfolding(crate::specs::Fields::required, crate::specs::Fields::entries))]
-pub fn required_entries<'a>(fields: Part<'a>, name: FieldName) -> Result<Items<'a>, CallFault>
-    ensures read { MatchResult result (λ items. required (entries (tree_at fields.entry) name) ≡ Ok (entries_in items))
-        (λ fault. required (entries (tree_at fields.entry) name) ≡ Err fault) }
-    ensures some { IfOk result (λ items. 0 < length (entries_in items)) }
+/// The entries of a list that has to be there.
+#[tactic(auto, unfolding(crate::specs::Fields::required, crate::specs::Fields::list))]
+pub fn required_list<'a>(fields: Node<'a>, name: FieldName) -> Result<Entries<'a>, CallFault>
+    ensures { MatchResult result
+        (λ items. required (list (tree_at fields.entry) name) ≡ Ok (entries_in items))
+        (λ fault. required (list (tree_at fields.entry) name) ≡ Err fault) }
 {
     NamedField {
         name,
-        field: with_entries(list_field(fields, name.text())),
+        field: list_field(fields, name.text()),
     }
     .required()
-}
-
-fn with_entries(field: Field<Items<'_>>) -> Field<Items<'_>>
-    ensures { field_map entries_in result ≡ with_entries (field_map entries_in field.entry) }
-{
-    match field {
-        Field::Value(entries) if entries.is_empty() => Field::Absent,
-        other => other,
-    }
 }
