@@ -15,7 +15,8 @@ use Rattle.profile.specs.Kind.{kind_of, start_of}
 use Rattle.profile.specs.Purpose.{transaction_of}
 use Rattle.profile.specs.Periods.{are_in_order}
 use Rattle.profile.specs.Parts.{IsProfileOf, profile_of_parts}
-use Rattle.profile.specs.ByCases.Parts.{fact_or, profile_with}
+use Rattle.profile.specs.Refusing.{fact_or}
+use Rattle.profile.specs.ByCases.Parts.{profile_with}
 use Rattle.profile.specs.ByCases.Same.{HaveSameKeys, HaveSameTimes}
 
 transactions : IsSet (Option ℤ)

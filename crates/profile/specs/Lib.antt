@@ -1,4 +1,5 @@
 pub mod Limits
+pub mod Refusing
 pub mod Greatest
 pub mod Periods
 pub mod Purpose

@@ -9,7 +9,8 @@ use Rattle.profile.specs.Kind.{kind_of, start_of}
 use Rattle.profile.specs.Purpose.{transaction_of}
 use Rattle.profile.specs.Periods.{are_in_order}
 use Rattle.ocpp_scalars.specs.ResultSteps.{◌>>=◌}
-use Rattle.profile.specs.ByCases.Parts.{fact_or, value_or, profile_with}
+use Rattle.profile.specs.Refusing.{fact_or, value_or}
+use Rattle.profile.specs.ByCases.Parts.{profile_with}
 
 -- the well-formed profile of these fields: what belongs to another purpose or kind is dropped, and all
 -- else is as it came (OCPP 1.6, chapter 7, ChargingProfile)

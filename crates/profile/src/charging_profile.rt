@@ -136,34 +136,34 @@ impl Profile {
     }
 
     /// How many seconds into its schedule the profile is, or `None` before its anchor.
-    pub fn offset(&self, base: Instant, second: Instant) -> Option<u64>
-        ensures { result ≡ offset self.now base second }
+    pub fn offset(&self, base: Instant, instant: Instant) -> Option<u64>
+        ensures { result ≡ offset self.now base instant }
     {
         let anchor = self.anchor(base);
-        if second < anchor {
+        if instant < anchor {
             return None;
         }
-        Some(self.kind.offset_after(second.seconds() - anchor.seconds()))
+        Some(self.kind.offset_after(instant.seconds() - anchor.seconds()))
     }
 
     /// The limit at a second, in tenths, counted from a base, or `None` where the profile has none:
     /// outside its validity, before its anchor, past its duration, or before its first period.
-    pub fn rate(&self, base: Instant, second: Instant) -> Option<u32>
-        ensures { result ≡ rate self.now base second }
+    pub fn rate(&self, base: Instant, instant: Instant) -> Option<u32>
+        ensures { result ≡ rate self.now base instant }
     {
-        if !self.is_valid_at(second) {
+        if !self.is_valid_at(instant) {
             return None;
         }
-        let offset = self.offset(base, second)?;
+        let offset = self.offset(base, instant)?;
         self.rate_within(offset)
     }
 
     /// Whether a second lies within validFrom and validTo, each where given.
-    pub fn is_valid_at(&self, second: Instant) -> bool
-        ensures { result ≡ is_valid_at self.now second }
+    pub fn is_valid_at(&self, instant: Instant) -> bool
+        ensures { result ≡ is_valid_at self.now instant }
     {
-        self.valid_from.is_none_or(|from| from <= second)
-            && self.valid_to.is_none_or(|to| second < to)
+        self.valid_from.is_none_or(|from| from <= instant)
+            && self.valid_to.is_none_or(|to| instant < to)
     }
 
     /// The limit at an offset, which has to lie within the schedule's duration.

@@ -1,7 +1,6 @@
 -- The profile that fields make, as a value. The clause `fields` of `Profile::try_new` ties it to
 -- IsProfileOf of Parts.antt.
-use Rattle.std.specs.Prelude.{◌≡◌, ℕ, ℤ, nat_le, Bool, true, false, Option, Some, None, Result, Ok, Err, refl}
-use Rattle.ocpp_scalars.specs.declared.refusal.Refusal.{Refusal}
+use Rattle.std.specs.Prelude.{◌≡◌, ℕ, ℤ, nat_le, true, Option, refl}
 use Rattle.profile.specs.declared.kind.Kind.{Kind}
 use Rattle.profile.specs.declared.kind.Kind.TheVariants.{Absolute, Recurring, Relative}
 use Rattle.profile.specs.declared.purpose.Purpose.{Purpose}
@@ -11,16 +10,6 @@ use Rattle.profile.specs.declared.parts.ProfileParts.{ProfileParts}
 use Rattle.profile.specs.Limits.{max_stack_level}
 use Rattle.profile.specs.Kind.{start_of}
 use Rattle.profile.specs.Purpose.{transaction_of}
-
--- that a test holds, or else a refusal
-abbrev pub fact_or : Refusal → (test : Bool) → Result (test ≡ true) Refusal
-fact_or refusal true = Ok refl
-fact_or refusal false = Err refusal
-
--- a value that is there, or else a refusal
-abbrev pub value_or : {X : Type 0} → Refusal → Option X → Result X Refusal
-value_or refusal (Some value) = Ok value
-value_or refusal None = Err refusal
 
 -- what is dropped once stays dropped
 pub transaction_of_again : (purpose : Purpose) (transaction : Option ℤ) → transaction_of purpose (transaction_of purpose transaction) ≡ transaction_of purpose transaction

@@ -1,8 +1,9 @@
+-- What a composite schedule is (OCPP 1.6, 5.7).
 use Rattle.std.specs.Prelude.{◌≡◌, ℕ, ◌<◌, nat_le, List, [], ◌∷◌, filter, Option, Some, None, option_map}
 use Rattle.std.specs.List.{AllByRecursion}
 use Rattle.meaning.specs.declared.composite.CompositePeriod.{CompositePeriod}
 
--- a composite schedule (OCPP 1.6, 5.7): limits over so many seconds
+-- limits over so many seconds
 pub record Schedule : Type 0 where
   pub duration : ℕ
   pub periods : List CompositePeriod
@@ -12,15 +13,16 @@ BeginAtZero [] = ⊥
 BeginAtZero (p ∷ ps) = p.start ≡ 0
 
 -- each period starts later than the one before it
-abbrev pub Rise : List CompositePeriod → Type 0
-Rise [] = Unit {0}
-Rise (p ∷ []) = Unit {0}
-Rise (p ∷ (q ∷ ps)) = (p.start < q.start) × Rise (q ∷ ps)
+abbrev pub AreStrictlyIncreasing : List CompositePeriod → Type 0
+AreStrictlyIncreasing [] = Unit {0}
+AreStrictlyIncreasing (p ∷ []) = Unit {0}
+AreStrictlyIncreasing (p ∷ (q ∷ ps)) = (p.start < q.start) × AreStrictlyIncreasing (q ∷ ps)
 
--- what every composite schedule is: its periods begin at 0, rise, and start within its duration
+-- what every composite schedule is: its periods begin at 0, in strictly
+-- increasing order, within its duration
 pub record IsSchedule (duration : ℕ) (periods : List CompositePeriod) : Type 0 where
   pub first : BeginAtZero periods
-  pub rise : Rise periods
+  pub increasing : AreStrictlyIncreasing periods
   pub within : AllByRecursion (λ p. p.start < duration) periods
 
 abbrev pub last : List CompositePeriod → Option CompositePeriod
