@@ -7,7 +7,7 @@ use Rattle.ocpp_scalars.specs.Writing.{instant_text}
 use Rattle.ocpp_scalars.specs.Writing.{tenths_text}
 use Rattle.profile.specs.declared.unit.Unit.{Unit}
 use Rattle.profile.specs.declared.unit.Unit.TheVariants.{A, W}
-use Rattle.meaning.specs.Schedule.{Schedule}
+use Rattle.meaning.specs.Composite.{Schedule}
 use Rattle.meaning.specs.declared.composite.CompositePeriod.{CompositePeriod}
 use Rattle.ocpp_scalars.specs.declared.refusal.Refusal.TheVariants.{OutOfMemory}
 use Rattle.ocppj_frame.specs.Write.{call_result_text, call_error_text}
