@@ -7,6 +7,7 @@ mod action_kind;
 mod call_fault;
 mod field_name;
 mod fields;
+mod laws;
 mod operator_actions;
 mod point_actions;
 mod profile_fields;
@@ -20,6 +21,7 @@ pub use action::{Action, ScheduleRequest, StartTransaction, read_action, read_fi
 pub use action_kind::ActionKind;
 pub use call_fault::CallFault;
 pub use field_name::FieldName;
+pub use laws::first_faults;
 pub use response::{Response, ScheduleResponse};
 pub use response_text::{push_response, write_response};
 pub use side::{Side, side_of};
