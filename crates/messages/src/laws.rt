@@ -6,11 +6,12 @@ ghost use Rattle.messages.specs.declared.call_fault.CallFault.{CallFault};
 ghost use Rattle.messages.specs.Action.{action_of_kind};
 ghost use Rattle.messages.specs.FieldFaults.{field_faults, HaveNoFault, IsFirstFault};
 
-/// A law of all payloads: an action is read exactly where none of its fields has a fault, and its fault
-/// is the first in the order of its fields. It does nothing.
+/// A law of all payloads: an action is read exactly where none of its fields has a fault, and else
+/// its fault is the first in the order in which they are checked. It does nothing.
 pub fn first_faults()
     ensures action { (kind : ActionKind) (payload : Tree)
         → IsOk (action_of_kind kind payload) ↔ HaveNoFault (field_faults kind payload) }
     ensures fault { (kind : ActionKind) (payload : Tree) (fault : CallFault)
-        → (action_of_kind kind payload ≡ Err fault) ↔ IsFirstFault (field_faults kind payload) fault }
+        → (action_of_kind kind payload ≡ Err fault)
+        ↔ IsFirstFault (field_faults kind payload) fault }
 {}

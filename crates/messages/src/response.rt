@@ -24,8 +24,8 @@ pub enum Response {
     Authorize,
     /// StartTransaction.conf: accepted, with the transaction's number.
     StartTransaction { transaction: u64 },
-    /// The .conf of StopTransaction, StatusNotification, MeterValues, FirmwareStatusNotification and
-    /// DiagnosticsStatusNotification: an object without fields.
+    /// The .conf of StopTransaction, StatusNotification, MeterValues, FirmwareStatusNotification
+    /// and DiagnosticsStatusNotification: an object without fields.
     Empty,
     /// DataTransfer.conf: no vendor is known.
     UnknownVendorId,
