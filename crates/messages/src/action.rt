@@ -18,7 +18,7 @@ use profile::{Criteria, ProfileParts, Unit};
 use std::alloc::Global;
 
 /// What a message asks for, by its fields (chapters 4, 5 and 6).
-#[derive(Debug, Drop)]
+#[derive(Drop)]
 pub enum Action {
     SetChargingProfile {
         connector: u32,
@@ -42,7 +42,7 @@ pub enum Action {
 }
 
 /// The fields of a GetCompositeSchedule (chapter 6, GetCompositeSchedule.req).
-#[derive(Debug, Drop)]
+#[derive(Drop)]
 pub struct ScheduleRequest {
     pub connector: u32,
     /// Seconds.
@@ -52,7 +52,7 @@ pub struct ScheduleRequest {
 }
 
 /// The fields of a StartTransaction that this system uses (chapter 6, StartTransaction.req).
-#[derive(Debug, Drop)]
+#[derive(Drop)]
 pub struct StartTransaction {
     pub connector: u32,
     pub id_tag: IdTag,

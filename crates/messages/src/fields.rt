@@ -15,7 +15,7 @@ use ocppj_frame::{
 use profile::Named;
 
 /// What stands at the name of a field.
-#[derive(Debug, Drop)]
+#[derive(Drop)]
 pub struct NamedField<T> {
     pub name: FieldName,
     pub field: Field<T>,
