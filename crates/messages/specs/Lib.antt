@@ -2,7 +2,9 @@ pub mod FieldName
 pub mod CallFault
 pub mod ActionKind
 pub mod Fields
-pub mod Reading
-pub mod Profile
+pub mod ProfileFields
+pub mod OperatorActions
+pub mod PointActions
 pub mod Action
-pub mod Answer
+pub mod FieldFaults
+pub mod ResponseText

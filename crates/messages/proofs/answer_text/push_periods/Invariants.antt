@@ -1,7 +1,0 @@
-use Rattle.std.proofs.Common.{◌≡◌, ◌++◌, drop, string_bytes}
-use Rattle.messages.specs.Answer.{later_periods_text, periods_text}
-use Rattle.messages.proofs.answer_text.push_periods.Given as goal
-
-abbrev pub invariant-loop-period : goal.invariant-loop-period
-invariant-loop-period l =
-    string_bytes l.out ++ later_periods_text (drop l.period-index l.later) ≡ string_bytes l.fn.out ++ periods_text l.periods
