@@ -2,8 +2,8 @@
 use Rattle.std.specs.Prelude.{true, List, codes, Option, Some, option_and_then}
 use Rattle.clap.specs.Words.{App, Kinds, Rule, Text, fault_of, first_of, new_app, new_rule, subcommand_of, with_rule, with_subcommand}
 use Rattle.clap.specs.declared.builder.action.ArgAction.TheVariants.{Set}
-use Rattle.central.specs.declared.command_line.Job.{Job}
-use Rattle.central.specs.declared.command_line.Job.TheVariants.{Replay}
+use Rattle.central.specs.declared.program.command_line.Job.{Job}
+use Rattle.central.specs.declared.program.command_line.Job.TheVariants.{Replay}
 
 -- an option that is needed and takes one value
 abbrev pub required_option : Text → Rule

@@ -1,0 +1,7 @@
+//! A site: what its file says, and what it lets in.
+
+pub mod fault;
+pub mod reading;
+pub mod request;
+pub mod rules;
+pub mod site;

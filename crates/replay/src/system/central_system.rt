@@ -1,0 +1,115 @@
+//! What the central system knows of a site's point, and its one step.
+
+ghost use Rattle.std.specs.Prelude.{◌≡◌, ◌≤◌, length, IfOk, OnErr};
+
+use crate::site::request::ScheduleRequest;
+use crate::site::rules::{asked, install_refusal};
+use crate::site::site::Site;
+use crate::system::step::{Reply, Step};
+use meaning::{Ask, View, compile_plain};
+use ocpp_scalars::Refusal;
+use profile::Row;
+use std::alloc::{AllocError, Global};
+use std::marker::Model;
+
+/// What the central system knows: the profiles that its site's point has installed.
+#[derive(Drop)]
+pub struct CentralSystem {
+    alloc: Global,
+    rows: Vec<Row>,
+}
+
+impl Model for CentralSystem {
+    ghost use Rattle.replay.specs.CentralSystem.{SystemState};
+
+    ghost Value = { SystemState };
+
+    ghost view = { λ s. record { rows = s.rows.items } };
+}
+
+impl CentralSystem {
+    ghost use Rattle.meaning.specs.Book.{book_of};
+    ghost use Rattle.replay.specs.CentralSystem.{first_state, point_state};
+    ghost use Rattle.replay.specs.Step.{Steps, composed_reply, schedule_reply};
+
+    /// The central system with nothing installed.
+    pub fn new(alloc: Global) -> CentralSystem
+        ensures { result ≡ first_state }
+    {
+        CentralSystem {
+            alloc,
+            rows: Vec::new(alloc),
+        }
+    }
+
+    /// Makes a step at a point of the site. After an error everything is as it was.
+    pub fn step(&mut self, site: &Site, point: &str, step: Step) -> Result<Reply, AllocError>
+        ensures done { IfOk result (λ reply. Steps site.now point.now self.old step reply self.new) }
+        ensures kept { OnErr result (self.new ≡ self.old) }
+    {
+        match step {
+            Step::Install(row) => self.install(site, point, row),
+            Step::Compose(request) => self.compose(site, point, request),
+        }
+    }
+
+    /// Installs a profile in place of the one that is there.
+    fn install(&mut self, site: &Site, point: &str, row: Row) -> Result<Reply, AllocError>
+        ensures done { IfOk result (λ reply. Steps site.now point.now self.old (Step.Install row) reply self.new) }
+        ensures kept { OnErr result (self.new ≡ self.old) }
+    {
+        if let Some(refusal) = install_refusal(site, point, &row.profile) {
+            return Ok(Reply::Refused(refusal));
+        }
+        // Memory first, so that an error leaves the rows as they were.
+        let mut rows = Vec::new(self.alloc);
+        rows.push(row)?;
+        self.rows = rows;
+        Ok(Reply::Installed)
+    }
+
+    /// Composes the schedule that is asked for.
+    fn compose(
+        &self,
+        site: &Site,
+        point: &str,
+        request: ScheduleRequest,
+    ) -> Result<Reply, AllocError>
+        ensures { IfOk result (λ reply. reply ≡ composed_reply site.now point.now self.now request) }
+    {
+        match asked(site, point, request) {
+            Ok(ask) => self.compose_ask(site, &ask),
+            Err(refusal) => Ok(Reply::Refused(refusal)),
+        }
+    }
+
+    /// Composes the schedule of an ask.
+    fn compose_ask(&self, site: &Site, ask: &Ask) -> Result<Reply, AllocError>
+        requires { ask.now.connector ≤ length site.now.ceilings }
+        ensures { IfOk result (λ reply. reply ≡ schedule_reply (point_state site.now self.now)
+            ask.now.connector ask.now.start ask.now.duration) }
+    {
+        match compile_plain(self.alloc, &self.view(site), ask) {
+            Ok(schedule) => Ok(Reply::Composed {
+                connector: ask.connector,
+                start: ask.start,
+                schedule,
+            }),
+            Err(Refusal::ResultTooLong) => Ok(Reply::Refused(Refusal::ResultTooLong)),
+            Err(_) => Err(AllocError),
+        }
+    }
+
+    /// What the point has: its ceilings, no active transaction, and its rows.
+    fn view<'a>(&'a self, site: &'a Site) -> View<'a>
+        ensures point { book_of result ≡ point_state site.entry.now self.entry.now }
+        ensures ceilings { result.ceilings.now ≡ site.entry.now.ceilings }
+    {
+        View {
+            ceiling: site.ceiling(),
+            ceilings: site.ceilings(),
+            starts: &[],
+            rows: self.rows.as_slice(),
+        }
+    }
+}
