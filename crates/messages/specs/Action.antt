@@ -14,7 +14,7 @@ use Rattle.messages.specs.declared.call_fault.CallFault.{CallFault}
 use Rattle.messages.specs.declared.call_fault.CallFault.TheVariants.{NotImplemented, PropertyConstraintViolation}
 use Rattle.messages.specs.ActionKind.{action_named}
 use Rattle.messages.specs.Fields.{required, optional, whole, whole_from_zero, instant, one_name_of, text, object}
-use Rattle.messages.specs.Profile.{profile_of}
+use Rattle.messages.specs.ProfileFields.{profile_of}
 
 -- ---- an operator's actions
 
@@ -38,7 +38,7 @@ get_composite_schedule_of payload = do
   connector ← required (whole_from_zero payload ConnectorId)
   duration ← required (whole_from_zero payload Duration)
   unit ← optional (one_name_of unit_named payload ChargingRateUnit)
-  Ok (GetCompositeSchedule connector duration unit)
+  Ok (GetCompositeSchedule (record { connector = connector; duration = duration; unit = unit }))
 
 -- ---- a point's actions
 
@@ -107,8 +107,8 @@ abbrev pub kind_asked : Message → Option ActionKind
 kind_asked (call id name payload) = action_named name
 kind_asked _ = None
 
--- only a profile's periods and an idTag take memory to be read
-abbrev pub TakesNoMemory : Option ActionKind → Type 0
-TakesNoMemory (Some kinds.SetChargingProfile) = ⊥
-TakesNoMemory (Some kinds.StartTransaction) = ⊥
-TakesNoMemory _ = ⊤
+-- only a profile's periods and an idTag need memory to be read
+abbrev pub NeedsNoMemory : Option ActionKind → Type 0
+NeedsNoMemory (Some kinds.SetChargingProfile) = ⊥
+NeedsNoMemory (Some kinds.StartTransaction) = ⊥
+NeedsNoMemory _ = ⊤

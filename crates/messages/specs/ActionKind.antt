@@ -1,39 +1,39 @@
--- The names of the actions that this system takes, and who sends each (OCPP 1.6, chapters 4 and 5).
-use Rattle.std.specs.Prelude.{ℕ, List, Option, Some, None, codes, option_map, if◌then◌else◌}
+-- The names of the actions that are supported, and who sends each (OCPP 1.6, chapters 4 and 5).
+use Rattle.std.specs.Prelude.{ℕ, List, [], ◌∷◌, Option, Some, None, codes, option_map, if◌then◌else◌}
 use Rattle.std.specs.Str.{bytes_eq}
 use Rattle.messages.specs.declared.action_kind.ActionKind.{ActionKind}
 use Rattle.messages.specs.declared.action_kind.ActionKind.TheVariants.{SetChargingProfile, ClearChargingProfile, GetCompositeSchedule, BootNotification, Heartbeat, Authorize, StartTransaction, StopTransaction, StatusNotification, MeterValues, FirmwareStatusNotification, DiagnosticsStatusNotification, DataTransfer}
 use Rattle.messages.specs.declared.side.Side.{Side}
 use Rattle.messages.specs.declared.side.Side.TheVariants.{Operator, Point}
 
-abbrev pub operator_action_named : List ℕ → Option ActionKind
-operator_action_named text =
-    if bytes_eq text (codes "SetChargingProfile") then Some SetChargingProfile
-    else (if bytes_eq text (codes "ClearChargingProfile") then Some ClearChargingProfile
-    else (if bytes_eq text (codes "GetCompositeSchedule") then Some GetCompositeSchedule else None))
+-- The actions by their names.
+abbrev pub actions : List (List ℕ × ActionKind)
+actions =
+    (codes "SetChargingProfile", SetChargingProfile)
+    ∷ (codes "ClearChargingProfile", ClearChargingProfile)
+    ∷ (codes "GetCompositeSchedule", GetCompositeSchedule)
+    ∷ (codes "BootNotification", BootNotification)
+    ∷ (codes "Heartbeat", Heartbeat)
+    ∷ (codes "Authorize", Authorize)
+    ∷ (codes "StartTransaction", StartTransaction)
+    ∷ (codes "StopTransaction", StopTransaction)
+    ∷ (codes "StatusNotification", StatusNotification)
+    ∷ (codes "MeterValues", MeterValues)
+    ∷ (codes "FirmwareStatusNotification", FirmwareStatusNotification)
+    ∷ (codes "DiagnosticsStatusNotification", DiagnosticsStatusNotification)
+    ∷ (codes "DataTransfer", DataTransfer)
+    ∷ []
 
-abbrev pub point_action_named : List ℕ → Option ActionKind
-point_action_named text =
-    if bytes_eq text (codes "BootNotification") then Some BootNotification
-    else (if bytes_eq text (codes "Heartbeat") then Some Heartbeat
-    else (if bytes_eq text (codes "Authorize") then Some Authorize
-    else (if bytes_eq text (codes "StartTransaction") then Some StartTransaction
-    else (if bytes_eq text (codes "StopTransaction") then Some StopTransaction
-    else (if bytes_eq text (codes "StatusNotification") then Some StatusNotification
-    else (if bytes_eq text (codes "MeterValues") then Some MeterValues
-    else (if bytes_eq text (codes "FirmwareStatusNotification") then Some FirmwareStatusNotification
-    else (if bytes_eq text (codes "DiagnosticsStatusNotification") then Some DiagnosticsStatusNotification
-    else (if bytes_eq text (codes "DataTransfer") then Some DataTransfer else None)))))))))
+-- What a table has under a name, exactly as written.
+abbrev pub named_in : {A : Type 0} → List (List ℕ × A) → List ℕ → Option A
+named_in [] text = None
+named_in (row ∷ rows) text = if bytes_eq text row.0 then Some row.1 else named_in rows text
 
-abbrev pub or_else : {A : Type 0} → Option A → Option A → Option A
-or_else (Some x) other = Some x
-or_else None other = other
-
--- the action of a name, exactly as written
+-- The action of a name.
 abbrev pub action_named : List ℕ → Option ActionKind
-action_named text = or_else (operator_action_named text) (point_action_named text)
+action_named text = named_in actions text
 
--- who sends an action
+-- Who sends an action.
 abbrev pub side_of_kind : ActionKind → Side
 side_of_kind SetChargingProfile = Operator
 side_of_kind ClearChargingProfile = Operator
@@ -49,6 +49,6 @@ side_of_kind FirmwareStatusNotification = Point
 side_of_kind DiagnosticsStatusNotification = Point
 side_of_kind DataTransfer = Point
 
--- who sends the action of a name
+-- Who sends the action of a name.
 abbrev pub side_of : List ℕ → Option Side
 side_of text = option_map side_of_kind (action_named text)

@@ -1,8 +1,10 @@
+-- The names of fields: as they are read from payloads, and as the descriptions of faults write them (OCPP 1.6,
+-- chapters 6 and 7). Two tables, so that what is read and what is written share no definition.
 use Rattle.std.specs.Prelude.{ℕ, List, codes}
 use Rattle.messages.specs.declared.field_name.FieldName.{FieldName}
 use Rattle.messages.specs.declared.field_name.FieldName.TheVariants.{ChargingProfileId, ChargingProfileKind, ChargingProfilePurpose, ChargingRateUnit, ChargingSchedule, ChargingSchedulePeriod, ConnectorId, CsChargingProfiles, Duration, Id, IdTag, Limit, MeterStart, MinChargingRate, NumberPhases, RecurrencyKind, StackLevel, StartPeriod, StartSchedule, Timestamp, TransactionId, ValidFrom, ValidTo}
 
--- the bytes of a field's name, as payloads have it (OCPP 1.6, chapters 6 and 7)
+-- The name under which a field is read from a payload.
 abbrev pub field_name : FieldName → List ℕ
 field_name ChargingProfileId = codes "chargingProfileId"
 field_name ChargingProfileKind = codes "chargingProfileKind"
@@ -27,3 +29,29 @@ field_name Timestamp = codes "timestamp"
 field_name TransactionId = codes "transactionId"
 field_name ValidFrom = codes "validFrom"
 field_name ValidTo = codes "validTo"
+
+-- The description of a fault of a field.
+abbrev pub fault_field_text : FieldName → List ℕ
+fault_field_text ChargingProfileId = codes "chargingProfileId"
+fault_field_text ChargingProfileKind = codes "chargingProfileKind"
+fault_field_text ChargingProfilePurpose = codes "chargingProfilePurpose"
+fault_field_text ChargingRateUnit = codes "chargingRateUnit"
+fault_field_text ChargingSchedule = codes "chargingSchedule"
+fault_field_text ChargingSchedulePeriod = codes "chargingSchedulePeriod"
+fault_field_text ConnectorId = codes "connectorId"
+fault_field_text CsChargingProfiles = codes "csChargingProfiles"
+fault_field_text Duration = codes "duration"
+fault_field_text Id = codes "id"
+fault_field_text IdTag = codes "idTag"
+fault_field_text Limit = codes "limit"
+fault_field_text MeterStart = codes "meterStart"
+fault_field_text MinChargingRate = codes "minChargingRate"
+fault_field_text NumberPhases = codes "numberPhases"
+fault_field_text RecurrencyKind = codes "recurrencyKind"
+fault_field_text StackLevel = codes "stackLevel"
+fault_field_text StartPeriod = codes "startPeriod"
+fault_field_text StartSchedule = codes "startSchedule"
+fault_field_text Timestamp = codes "timestamp"
+fault_field_text TransactionId = codes "transactionId"
+fault_field_text ValidFrom = codes "validFrom"
+fault_field_text ValidTo = codes "validTo"

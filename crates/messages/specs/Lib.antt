@@ -3,6 +3,6 @@ pub mod CallFault
 pub mod ActionKind
 pub mod Fields
 pub mod Reading
-pub mod Profile
+pub mod ProfileFields
 pub mod Action
-pub mod Answer
+pub mod ResponseText

@@ -1,8 +1,8 @@
+//! What a CALL asks for, read from its action and its payload.
 ghost use Rattle.std.specs.Prelude.{◌≡◌, IfOk, Some};
 ghost use Rattle.ocppj_frame.specs.FrameReading.{message_in};
 ghost use Rattle.ocppj_frame.specs.Parts.{tree_at};
-ghost use Rattle.messages.specs.Action.{action_of, action_of_kind, action_in, kind_asked, HasPeriods, TakesNoMemory};
-ghost use Rattle.messages.specs.ActionKind.{action_named};
+ghost use Rattle.messages.specs.Action.{action_of_kind, action_in, kind_asked, HasPeriods, NeedsNoMemory};
 ghost use Rattle.messages.specs.Reading.{Reads};
 
 use crate::action_kind::ActionKind;
@@ -24,12 +24,7 @@ pub enum Action {
         profile: ProfileParts,
     },
     ClearChargingProfile(Criteria),
-    /// The duration is in seconds.
-    GetCompositeSchedule {
-        connector: u32,
-        duration: u32,
-        unit: Option<Unit>,
-    },
+    GetCompositeSchedule(ScheduleRequest),
     BootNotification,
     Heartbeat,
     Authorize,
@@ -45,6 +40,16 @@ pub enum Action {
     NotACall,
 }
 
+/// The fields of a GetCompositeSchedule (chapter 6, GetCompositeSchedule.req).
+#[derive(Debug, Drop)]
+pub struct ScheduleRequest {
+    pub connector: u32,
+    /// Seconds.
+    pub duration: u32,
+    /// chargingRateUnit: the unit that the schedule has to be in.
+    pub unit: Option<Unit>,
+}
+
 /// The fields of a StartTransaction that this system uses (chapter 6, StartTransaction.req).
 #[derive(Debug, Drop)]
 pub struct StartTransaction {
@@ -57,39 +62,35 @@ pub struct StartTransaction {
 }
 
 /// Reads what a message asks for, or names the first fault of its CALL: `NotImplemented` for an action
-/// that this system doesn't know, else the first fault in the order of the action's fields. Whose
-/// action it is ([`side_of`](crate::side_of)) is asked before.
+/// that this system doesn't support, else as [`read_fields`]. Who sends the action
+/// ([`ActionKind::side`]) is asked before.
 pub fn read_action(alloc: Global, frame: &Frame) -> Result<Action, CallFault>
     ensures value { Reads (λ action. action) result (action_in (message_in frame.now)) }
     ensures some { IfOk result HasPeriods }
-    ensures exact { TakesNoMemory (kind_asked (message_in frame.now)) → result ≡ action_in (message_in frame.now) }
+    ensures exact { NeedsNoMemory (kind_asked (message_in frame.now)) → result ≡ action_in (message_in frame.now) }
 {
-    match frame {
-        Frame::Call {
-            action,
-            payload,
-            ..
-        } => read_call(alloc, action.as_str(), payload.root()),
-        Frame::Reply { .. } | Frame::Fault { .. } | Frame::Other => Ok(Action::NotACall),
-    }
-}
-
-fn read_call(alloc: Global, name: &str, payload: Part<'_>) -> Result<Action, CallFault>
-    ensures value { Reads (λ action. action) result (action_of name.now (tree_at payload.entry)) }
-    ensures some { IfOk result HasPeriods }
-    ensures exact { TakesNoMemory (action_named name.now) → result ≡ action_of name.now (tree_at payload.entry) }
-{
-    match ActionKind::named(name) {
-        Some(kind) => read_payload(alloc, kind, payload),
+    let Frame::Call {
+        action,
+        payload,
+        ..
+    } = frame
+    else {
+        return Ok(Action::NotACall);
+    };
+    match ActionKind::named(action.as_str()) {
+        Some(kind) => read_fields(alloc, kind, payload.root()),
         None => Err(CallFault::NotImplemented),
     }
 }
 
+/// Reads the fields of an action from the payload of its CALL, or names the first fault in the order of
+/// the action's fields. `Refused(OutOfMemory)` comes only from a SetChargingProfile or a
+/// StartTransaction.
 #[tactic(auto, unfolding(crate::specs::Action::clear_charging_profile_of, crate::specs::Action::get_composite_schedule_of, crate::specs::Action::start_transaction_of, crate::specs::Action::stop_transaction_of))]
-fn read_payload(alloc: Global, kind: ActionKind, payload: Part<'_>) -> Result<Action, CallFault>
+pub fn read_fields(alloc: Global, kind: ActionKind, payload: Part<'_>) -> Result<Action, CallFault>
     ensures value { Reads (λ action. action) result (action_of_kind kind (tree_at payload.entry)) }
     ensures some { IfOk result HasPeriods }
-    ensures exact { TakesNoMemory (Some kind) → result ≡ action_of_kind kind (tree_at payload.entry) }
+    ensures exact { NeedsNoMemory (Some kind) → result ≡ action_of_kind kind (tree_at payload.entry) }
 {
     match kind {
         ActionKind::SetChargingProfile => read_set_charging_profile(alloc, payload),

@@ -1,9 +1,10 @@
-ghost use Rattle.std.specs.Prelude.{◌≡◌};
-ghost use Rattle.messages.specs.ActionKind.{action_named, operator_action_named, point_action_named, side_of_kind};
+//! The actions by name, and who sends each.
+ghost use Rattle.std.specs.Prelude.{◌≡◌, map};
+ghost use Rattle.messages.specs.ActionKind.{action_named, named_in, side_of_kind};
 
 use crate::side::Side;
 
-/// The actions that this system takes (chapters 4.1 to 4.10 and 5), without their fields.
+/// The actions that this system supports (chapters 4.1 to 4.10 and 5), without their fields.
 #[derive(Clone, Copy, Debug, PartialEq, Eq)]
 pub enum ActionKind {
     SetChargingProfile,
@@ -21,15 +22,36 @@ pub enum ActionKind {
     DataTransfer,
 }
 
+/// The actions by their names.
+const ACTIONS: [(&str, ActionKind); 13] = [
+    ("SetChargingProfile", ActionKind::SetChargingProfile),
+    ("ClearChargingProfile", ActionKind::ClearChargingProfile),
+    ("GetCompositeSchedule", ActionKind::GetCompositeSchedule),
+    ("BootNotification", ActionKind::BootNotification),
+    ("Heartbeat", ActionKind::Heartbeat),
+    ("Authorize", ActionKind::Authorize),
+    ("StartTransaction", ActionKind::StartTransaction),
+    ("StopTransaction", ActionKind::StopTransaction),
+    ("StatusNotification", ActionKind::StatusNotification),
+    ("MeterValues", ActionKind::MeterValues),
+    (
+        "FirmwareStatusNotification",
+        ActionKind::FirmwareStatusNotification,
+    ),
+    (
+        "DiagnosticsStatusNotification",
+        ActionKind::DiagnosticsStatusNotification,
+    ),
+    ("DataTransfer", ActionKind::DataTransfer),
+];
+
 impl ActionKind {
-    /// The action of this name, exactly as written.
+    /// The action of this name, exactly as written. Needs no memory: a CALL's name is looked up before
+    /// its fields are read.
     pub fn named(text: &str) -> Option<ActionKind>
         ensures { result ≡ action_named text.now }
     {
-        match operator_action(text) {
-            Some(kind) => Some(kind),
-            None => point_action(text),
-        }
+        named_in(&ACTIONS, text)
     }
 
     /// Who sends it.
@@ -54,44 +76,14 @@ impl ActionKind {
     }
 }
 
-fn operator_action(text: &str) -> Option<ActionKind>
-    ensures { result ≡ operator_action_named text.now }
+/// What a table has under a name.
+fn named_in<T: Copy>(rows: &[(&str, T)], text: &str) -> Option<T>
+    ensures { result ≡ named_in (map (λ row. (row.0.now, row.1)) rows.now) text.now }
 {
-    if text == "SetChargingProfile" {
-        Some(ActionKind::SetChargingProfile)
-    } else if text == "ClearChargingProfile" {
-        Some(ActionKind::ClearChargingProfile)
-    } else if text == "GetCompositeSchedule" {
-        Some(ActionKind::GetCompositeSchedule)
-    } else {
-        None
+    for (name, value) in rows {
+        if text == *name {
+            return Some(*value);
+        }
     }
-}
-
-fn point_action(text: &str) -> Option<ActionKind>
-    ensures { result ≡ point_action_named text.now }
-{
-    if text == "BootNotification" {
-        Some(ActionKind::BootNotification)
-    } else if text == "Heartbeat" {
-        Some(ActionKind::Heartbeat)
-    } else if text == "Authorize" {
-        Some(ActionKind::Authorize)
-    } else if text == "StartTransaction" {
-        Some(ActionKind::StartTransaction)
-    } else if text == "StopTransaction" {
-        Some(ActionKind::StopTransaction)
-    } else if text == "StatusNotification" {
-        Some(ActionKind::StatusNotification)
-    } else if text == "MeterValues" {
-        Some(ActionKind::MeterValues)
-    } else if text == "FirmwareStatusNotification" {
-        Some(ActionKind::FirmwareStatusNotification)
-    } else if text == "DiagnosticsStatusNotification" {
-        Some(ActionKind::DiagnosticsStatusNotification)
-    } else if text == "DataTransfer" {
-        Some(ActionKind::DataTransfer)
-    } else {
-        None
-    }
+    None
 }

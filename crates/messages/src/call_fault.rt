@@ -1,14 +1,17 @@
+//! Why a CALL is answered with a CALLERROR.
 ghost use Rattle.std.specs.Prelude.{◌≡◌};
-ghost use Rattle.messages.specs.CallFault.{fault_code, fault_description};
+ghost use Rattle.messages.specs.CallFault.{fault_code, fault_description, refused_code};
 
 use crate::field_name::FieldName;
+use ocpp_scalars::Refusal;
+use std::alloc::{AllocError, AllocFailed};
 
-/// Why a CALL can't be read, and is answered with a CALLERROR (OCPP-J 1.6, 4.2.3).
+/// Why a CALL is answered with a CALLERROR (OCPP-J 1.6, 4.2.3).
 #[derive(Clone, Copy, Debug, PartialEq, Eq)]
 pub enum CallFault {
     /// The action or the payload is malformed (`ocppj_frame::FrameFault::Formation`).
     FormationViolation,
-    /// The action isn't taken, or isn't taken from this side.
+    /// The action isn't supported, or isn't accepted from this side.
     NotImplemented,
     /// A required field is absent, or a required list empty.
     OccurenceConstraintViolation(FieldName),
@@ -16,8 +19,8 @@ pub enum CallFault {
     TypeConstraintViolation(FieldName),
     /// A field's value is out of bounds, or isn't what it has to spell.
     PropertyConstraintViolation(FieldName),
-    /// Memory ran out.
-    OutOfMemory,
+    /// A ClearChargingProfile, StartTransaction or StopTransaction is refused, or memory ran out.
+    Refused(Refusal),
 }
 
 impl CallFault {
@@ -31,11 +34,11 @@ impl CallFault {
             CallFault::OccurenceConstraintViolation(_) => "OccurenceConstraintViolation",
             CallFault::TypeConstraintViolation(_) => "TypeConstraintViolation",
             CallFault::PropertyConstraintViolation(_) => "PropertyConstraintViolation",
-            CallFault::OutOfMemory => "InternalError",
+            CallFault::Refused(refusal) => refused_code(refusal),
         }
     }
 
-    /// The error description: the name of the field, where the fault is one's.
+    /// The error description: the name of the field or of the refusal, where the fault is one's.
     pub fn description(self) -> &'static str
         ensures { result.now ≡ fault_description self }
     {
@@ -44,7 +47,39 @@ impl CallFault {
             CallFault::OccurenceConstraintViolation(name)
             | CallFault::TypeConstraintViolation(name)
             | CallFault::PropertyConstraintViolation(name) => name.text(),
-            CallFault::OutOfMemory => "OutOfMemory",
+            CallFault::Refused(refusal) => refusal.name(),
         }
+    }
+}
+
+/// The error code of a refused ClearChargingProfile, StartTransaction or StopTransaction.
+fn refused_code(refusal: Refusal) -> &'static str
+    ensures { result.now ≡ refused_code refusal }
+{
+    match refusal {
+        Refusal::UnknownConnector => "PropertyConstraintViolation",
+        _ => "InternalError",
+    }
+}
+
+impl From<AllocError> for CallFault {
+    ghost use Rattle.ocpp_scalars.specs.declared.refusal.Refusal.{Refusal};
+    ghost use Rattle.messages.specs.declared.call_fault.CallFault.{CallFault};
+
+    ghost from_gives = { λ _ r. r ≡ CallFault.Refused Refusal.OutOfMemory };
+
+    fn from(_error: AllocError) -> CallFault {
+        CallFault::Refused(Refusal::OutOfMemory)
+    }
+}
+
+impl<T: Drop> From<AllocFailed<T>> for CallFault {
+    ghost use Rattle.ocpp_scalars.specs.declared.refusal.Refusal.{Refusal};
+    ghost use Rattle.messages.specs.declared.call_fault.CallFault.{CallFault};
+
+    ghost from_gives = { λ _ r. r ≡ CallFault.Refused Refusal.OutOfMemory };
+
+    fn from(_error: AllocFailed<T>) -> CallFault {
+        CallFault::Refused(Refusal::OutOfMemory)
     }
 }

@@ -1,5 +1,6 @@
+//! The names of the fields of payloads.
 ghost use Rattle.std.specs.Prelude.{◌≡◌};
-ghost use Rattle.messages.specs.FieldName.{field_name};
+ghost use Rattle.messages.specs.FieldName.{fault_field_text, field_name};
 
 /// A field of a payload, under its OCPP name.
 #[derive(Clone, Copy, Debug, PartialEq, Eq)]
@@ -32,7 +33,8 @@ pub enum FieldName {
 impl FieldName {
     /// The name as payloads have it.
     pub fn text(self) -> &'static str
-        ensures { result.now ≡ field_name self }
+        ensures read { result.now ≡ field_name self }
+        ensures written { result.now ≡ fault_field_text self }
     {
         match self {
             FieldName::ChargingProfileId => "chargingProfileId",

@@ -1,9 +1,10 @@
+//! The fields of an operator's actions.
 ghost use Rattle.std.specs.Prelude.{◌≡◌, IfOk};
 ghost use Rattle.ocppj_frame.specs.Parts.{tree_at};
 ghost use Rattle.messages.specs.Action.{HasPeriods, set_charging_profile_of, clear_charging_profile_of, get_composite_schedule_of};
 ghost use Rattle.messages.specs.Reading.{Reads};
 
-use crate::action::Action;
+use crate::action::{Action, ScheduleRequest};
 use crate::call_fault::CallFault;
 use crate::field_name::FieldName::{
     ChargingProfilePurpose, ChargingRateUnit, ConnectorId, CsChargingProfiles, Duration, Id,
@@ -52,9 +53,9 @@ pub fn read_get_composite_schedule(payload: Part<'_>) -> Result<Action, CallFaul
     let connector = whole_from_zero(payload, ConnectorId).required()?;
     let duration = whole_from_zero(payload, Duration).required()?;
     let unit = one_name_of(payload, ChargingRateUnit).optional()?;
-    Ok(Action::GetCompositeSchedule {
+    Ok(Action::GetCompositeSchedule(ScheduleRequest {
         connector,
         duration,
         unit,
-    })
+    }))
 }

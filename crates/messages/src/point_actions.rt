@@ -1,3 +1,4 @@
+//! The fields of a point's actions.
 ghost use Rattle.std.specs.Prelude.{◌≡◌};
 ghost use Rattle.ocppj_frame.specs.Parts.{tree_at};
 ghost use Rattle.messages.specs.Action.{start_transaction_of, stop_transaction_of, id_tag_of};
@@ -33,11 +34,8 @@ pub fn read_start_transaction(alloc: Global, payload: Part<'_>) -> Result<Action
 fn read_id_tag(alloc: Global, payload: Part<'_>) -> Result<IdTag, CallFault>
     ensures { Reads (λ id_tag. id_tag) result (id_tag_of (tree_at payload.entry)) }
 {
-    let text = text(payload, FieldName::IdTag).required()?;
-    let Ok(text) = String::from_str(alloc, text) else {
-        return Err(CallFault::OutOfMemory);
-    };
-    match IdTag::try_new(text) {
+    let tag = text(payload, FieldName::IdTag).required()?;
+    match IdTag::try_new(String::from_str(alloc, tag)?) {
         Ok(id_tag) => Ok(id_tag),
         Err(_) => Err(CallFault::PropertyConstraintViolation(FieldName::IdTag)),
     }

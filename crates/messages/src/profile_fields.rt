@@ -1,6 +1,7 @@
+//! The fields of a charging profile.
 ghost use Rattle.std.specs.Prelude.{◌≡◌, ◌<◌, length, IfOk};
 ghost use Rattle.ocppj_frame.specs.Parts.{entries_in, tree_at};
-ghost use Rattle.messages.specs.Profile.{period_of, periods_of, schedule_of, profile_of};
+ghost use Rattle.messages.specs.ProfileFields.{period_of, periods_of, schedule_of, profile_of};
 ghost use Rattle.messages.specs.Reading.{Reads};
 
 use crate::call_fault::CallFault;
@@ -15,7 +16,7 @@ use profile::{Period, PeriodList, ProfileParts, ScheduleParts};
 use std::alloc::Global;
 
 /// Reads the fields of a profile (chapter 7, ChargingProfile), or names the first fault.
-#[tactic(auto, unfolding(crate::specs::Profile::profile_of))]
+#[tactic(auto, unfolding(crate::specs::ProfileFields::profile_of))]
 pub fn read_profile(alloc: Global, fields: Part<'_>) -> Result<ProfileParts, CallFault>
     ensures value { Reads (λ parts. parts) result (profile_of (tree_at fields.entry)) }
     ensures some { IfOk result (λ parts. 0 < length parts.schedule.periods) }
@@ -44,7 +45,7 @@ pub fn read_profile(alloc: Global, fields: Part<'_>) -> Result<ProfileParts, Cal
 }
 
 /// Reads the fields of a schedule (chapter 7, ChargingSchedule), or names the first fault.
-#[tactic(auto, unfolding(crate::specs::Profile::schedule_of))]
+#[tactic(auto, unfolding(crate::specs::ProfileFields::schedule_of))]
 fn read_schedule(alloc: Global, fields: Part<'_>) -> Result<ScheduleParts, CallFault>
     ensures value { Reads (λ parts. parts) result (schedule_of (tree_at fields.entry)) }
     ensures some { IfOk result (λ parts. 0 < length parts.periods) }
@@ -71,16 +72,13 @@ fn read_periods(alloc: Global, entries: Items<'_>) -> Result<PeriodList, CallFau
 {
     let mut periods = Vec::new(alloc);
     for entry in entries.iter() {
-        let period = read_period(entry)?;
-        if periods.push(period).is_err() {
-            return Err(CallFault::OutOfMemory);
-        }
+        periods.push(read_period(entry)?)?;
     }
     Ok(PeriodList::new(periods))
 }
 
 /// Reads the fields of a period (chapter 7, ChargingSchedulePeriod), or names the first fault.
-#[tactic(auto, unfolding(crate::specs::Profile::period_of))]
+#[tactic(auto, unfolding(crate::specs::ProfileFields::period_of))]
 fn read_period(fields: Part<'_>) -> Result<Period, CallFault>
     ensures { result ≡ period_of (tree_at fields.entry) }
 {

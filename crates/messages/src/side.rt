@@ -1,3 +1,4 @@
+//! Who sends an action.
 ghost use Rattle.std.specs.Prelude.{◌≡◌};
 ghost use Rattle.messages.specs.ActionKind.{side_of};
 
@@ -13,8 +14,8 @@ pub enum Side {
     Point,
 }
 
-/// The side that an action comes from, or `None` where this system doesn't know the action. Takes no
-/// memory: it is asked before the fields of a CALL are read.
+/// The side that the action of a name comes from, or `None` where this system doesn't support it. Needs
+/// no memory.
 pub fn side_of(action: &str) -> Option<Side>
     ensures { result ≡ side_of action.now }
 {

@@ -1,4 +1,8 @@
-use crate::{Action, Answer, CallFault, FieldName, Side, read_action, side_of, write_answer};
+//! What no clause says: the texts and faults of messages, by tables of our own.
+use crate::{
+    Action, CallFault, FieldName, Response, ScheduleResponse, Side, read_action, side_of,
+    write_response,
+};
 use meaning::{Ask, View, compile_plain};
 use ocpp_scalars::{Instant, Refusal};
 use ocppj_frame::read_frame;
@@ -16,7 +20,7 @@ const ACTIONS: &str =
     r#"SetChargingProfile { connector: 2, profile: ProfileParts { id: -1, transaction: Some(-7), stack_level: 5, purpose: TxProfile, kind: Recurring, recurrency: Some(Weekly), valid_from: Some(Instant { seconds: 1735689600 }), valid_to: Some(Instant { seconds: 1735776000 }), schedule: ScheduleParts { duration: Some(3600), start: Some(Instant { seconds: 1735689660 }), unit: W, periods: PeriodList { items: [Period { start: 0, limit: 160, number_phases: Some(3) }, Period { start: 60, limit: 81, number_phases: None }] }, min_charging_rate: Some(65) } } } <- [2,"i","SetChargingProfile",{"csChargingProfiles":{"chargingSchedule":{"minChargingRate":6.5,"chargingSchedulePeriod":[{"startPeriod":0,"limit":16,"numberPhases":3},{"limit":8.1,"startPeriod":60}],"chargingRateUnit":"W","startSchedule":"2025-01-01T00:01:00Z","duration":3600},"validTo":"2025-01-02T00:00:00Z","validFrom":"2025-01-01T00:00:00Z","recurrencyKind":"Weekly","chargingProfileKind":"Recurring","chargingProfilePurpose":"TxProfile","stackLevel":5,"transactionId":-7,"chargingProfileId":-1},"connectorId":2}]
 ClearChargingProfile(Criteria { id: Some(-5), connector: Some(1), purpose: Some(TxProfile), stack_level: Some(3) }) <- [2,"c","ClearChargingProfile",{"stackLevel":3,"chargingProfilePurpose":"TxProfile","connectorId":1,"id":-5}]
 ClearChargingProfile(Criteria { id: None, connector: None, purpose: None, stack_level: None }) <- [2,"c","ClearChargingProfile",{"id":null}]
-GetCompositeSchedule { connector: 1, duration: 60, unit: Some(A) } <- [2,"g","GetCompositeSchedule",{"duration":60,"connectorId":1,"chargingRateUnit":"A"}]
+GetCompositeSchedule(ScheduleRequest { connector: 1, duration: 60, unit: Some(A) }) <- [2,"g","GetCompositeSchedule",{"duration":60,"connectorId":1,"chargingRateUnit":"A"}]
 StartTransaction(StartTransaction { connector: 1, id_tag: IdTag { text: "éééééééééééééééééééé" }, meter_start: -2, timestamp: Instant { seconds: 1735689600 } }) <- [2,"s","StartTransaction",{"timestamp":"2025-01-01T00:00:00Z","meterStart":-2,"idTag":"éééééééééééééééééééé","connectorId":1}]
 StopTransaction(2) <- [2,"e","StopTransaction",{"transactionId":2.0,"timestamp":"never"}]
 BootNotification <- [2,"1","BootNotification",{"chargePointVendor":7}]
@@ -105,8 +109,13 @@ fn an_action_comes_from_one_side(rt: HostRuntime) {
     }
 }
 
-fn assert_answer(rt: &impl Abort, alloc: Global, answer: &Answer, want: &str) -> Result<(), Fail> {
-    let text = write_answer(alloc, "é\"", answer)?;
+fn assert_answer(
+    rt: &impl Abort,
+    alloc: Global,
+    answer: &Response,
+    want: &str,
+) -> Result<(), Fail> {
+    let text = write_response(alloc, "é\"", answer)?;
     assert_eq!(rt; text.as_str(), want);
     Ok(())
 }
@@ -114,31 +123,34 @@ fn assert_answer(rt: &impl Abort, alloc: Global, answer: &Answer, want: &str) ->
 #[test]
 fn results_are_written(rt: HostRuntime) -> Result<(), Fail> {
     let current_time = Instant::try_new(MIDNIGHT + 5).ok_or("past the last instant")?;
-    let start = Answer::StartTransaction {
+    let start = Response::StartTransaction {
         transaction: 2_147_483_647,
     };
     for (answer, payload) in &[
-        (Answer::Accepted, r#"{"status":"Accepted"}"#),
+        (Response::Accepted, r#"{"status":"Accepted"}"#),
         (
-            Answer::Rejected(Refusal::WrongUnit),
+            Response::Rejected(Refusal::WrongUnit),
             r#"{"status":"Rejected","reason":"WrongUnit"}"#,
         ),
-        (Answer::Unknown, r#"{"status":"Unknown"}"#),
+        (Response::Unknown, r#"{"status":"Unknown"}"#),
         (
-            Answer::BootNotification { current_time },
+            Response::BootNotification { current_time },
             r#"{"currentTime":"2025-01-01T00:00:05Z","interval":300,"status":"Accepted"}"#,
         ),
         (
-            Answer::Heartbeat { current_time },
+            Response::Heartbeat { current_time },
             r#"{"currentTime":"2025-01-01T00:00:05Z"}"#,
         ),
-        (Answer::Authorize, r#"{"idTagInfo":{"status":"Accepted"}}"#),
+        (
+            Response::Authorize,
+            r#"{"idTagInfo":{"status":"Accepted"}}"#,
+        ),
         (
             start,
             r#"{"idTagInfo":{"status":"Accepted"},"transactionId":2147483647}"#,
         ),
-        (Answer::Empty, "{}"),
-        (Answer::UnknownVendorId, r#"{"status":"UnknownVendorId"}"#),
+        (Response::Empty, "{}"),
+        (Response::UnknownVendorId, r#"{"status":"UnknownVendorId"}"#),
     ] {
         let want = format!(in rt.alloc(); r#"[3,"é\"",{payload}]"#)?;
         assert_answer(&rt, rt.alloc(), answer, want.as_str())?;
@@ -156,12 +168,12 @@ fn a_composite_schedule_is_written(rt: HostRuntime) -> Result<(), Fail> {
         rows: &[],
     };
     let schedule = compile_plain(rt.alloc(), &view, &Ask::try_new(1, start, 60)?)?;
-    let answer = Answer::Schedule {
+    let answer = Response::Schedule(ScheduleResponse {
         connector: 1,
         start,
         unit: Unit::W,
         schedule,
-    };
+    });
     let want =
         r#"[3,"é\"",{"status":"Accepted","connectorId":1,"scheduleStart":"2025-01-01T00:00:00Z","chargingSchedule":{"duration":60,"chargingRateUnit":"W","chargingSchedulePeriod":[{"startPeriod":0,"limit":8.1}]}}]"#;
     assert_answer(&rt, rt.alloc(), &answer, want)
@@ -171,31 +183,31 @@ fn a_composite_schedule_is_written(rt: HostRuntime) -> Result<(), Fail> {
 fn errors_are_written(rt: HostRuntime) -> Result<(), Fail> {
     for (answer, error) in [
         (
-            Answer::Fault(CallFault::FormationViolation),
+            Response::Error(CallFault::FormationViolation),
             r#""FormationViolation","""#,
         ),
         (
-            Answer::Fault(CallFault::NotImplemented),
+            Response::Error(CallFault::NotImplemented),
             r#""NotImplemented","""#,
         ),
         (
-            Answer::Fault(CallFault::TypeConstraintViolation(FieldName::Limit)),
+            Response::Error(CallFault::TypeConstraintViolation(FieldName::Limit)),
             r#""TypeConstraintViolation","limit""#,
         ),
         (
-            Answer::Rejected(Refusal::OutOfMemory),
+            Response::Rejected(Refusal::OutOfMemory),
             r#""InternalError","OutOfMemory""#,
         ),
         (
-            Answer::Fault(CallFault::OutOfMemory),
+            Response::Error(CallFault::Refused(Refusal::OutOfMemory)),
             r#""InternalError","OutOfMemory""#,
         ),
         (
-            Answer::Refused(Refusal::UnknownPoint),
+            Response::Error(CallFault::Refused(Refusal::UnknownPoint)),
             r#""InternalError","UnknownPoint""#,
         ),
         (
-            Answer::Refused(Refusal::UnknownConnector),
+            Response::Error(CallFault::Refused(Refusal::UnknownConnector)),
             r#""PropertyConstraintViolation","UnknownConnector""#,
         ),
     ] {

@@ -1,6 +1,6 @@
 use Rattle.std.proofs.Common.{◌≡◌, ◌+◌, length, vec_len}
 use Rattle.ocppj_frame.specs.Parts.{entries_in, parts_left}
-use Rattle.messages.specs.Profile.{periods_of}
+use Rattle.messages.specs.ProfileFields.{periods_of}
 use Rattle.messages.proofs.PeriodsRead.{with_front}
 use Rattle.messages.proofs.profile_fields.read_periods.Given as goal
 

@@ -1,3 +1,4 @@
+-- What answers look like, byte for byte: keys in this order, no blanks, limits with one decimal.
 use Rattle.std.specs.Prelude.{Bool, true, false, if◌then◌else◌, ℕ, List, [], ◌∷◌, ◌++◌, codes}
 use Rattle.std.specs.Fmt.{decimal}
 use Rattle.ocpp_scalars.specs.declared.refusal.Refusal.{Refusal}
@@ -7,14 +8,12 @@ use Rattle.ocpp_scalars.specs.TenthsText.{tenths_text}
 use Rattle.profile.specs.declared.unit.Unit.{Unit}
 use Rattle.profile.specs.declared.unit.Unit.TheVariants.{A, W}
 use Rattle.meaning.specs.declared.composite.CompositePeriod.{CompositePeriod}
-use Rattle.meaning.specs.Schedule as schedules
-use Rattle.ocpp_scalars.specs.declared.refusal.Refusal.TheVariants.{UnknownConnector, OutOfMemory}
+use Rattle.ocpp_scalars.specs.declared.refusal.Refusal.TheVariants.{OutOfMemory}
 use Rattle.ocppj_frame.specs.Written.{call_result_text, call_error_text}
-use Rattle.messages.specs.declared.answer.Answer.{Answer}
-use Rattle.messages.specs.declared.answer.Answer.TheVariants.{Accepted, Rejected, Unknown, Schedule, BootNotification, Heartbeat, Authorize, StartTransaction, Empty, UnknownVendorId, Fault, Refused}
+use Rattle.messages.specs.declared.response.Response.{Response}
+use Rattle.messages.specs.declared.response.Response.TheVariants.{Accepted, Rejected, Unknown, Schedule, BootNotification, Heartbeat, Authorize, StartTransaction, Empty, UnknownVendorId, Error}
+use Rattle.messages.specs.declared.response.ScheduleResponse.{ScheduleResponse}
 use Rattle.messages.specs.CallFault.{fault_code, fault_description}
-
--- what answers look like, byte for byte: keys in this order, no blanks, limits with one decimal
 
 abbrev pub accepted_text : List ℕ
 accepted_text = codes "{\"status\":\"Accepted\"}"
@@ -63,43 +62,36 @@ abbrev pub periods_text : List CompositePeriod → List ℕ
 periods_text [] = []
 periods_text (period ∷ periods) = period_text period ++ later_periods_text periods
 
--- the answer to an ask (OCPP 1.6, chapter 6, GetCompositeSchedule.conf)
-abbrev pub composite_text : ℕ → ℕ → Unit → schedules.Schedule → List ℕ
-composite_text connector start unit schedule =
-    codes "{\"status\":\"Accepted\",\"connectorId\":" ++ decimal connector
-    ++ codes ",\"scheduleStart\":\"" ++ instant_text start
-    ++ codes "\",\"chargingSchedule\":{\"duration\":" ++ decimal schedule.duration
-    ++ codes ",\"chargingRateUnit\":\"" ++ unit_text unit
-    ++ codes "\",\"chargingSchedulePeriod\":[" ++ periods_text schedule.periods ++ codes "]}}"
+-- GetCompositeSchedule.conf: the connector and the start asked, and the schedule in the site's unit
+abbrev pub composite_text : ScheduleResponse → List ℕ
+composite_text response =
+    codes "{\"status\":\"Accepted\",\"connectorId\":" ++ decimal response.connector
+    ++ codes ",\"scheduleStart\":\"" ++ instant_text response.start
+    ++ codes "\",\"chargingSchedule\":{\"duration\":" ++ decimal response.schedule.duration
+    ++ codes ",\"chargingRateUnit\":\"" ++ unit_text response.unit
+    ++ codes "\",\"chargingSchedulePeriod\":[" ++ periods_text response.schedule.periods ++ codes "]}}"
 
--- the error code of a refused ClearChargingProfile, StartTransaction or StopTransaction; the first is never refused for
--- its connector
-abbrev pub refused_code : Refusal → List ℕ
-refused_code UnknownConnector = codes "PropertyConstraintViolation"
-refused_code _ = codes "InternalError"
+abbrev pub is_out_of_memory : Refusal → Bool
+is_out_of_memory OutOfMemory = true
+is_out_of_memory _ = false
 
-abbrev pub is_want_of_memory : Refusal → Bool
-is_want_of_memory OutOfMemory = true
-is_want_of_memory _ = false
-
--- a refused install or ask is a result; want of memory is an error, as it is for every action
+-- a refused install or ask is a result; out of memory is an error, as it is for every action
 abbrev pub refusal_text : List ℕ → Refusal → List ℕ
 refusal_text id refusal =
-    if is_want_of_memory refusal then call_error_text id (codes "InternalError") (codes "OutOfMemory")
+    if is_out_of_memory refusal then call_error_text id (codes "InternalError") (codes "OutOfMemory")
     else call_result_text id (rejected_text refusal)
 
 -- the text that answers the CALL of an id (OCPP-J 1.6, 4.2): a CALLRESULT, or a CALLERROR with the code and the
 -- description that name why
-abbrev pub answer_text : List ℕ → Answer → List ℕ
-answer_text id Accepted = call_result_text id accepted_text
-answer_text id (Rejected refusal) = refusal_text id refusal
-answer_text id Unknown = call_result_text id unknown_text
-answer_text id (Schedule connector start unit schedule) = call_result_text id (composite_text connector start unit schedule)
-answer_text id (BootNotification now) = call_result_text id (boot_notification_text now)
-answer_text id (Heartbeat now) = call_result_text id (heartbeat_text now)
-answer_text id Authorize = call_result_text id authorize_text
-answer_text id (StartTransaction transaction) = call_result_text id (start_transaction_text transaction)
-answer_text id Empty = call_result_text id (codes "{}")
-answer_text id UnknownVendorId = call_result_text id unknown_vendor_text
-answer_text id (Fault fault) = call_error_text id (fault_code fault) (fault_description fault)
-answer_text id (Refused refusal) = call_error_text id (refused_code refusal) (refusal_name refusal)
+abbrev pub response_text : List ℕ → Response → List ℕ
+response_text id Accepted = call_result_text id accepted_text
+response_text id (Rejected refusal) = refusal_text id refusal
+response_text id Unknown = call_result_text id unknown_text
+response_text id (Schedule response) = call_result_text id (composite_text response)
+response_text id (BootNotification now) = call_result_text id (boot_notification_text now)
+response_text id (Heartbeat now) = call_result_text id (heartbeat_text now)
+response_text id Authorize = call_result_text id authorize_text
+response_text id (StartTransaction transaction) = call_result_text id (start_transaction_text transaction)
+response_text id Empty = call_result_text id (codes "{}")
+response_text id UnknownVendorId = call_result_text id unknown_vendor_text
+response_text id (Error fault) = call_error_text id (fault_code fault) (fault_description fault)

@@ -1,72 +1,65 @@
+//! The texts of answers, byte for byte.
 ghost use Rattle.std.specs.Prelude.{◌≡◌, ◌++◌, OnOk, IfOk, IsOkUnless, string_bytes};
-ghost use Rattle.messages.specs.Answer.{accepted_text, answer_text, boot_notification_text, composite_text, heartbeat_text, is_want_of_memory, period_text, periods_text, refusal_text, refused_code, rejected_text, start_transaction_text, unit_text};
+ghost use Rattle.messages.specs.ResponseText.{accepted_text, boot_notification_text, composite_text, heartbeat_text, is_out_of_memory, period_text, periods_text, refusal_text, rejected_text, response_text, start_transaction_text, unit_text};
 
-use crate::answer::Answer;
+use crate::response::{Response, ScheduleResponse};
 use meaning::{Composite, CompositePeriod};
 use ocpp_scalars::{Instant, Refusal, push_instant, push_tenths};
 use ocppj_frame::{write_error, write_result};
 use profile::Unit;
-use std::alloc::Global;
+use std::alloc::{AllocError, Global};
 
-/// The text of the answer to the CALL of this id. Its keys stand in a fixed order, without blanks.
-/// `OutOfMemory` is the one refusal.
-pub fn write_answer(alloc: Global, id: &str, answer: &Answer) -> Result<String, Refusal>
-    ensures text { IfOk result (λ s. string_bytes s ≡ answer_text id.now answer.now) }
+/// The text that answers the CALL of this id. Its keys stand in a fixed order, without blanks.
+pub fn write_response(alloc: Global, id: &str, response: &Response) -> Result<String, AllocError>
+    ensures { IfOk result (λ s. string_bytes s ≡ response_text id.now response.now) }
+{
+    match written(alloc, id, response) {
+        Ok(text) => Ok(text),
+        Err(_) => Err(AllocError),
+    }
+}
+
+fn written(alloc: Global, id: &str, response: &Response) -> Result<String, Refusal>
+    ensures text { IfOk result (λ s. string_bytes s ≡ response_text id.now response.now) }
     ensures memory { IsOkUnless result Refusal.OutOfMemory }
 {
-    match answer {
-        Answer::Accepted => write_result(alloc, id, r#"{"status":"Accepted"}"#),
-        Answer::Rejected(refusal) => write_rejected(alloc, id, *refusal),
-        Answer::Unknown => write_result(alloc, id, r#"{"status":"Unknown"}"#),
-        Answer::Schedule {
-            connector,
-            start,
-            unit,
-            schedule,
-        } => {
-            let payload = composite(alloc, *connector, *start, *unit, schedule)?;
+    match response {
+        Response::Accepted => write_result(alloc, id, r#"{"status":"Accepted"}"#),
+        Response::Rejected(refusal) => write_rejected(alloc, id, *refusal),
+        Response::Unknown => write_result(alloc, id, r#"{"status":"Unknown"}"#),
+        Response::Schedule(response) => {
+            let payload = composite(alloc, response)?;
             write_result(alloc, id, payload.as_str())
         }
-        Answer::BootNotification { current_time } => {
+        Response::BootNotification { current_time } => {
             write_result(alloc, id, boot_notification(alloc, *current_time)?.as_str())
         }
-        Answer::Heartbeat { current_time } => {
+        Response::Heartbeat { current_time } => {
             write_result(alloc, id, heartbeat(alloc, *current_time)?.as_str())
         }
-        Answer::Authorize => write_result(alloc, id, r#"{"idTagInfo":{"status":"Accepted"}}"#),
-        Answer::StartTransaction { transaction } => {
+        Response::Authorize => write_result(alloc, id, r#"{"idTagInfo":{"status":"Accepted"}}"#),
+        Response::StartTransaction { transaction } => {
             write_result(alloc, id, start_transaction(alloc, *transaction)?.as_str())
         }
-        Answer::Empty => write_result(alloc, id, "{}"),
-        Answer::UnknownVendorId => write_result(alloc, id, r#"{"status":"UnknownVendorId"}"#),
-        Answer::Fault(fault) => write_error(alloc, id, fault.code(), fault.description()),
-        Answer::Refused(refusal) => write_error(alloc, id, refused_code(*refusal), refusal.name()),
+        Response::Empty => write_result(alloc, id, "{}"),
+        Response::UnknownVendorId => write_result(alloc, id, r#"{"status":"UnknownVendorId"}"#),
+        Response::Error(fault) => write_error(alloc, id, fault.code(), fault.description()),
     }
 }
 
-/// The error code of a refused ClearChargingProfile, StartTransaction or StopTransaction.
-fn refused_code(refusal: Refusal) -> &'static str
-    ensures { result.now ≡ refused_code refusal }
-{
-    match refusal {
-        Refusal::UnknownConnector => "PropertyConstraintViolation",
-        _ => "InternalError",
-    }
-}
-
-/// The answer to a refused install or ask. Want of memory is an error, as it is for every action.
+/// The answer to a refused install or ask. Out of memory is an error, as it is for every action.
 fn write_rejected(alloc: Global, id: &str, refusal: Refusal) -> Result<String, Refusal>
     ensures text { IfOk result (λ s. string_bytes s ≡ refusal_text id.now refusal) }
     ensures memory { IsOkUnless result Refusal.OutOfMemory }
 {
-    if is_want_of_memory(refusal) {
+    if is_out_of_memory(refusal) {
         return write_error(alloc, id, "InternalError", "OutOfMemory");
     }
     write_result(alloc, id, rejected(alloc, refusal)?.as_str())
 }
 
-fn is_want_of_memory(refusal: Refusal) -> bool
-    ensures { result ≡ is_want_of_memory refusal }
+fn is_out_of_memory(refusal: Refusal) -> bool
+    ensures { result ≡ is_out_of_memory refusal }
 {
     matches!(refusal, Refusal::OutOfMemory)
 }
@@ -118,29 +111,23 @@ fn start_transaction(alloc: Global, transaction: u64) -> Result<String, Refusal>
     Ok(out)
 }
 
-/// The payload of GetCompositeSchedule's answer (chapter 6, GetCompositeSchedule.conf): the
-/// connector asked, the start asked, and the schedule in the site's unit.
-fn composite(
-    alloc: Global,
-    connector: u32,
-    start: Instant,
-    unit: Unit,
-    schedule: &Composite,
-) -> Result<String, Refusal>
-    ensures text { IfOk result (λ s. string_bytes s ≡ composite_text connector start unit schedule.now) }
+/// The payload of GetCompositeSchedule's answer (chapter 6, GetCompositeSchedule.conf).
+fn composite(alloc: Global, response: &ScheduleResponse) -> Result<String, Refusal>
+    ensures text { IfOk result (λ s. string_bytes s ≡ composite_text response.now) }
     ensures memory { IsOkUnless result Refusal.OutOfMemory }
 {
+    let connector = response.connector;
+    let duration = response.schedule.duration();
     let mut out = String::from_str(alloc, r#"{"status":"Accepted","connectorId":"#)?;
     write!(out, "{connector}")?;
     out.push_str(r#","scheduleStart":""#)?;
-    push_instant(&mut out, start)?;
+    push_instant(&mut out, response.start)?;
     out.push_str(r#"","chargingSchedule":{"duration":"#)?;
-    let duration = schedule.duration();
     write!(out, "{duration}")?;
     out.push_str(r#","chargingRateUnit":""#)?;
-    out.push_str(unit_name(unit))?;
+    out.push_str(unit_name(response.unit))?;
     out.push_str(r#"","chargingSchedulePeriod":["#)?;
-    push_periods(&mut out, schedule.periods())?;
+    push_periods(&mut out, response.schedule.periods())?;
     out.push_str("]}}")?;
     Ok(out)
 }

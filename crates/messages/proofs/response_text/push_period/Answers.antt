@@ -1,6 +1,6 @@
 use Rattle.std.proofs.Common.{codes}
 use Rattle.messages.proofs.TextPieces.{five_pieces}
-use Rattle.messages.proofs.answer_text.push_period.Goals as goal
+use Rattle.messages.proofs.response_text.push_period.Goals as goal
 
 pub returns-clause-text : goal.returns-clause-text
 returns-clause-text c =

@@ -1,6 +1,6 @@
 use Rattle.std.proofs.Common.{◌≡◌, ◌++◌, drop, string_bytes}
-use Rattle.messages.specs.Answer.{later_periods_text, periods_text}
-use Rattle.messages.proofs.answer_text.push_periods.Given as goal
+use Rattle.messages.specs.ResponseText.{later_periods_text, periods_text}
+use Rattle.messages.proofs.response_text.push_periods.Given as goal
 
 abbrev pub invariant-loop-period : goal.invariant-loop-period
 invariant-loop-period l =
