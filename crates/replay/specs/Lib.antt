@@ -4,6 +4,7 @@ pub mod Reading
 pub mod Site
 pub mod SiteReading
 pub mod SiteRules
+pub mod Ask
 pub mod SentText
 pub mod CentralSystem
 pub mod Step

@@ -2,7 +2,7 @@
 use Rattle.std.specs.Prelude.{ℕ, ◌≡◌, ◌⊎◌, ◌==◌, Bool, true, false, if◌then◌else◌, List, [], ◌++◌, length, codes, string_bytes, Option, Some, None, Result, Ok, Err}
 use Rattle.std.specs.Fmt.{decimal}
 use Rattle.profile.specs.declared.unit.Unit.{Unit}
-use Rattle.messages.specs.Answer.{answer_text}
+use Rattle.messages.specs.ResponseText.{response_text}
 use Rattle.replay.specs.declared.script.line.LineFault.{LineFault}
 use Rattle.replay.specs.declared.script.line.ScriptLine.{ScriptLine}
 use Rattle.replay.specs.declared.script.line.ScriptLine.TheVariants.{Text}
@@ -29,7 +29,7 @@ step_handled id unit step = record { answer = Some (reply_text id unit step.repl
 
 abbrev pub todo_handled : SiteState → List ℕ → SystemState → Todo → Handled
 todo_handled site point old todo.Nothing = record { answer = None; after = old }
-todo_handled site point old (todo.Answer id answer) = record { answer = Some (answer_text id answer); after = old }
+todo_handled site point old (todo.Answer id response) = record { answer = Some (response_text id response); after = old }
 todo_handled site point old (todo.Step id step) = step_handled id site.unit (stepped site point old step)
 
 abbrev pub handled : SiteState → SystemState → Sent → Handled

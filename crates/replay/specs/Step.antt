@@ -8,13 +8,14 @@ use Rattle.meaning.specs.declared.composite.TheConstants.{MAX_COMPOSITE_PERIODS}
 use Rattle.meaning.specs.Book.{Book}
 use Rattle.meaning.specs.Limit.{limit}
 use Rattle.meaning.specs.ExactPeriods.{exact_periods}
-use Rattle.replay.specs.declared.site.request.ScheduleRequest.{ScheduleRequest}
+use Rattle.messages.specs.declared.action.ScheduleRequest.{ScheduleRequest}
 use Rattle.replay.specs.declared.system.step.Step.{Step}
 use Rattle.replay.specs.declared.system.step.Step.TheVariants.{Install, Compose}
 use Rattle.replay.specs.declared.system.step.Reply.{Reply}
 use Rattle.replay.specs.declared.system.step.Reply.TheVariants.{Installed, Composed, Refused}
 use Rattle.replay.specs.Site.{SiteState}
-use Rattle.replay.specs.SiteRules.{install_refusal, request_refusal}
+use Rattle.replay.specs.SiteRules.{install_refusal}
+use Rattle.replay.specs.Ask.{request_refusal}
 use Rattle.replay.specs.CentralSystem.{SystemState, point_state}
 
 -- what a step replies, and what is known after it
@@ -53,16 +54,16 @@ abbrev pub reply_unless : Option Refusal → Reply → Reply
 reply_unless (Some refusal) reply = Refused refusal
 reply_unless None reply = reply
 
-abbrev pub composed_reply : SiteState → List ℕ → SystemState → ScheduleRequest → Reply
-composed_reply site point state request =
-    reply_unless (request_refusal site point request)
-    (schedule_reply (point_state site state) request.connector request.start request.duration)
+abbrev pub composed_reply : SiteState → List ℕ → SystemState → ℕ → ScheduleRequest → Reply
+composed_reply site point state start request =
+    reply_unless (request_refusal site point start request)
+    (schedule_reply (point_state site state) request.connector start request.duration)
 
 -- ---- all steps
 
 abbrev pub stepped : SiteState → List ℕ → SystemState → Step → Stepped
 stepped site point old (Install row) = stepped_install (install_refusal site point row.profile) old row
-stepped site point old (Compose request) = record { reply = composed_reply site point old request; after = old }
+stepped site point old (Compose start request) = record { reply = composed_reply site point old start request; after = old }
 
 -- from one state a step leads to another, and replies
 abbrev pub Steps : SiteState → List ℕ → SystemState → Step → Reply → SystemState → Type 0

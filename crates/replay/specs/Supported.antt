@@ -4,13 +4,13 @@ use Rattle.profile.specs.declared.kind.Kind.{Kind}
 use Rattle.profile.specs.declared.kind.Kind.TheVariants.{Absolute, Recurring, Relative}
 use Rattle.profile.specs.declared.charging_profile.Profile.{Profile}
 use Rattle.profile.specs.Purpose.{is_tx_default}
-use Rattle.messages.specs.declared.answer.Answer.{Answer}
-use Rattle.messages.specs.declared.answer.Answer.TheVariants.{Fault}
+use Rattle.messages.specs.declared.response.Response.{Response}
+use Rattle.messages.specs.declared.response.Response.TheVariants.{Error}
 use Rattle.messages.specs.declared.call_fault.CallFault.TheVariants.{NotImplemented}
 
 -- a well-formed CALL of what isn't supported yet
-abbrev pub not_supported : Answer
-not_supported = Fault NotImplemented
+abbrev pub not_supported : Response
+not_supported = Error NotImplemented
 
 abbrev pub is_absolute : Kind → Bool
 is_absolute Absolute = true

@@ -3,6 +3,7 @@ use Rattle.std.specs.Prelude.{ℕ, Bool, true, false, List, Option, Some, None, 
 use Rattle.ocpp_scalars.specs.declared.refusal.Refusal.{Refusal}
 use Rattle.ocppj_frame.specs.declared.fault.FrameFault.{FrameFault}
 use Rattle.ocppj_frame.specs.declared.fault.FrameFault.TheVariants.{Formation}
+use Rattle.ocppj_frame.specs.Tree.{Tree}
 use Rattle.ocppj_frame.specs.Message.{Message, call, message_of_text}
 use Rattle.profile.specs.declared.charging_profile.Profile.{Profile}
 use Rattle.profile.specs.Parts.{first_refusal}
@@ -13,10 +14,11 @@ use Rattle.messages.specs.declared.action.Action.{Action}
 use Rattle.messages.specs.declared.action.Action.TheVariants as actions
 use Rattle.messages.specs.declared.call_fault.CallFault.{CallFault}
 use Rattle.messages.specs.declared.call_fault.CallFault.TheVariants.{FormationViolation}
-use Rattle.messages.specs.declared.answer.Answer.{Answer}
-use Rattle.messages.specs.declared.answer.Answer.TheVariants.{Rejected, BootNotification, Heartbeat, Authorize, Empty, UnknownVendorId, Fault}
-use Rattle.messages.specs.ActionKind.{side_of}
-use Rattle.messages.specs.Action.{action_of}
+use Rattle.messages.specs.declared.response.Response.{Response}
+use Rattle.messages.specs.declared.response.Response.TheVariants.{Rejected, BootNotification, Heartbeat, Authorize, Empty, UnknownVendorId, Error}
+use Rattle.messages.specs.declared.action_kind.ActionKind.{ActionKind}
+use Rattle.messages.specs.ActionKind.{action_named, side_of_kind}
+use Rattle.messages.specs.Action.{action_of_kind}
 use Rattle.replay.specs.declared.session.todo.Todo.{Todo}
 use Rattle.replay.specs.declared.session.todo.Todo.TheVariants as todo
 use Rattle.replay.specs.declared.system.step.Step.{Step}
@@ -26,24 +28,23 @@ use Rattle.replay.specs.Supported.{is_supported, not_supported}
 
 -- ---- actions: a step, or the answer where there is none
 
-abbrev pub step_of_profile : ℕ → ℕ → Profile → Result Step Answer
+abbrev pub step_of_profile : ℕ → ℕ → Profile → Result Step Response
 step_of_profile moment connector profile =
     if is_supported connector profile
     then Ok (Install (record { connector = connector; moment = moment; profile = profile }))
     else Err not_supported
 
 -- the profile that the fields make, or why they make none; parts that aren't refused make one
-abbrev pub step_of_parts : ℕ → ℕ → Option Refusal → Option Profile → Result Step Answer
+abbrev pub step_of_parts : ℕ → ℕ → Option Refusal → Option Profile → Result Step Response
 step_of_parts moment connector (Some refusal) made = Err (Rejected refusal)
 step_of_parts moment connector None None = Err not_supported
 step_of_parts moment connector None (Some profile) = step_of_profile moment connector profile
 
-abbrev pub step_of : ℕ → Action → Result Step Answer
+abbrev pub step_of : ℕ → Action → Result Step Response
 step_of moment (actions.SetChargingProfile connector parts) =
     step_of_parts moment connector (first_refusal parts) (made_profile parts)
 step_of moment (actions.ClearChargingProfile criteria) = Err not_supported
-step_of moment (actions.GetCompositeSchedule connector duration unit) =
-    Ok (Compose (record { connector = connector; start = moment; duration = duration; unit = unit }))
+step_of moment (actions.GetCompositeSchedule request) = Ok (Compose moment request)
 step_of moment actions.BootNotification = Err (BootNotification moment)
 step_of moment actions.Heartbeat = Err (Heartbeat moment)
 step_of moment actions.Authorize = Err Authorize
@@ -59,31 +60,36 @@ step_of moment actions.NotACall = Err not_supported
 -- ---- CALLs
 
 -- a CALL that can't be read is answered with its first fault
-abbrev pub step_of_reading : ℕ → Result Action CallFault → Result Step Answer
+abbrev pub step_of_reading : ℕ → Result Action CallFault → Result Step Response
 step_of_reading moment (Ok action) = step_of moment action
-step_of_reading moment (Err fault) = Err (Fault fault)
+step_of_reading moment (Err fault) = Err (Error fault)
 
-abbrev pub is_side : Side → Option Side → Bool
-is_side Operator (Some Operator) = true
-is_side Point (Some Point) = true
-is_side _ _ = false
+abbrev pub side_eq : Side → Side → Bool
+side_eq Operator Operator = true
+side_eq Operator Point = false
+side_eq Point Operator = false
+side_eq Point Point = true
 
 -- an action that isn't its sender's, or is nobody's, isn't supported, whatever its fields are
-abbrev pub step_of_call : Sent → List ℕ → Result Action CallFault → Result Step Answer
-step_of_call text name reading =
-    if is_side text.sender (side_of name) then step_of_reading text.moment reading else Err not_supported
+abbrev pub step_of_kind : Sent → Option ActionKind → Tree → Result Step Response
+step_of_kind text None payload = Err not_supported
+step_of_kind text (Some kind) payload =
+    if side_eq (side_of_kind kind) text.sender then step_of_reading text.moment (action_of_kind kind payload) else Err not_supported
+
+abbrev pub step_of_call : Sent → List ℕ → Tree → Result Step Response
+step_of_call text name payload = step_of_kind text (action_named name) payload
 
 -- ---- texts
 
 -- the step or the answer, with the id of its CALL
-abbrev pub todo_with : List ℕ → Result Step Answer → Todo
+abbrev pub todo_with : List ℕ → Result Step Response → Todo
 todo_with id (Ok step) = todo.Step id step
-todo_with id (Err answer) = todo.Answer id answer
+todo_with id (Err response) = todo.Answer id response
 
 -- only a CALL is answered, a malformed one too where it has an id
 abbrev pub todo_of_message : Sent → Result Message FrameFault → Todo
-todo_of_message text (Ok (call id name payload)) = todo_with id (step_of_call text name (action_of name payload))
-todo_of_message text (Err (Formation id)) = todo.Answer id (Fault FormationViolation)
+todo_of_message text (Ok (call id name payload)) = todo_with id (step_of_call text name payload)
+todo_of_message text (Err (Formation id)) = todo.Answer id (Error FormationViolation)
 todo_of_message text _ = todo.Nothing
 
 unfoldable pub todo_of : Sent → Todo

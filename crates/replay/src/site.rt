@@ -2,6 +2,5 @@
 
 pub mod fault;
 pub mod reading;
-pub mod request;
 pub mod rules;
 pub mod site;

@@ -4,11 +4,12 @@ ghost use Rattle.std.specs.Prelude.{◌≡◌, false, IfOk, OnErr, option_map, s
 ghost use Rattle.replay.specs.Play.{handled, answer_played, line_played, IsPlayed, IsOneOf};
 
 use crate::script::line::{ScriptLine, read_line};
-use crate::session::answer::{write_reply, write_text};
+use crate::session::answer::write_reply;
 use crate::session::sent_text::SentText;
 use crate::session::todo::{Todo, todo_of};
 use crate::site::site::Site;
 use crate::system::central_system::CentralSystem;
+use messages::write_response;
 use std::alloc::{AllocError, Global};
 
 /// What a line of the script prints.
@@ -79,7 +80,7 @@ fn handle_text(
 {
     match todo_of(alloc, text)? {
         Todo::Nothing => Ok(None),
-        Todo::Answer { id, answer } => Ok(Some(write_text(alloc, id.as_str(), &answer)?)),
+        Todo::Answer { id, response } => Ok(Some(write_response(alloc, id.as_str(), &response)?)),
         Todo::Step { id, step } => {
             let reply = system.step(site, text.point(), step)?;
             Ok(Some(write_reply(alloc, id.as_str(), site.unit(), reply)?))

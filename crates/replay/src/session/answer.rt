@@ -1,11 +1,10 @@
 //! The text that answers with what a step replied.
 
 ghost use Rattle.std.specs.Prelude.{◌≡◌, IfOk, string_bytes};
-ghost use Rattle.messages.specs.Answer.{answer_text};
-ghost use Rattle.replay.specs.Answer.{answer_of, reply_text};
+ghost use Rattle.replay.specs.Answer.{response_of, reply_text};
 
 use crate::system::step::Reply;
-use messages::{Answer, write_answer};
+use messages::{Response, ScheduleResponse, write_response};
 use profile::Unit;
 use std::alloc::{AllocError, Global};
 
@@ -18,35 +17,25 @@ pub fn write_reply(
 ) -> Result<String, AllocError>
     ensures { IfOk result (λ text. string_bytes text ≡ reply_text id.now unit reply) }
 {
-    write_text(alloc, id, &answer_of(unit, reply))
+    write_response(alloc, id, &response_of(unit, reply))
 }
 
 /// What a step's reply is as an answer.
-fn answer_of(unit: Unit, reply: Reply) -> Answer
-    ensures { result ≡ answer_of unit reply }
+fn response_of(unit: Unit, reply: Reply) -> Response
+    ensures { result ≡ response_of unit reply }
 {
     match reply {
-        Reply::Installed => Answer::Accepted,
+        Reply::Installed => Response::Accepted,
         Reply::Composed {
             connector,
             start,
             schedule,
-        } => Answer::Schedule {
+        } => Response::Schedule(ScheduleResponse {
             connector,
             start,
             unit,
             schedule,
-        },
-        Reply::Refused(refusal) => Answer::Rejected(refusal),
-    }
-}
-
-/// The text of an answer to the CALL of this id.
-pub fn write_text(alloc: Global, id: &str, answer: &Answer) -> Result<String, AllocError>
-    ensures { IfOk result (λ text. string_bytes text ≡ answer_text id.now answer.now) }
-{
-    match write_answer(alloc, id, answer) {
-        Ok(text) => Ok(text),
-        Err(_) => Err(AllocError),
+        }),
+        Reply::Refused(refusal) => Response::Rejected(refusal),
     }
 }

@@ -3,11 +3,11 @@
 ghost use Rattle.std.specs.Prelude.{◌≡◌};
 ghost use Rattle.replay.specs.Supported.{is_supported};
 
-use messages::{Answer, CallFault};
+use messages::{CallFault, Response};
 use profile::{Kind, Profile, Purpose};
 
 /// The answer to a well-formed CALL whose action or profile isn't supported yet.
-pub const NOT_SUPPORTED: Answer = Answer::Fault(CallFault::NotImplemented);
+pub const NOT_SUPPORTED: Response = Response::Error(CallFault::NotImplemented);
 
 /// Whether a profile is one of those that are supported so far: Absolute, TxDefaultProfile, stack level
 /// 0, at connector 0.

@@ -2,17 +2,16 @@
 
 ghost use Rattle.std.specs.Prelude.{◌≡◌, Ok, IfOk};
 ghost use Rattle.ocppj_frame.specs.FrameReading.{message_in};
-ghost use Rattle.messages.specs.Action.{action_in, HasPeriods};
-ghost use Rattle.messages.specs.ActionKind.{side_of};
-ghost use Rattle.replay.specs.Todo.{is_side, step_of, step_of_profile, step_of_call, todo_with, todo_of_message, todo_of};
+ghost use Rattle.ocppj_frame.specs.Parts.{tree_at};
+ghost use Rattle.messages.specs.Action.{action_of_kind, HasPeriods};
+ghost use Rattle.replay.specs.Todo.{side_eq, step_of, step_of_profile, step_of_call, step_of_reading, todo_with, todo_of_message, todo_of};
 
 use crate::session::sent_text::SentText;
 use crate::session::supported::{NOT_SUPPORTED, is_supported};
-use crate::site::request::ScheduleRequest;
 use crate::system::step::Step;
-use messages::{Action, Answer, CallFault, Side, read_action, side_of};
-use ocpp_scalars::Instant;
-use ocppj_frame::{Frame, FrameFault, MessageId, read_frame};
+use messages::{Action, ActionKind, CallFault, Response, Side, read_fields};
+use ocpp_scalars::{Instant, Refusal};
+use ocppj_frame::{Frame, FrameFault, MessageId, Part, read_frame};
 use profile::{Profile, ProfileParts, Row};
 use std::alloc::{AllocError, Global};
 
@@ -24,7 +23,7 @@ pub enum Todo {
     /// The CALL of this id is answered without a step.
     Answer {
         id: MessageId,
-        answer: Answer,
+        response: Response,
     },
     /// The CALL of this id asks for a step.
     Step {
@@ -42,7 +41,7 @@ pub fn todo_of(alloc: Global, text: &SentText<'_>) -> Result<Todo, AllocError>
         Ok(frame) => todo_of_message(alloc, text, frame),
         Err(FrameFault::Formation { id }) => Ok(Todo::Answer {
             id,
-            answer: Answer::Fault(CallFault::FormationViolation),
+            response: Response::Error(CallFault::FormationViolation),
         }),
         Err(FrameFault::Dropped) => Ok(Todo::Nothing),
         Err(FrameFault::OutOfMemory) => Err(AllocError),
@@ -57,23 +56,26 @@ fn todo_of_message(
 ) -> Result<Todo, AllocError>
     ensures { IfOk result (λ todo. todo ≡ todo_of_message text.now (Ok (message_in frame))) }
 {
-    let Frame::Call { action, .. } = &frame else {
-        return Ok(Todo::Nothing);
-    };
-    let asked = step_of_call(alloc, text, action.as_str(), &frame)?;
-    let Frame::Call { id, .. } = frame else {
-        return Ok(Todo::Nothing);
-    };
-    Ok(todo_with(id, asked))
+    match frame {
+        Frame::Call {
+            id,
+            action,
+            payload,
+        } => {
+            let asked = step_of_call(alloc, text, action.as_str(), payload.root())?;
+            Ok(todo_with(id, asked))
+        }
+        Frame::Reply { .. } | Frame::Fault { .. } | Frame::Other => Ok(Todo::Nothing),
+    }
 }
 
 /// The step or the answer, with the id of its CALL.
-fn todo_with(id: MessageId, asked: Result<Step, Answer>) -> Todo
+fn todo_with(id: MessageId, asked: Result<Step, Response>) -> Todo
     ensures { result ≡ todo_with id asked }
 {
     match asked {
         Ok(step) => Todo::Step { id, step },
-        Err(answer) => Todo::Answer { id, answer },
+        Err(response) => Todo::Answer { id, response },
     }
 }
 
@@ -82,32 +84,45 @@ fn step_of_call(
     alloc: Global,
     text: &SentText<'_>,
     name: &str,
-    frame: &Frame,
-) -> Result<Result<Step, Answer>, AllocError>
-    ensures { IfOk result (λ asked. asked ≡ step_of_call text.now name.now (action_in (message_in frame.now))) }
+    payload: Part<'_>,
+) -> Result<Result<Step, Response>, AllocError>
+    ensures { IfOk result (λ asked. asked ≡ step_of_call text.now name.now (tree_at payload.entry)) }
 {
-    if !is_sent_by(text.sender(), name) {
-        return Ok(Err(NOT_SUPPORTED));
-    }
-    match read_action(alloc, frame) {
-        Ok(action) => Ok(step_of(text.moment(), action)),
-        Err(CallFault::OutOfMemory) => Err(AllocError),
-        Err(fault) => Ok(Err(Answer::Fault(fault))),
+    match ActionKind::named(name) {
+        Some(kind) if is_same_side(kind.side(), text.sender()) => {
+            step_of_fields(alloc, text.moment(), kind, payload)
+        }
+        _ => Ok(Err(NOT_SUPPORTED)),
     }
 }
 
-/// Whether the action of a name is one that this side sends.
-fn is_sent_by(sender: Side, action: &str) -> bool
-    ensures { result ≡ is_side sender (side_of action.now) }
+fn is_same_side(first: Side, second: Side) -> bool
+    ensures { result ≡ side_eq first second }
 {
-    match (sender, side_of(action)) {
-        (Side::Operator, Some(Side::Operator)) | (Side::Point, Some(Side::Point)) => true,
+    match (first, second) {
+        (Side::Operator, Side::Operator) | (Side::Point, Side::Point) => true,
         _ => false,
     }
 }
 
+/// The step that the fields of an action ask for, or the answer where they ask for none.
+fn step_of_fields(
+    alloc: Global,
+    moment: Instant,
+    kind: ActionKind,
+    payload: Part<'_>,
+) -> Result<Result<Step, Response>, AllocError>
+    ensures { IfOk result (λ asked. asked ≡ step_of_reading moment (action_of_kind kind (tree_at payload.entry))) }
+{
+    match read_fields(alloc, kind, payload) {
+        Ok(action) => Ok(step_of(moment, action)),
+        Err(CallFault::Refused(Refusal::OutOfMemory)) => Err(AllocError),
+        Err(fault) => Ok(Err(Response::Error(fault))),
+    }
+}
+
 /// The step that an action asks for at a moment, or the answer where it asks for none.
-fn step_of(moment: Instant, action: Action) -> Result<Step, Answer>
+fn step_of(moment: Instant, action: Action) -> Result<Step, Response>
     requires { HasPeriods action }
     ensures { result ≡ step_of moment action }
 {
@@ -115,28 +130,22 @@ fn step_of(moment: Instant, action: Action) -> Result<Step, Answer>
         Action::SetChargingProfile { connector, profile } => {
             step_of_parts(moment, connector, profile)
         }
-        Action::GetCompositeSchedule {
-            connector,
-            duration,
-            unit,
-        } => Ok(Step::Compose(ScheduleRequest {
-            connector,
+        Action::GetCompositeSchedule(request) => Ok(Step::Compose {
             start: moment,
-            duration,
-            unit,
-        })),
-        Action::BootNotification => Err(Answer::BootNotification {
+            request,
+        }),
+        Action::BootNotification => Err(Response::BootNotification {
             current_time: moment,
         }),
-        Action::Heartbeat => Err(Answer::Heartbeat {
+        Action::Heartbeat => Err(Response::Heartbeat {
             current_time: moment,
         }),
-        Action::Authorize => Err(Answer::Authorize),
+        Action::Authorize => Err(Response::Authorize),
         Action::StatusNotification
         | Action::MeterValues
         | Action::FirmwareStatusNotification
-        | Action::DiagnosticsStatusNotification => Err(Answer::Empty),
-        Action::DataTransfer => Err(Answer::UnknownVendorId),
+        | Action::DiagnosticsStatusNotification => Err(Response::Empty),
+        Action::DataTransfer => Err(Response::UnknownVendorId),
         Action::ClearChargingProfile(_)
         | Action::StartTransaction(_)
         | Action::StopTransaction(_)
@@ -149,18 +158,18 @@ fn step_of_parts(
     moment: Instant,
     connector: u32,
     parts: ProfileParts,
-) -> Result<Step, Answer>
+) -> Result<Step, Response>
     requires { HasPeriods (Action.SetChargingProfile connector parts) }
     ensures { result ≡ step_of moment (Action.SetChargingProfile connector parts) }
 {
     match Profile::try_new(parts) {
         Ok(profile) => step_of_profile(moment, connector, profile),
-        Err((refusal, _)) => Err(Answer::Rejected(refusal)),
+        Err((refusal, _)) => Err(Response::Rejected(refusal)),
     }
 }
 
 /// The install of a profile, if it is supported.
-fn step_of_profile(moment: Instant, connector: u32, profile: Profile) -> Result<Step, Answer>
+fn step_of_profile(moment: Instant, connector: u32, profile: Profile) -> Result<Step, Response>
     ensures { result ≡ step_of_profile moment connector profile }
 {
     if !is_supported(connector, &profile) {

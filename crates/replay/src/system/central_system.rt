@@ -2,12 +2,13 @@
 
 ghost use Rattle.std.specs.Prelude.{◌≡◌, ◌≤◌, length, IfOk, OnErr};
 
-use crate::site::request::ScheduleRequest;
-use crate::site::rules::{asked, install_refusal};
+use crate::site::rules::install_refusal;
 use crate::site::site::Site;
+use crate::system::ask::asked;
 use crate::system::step::{Reply, Step};
 use meaning::{Ask, View, compile_plain};
-use ocpp_scalars::Refusal;
+use messages::ScheduleRequest;
+use ocpp_scalars::{Instant, Refusal};
 use profile::Row;
 use std::alloc::{AllocError, Global};
 use std::marker::Model;
@@ -49,7 +50,7 @@ impl CentralSystem {
     {
         match step {
             Step::Install(row) => self.install(site, point, row),
-            Step::Compose(request) => self.compose(site, point, request),
+            Step::Compose { start, request } => self.compose(site, point, start, &request),
         }
     }
 
@@ -73,11 +74,12 @@ impl CentralSystem {
         &self,
         site: &Site,
         point: &str,
-        request: ScheduleRequest,
+        start: Instant,
+        request: &ScheduleRequest,
     ) -> Result<Reply, AllocError>
-        ensures { IfOk result (λ reply. reply ≡ composed_reply site.now point.now self.now request) }
+        ensures { IfOk result (λ reply. reply ≡ composed_reply site.now point.now self.now start request.now) }
     {
-        match asked(site, point, request) {
+        match asked(site, point, start, request) {
             Ok(ask) => self.compose_ask(site, &ask),
             Err(refusal) => Ok(Reply::Refused(refusal)),
         }

@@ -1,7 +1,7 @@
 //! The steps of the central system at a point of its site, and what they reply.
 
-use crate::site::request::ScheduleRequest;
 use meaning::Composite;
+use messages::ScheduleRequest;
 use ocpp_scalars::{Instant, Refusal};
 use profile::Row;
 
@@ -10,8 +10,11 @@ use profile::Row;
 pub enum Step {
     /// To install a profile (chapter 5.16).
     Install(Row),
-    /// To compose a schedule (chapter 5.7).
-    Compose(ScheduleRequest),
+    /// To compose a schedule (chapter 5.7) from a start on.
+    Compose {
+        start: Instant,
+        request: ScheduleRequest,
+    },
 }
 
 /// What a step replies.

@@ -7,9 +7,8 @@ use Rattle.replay.proofs.system.central_system.CentralSystem.compose.Goals as go
 
 pub returns-in-Ok : goal.returns-in-Ok
 returns-in-Ok c =
-    let request = c.args.request in
     let ask = c.in-Ok.ask in
     let same : schedule_reply (point_state c.args.site.now c.args.self.now) ask.connector ask.start ask.duration
-        ≡ composed_reply c.args.site.now c.args.point.now c.args.self.now request =
+        ≡ composed_reply c.args.site.now c.args.point.now c.args.self.now c.args.start c.args.request.now =
     rw (c.in-Ok.ensures.refusal, c.in-Ok.ensures.ask.0, c.in-Ok.ensures.ask.1, c.in-Ok.ensures.ask.2) refl in
     subst (λ (reply : Reply). IfOk c.compose_ask.result (λ r. r ≡ reply)) same c.compose_ask.ensures
