@@ -9,9 +9,10 @@ use Rattle.central.specs.declared.program.command_line.Job.TheVariants.{Replay}
 abbrev pub required_option : Text → Rule
 required_option name = record (new_rule name) { long = Some name; action = Some Set; required = true }
 
--- a command of this name with one subcommand, which is required
+-- a command that prints its version, with one subcommand, which is required
 abbrev pub with_one_subcommand : App → App → App
-with_one_subcommand command only = with_subcommand (record command { top = record command.top { subcommand_required = true } }) only.top
+with_one_subcommand command only =
+    with_subcommand (record command { top = record command.top { has_version = true; subcommand_required = true } }) only.top
 
 -- `central replay --site F`
 unfoldable pub central_app : App
