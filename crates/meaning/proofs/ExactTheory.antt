@@ -5,10 +5,10 @@ use Rattle.std.proofs.lemmas.List.Elements.{filter-append}
 use Rattle.std.proofs.lemmas.Bool.{cases_lt, cases_eq, le-leb, eq-eqb}
 use Rattle.std.proofs.lemmas.Bool.Decides.{nat_tests}
 use Rattle.meaning.specs.declared.composite.CompositePeriod.{CompositePeriod}
-use Rattle.meaning.specs.Schedule.{Rise, at}
+use Rattle.meaning.specs.Composite.{AreStrictlyIncreasing, at}
 use Rattle.meaning.specs.Exact.{Change, IsExact}
 use Rattle.meaning.proofs.Ranges.{range_more}
-use Rattle.meaning.specs.ExactPeriods.{begins_period, period_from, exact_periods}
+use Rattle.meaning.specs.ByCases.Exact.{begins_period, period_from, exact_periods}
 
 -- each period starts later than a second
 abbrev AllAfter : ℕ → List CompositePeriod → Type 0
@@ -38,9 +38,9 @@ within_all : (low high : ℕ) (ps : List CompositePeriod) → low ≤ high → A
 within_all low high [] h k = tt
 within_all low high (p ∷ ps) h k = let below : p.start < low = k.0 in (omega arith, within_all low high ps h k.1)
 
-rise_after : (p : CompositePeriod) (ps : List CompositePeriod) → Rise (p ∷ ps) → AllAfter p.start ps
-rise_after p [] h = tt
-rise_after p (q ∷ ps) h = let first : p.start < q.start = h.0 in (first, later_all p.start q.start ps (omega arith) (rise_after q ps h.1))
+increasing_after : (p : CompositePeriod) (ps : List CompositePeriod) → AreStrictlyIncreasing (p ∷ ps) → AllAfter p.start ps
+increasing_after p [] h = tt
+increasing_after p (q ∷ ps) h = let first : p.start < q.start = h.0 in (first, later_all p.start q.start ps (omega arith) (increasing_after q ps h.1))
 
 -- the periods that begin in so many seconds after a second
 abbrev after : (ℕ → ℕ) → ℕ → ℕ → List CompositePeriod
@@ -71,7 +71,7 @@ periods_are limit n = ap (λ (ps : List CompositePeriod). period_from limit 0 �
 -- A period that gives the limit at a second, and periods after it, are exact for the so many seconds from
 -- there on.
 record Continues (limit : ℕ → ℕ) (second n : ℕ) (p : CompositePeriod) (ps : List CompositePeriod) : Type 0 where
-  rise : Rise (p ∷ ps)
+  increasing : AreStrictlyIncreasing (p ∷ ps)
   change : Change (p ∷ ps)
   within : AllByRecursion (λ q. q.start < suc (second + n)) ps
   each : (t : ℕ) → second ≤ t → t < suc (second + n) → at (p ∷ ps) t ≡ Some (limit t)
@@ -84,7 +84,7 @@ begins_false limit second h = grind (arith, nat_tests)
 
 continues_at : (limit : ℕ → ℕ) (second : ℕ) (p : CompositePeriod) → p.start ≤ second → p.limit ≡ limit second → Continues limit second 0 p []
 continues_at limit second p h e = record {
-  rise = tt;
+  increasing = tt;
   change = tt;
   within = tt;
   each = λ t from below.
@@ -95,10 +95,10 @@ continues_at limit second p h e = record {
 continues_new : (limit : ℕ → ℕ) (second n : ℕ) (p q : CompositePeriod) (ps : List CompositePeriod) → p.start ≤ second → p.limit ≡ limit second
     → q.start ≡ suc second → p.limit ≢ q.limit → Continues limit (suc second) n q ps → Continues limit second (suc n) p (q ∷ ps)
 continues_new limit second n p q ps h e start differ rest =
-    let later : AllAfter q.start ps = rise_after q ps rest.rise in
+    let later : AllAfter q.start ps = increasing_after q ps rest.increasing in
     let all : AllAfter second (q ∷ ps) = (omega arith, later_all second q.start ps (omega arith) later) in
     record {
-      rise = (omega arith, rest.rise);
+      increasing = (omega arith, rest.increasing);
       change = (differ, rest.change);
       within = (omega arith, within_all (suc (suc second + n)) (suc (second + suc n)) ps (omega arith) rest.within);
       each = λ t from below.
@@ -113,7 +113,7 @@ continues_new limit second n p q ps h e start differ rest =
 continues_same : (limit : ℕ → ℕ) (second n : ℕ) (p : CompositePeriod) (ps : List CompositePeriod) → p.start ≤ second → p.limit ≡ limit second
     → AllAfter (suc second) ps → Continues limit (suc second) n p ps → Continues limit second (suc n) p ps
 continues_same limit second n p ps h e later rest = record {
-  rise = rest.rise;
+  increasing = rest.increasing;
   change = rest.change;
   within = within_all (suc (suc second + n)) (suc (second + suc n)) ps (omega arith) rest.within;
   each = λ t from below.
@@ -148,7 +148,7 @@ continued_new : (limit : ℕ → ℕ) (second n : ℕ) (p q : CompositePeriod) (
     → q.start ≡ suc second → Continues limit second (suc n) p (q ∷ ps)
     → (begins_period limit (suc second) ≡ true) × (q.limit ≡ limit (suc second)) × Continues limit (suc second) n q ps
 continued_new limit second n p q ps h e start c =
-    let later : AllAfter q.start ps = rise_after q ps c.rise.1 in
+    let later : AllAfter q.start ps = increasing_after q ps c.increasing.1 in
     let here = at_later (suc second) p q ps (omega arith) (omega arith) in
     let first = at_first (suc second) q ps (omega arith) (later_all (suc second) q.start ps (omega arith) later) in
     let gives : q.limit ≡ limit (suc second) = some_same (sym first ∙ (sym here ∙ c.each (suc second) (omega arith) (omega arith))) in
@@ -156,7 +156,7 @@ continued_new limit second n p q ps h e start c =
       grind (arith, nat_tests),
       gives,
       record {
-        rise = c.rise.1;
+        increasing = c.increasing.1;
         change = c.change.1;
         within = within_all (suc (second + suc n)) (suc (suc second + n)) ps (omega arith) c.within.1;
         each = λ t from below. sym (at_later t p q ps (omega arith) (omega arith)) ∙ c.each t (omega arith) (omega arith);
@@ -173,7 +173,7 @@ continued_same limit second n p ps h e later c =
       grind (arith, nat_tests),
       gives,
       record {
-        rise = c.rise;
+        increasing = c.increasing;
         change = c.change;
         within = within_all (suc (second + suc n)) (suc (suc second + n)) ps (omega arith) c.within;
         each = λ t from below. c.each t (omega arith) (omega arith);
@@ -206,7 +206,7 @@ continued limit second (suc n) p (q ∷ ps) h e later c =
     elim (cases_eq q.start (suc second)) [
       | inl start ↦
           let d = continued_new limit second n p q ps h e start c in
-          let since : AllAfter (suc second) ps = later_all (suc second) q.start ps (omega arith) (rise_after q ps c.rise.1) in
+          let since : AllAfter (suc second) ps = later_all (suc second) q.start ps (omega arith) (increasing_after q ps c.increasing.1) in
           let rest = continued limit (suc second) n q ps (omega arith) d.1 since d.2 in
           let first : q ≡ period_from limit (suc second) = period_is q (suc second) (limit (suc second)) start d.1 in
           let both : q ∷ ps ≡ period_from limit (suc second) ∷ after limit (suc second) n = cc in
@@ -214,7 +214,7 @@ continued limit second (suc n) p (q ∷ ps) h e later c =
       | inr other ↦
           let from : second < q.start = later.0 in
           let since : suc second < q.start = omega arith in
-          let all : AllAfter (suc second) (q ∷ ps) = (since, later_all (suc second) q.start ps (omega arith) (rise_after q ps c.rise.1)) in
+          let all : AllAfter (suc second) (q ∷ ps) = (since, later_all (suc second) q.start ps (omega arith) (increasing_after q ps c.increasing.1)) in
           let d = continued_same limit second n p (q ∷ ps) h e all c in
           continued limit (suc second) n p (q ∷ ps) (omega arith) d.1 all d.2 ∙ sym (after_same limit second n d.0)
     ]
@@ -226,11 +226,11 @@ exact_is limit duration [] exact = absurd exact.first
 exact_is limit zero (p ∷ ps) exact = let below : p.start < 0 = exact.within.0 in absurd (omega arith)
 exact_is limit (suc n) (p ∷ ps) exact =
     let start : p.start ≡ 0 = exact.first in
-    let since : AllAfter 0 ps = later_all 0 p.start ps (omega arith) (rise_after p ps exact.rise) in
+    let since : AllAfter 0 ps = later_all 0 p.start ps (omega arith) (increasing_after p ps exact.increasing) in
     let here : p.limit ≡ limit 0 = some_same (sym (at_first 0 p ps (omega arith) since) ∙ exact.each 0 (omega arith)) in
     let first : p ≡ period_from limit 0 = period_is p 0 (limit 0) start here in
     let rest = continued limit 0 n p ps (omega arith) here since (record {
-      rise = exact.rise;
+      increasing = exact.increasing;
       change = exact.change;
       within = within_all (suc n) (suc (0 + n)) ps (omega arith) exact.within.1;
       each = λ t from below. exact.each t (omega arith);
@@ -264,7 +264,7 @@ exact_are limit (suc n) h =
     let c = continues limit 0 n (period_from limit 0) (omega arith) refl in
     rw (periods_are limit n) (record {
       first = refl;
-      rise = c.rise;
+      increasing = c.increasing;
       change = c.change;
       within = (omega arith, within_all (suc (0 + n)) (suc n) (after limit 0 n) (omega arith) c.within);
       each = λ t below. c.each t (omega arith) (omega arith);

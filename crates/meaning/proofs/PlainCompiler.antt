@@ -3,11 +3,11 @@ use Rattle.std.proofs.lemmas.List.{length-append}
 use Rattle.ocpp_scalars.specs.declared.refusal.Refusal.{Refusal}
 use Rattle.ocpp_scalars.specs.declared.refusal.Refusal.TheVariants.{ResultTooLong, OutOfMemory}
 use Rattle.meaning.specs.declared.composite.CompositePeriod.{CompositePeriod}
-use Rattle.meaning.specs.declared.composite.TheConstants.{MAX_COMPOSITE_PERIODS}
-use Rattle.meaning.specs.Schedule.{Schedule, IsSchedule}
-use Rattle.meaning.specs.ExactPeriods.{begins_period, period_from, exact_periods}
-use Rattle.meaning.specs.Right.{IsExactAnswer, IsTooLong, IsPermitted}
-use Rattle.meaning.specs.SecondAdded.{differs, period_added, IsAddRefused}
+use Rattle.meaning.specs.Limits.{max_composite_periods}
+use Rattle.meaning.specs.Composite.{Schedule, IsSchedule}
+use Rattle.meaning.specs.ByCases.Exact.{begins_period, period_from, exact_periods}
+use Rattle.meaning.specs.Compiled.{IsExactAnswer, IsTooLong, IsPermitted}
+use Rattle.meaning.specs.ByCases.PlainCompiler.{differs, period_added, IsAddRefused}
 use Rattle.meaning.proofs.ExactTheory.{exact_are, exact_is, periods_more, periods_grow}
 
 -- the limit at the second before, where there is one
@@ -33,7 +33,7 @@ periods_added limit n periods before value h k e =
     ∙ (ap (λ (b : Bool). exact_periods limit n ++ cond b (period_from limit n ∷ []) []) (differs_is limit n)
     ∙ sym (periods_more limit n))))
 
-pub too_long : (limit : ℕ → ℕ) (duration n : ℕ) → n < duration → MAX_COMPOSITE_PERIODS < length (exact_periods limit (n + 1)) → IsTooLong limit duration
+pub too_long : (limit : ℕ → ℕ) (duration n : ℕ) → n < duration → max_composite_periods < length (exact_periods limit (n + 1)) → IsTooLong limit duration
 too_long limit duration n h many = record {
   more = λ periods exact.
       let rest : (n + 1) + (duration - (n + 1)) ≡ duration = omega arith in
@@ -53,7 +53,7 @@ permitted limit duration n periods before value OutOfMemory h k e below many = t
 permitted limit duration n periods before value other h k e below many = absurd many
 
 pub exact_answer : (limit : ℕ → ℕ) (duration : ℕ) (schedule : Schedule) → 0 < duration → schedule.duration ≡ duration
-    → schedule.periods ≡ exact_periods limit duration → length schedule.periods ≤ MAX_COMPOSITE_PERIODS → IsExactAnswer limit duration schedule
+    → schedule.periods ≡ exact_periods limit duration → length schedule.periods ≤ max_composite_periods → IsExactAnswer limit duration schedule
 exact_answer limit duration schedule some lasts same few = record {
   lasts = lasts;
   exact = rw same (exact_are limit duration some);
@@ -63,4 +63,4 @@ exact_answer limit duration schedule some lasts same few = record {
 pub is_schedule : (limit : ℕ → ℕ) (duration : ℕ) (periods : List CompositePeriod) → 0 < duration → periods ≡ exact_periods limit duration → IsSchedule duration periods
 is_schedule limit duration periods some same =
     let exact = exact_are limit duration some in
-    rw same (record { first = exact.first; rise = exact.rise; within = exact.within })
+    rw same (record { first = exact.first; increasing = exact.increasing; within = exact.within })

@@ -2,7 +2,7 @@ use Rattle.std.specs.Prelude.{◌≡◌, ℕ, ◌+◌, nat_le, IsTrue, List, [],
 use Rattle.std.proofs.Common.{refl}
 use Rattle.std.specs.List.{range_with_len}
 use Rattle.std.proofs.Math.IntN.{pos}
-use Rattle.profile.specs.declared.charging_profile.TheConstants.{MAX_STACK_LEVEL}
+use Rattle.profile.specs.Limits.{max_stack_level}
 use Rattle.profile.specs.declared.kind.Kind.{Kind}
 use Rattle.profile.specs.declared.kind.Kind.TheVariants.{Absolute, Recurring, Relative}
 use Rattle.profile.specs.declared.kind.Recurrency.TheVariants.{Daily, Weekly}
@@ -14,9 +14,9 @@ use Rattle.profile.specs.declared.unit.Unit.TheVariants.{A}
 use Rattle.profile.specs.Purpose.{transaction_of}
 use Rattle.profile.specs.Kind.{start_of}
 use Rattle.meaning.specs.declared.composite.CompositePeriod.{CompositePeriod}
-use Rattle.meaning.specs.Book.{Book}
+use Rattle.meaning.specs.View.{PointState}
 use Rattle.meaning.specs.Limit.{limit}
-use Rattle.meaning.specs.ExactPeriods.{exact_periods}
+use Rattle.meaning.specs.ByCases.Exact.{exact_periods}
 
 -- Examples computed by the definitions alone, against values found by hand. The point has a ceiling of
 -- 63.0 A and two connectors of 32.0 A; limits are in tenths.
@@ -40,7 +40,7 @@ no_transaction TxDefaultProfile = refl
 no_transaction TxProfile = refl
 
 -- a row, installed at midnight, valid until a second where one is given
-abbrev row_until : Option ℕ → ℕ → Purpose → (level : ℕ) → IsTrue (nat_le level MAX_STACK_LEVEL) → (kind : Kind) (start : Option ℕ) → start_of kind start ≡ start → Option ℕ → List Period → Row
+abbrev row_until : Option ℕ → ℕ → Purpose → (level : ℕ) → IsTrue (nat_le level max_stack_level) → (kind : Kind) (start : Option ℕ) → start_of kind start ≡ start → Option ℕ → List Period → Row
 row_until until connector purpose level low kind start own duration periods = record {
   connector = connector;
   moment = midnight;
@@ -59,20 +59,20 @@ row_until until connector purpose level low kind start own duration periods = re
   };
 }
 
-abbrev row_at : ℕ → Purpose → (level : ℕ) → IsTrue (nat_le level MAX_STACK_LEVEL) → (kind : Kind) (start : Option ℕ) → start_of kind start ≡ start → Option ℕ → List Period → Row
+abbrev row_at : ℕ → Purpose → (level : ℕ) → IsTrue (nat_le level max_stack_level) → (kind : Kind) (start : Option ℕ) → start_of kind start ≡ start → Option ℕ → List Period → Row
 row_at = row_until None
 
-pub low0 : IsTrue (nat_le 0 MAX_STACK_LEVEL)
+pub low0 : IsTrue (nat_le 0 max_stack_level)
 low0 = refl
 
-pub low1 : IsTrue (nat_le 1 MAX_STACK_LEVEL)
+pub low1 : IsTrue (nat_le 1 max_stack_level)
 low1 = refl
 
-pub low2 : IsTrue (nat_le 2 MAX_STACK_LEVEL)
+pub low2 : IsTrue (nat_le 2 max_stack_level)
 low2 = refl
 
-abbrev book : List (Option ℕ) → List Row → Book
-book starts rows = record { ceiling = 630; ceilings = 320 ∷ (320 ∷ []); starts = starts; rows = rows }
+abbrev point : List (Option ℕ) → List Row → PointState
+point starts rows = record { ceiling = 630; ceilings = 320 ∷ (320 ∷ []); starts = starts; rows = rows }
 
 abbrev idle : List (Option ℕ)
 idle = None ∷ (None ∷ [])
@@ -81,22 +81,22 @@ abbrev on_first : List (Option ℕ)
 on_first = at_start 0 ∷ (None ∷ [])
 
 -- the exact schedule of a connector, asked so many seconds after midnight for so many seconds
-abbrev schedule : Book → ℕ → ℕ → ℕ → List CompositePeriod
+abbrev schedule : PointState → ℕ → ℕ → ℕ → List CompositePeriod
 schedule b connector asked duration = exact_periods (λ second. limit b connector (midnight + asked) (midnight + asked + second)) duration
 
 -- the limits of so many seconds from one on, in such a schedule
-abbrev limits : Book → ℕ → ℕ → ℕ → ℕ → List ℕ
+abbrev limits : PointState → ℕ → ℕ → ℕ → ℕ → List ℕ
 limits b connector asked second many = map (λ (s : ℕ). limit b connector (midnight + asked) (midnight + asked + s)) (range_with_len second many)
 
-pub no_profile : schedule (book idle []) 1 0 60 ≡ span 0 320 ∷ []
+pub no_profile : schedule (point idle []) 1 0 60 ≡ span 0 320 ∷ []
 no_profile = refl
 
-pub no_transaction_at_the_point : schedule (book idle []) 0 0 60 ≡ span 0 0 ∷ []
+pub no_transaction_at_the_point : schedule (point idle []) 0 0 60 ≡ span 0 0 ∷ []
 no_transaction_at_the_point = refl
 
 -- a daily profile from 22:00 to 06:00 above one that holds always
-abbrev night : Book
-night = book idle
+abbrev night : PointState
+night = point idle
     (row_at 0 TxDefaultProfile 1 low1 (Recurring Daily) (at_start 79200) refl (Some 28800) (period 0 60 ∷ [])
     ∷ (row_at 0 TxDefaultProfile 0 low0 Absolute (at_start 0) refl None (period 0 200 ∷ []) ∷ []))
 
@@ -108,13 +108,13 @@ pub two_levels_at_night : limits night 1 194398 57600 4 ≡ 200 ∷ (200 ∷ (60
 two_levels_at_night = refl
 
 -- a duration longer than the recurrence
-pub longer_than_a_day : schedule (book idle
+pub longer_than_a_day : schedule (point idle
     (row_at 0 TxDefaultProfile 0 low0 (Recurring Daily) (at_start 0) refl (Some 100000) (period 0 100 ∷ (period 43200 200 ∷ [])) ∷ [])) 1 86399 2
     ≡ span 0 200 ∷ (span 1 100 ∷ [])
 longer_than_a_day = refl
 
 -- the last second of a week and the first of the next
-pub weekly : schedule (book idle
+pub weekly : schedule (point idle
     (row_at 0 TxDefaultProfile 0 low0 (Recurring Weekly) (at_start 0) refl None (period 0 320 ∷ (period 432000 100 ∷ [])) ∷ [])) 1 604799 2
     ≡ span 0 100 ∷ (span 1 320 ∷ [])
 weekly = refl
@@ -126,21 +126,21 @@ abbrev transaction_row : Row
 transaction_row = row_at 1 TxProfile 0 low0 Relative None refl (Some 120) (period 0 60 ∷ (period 60 160 ∷ []))
 
 -- the default profile holds again once the transaction's own has run out
-pub transaction_profile : schedule (book on_first (transaction_row ∷ (default_row ∷ []))) 1 30 200 ≡ span 0 60 ∷ (span 30 160 ∷ (span 90 100 ∷ []))
+pub transaction_profile : schedule (point on_first (transaction_row ∷ (default_row ∷ []))) 1 30 200 ≡ span 0 60 ∷ (span 30 160 ∷ (span 90 100 ∷ []))
 transaction_profile = refl
 
-pub transaction_stopped : schedule (book idle (default_row ∷ [])) 1 30 200 ≡ span 0 100 ∷ []
+pub transaction_stopped : schedule (point idle (default_row ∷ [])) 1 30 200 ≡ span 0 100 ∷ []
 transaction_stopped = refl
 
 -- a TxProfile without its transaction doesn't count
-pub transaction_missing : schedule (book idle (transaction_row ∷ (default_row ∷ []))) 1 30 200 ≡ span 0 100 ∷ []
+pub transaction_missing : schedule (point idle (transaction_row ∷ (default_row ∷ []))) 1 30 200 ≡ span 0 100 ∷ []
 transaction_missing = refl
 
-pub transaction_begun_anew : schedule (book (at_start 20 ∷ (None ∷ [])) (default_row ∷ [])) 1 30 200 ≡ span 0 100 ∷ []
+pub transaction_begun_anew : schedule (point (at_start 20 ∷ (None ∷ [])) (default_row ∷ [])) 1 30 200 ≡ span 0 100 ∷ []
 transaction_begun_anew = refl
 
-abbrev own_default : Book
-own_default = book idle
+abbrev own_default : PointState
+own_default = point idle
     (row_at 0 TxDefaultProfile 1 low1 Absolute (at_start 0) refl None (period 0 100 ∷ [])
     ∷ (row_at 1 TxDefaultProfile 1 low1 Absolute (at_start 0) refl (Some 60) (period 0 120 ∷ [])
     ∷ (row_at 0 TxDefaultProfile 0 low0 Absolute (at_start 0) refl None (period 0 80 ∷ []) ∷ [])))
@@ -153,14 +153,14 @@ pub hidden_for_one_connector : schedule own_default 2 3600 60 ≡ span 0 100 ∷
 hidden_for_one_connector = refl
 
 -- periods of equal limits are one
-pub equal_neighbours : schedule (book idle
+pub equal_neighbours : schedule (point idle
     (row_at 0 TxDefaultProfile 2 low2 Absolute (at_start 0) refl (Some 60) (period 0 160 ∷ [])
     ∷ (row_at 0 TxDefaultProfile 1 low1 Absolute (at_start 0) refl None (period 0 160 ∷ []) ∷ []))) 1 30 60
     ≡ span 0 160 ∷ []
 equal_neighbours = refl
 
-abbrev shared : ℕ → Book
-shared most = book (at_start 0 ∷ (at_start 0 ∷ []))
+abbrev shared : ℕ → PointState
+shared most = point (at_start 0 ∷ (at_start 0 ∷ []))
     (row_at 0 TxDefaultProfile 0 low0 Absolute (at_start 0) refl None (period 0 200 ∷ [])
     ∷ (row_at 0 ChargePointMaxProfile 0 low0 Absolute (at_start 0) refl None (period 0 most ∷ []) ∷ []))
 
@@ -171,20 +171,20 @@ pub sum_above_the_point : schedule (shared 320) 0 10 60 ≡ span 0 320 ∷ []
 sum_above_the_point = refl
 
 -- without a startSchedule a default counts from the start of the ask, a maximum from its install
-pub from_the_ask : schedule (book idle (row_at 0 TxDefaultProfile 0 low0 Absolute None refl (Some 60) (period 0 100 ∷ []) ∷ [])) 1 30 100
+pub from_the_ask : schedule (point idle (row_at 0 TxDefaultProfile 0 low0 Absolute None refl (Some 60) (period 0 100 ∷ []) ∷ [])) 1 30 100
     ≡ span 0 100 ∷ (span 60 320 ∷ [])
 from_the_ask = refl
 
-pub from_the_install : schedule (book idle (row_at 0 ChargePointMaxProfile 0 low0 Absolute None refl (Some 60) (period 0 120 ∷ []) ∷ [])) 1 30 100
+pub from_the_install : schedule (point idle (row_at 0 ChargePointMaxProfile 0 low0 Absolute None refl (Some 60) (period 0 120 ∷ []) ∷ [])) 1 30 100
     ≡ span 0 120 ∷ (span 30 320 ∷ [])
 from_the_install = refl
 
-pub until_valid_to : schedule (book idle (row_until (at_start 30) 0 TxDefaultProfile 0 low0 Absolute (at_start 0) refl None (period 0 100 ∷ []) ∷ [])) 1 29 2
+pub until_valid_to : schedule (point idle (row_until (at_start 30) 0 TxDefaultProfile 0 low0 Absolute (at_start 0) refl None (period 0 100 ∷ []) ∷ [])) 1 29 2
     ≡ span 0 100 ∷ (span 1 320 ∷ [])
 until_valid_to = refl
 
-abbrev from_the_transaction : Book
-from_the_transaction = book on_first (row_at 0 TxDefaultProfile 0 low0 Relative None refl (Some 60) (period 0 100 ∷ []) ∷ [])
+abbrev from_the_transaction : PointState
+from_the_transaction = point on_first (row_at 0 TxDefaultProfile 0 low0 Relative None refl (Some 60) (period 0 100 ∷ []) ∷ [])
 
 -- one row counts from another base at each connector, and for the point from that of the connector
 pub base_of_the_first : schedule from_the_transaction 1 30 60 ≡ span 0 100 ∷ (span 30 320 ∷ [])

@@ -1,9 +1,9 @@
-pub mod Book
+pub mod Limits
+pub mod View
 pub mod Prevailing
 pub mod Limit
-pub mod Schedule
+pub mod Composite
 pub mod Exact
-pub mod ExactPeriods
-pub mod Right
-pub mod Asked
-pub mod SecondAdded
+pub mod Compiled
+pub mod Ask
+pub mod ByCases

@@ -1,6 +1,8 @@
-ghost use Rattle.std.specs.Prelude.{◌≡◌, ℕ, ◌+◌, ◌<◌, ◌≤◌, Some, None, MatchResult};
-ghost use Rattle.meaning.specs.declared.ask.TheConstants.{MAX_DURATION};
-ghost use Rattle.ocpp_scalars.specs.declared.instant.TheConstants.{LAST_SECOND};
+//! What GetCompositeSchedule asks.
+
+ghost use Rattle.std.specs.Prelude.{◌≡◌, ◌+◌, ◌<◌, ◌≤◌, IfOk};
+ghost use Rattle.ocpp_scalars.specs.Limits.{last_second};
+ghost use Rattle.meaning.specs.Limits.{max_duration};
 
 use ocpp_scalars::{Instant, LAST_SECOND, Refusal};
 
@@ -16,24 +18,25 @@ pub struct Ask {
     /// Seconds.
     pub duration: u32,
     pub ghost some: { 0 < duration },
-    pub ghost most: { duration ≤ MAX_DURATION },
-    pub ghost within: { start + duration ≤ LAST_SECOND + 1 },
+    pub ghost most: { duration ≤ max_duration },
+    pub ghost within: { start + duration ≤ last_second + 1 },
 }
 
 impl Ask {
-    ghost use Rattle.meaning.specs.Asked.{ask_refusal};
+    ghost use Rattle.meaning.specs.Ask.{ask_of};
 
     /// What is asked of a connector from a start on for so many seconds. The refusals are
     /// `BadDuration`, at 0 and above `MAX_DURATION`, and then `PastCalendar`, where the last second
     /// lies past the last instant.
     pub fn try_new(connector: u32, start: Instant, duration: u32) -> Result<Ask, Refusal>
-        ensures fields { MatchResult result (λ ask. (ask.connector ≡ connector) × (ask.start ≡ start) × (ask.duration ≡ duration)) (λ _. Unit {0}) }
-        ensures refusal { MatchResult result (λ _. ask_refusal start duration ≡ None) (λ refusal. ask_refusal start duration ≡ Some refusal) }
+        ensures made { result ≡ ask_of connector start duration }
+        ensures fields { IfOk result
+            (λ ask. (ask.connector ≡ connector) × (ask.start ≡ start) × (ask.duration ≡ duration)) }
     {
         if duration == 0 || duration > MAX_DURATION {
             return Err(Refusal::BadDuration);
         }
-        if start.seconds() + u64::from(duration) - 1 > LAST_SECOND {
+        if start.seconds() + u64::from(duration) > LAST_SECOND + 1 {
             return Err(Refusal::PastCalendar);
         }
         Ok(Ask {

@@ -1,6 +1,8 @@
-ghost use Rattle.std.specs.Prelude.{◌≡◌, ℕ, List, IfOk, IsOkUnless};
+//! Composite schedules.
 
-use ocpp_scalars::Refusal;
+ghost use Rattle.std.specs.Prelude.{◌≡◌, IfOk};
+
+use std::alloc::AllocError;
 use std::marker::Model;
 
 /// The most periods that a composite schedule has.
@@ -25,7 +27,7 @@ pub struct Composite {
 }
 
 impl Model for Composite {
-    ghost use Rattle.meaning.specs.Schedule.{Schedule, IsSchedule};
+    ghost use Rattle.meaning.specs.Composite.{Schedule, IsSchedule};
 
     ghost Value = { Schedule };
 
@@ -35,10 +37,10 @@ impl Model for Composite {
 }
 
 impl Composite {
-    ghost use Rattle.meaning.specs.Schedule.{IsSchedule};
+    ghost use Rattle.meaning.specs.Composite.{IsSchedule};
 
     /// The schedule of these periods over so many seconds.
-    pub(crate) fn new(duration: u32, periods: Vec<CompositePeriod>) -> Composite
+    pub fn new(duration: u32, periods: Vec<CompositePeriod>) -> Composite
         requires schedule { IsSchedule duration periods.items }
         ensures lasts { result.duration ≡ duration }
         ensures same { result.periods ≡ periods.items }
@@ -61,18 +63,15 @@ impl Composite {
         self.periods.as_slice()
     }
 
-    /// The same schedule once more; `OutOfMemory` is the one refusal.
-    pub fn copy(&self) -> Result<Composite, Refusal>
-        ensures copied { IfOk result (λ copy. copy ≡ self.now) }
-        ensures memory { IsOkUnless result Refusal.OutOfMemory }
+    /// A copy.
+    pub fn copy(&self) -> Result<Composite, AllocError>
+        ensures { IfOk result (λ copy. copy ≡ self.now) }
     {
         let alloc = *self.periods.allocator();
-        match Vec::from_slice(alloc, self.periods()) {
-            Ok(periods) => Ok(Composite {
-                duration: self.duration(),
-                periods,
-            }),
-            Err(_) => Err(Refusal::OutOfMemory),
-        }
+        let periods = Vec::from_slice(alloc, self.periods())?;
+        Ok(Composite {
+            duration: self.duration(),
+            periods,
+        })
     }
 }

@@ -17,5 +17,5 @@ pub use ask::{Ask, MAX_DURATION};
 pub use composite::{Composite, CompositePeriod, MAX_COMPOSITE_PERIODS};
 pub use limit::limit_at;
 pub use plain_compiler::compile_plain;
-pub use schedule_laws::{exact_schedule_exists, one_schedule};
+pub use schedule_laws::{exact_schedule_exists, exact_schedules, one_schedule};
 pub use view::View;

@@ -1,5 +1,7 @@
+//! The limit of a connector at an instant.
+
 ghost use Rattle.std.specs.Prelude.{◌≡◌, ℕ, ◌<◌, ◌≤◌, min, length, ◌+◌};
-ghost use Rattle.meaning.specs.Book.{book_of};
+ghost use Rattle.meaning.specs.View.{point_state};
 ghost use Rattle.meaning.specs.Limit.{transaction_limit, own_limit, point_limit, shared_limit, limit};
 
 use crate::view::View;
@@ -8,62 +10,62 @@ use profile::Purpose;
 
 /// The limit of a connector at a second, in tenths, in a schedule asked from `asked` on (chapter
 /// 3.13). Connector 0 is the whole point.
-pub fn limit_at(view: &View<'_>, connector: u32, asked: Instant, second: Instant) -> u32
+pub fn limit_at(view: &View<'_>, connector: u32, asked: Instant, instant: Instant) -> u32
     requires has_connector { connector ≤ length view.now.ceilings.now }
-    ensures { result ≡ limit (book_of view.now) connector asked second }
+    ensures { result ≡ limit (point_state view.now) connector asked instant }
 {
-    let point = view.point_limit(asked, second);
+    let point = view.point_limit(asked, instant);
     if connector == 0 {
-        view.shared_limit_within(point, asked, second)
+        view.shared_limit_within(point, asked, instant)
     } else {
-        point.min(view.own_limit(connector as usize, asked, second))
+        point.min(view.own_limit(connector as usize, asked, instant))
     }
 }
 
 impl View<'_> {
     /// The least of the point's ceiling and the prevailing ChargePointMaxProfile.
-    fn point_limit(&self, asked: Instant, second: Instant) -> u32
-        ensures { result ≡ point_limit (book_of self.now) asked second }
+    fn point_limit(&self, asked: Instant, instant: Instant) -> u32
+        ensures { result ≡ point_limit (point_state self.now) asked instant }
     {
-        match self.prevailing(Purpose::ChargePointMaxProfile, 0, asked, second) {
+        match self.prevailing(Purpose::ChargePointMaxProfile, 0, asked, instant) {
             Some(limit) => self.ceiling.min(limit),
             None => self.ceiling,
         }
     }
 
     /// The least of the connector's ceiling and its transaction limit.
-    fn own_limit(&self, connector: usize, asked: Instant, second: Instant) -> u32
+    fn own_limit(&self, connector: usize, asked: Instant, instant: Instant) -> u32
         requires above { 0 < connector }
         requires has_connector { connector ≤ length self.now.ceilings.now }
-        ensures { result ≡ own_limit (book_of self.now) connector asked second }
+        ensures { result ≡ own_limit (point_state self.now) connector asked instant }
     {
         let ceiling = self.ceilings[connector - 1];
-        match self.transaction_limit(connector, asked, second) {
+        match self.transaction_limit(connector, asked, instant) {
             Some(limit) => ceiling.min(limit),
             None => ceiling,
         }
     }
 
     /// What the prevailing TxProfile gives, or else the prevailing TxDefaultProfile.
-    fn transaction_limit(&self, connector: usize, asked: Instant, second: Instant) -> Option<u32>
-        ensures { result ≡ transaction_limit (book_of self.now) connector asked second }
+    fn transaction_limit(&self, connector: usize, asked: Instant, instant: Instant) -> Option<u32>
+        ensures { result ≡ transaction_limit (point_state self.now) connector asked instant }
     {
-        match self.prevailing(Purpose::TxProfile, connector, asked, second) {
+        match self.prevailing(Purpose::TxProfile, connector, asked, instant) {
             Some(limit) => Some(limit),
-            None => self.prevailing(Purpose::TxDefaultProfile, connector, asked, second),
+            None => self.prevailing(Purpose::TxDefaultProfile, connector, asked, instant),
         }
     }
 
     /// What the active connectors may draw together, as far as it lies within `most`. The sum stops
     /// there, so that no number of connectors makes it overflow.
-    fn shared_limit_within(&self, most: u32, asked: Instant, second: Instant) -> u32
-        ensures { result ≡ min most (shared_limit (book_of self.now) asked second) }
+    fn shared_limit_within(&self, most: u32, asked: Instant, instant: Instant) -> u32
+        ensures { result ≡ min most (shared_limit (point_state self.now) asked instant) }
     {
         let mut sum = 0;
         for index in 0..self.ceilings.len() {
             let connector = index + 1;
             if self.active_since(connector).is_some() {
-                let own = self.own_limit(connector, asked, second);
+                let own = self.own_limit(connector, asked, instant);
                 sum = least_sum(most, sum, own);
             }
         }

@@ -1,9 +1,11 @@
-ghost use Rattle.std.specs.Prelude.{◌≡◌, ℕ, ◌+◌, ◌≤◌, ◌++◌, length, MatchResult};
-ghost use Rattle.meaning.specs.declared.composite.TheConstants.{MAX_COMPOSITE_PERIODS};
-ghost use Rattle.meaning.specs.Book.{book_of};
-ghost use Rattle.meaning.specs.Asked.{limit_asked};
-ghost use Rattle.meaning.specs.Right.{IsRight};
-ghost use Rattle.meaning.specs.SecondAdded.{period_added, IsAddRefused};
+//! The plain compiler of composite schedules, which every faster one is held against.
+
+ghost use Rattle.std.specs.Prelude.{◌≡◌, ◌+◌, ◌≤◌, ◌++◌, length, IfErr, OnErr, OnOk};
+ghost use Rattle.meaning.specs.Limits.{max_composite_periods};
+ghost use Rattle.meaning.specs.View.{point_state};
+ghost use Rattle.meaning.specs.Limit.{limit_asked};
+ghost use Rattle.meaning.specs.Compiled.{IsCompiled};
+ghost use Rattle.meaning.specs.ByCases.PlainCompiler.{period_added, IsAddRefused};
 
 use crate::ask::Ask;
 use crate::composite::{Composite, CompositePeriod, MAX_COMPOSITE_PERIODS};
@@ -16,7 +18,8 @@ use std::alloc::Global;
 /// `MAX_COMPOSITE_PERIODS` periods, and `OutOfMemory`.
 pub fn compile_plain(alloc: Global, view: &View<'_>, ask: &Ask) -> Result<Composite, Refusal>
     requires has_connector { ask.now.connector ≤ length view.now.ceilings.now }
-    ensures right { IsRight (limit_asked (book_of view.now) ask.now) ask.now.duration result }
+    ensures { IsCompiled (limit_asked (point_state view.now) ask.now.connector ask.now.start)
+        ask.now.duration result }
 {
     let mut periods = Vec::new(alloc);
     let mut before = None;
@@ -39,10 +42,14 @@ fn add_second(
     before: Option<u32>,
     period: CompositePeriod,
 ) -> Result<(), Refusal>
-    requires few { length periods.old.items ≤ MAX_COMPOSITE_PERIODS }
-    ensures { MatchResult result
-        (λ _. (periods.new.items ≡ periods.old.items ++ period_added before period) × (length periods.new.items ≤ MAX_COMPOSITE_PERIODS))
-        (λ refusal. IsAddRefused (length periods.old.items + length (period_added before period)) refusal) }
+    requires few { length periods.old.items ≤ max_composite_periods }
+    ensures added { OnOk result
+        (periods.new.items ≡ periods.old.items ++ period_added before period) }
+    ensures few { OnOk result (length periods.new.items ≤ max_composite_periods) }
+    ensures refused { IfErr result
+        (λ refusal. IsAddRefused (length periods.old.items + length (period_added before period))
+        refusal) }
+    ensures unchanged { OnErr result (periods.new.items ≡ periods.old.items) }
 {
     if before == Some(period.limit) {
         return Ok(());
@@ -50,8 +57,6 @@ fn add_second(
     if periods.len() == MAX_COMPOSITE_PERIODS {
         return Err(Refusal::ResultTooLong);
     }
-    match periods.push(period) {
-        Ok(()) => Ok(()),
-        Err(_) => Err(Refusal::OutOfMemory),
-    }
+    periods.push(period)?;
+    Ok(())
 }

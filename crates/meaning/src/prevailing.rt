@@ -1,9 +1,11 @@
+//! Which profile of a purpose prevails at an instant.
+
 ghost use Rattle.std.specs.Prelude.{◌≡◌, ℕ, [], ◌∷◌};
 ghost use Rattle.std.specs.List.{filter_map};
 ghost use Rattle.profile.specs.Greatest.{greatest};
 ghost use Rattle.profile.specs.Candidates.{is_replaced_at, is_candidate};
-ghost use Rattle.meaning.specs.Book.{book_of, active_since};
-ghost use Rattle.meaning.specs.Prevailing.{has_its_transaction, counts, level_and_limit, prevailing};
+ghost use Rattle.meaning.specs.View.{point_state, active_since};
+ghost use Rattle.meaning.specs.Prevailing.{has_its_transaction, level_and_limit, prevailing};
 
 use crate::view::View;
 use ocpp_scalars::Instant;
@@ -17,25 +19,20 @@ impl View<'_> {
         purpose: Purpose,
         connector: usize,
         asked: Instant,
-        second: Instant,
+        instant: Instant,
     ) -> Option<u32>
-        ensures { result ≡ prevailing purpose (book_of self.now) connector asked second }
+        ensures { result ≡ prevailing purpose (point_state self.now) connector asked instant }
     {
+        if !has_its_transaction(purpose, self.active_since(connector)) {
+            return None;
+        }
         let mut best = None;
         for row in self.rows {
-            if self.counts(purpose, connector, row) {
-                best = higher(best, self.level_and_limit(connector, asked, second, row));
+            if self.is_candidate(purpose, connector, row) {
+                best = higher(best, self.level_and_limit(connector, asked, instant, row));
             }
         }
         best.map(|(_, limit)| limit)
-    }
-
-    /// Whether a row counts for a connector among the profiles of a purpose.
-    fn counts(&self, purpose: Purpose, connector: usize, row: &Row) -> bool
-        ensures { result ≡ counts purpose (book_of self.now) connector row.now }
-    {
-        self.is_candidate(purpose, connector, row)
-            && has_its_transaction(purpose, self.active_since(connector))
     }
 
     /// Whether a row speaks for a connector among the profiles of a purpose.
@@ -70,13 +67,13 @@ impl View<'_> {
         &self,
         connector: usize,
         asked: Instant,
-        second: Instant,
+        instant: Instant,
         row: &Row,
     ) -> Option<(u32, u32)>
-        ensures { result ≡ level_and_limit (book_of self.now) connector asked second row.now }
+        ensures { result ≡ level_and_limit (point_state self.now) connector asked instant row.now }
     {
         let base = row.base(self.active_since(connector), asked);
-        let limit = row.profile.rate(base, second)?;
+        let limit = row.profile.rate(base, instant)?;
         Some((row.profile.stack_level, limit))
     }
 }
@@ -94,7 +91,8 @@ fn has_its_transaction(purpose: Purpose, started: Option<Instant>) -> bool
 /// Of two limits, each with its stack level where it is there, the one of the higher level, and the
 /// first of equals.
 fn higher(best: Option<(u32, u32)>, next: Option<(u32, u32)>) -> Option<(u32, u32)>
-    ensures { result ≡ greatest (λ (limit : ℕ × ℕ). limit.0) (filter_map (λ limit. limit) (best ∷ (next ∷ []))) }
+    ensures { result ≡ greatest (λ (limit : ℕ × ℕ). limit.0)
+        (filter_map (λ limit. limit) (best ∷ (next ∷ []))) }
 {
     match (best, next) {
         (Some(first), Some(second)) if first.0 < second.0 => Some(second),

@@ -1,3 +1,5 @@
+//! The worked examples by the plain compiler, and copies at their largest, with ample memory.
+
 use crate::ask::Ask;
 use crate::composite::CompositePeriod;
 use crate::limit::limit_at;
@@ -44,7 +46,7 @@ fn row(
             number_phases: None,
         })?;
     }
-    assert!(rt; !items.is_empty());
+    let list = PeriodList::try_new(items).ok().ok_or("no period")?;
     let start = match example.start {
         Some(second) => Some(instant(second)?),
         None => None,
@@ -62,7 +64,7 @@ fn row(
             duration: example.duration,
             start,
             unit: Unit::A,
-            periods: PeriodList::new(items),
+            periods: list,
             min_charging_rate: None,
         },
     };
@@ -76,20 +78,35 @@ fn row(
     }
 }
 
-/// What the view answers an ask so many seconds after midnight, against the periods expected.
+/// What is asked of a connector; start counts from midnight.
+#[derive(Clone, Copy)]
+struct Asked {
+    connector: u32,
+    start: u32,
+    duration: u32,
+}
+
+fn from_midnight(connector: u32, start: u32, duration: u32) -> Asked {
+    Asked {
+        connector,
+        start,
+        duration,
+    }
+}
+
+/// What the view answers an ask, against the periods expected.
 fn expect(
     rt: &impl Abort,
     alloc: Global,
     view: &View<'_>,
-    ask: (u32, u32, u32),
+    asked: Asked,
     expected: &[(u32, u32)],
 ) -> Result<(), Fail> {
-    let (connector, asked, duration) = ask;
-    assert!(rt; connector as usize <= view.ceilings.len());
-    let start = instant(asked)?;
-    let ask = Ask::try_new(connector, start, duration)?;
-    let schedule = compile_plain(alloc, view, &ask)?.copy()?;
-    assert_eq!(rt; schedule.duration(), duration);
+    assert!(rt; asked.connector as usize <= view.ceilings.len());
+    let start = instant(asked.start)?;
+    let ask = Ask::try_new(asked.connector, start, asked.duration)?;
+    let schedule = compile_plain(alloc, view, &ask)?;
+    assert_eq!(rt; schedule.duration(), asked.duration);
     assert_eq!(rt; schedule.periods().len(), expected.len());
     for (period, (start, limit)) in schedule.periods().iter().zip(expected) {
         assert_eq!(rt;
@@ -101,7 +118,7 @@ fn expect(
         );
     }
     let first = schedule.periods().first().map(|period| period.limit);
-    assert_eq!(rt; first, Some(limit_at(view, connector, start, start)));
+    assert_eq!(rt; first, Some(limit_at(view, asked.connector, start, start)));
     Ok(())
 }
 
@@ -134,8 +151,14 @@ fn answers_two_levels(rt: HostRuntime) -> Result<(), Fail> {
         rows: rows.as_slice(),
     };
     let expected = [(0, 60), (2, 200), (57_602, 60)];
-    expect(&rt, alloc, &view, (1, 194_398, 86_400), &expected)?;
-    expect(&rt, alloc, &view, (0, 194_398, 60), &[(0, 0)])
+    expect(
+        &rt,
+        alloc,
+        &view,
+        from_midnight(1, 194_398, 86_400),
+        &expected,
+    )?;
+    expect(&rt, alloc, &view, from_midnight(0, 194_398, 60), &[(0, 0)])
 }
 
 #[test]
@@ -158,9 +181,21 @@ fn answers_each_connector_and_the_point(rt: HostRuntime) -> Result<(), Fail> {
         starts: &[started, None],
         rows: rows.as_slice(),
     };
-    expect(&rt, alloc, &view, (1, 30, 60), &[(0, 100), (30, 320)])?;
-    expect(&rt, alloc, &view, (2, 30, 60), &[(0, 100)])?;
-    expect(&rt, alloc, &view, (0, 30, 60), &[(0, 100), (30, 320)])
+    expect(
+        &rt,
+        alloc,
+        &view,
+        from_midnight(1, 30, 60),
+        &[(0, 100), (30, 320)],
+    )?;
+    expect(&rt, alloc, &view, from_midnight(2, 30, 60), &[(0, 100)])?;
+    expect(
+        &rt,
+        alloc,
+        &view,
+        from_midnight(0, 30, 60),
+        &[(0, 100), (30, 320)],
+    )
 }
 
 #[test]
@@ -187,9 +222,36 @@ fn answers_up_to_the_most_periods(rt: HostRuntime) -> Result<(), Fail> {
         rows: rows.as_slice(),
     };
     let most = Ask::try_new(1, instant(0)?, 432_000)?;
-    assert_eq!(rt; compile_plain(alloc, &view, &most)?.periods().len(), 1_000);
+    let schedule = compile_plain(alloc, &view, &most)?.copy()?;
+    assert_eq!(rt; schedule.periods().len(), 1_000);
     let more = Ask::try_new(1, instant(0)?, 432_001)?;
     let refusal = compile_plain(alloc, &view, &more).err();
     assert_eq!(rt; refusal, Some(Refusal::ResultTooLong));
+    Ok(())
+}
+
+#[test]
+fn copies_200_periods(rt: HostRuntime) -> Result<(), Fail> {
+    let alloc = rt.alloc();
+    let mut periods = Vec::new(alloc);
+    for k in 0..200 {
+        periods.push((k, 60))?;
+    }
+    let example = Example {
+        connector: 1,
+        purpose: Purpose::TxDefaultProfile,
+        level: 0,
+        kind: ProfileKind::Relative,
+        start: None,
+        duration: Some(60),
+    };
+    let first = row(&rt, alloc, example, periods.as_slice())?;
+    assert!(rt; first.copy()?.same(&first));
+    assert!(rt; first.profile.copy()?.same(&first.profile));
+    let schedule = &first.profile.schedule;
+    assert!(rt; schedule.copy()?.same(schedule));
+    assert!(rt; schedule.periods.copy()?.same(&schedule.periods));
+    let shorter = row(&rt, alloc, example, &periods.as_slice()[..199])?;
+    assert!(rt; !shorter.same(&first));
     Ok(())
 }

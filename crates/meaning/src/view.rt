@@ -1,3 +1,5 @@
+//! What a charge point has at one time.
+
 ghost use Rattle.std.specs.Prelude.{◌≡◌};
 
 use ocpp_scalars::Instant;
@@ -17,11 +19,11 @@ pub struct View<'a> {
 }
 
 impl View<'_> {
-    ghost use Rattle.meaning.specs.Book.{book_of, active_since};
+    ghost use Rattle.meaning.specs.View.{point_state, active_since};
 
     /// The start of the active transaction at a connector; connector 0 never has one.
     pub(crate) fn active_since(&self, connector: usize) -> Option<Instant>
-        ensures { result ≡ active_since (book_of self.now) connector }
+        ensures { result ≡ active_since (point_state self.now) connector }
     {
         if connector == 0 {
             return None;

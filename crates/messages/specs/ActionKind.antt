@@ -1,6 +1,6 @@
 -- The names of the actions that are supported, and who sends each (OCPP 1.6, chapters 4 and 5).
-use Rattle.std.specs.Prelude.{ℕ, List, [], ◌∷◌, Option, Some, None, codes, option_map, if◌then◌else◌}
-use Rattle.std.specs.Str.{bytes_eq}
+use Rattle.std.specs.Prelude.{ℕ, List, [], ◌∷◌, Option, Some, None, codes, option_map}
+use Rattle.profile.specs.Names.{named_in}
 use Rattle.messages.specs.declared.action_kind.ActionKind.{ActionKind}
 use Rattle.messages.specs.declared.action_kind.ActionKind.TheVariants.{SetChargingProfile, ClearChargingProfile, GetCompositeSchedule, BootNotification, Heartbeat, Authorize, StartTransaction, StopTransaction, StatusNotification, MeterValues, FirmwareStatusNotification, DiagnosticsStatusNotification, DataTransfer}
 use Rattle.messages.specs.declared.side.Side.{Side}
@@ -24,12 +24,7 @@ actions =
     ∷ (codes "DataTransfer", DataTransfer)
     ∷ []
 
--- What a table has under a name, exactly as written.
-abbrev pub named_in : {A : Type 0} → List (List ℕ × A) → List ℕ → Option A
-named_in [] text = None
-named_in (row ∷ rows) text = if bytes_eq text row.0 then Some row.1 else named_in rows text
-
--- The action of a name.
+-- The action of a name, exactly as written.
 abbrev pub action_named : List ℕ → Option ActionKind
 action_named text = named_in actions text
 

@@ -1,10 +1,10 @@
 -- The fields of an object: what stands at a field's name, and which fault it is where that won't do
 -- (OCPP-J 1.6, 4.2.3, for the three faults).
-use Rattle.std.specs.Prelude.{ℕ, ℤ, pos, negsuc, List, [], ◌∷◌, Option, Some, None, Result, Ok, Err}
+use Rattle.std.specs.Prelude.{ℕ, ℤ, pos, negsuc, List, Option, Some, None, Result, Ok, Err}
 use Rattle.ocppj_frame.specs.declared.field.Field.{Field}
 use Rattle.ocppj_frame.specs.declared.field.Field.TheVariants.{Absent, WrongKind, WrongValue, Value}
 use Rattle.ocppj_frame.specs.Tree.{Tree}
-use Rattle.ocppj_frame.specs.FieldReading.{text_field_of, whole_field_of, tenths_field_of, instant_field_of, list_field_of, object_field_of}
+use Rattle.ocppj_frame.specs.Field.{text_field_of, whole_field_of, tenths_field_of, instant_field_of, list_field_of, object_field_of}
 use Rattle.messages.specs.declared.field_name.FieldName.{FieldName}
 use Rattle.messages.specs.declared.fields.NamedField.{NamedField}
 use Rattle.messages.specs.declared.call_fault.CallFault.{CallFault}
@@ -25,14 +25,14 @@ optional_value name WrongKind = Err (TypeConstraintViolation name)
 optional_value name WrongValue = Err (PropertyConstraintViolation name)
 optional_value name (Value x) = Ok (Some x)
 
-abbrev pub required : {A : Type 0} → NamedField A → Result A CallFault
+unfoldable pub required : {A : Type 0} → NamedField A → Result A CallFault
 required read = required_value read.name read.field
 
-abbrev pub optional : {A : Type 0} → NamedField A → Result (Option A) CallFault
+unfoldable pub optional : {A : Type 0} → NamedField A → Result (Option A) CallFault
 optional read = optional_value read.name read.field
 
 -- a whole number of 32 bits
-abbrev pub whole : Tree → FieldName → NamedField ℤ
+unfoldable pub whole : Tree → FieldName → NamedField ℤ
 whole fields name = record { name = name; field = whole_field_of (field_name name) fields }
 
 -- a whole number below 0 is a wrong value
@@ -43,14 +43,14 @@ from_zero WrongValue = WrongValue
 from_zero (Value (pos n)) = Value n
 from_zero (Value (negsuc n)) = WrongValue
 
-abbrev pub whole_from_zero : Tree → FieldName → NamedField ℕ
+unfoldable pub whole_from_zero : Tree → FieldName → NamedField ℕ
 whole_from_zero fields name = record { name = name; field = from_zero (whole_field_of (field_name name) fields) }
 
 -- tenths of A or W
-abbrev pub tenths : Tree → FieldName → NamedField ℕ
+unfoldable pub tenths : Tree → FieldName → NamedField ℕ
 tenths fields name = record { name = name; field = tenths_field_of (field_name name) fields }
 
-abbrev pub instant : Tree → FieldName → NamedField ℕ
+unfoldable pub instant : Tree → FieldName → NamedField ℕ
 instant fields name = record { name = name; field = instant_field_of (field_name name) fields }
 
 -- a text that is no such name is a wrong value
@@ -65,22 +65,14 @@ one_of named WrongValue = WrongValue
 one_of named (Value text) = value_or_wrong (named text)
 
 -- a text that names one of a few values
-abbrev pub one_name_of : {A : Type 0} → (List ℕ → Option A) → Tree → FieldName → NamedField A
+unfoldable pub one_name_of : {A : Type 0} → (List ℕ → Option A) → Tree → FieldName → NamedField A
 one_name_of named fields name = record { name = name; field = one_of named (text_field_of (field_name name) fields) }
 
--- a list that has entries; an empty one counts as absent
-abbrev pub with_entries : Field (List Tree) → Field (List Tree)
-with_entries Absent = Absent
-with_entries WrongKind = WrongKind
-with_entries WrongValue = WrongValue
-with_entries (Value []) = Absent
-with_entries (Value (entry ∷ entries)) = Value (entry ∷ entries)
+unfoldable pub list : Tree → FieldName → NamedField (List Tree)
+list fields name = record { name = name; field = list_field_of (field_name name) fields }
 
-abbrev pub entries : Tree → FieldName → NamedField (List Tree)
-entries fields name = record { name = name; field = with_entries (list_field_of (field_name name) fields) }
-
-abbrev pub object : Tree → FieldName → NamedField Tree
+unfoldable pub object : Tree → FieldName → NamedField Tree
 object fields name = record { name = name; field = object_field_of (field_name name) fields }
 
-abbrev pub text : Tree → FieldName → NamedField (List ℕ)
+unfoldable pub text : Tree → FieldName → NamedField (List ℕ)
 text fields name = record { name = name; field = text_field_of (field_name name) fields }

@@ -2,7 +2,8 @@ pub mod FieldName
 pub mod CallFault
 pub mod ActionKind
 pub mod Fields
-pub mod Reading
 pub mod ProfileFields
+pub mod OperatorActions
+pub mod PointActions
 pub mod Action
 pub mod ResponseText

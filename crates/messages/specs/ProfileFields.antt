@@ -1,36 +1,46 @@
-use Rattle.std.specs.Prelude.{List, [], ◌∷◌, Bool, true, false, Result, Ok, Err}
-use Rattle.ocppj_frame.specs.FieldReading.{◌>>=◌}
+-- The fields of a charging profile, in the order in which they are checked (OCPP 1.6, chapter 7).
+use Rattle.std.specs.Prelude.{List, [], ◌∷◌, Result, Ok, Err, if◌then◌else◌}
+use Rattle.ocpp_scalars.specs.ResultSteps.{◌>>=◌}
 use Rattle.ocppj_frame.specs.Tree.{Tree, is_object}
 use Rattle.profile.specs.declared.period.Period.{Period}
 use Rattle.profile.specs.declared.parts.ProfileParts.{ProfileParts}
 use Rattle.profile.specs.declared.parts.ScheduleParts.{ScheduleParts}
 use Rattle.messages.specs.declared.field_name.FieldName.TheVariants.{ChargingProfileId, ChargingProfileKind, ChargingProfilePurpose, ChargingRateUnit, ChargingSchedule, ChargingSchedulePeriod, Duration, Limit, MinChargingRate, NumberPhases, RecurrencyKind, StackLevel, StartPeriod, StartSchedule, TransactionId, ValidFrom, ValidTo}
 use Rattle.messages.specs.declared.call_fault.CallFault.{CallFault}
-use Rattle.messages.specs.declared.call_fault.CallFault.TheVariants.{TypeConstraintViolation}
+use Rattle.messages.specs.declared.call_fault.CallFault.TheVariants.{OccurenceConstraintViolation, TypeConstraintViolation}
 use Rattle.profile.specs.Names.{purpose_named, kind_named, recurrency_named, unit_named}
-use Rattle.messages.specs.Fields.{required, optional, whole, whole_from_zero, tenths, instant, one_name_of, entries, object}
+use Rattle.messages.specs.Fields.{required, optional, whole, whole_from_zero, tenths, instant, one_name_of, list, object}
 
 -- an entry of chargingSchedulePeriod has to be an object
-abbrev pub as_period : Tree → Bool → Result Tree CallFault
-as_period entry true = Ok entry
-as_period entry false = Err (TypeConstraintViolation ChargingSchedulePeriod)
+abbrev pub as_period : Tree → Result Tree CallFault
+as_period entry = if is_object entry then Ok entry else Err (TypeConstraintViolation ChargingSchedulePeriod)
 
 -- the fields of a period, in the order in which they are checked (OCPP 1.6, chapter 7, ChargingSchedulePeriod)
 unfoldable pub period_of : Tree → Result Period CallFault
 period_of entry = do
-  fields ← as_period entry (is_object entry)
+  fields ← as_period entry
   start ← required (whole_from_zero fields StartPeriod)
   limit ← required (tenths fields Limit)
   number_phases ← optional (whole_from_zero fields NumberPhases)
   Ok (record { start = start; limit = limit; number_phases = number_phases })
 
 -- the periods of a list, in order
-abbrev pub periods_of : List Tree → Result (List Period) CallFault
-periods_of [] = Ok []
-periods_of (entry ∷ entries) = do
+abbrev pub each_period_of : List Tree → Result (List Period) CallFault
+each_period_of [] = Ok []
+each_period_of (entry ∷ entries) = do
   period ← period_of entry
-  periods ← periods_of entries
+  periods ← each_period_of entries
   Ok (period ∷ periods)
+
+-- a required list that is empty counts as absent
+abbrev pub unless_empty : List Period → Result (List Period) CallFault
+unless_empty [] = Err (OccurenceConstraintViolation ChargingSchedulePeriod)
+unless_empty (period ∷ periods) = Ok (period ∷ periods)
+
+abbrev pub periods_of : List Tree → Result (List Period) CallFault
+periods_of entries = do
+  periods ← each_period_of entries
+  unless_empty periods
 
 -- the fields of a schedule (OCPP 1.6, chapter 7, ChargingSchedule)
 unfoldable pub schedule_of : Tree → Result ScheduleParts CallFault
@@ -38,8 +48,8 @@ schedule_of fields = do
   duration ← optional (whole_from_zero fields Duration)
   start ← optional (instant fields StartSchedule)
   unit ← required (one_name_of unit_named fields ChargingRateUnit)
-  period_list ← required (entries fields ChargingSchedulePeriod)
-  periods ← periods_of period_list
+  entries ← required (list fields ChargingSchedulePeriod)
+  periods ← periods_of entries
   min_charging_rate ← optional (tenths fields MinChargingRate)
   Ok (record { duration = duration; start = start; unit = unit; periods = periods; min_charging_rate = min_charging_rate })
 

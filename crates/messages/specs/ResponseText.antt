@@ -3,15 +3,17 @@ use Rattle.std.specs.Prelude.{Bool, true, false, if◌then◌else◌, ℕ, List,
 use Rattle.std.specs.Fmt.{decimal}
 use Rattle.ocpp_scalars.specs.declared.refusal.Refusal.{Refusal}
 use Rattle.ocpp_scalars.specs.Refusal.{refusal_name}
-use Rattle.ocpp_scalars.specs.InstantText.{instant_text}
-use Rattle.ocpp_scalars.specs.TenthsText.{tenths_text}
+use Rattle.ocpp_scalars.specs.Writing.{instant_text}
+use Rattle.ocpp_scalars.specs.Writing.{tenths_text}
 use Rattle.profile.specs.declared.unit.Unit.{Unit}
 use Rattle.profile.specs.declared.unit.Unit.TheVariants.{A, W}
+use Rattle.meaning.specs.Composite.{Schedule}
 use Rattle.meaning.specs.declared.composite.CompositePeriod.{CompositePeriod}
 use Rattle.ocpp_scalars.specs.declared.refusal.Refusal.TheVariants.{OutOfMemory}
-use Rattle.ocppj_frame.specs.Written.{call_result_text, call_error_text}
+use Rattle.ocppj_frame.specs.Write.{call_result_text, call_error_text}
 use Rattle.messages.specs.declared.response.Response.{Response}
-use Rattle.messages.specs.declared.response.Response.TheVariants.{Accepted, Rejected, Unknown, Schedule, BootNotification, Heartbeat, Authorize, StartTransaction, Empty, UnknownVendorId, Error}
+use Rattle.messages.specs.declared.response.Response.TheVariants.{Accepted, Rejected, Unknown, BootNotification, Heartbeat, Authorize, StartTransaction, Empty, UnknownVendorId, Error}
+use Rattle.messages.specs.declared.response.Response.TheVariants as responses
 use Rattle.messages.specs.declared.response.ScheduleResponse.{ScheduleResponse}
 use Rattle.messages.specs.CallFault.{fault_code, fault_description}
 
@@ -22,13 +24,17 @@ accepted_text = codes "{\"status\":\"Accepted\"}"
 abbrev pub unknown_text : List ℕ
 unknown_text = codes "{\"status\":\"Unknown\"}"
 
+-- an object's beginning with its first field, the present moment
+abbrev pub current_time_text : ℕ → List ℕ
+current_time_text now = codes "{\"currentTime\":\"" ++ instant_text now ++ codes "\""
+
 -- BootNotification.conf: the interval between heartbeats is in seconds
 abbrev pub boot_notification_text : ℕ → List ℕ
-boot_notification_text now = codes "{\"currentTime\":\"" ++ instant_text now ++ codes "\",\"interval\":300,\"status\":\"Accepted\"}"
+boot_notification_text now = current_time_text now ++ codes ",\"interval\":300,\"status\":\"Accepted\"}"
 
 -- Heartbeat.conf
 abbrev pub heartbeat_text : ℕ → List ℕ
-heartbeat_text now = codes "{\"currentTime\":\"" ++ instant_text now ++ codes "\"}"
+heartbeat_text now = current_time_text now ++ codes "}"
 
 -- Authorize.conf
 abbrev pub authorize_text : List ℕ
@@ -62,14 +68,19 @@ abbrev pub periods_text : List CompositePeriod → List ℕ
 periods_text [] = []
 periods_text (period ∷ periods) = period_text period ++ later_periods_text periods
 
+-- a schedule (OCPP 1.6, chapter 7, ChargingSchedule), its limits in a unit
+abbrev pub schedule_text : Unit → Schedule → List ℕ
+schedule_text unit schedule =
+    codes "{\"duration\":" ++ decimal schedule.duration
+    ++ codes ",\"chargingRateUnit\":\"" ++ unit_text unit
+    ++ codes "\",\"chargingSchedulePeriod\":[" ++ periods_text schedule.periods ++ codes "]}"
+
 -- GetCompositeSchedule.conf: the connector and the start asked, and the schedule in the site's unit
 abbrev pub composite_text : ScheduleResponse → List ℕ
 composite_text response =
     codes "{\"status\":\"Accepted\",\"connectorId\":" ++ decimal response.connector
     ++ codes ",\"scheduleStart\":\"" ++ instant_text response.start
-    ++ codes "\",\"chargingSchedule\":{\"duration\":" ++ decimal response.schedule.duration
-    ++ codes ",\"chargingRateUnit\":\"" ++ unit_text response.unit
-    ++ codes "\",\"chargingSchedulePeriod\":[" ++ periods_text response.schedule.periods ++ codes "]}}"
+    ++ codes "\",\"chargingSchedule\":" ++ schedule_text response.unit response.schedule ++ codes "}"
 
 abbrev pub is_out_of_memory : Refusal → Bool
 is_out_of_memory OutOfMemory = true
@@ -87,7 +98,7 @@ abbrev pub response_text : List ℕ → Response → List ℕ
 response_text id Accepted = call_result_text id accepted_text
 response_text id (Rejected refusal) = refusal_text id refusal
 response_text id Unknown = call_result_text id unknown_text
-response_text id (Schedule response) = call_result_text id (composite_text response)
+response_text id (responses.Schedule response) = call_result_text id (composite_text response)
 response_text id (BootNotification now) = call_result_text id (boot_notification_text now)
 response_text id (Heartbeat now) = call_result_text id (heartbeat_text now)
 response_text id Authorize = call_result_text id authorize_text

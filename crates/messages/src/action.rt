@@ -1,9 +1,10 @@
 //! What a CALL asks for, read from its action and its payload.
 ghost use Rattle.std.specs.Prelude.{◌≡◌, IfOk, Some};
-ghost use Rattle.ocppj_frame.specs.FrameReading.{message_in};
-ghost use Rattle.ocppj_frame.specs.Parts.{tree_at};
-ghost use Rattle.messages.specs.Action.{action_of_kind, action_in, kind_asked, HasPeriods, NeedsNoMemory};
-ghost use Rattle.messages.specs.Reading.{Reads};
+ghost use Rattle.ocppj_frame.specs.Frame.{message_in};
+ghost use Rattle.ocppj_frame.specs.Payload.{tree_at};
+ghost use Rattle.messages.specs.Action.{action_of_kind, action_in, kind_asked, NeedsNoMemory};
+ghost use Rattle.ocpp_scalars.specs.Reading.{ReadsUnless};
+ghost use Rattle.messages.specs.CallFault.{is_memory};
 
 use crate::action_kind::ActionKind;
 use crate::call_fault::CallFault;
@@ -12,7 +13,7 @@ use crate::operator_actions::{
 };
 use crate::point_actions::{read_start_transaction, read_stop_transaction};
 use ocpp_scalars::{IdTag, Instant};
-use ocppj_frame::{Frame, Part};
+use ocppj_frame::{Frame, Node};
 use profile::{Criteria, ProfileParts, Unit};
 use std::alloc::Global;
 
@@ -65,8 +66,7 @@ pub struct StartTransaction {
 /// that this system doesn't support, else as [`read_fields`]. Who sends the action
 /// ([`ActionKind::side`]) is asked before.
 pub fn read_action(alloc: Global, frame: &Frame) -> Result<Action, CallFault>
-    ensures value { Reads (λ action. action) result (action_in (message_in frame.now)) }
-    ensures some { IfOk result HasPeriods }
+    ensures value { ReadsUnless is_memory (λ action. action) result (action_in (message_in frame.now)) }
     ensures exact { NeedsNoMemory (kind_asked (message_in frame.now)) → result ≡ action_in (message_in frame.now) }
 {
     let Frame::Call {
@@ -86,10 +86,9 @@ pub fn read_action(alloc: Global, frame: &Frame) -> Result<Action, CallFault>
 /// Reads the fields of an action from the payload of its CALL, or names the first fault in the order of
 /// the action's fields. `Refused(OutOfMemory)` comes only from a SetChargingProfile or a
 /// StartTransaction.
-#[tactic(auto, unfolding(crate::specs::Action::clear_charging_profile_of, crate::specs::Action::get_composite_schedule_of, crate::specs::Action::start_transaction_of, crate::specs::Action::stop_transaction_of))]
-pub fn read_fields(alloc: Global, kind: ActionKind, payload: Part<'_>) -> Result<Action, CallFault>
-    ensures value { Reads (λ action. action) result (action_of_kind kind (tree_at payload.entry)) }
-    ensures some { IfOk result HasPeriods }
+#[tactic(auto, unfolding(crate::specs::OperatorActions::clear_charging_profile_of, crate::specs::OperatorActions::get_composite_schedule_of, crate::specs::PointActions::start_transaction_of, crate::specs::PointActions::stop_transaction_of))]
+pub fn read_fields(alloc: Global, kind: ActionKind, payload: Node<'_>) -> Result<Action, CallFault>
+    ensures value { ReadsUnless is_memory (λ action. action) result (action_of_kind kind (tree_at payload.entry)) }
     ensures exact { NeedsNoMemory (Some kind) → result ≡ action_of_kind kind (tree_at payload.entry) }
 {
     match kind {

@@ -1,8 +1,9 @@
 //! The actions by name, and who sends each.
-ghost use Rattle.std.specs.Prelude.{◌≡◌, map};
-ghost use Rattle.messages.specs.ActionKind.{action_named, named_in, side_of_kind};
+ghost use Rattle.std.specs.Prelude.{◌≡◌};
+ghost use Rattle.messages.specs.ActionKind.{action_named, side_of_kind};
 
 use crate::side::Side;
+use profile::named_in;
 
 /// The actions that this system supports (chapters 4.1 to 4.10 and 5), without their fields.
 #[derive(Clone, Copy, Debug, PartialEq, Eq)]
@@ -74,16 +75,4 @@ impl ActionKind {
             | ActionKind::DataTransfer => Side::Point,
         }
     }
-}
-
-/// What a table has under a name.
-fn named_in<T: Copy>(rows: &[(&str, T)], text: &str) -> Option<T>
-    ensures { result ≡ named_in (map (λ row. (row.0.now, row.1)) rows.now) text.now }
-{
-    for (name, value) in rows {
-        if text == *name {
-            return Some(*value);
-        }
-    }
-    None
 }

@@ -1,15 +1,15 @@
 //! The fields of an object, each read under its name and then taken as required or optional, so that
 //! the reading of an action stands as its table of fields does.
-ghost use Rattle.std.specs.Prelude.{◌≡◌, ◌<◌, length, Ok, Err, IfOk, MatchResult};
-ghost use Rattle.ocppj_frame.specs.FieldReading.{field_map};
-ghost use Rattle.ocppj_frame.specs.Parts.{entries_in, tree_at};
-ghost use Rattle.messages.specs.Fields.{required, optional, from_zero, one_of, value_or_wrong, whole, whole_from_zero, tenths, instant, one_name_of, text, with_entries, entries, object};
+ghost use Rattle.std.specs.Prelude.{◌≡◌, Ok, Err, MatchResult};
+ghost use Rattle.ocppj_frame.specs.Field.{field_map};
+ghost use Rattle.ocppj_frame.specs.Payload.{entries_in, tree_at};
+ghost use Rattle.messages.specs.Fields.{required, optional, from_zero, one_of, value_or_wrong, whole, whole_from_zero, tenths, instant, one_name_of, text, list, object};
 
 use crate::call_fault::CallFault;
 use crate::field_name::FieldName;
 use ocpp_scalars::Instant;
 use ocppj_frame::{
-    Field, Items, Part, instant_field, list_field, object_field, tenths_field, text_field,
+    Entries, Field, Node, instant_field, list_field, object_field, tenths_field, text_field,
     whole_field,
 };
 use profile::Named;
@@ -23,6 +23,7 @@ pub struct NamedField<T> {
 
 impl<T: Drop> NamedField<T> {
     /// The value of a field that has to be there.
+    #[tactic(auto, unfolding(crate::specs::Fields::required))]
     pub fn required(self) -> Result<T, CallFault>
         ensures { result ≡ required self }
     {
@@ -35,6 +36,7 @@ impl<T: Drop> NamedField<T> {
     }
 
     /// The value of a field that may be absent.
+    #[tactic(auto, unfolding(crate::specs::Fields::optional))]
     pub fn optional(self) -> Result<Option<T>, CallFault>
         ensures { result ≡ optional self }
     {
@@ -48,7 +50,8 @@ impl<T: Drop> NamedField<T> {
 }
 
 /// A whole number.
-pub fn whole(fields: Part<'_>, name: FieldName) -> NamedField<i32>
+#[tactic(auto, unfolding(crate::specs::Fields::whole))]
+pub fn whole(fields: Node<'_>, name: FieldName) -> NamedField<i32>
     ensures { result ≡ whole (tree_at fields.entry) name }
 {
     NamedField {
@@ -58,7 +61,8 @@ pub fn whole(fields: Part<'_>, name: FieldName) -> NamedField<i32>
 }
 
 /// A whole number from 0.
-pub fn whole_from_zero(fields: Part<'_>, name: FieldName) -> NamedField<u32>
+#[tactic(auto, unfolding(crate::specs::Fields::whole_from_zero))]
+pub fn whole_from_zero(fields: Node<'_>, name: FieldName) -> NamedField<u32>
     ensures { result ≡ whole_from_zero (tree_at fields.entry) name }
 {
     NamedField {
@@ -79,7 +83,8 @@ fn from_zero(field: Field<i32>) -> Field<u32>
 }
 
 /// Tenths of A or W.
-pub fn tenths(fields: Part<'_>, name: FieldName) -> NamedField<u32>
+#[tactic(auto, unfolding(crate::specs::Fields::tenths))]
+pub fn tenths(fields: Node<'_>, name: FieldName) -> NamedField<u32>
     ensures { result ≡ tenths (tree_at fields.entry) name }
 {
     NamedField {
@@ -89,7 +94,8 @@ pub fn tenths(fields: Part<'_>, name: FieldName) -> NamedField<u32>
 }
 
 /// An instant.
-pub fn instant(fields: Part<'_>, name: FieldName) -> NamedField<Instant>
+#[tactic(auto, unfolding(crate::specs::Fields::instant))]
+pub fn instant(fields: Node<'_>, name: FieldName) -> NamedField<Instant>
     ensures { result ≡ instant (tree_at fields.entry) name }
 {
     NamedField {
@@ -99,7 +105,8 @@ pub fn instant(fields: Part<'_>, name: FieldName) -> NamedField<Instant>
 }
 
 /// A value that is written as one of a few names.
-pub fn one_name_of<T: Named + Drop>(fields: Part<'_>, name: FieldName) -> NamedField<T>
+#[tactic(auto, unfolding(crate::specs::Fields::one_name_of))]
+pub fn one_name_of<T: Named + Drop>(fields: Node<'_>, name: FieldName) -> NamedField<T>
     ensures { result ≡ one_name_of T.named (tree_at fields.entry) name }
 {
     NamedField {
@@ -128,44 +135,44 @@ fn value_or_wrong<T: Drop>(value: Option<T>) -> Field<T>
     }
 }
 
-/// An object. What is at the name is a `Part` here, and its tree in the definition.
-pub fn object<'a>(fields: Part<'a>, name: FieldName) -> NamedField<Part<'a>>
-    ensures name { result.name ≡ name }
-    ensures field { field_map tree_at result.field ≡ (object (tree_at fields.entry) name).field }
+/// The object of a field that has to be there.
+#[tactic(auto, unfolding(crate::specs::Fields::required, crate::specs::Fields::object))]
+pub fn required_object<'a>(fields: Node<'a>, name: FieldName) -> Result<Node<'a>, CallFault>
+    ensures { MatchResult result
+        (λ node. required (object (tree_at fields.entry) name) ≡ Ok (tree_at node))
+        (λ fault. required (object (tree_at fields.entry) name) ≡ Err fault) }
 {
     NamedField {
         name,
         field: object_field(fields, name.text()),
     }
+    .required()
 }
 
-/// A text.
-pub fn text<'a>(fields: Part<'a>, name: FieldName) -> NamedField<&'a str>
-    ensures name { result.name ≡ name }
-    ensures field { field_map (λ text. text.now) result.field ≡ (text (tree_at fields.entry) name).field }
+/// The text of a field that has to be there.
+#[tactic(auto, unfolding(crate::specs::Fields::required, crate::specs::Fields::text))]
+pub fn required_text<'a>(fields: Node<'a>, name: FieldName) -> Result<&'a str, CallFault>
+    ensures { MatchResult result
+        (λ found. required (text (tree_at fields.entry) name) ≡ Ok found.now)
+        (λ fault. required (text (tree_at fields.entry) name) ≡ Err fault) }
 {
     NamedField {
         name,
         field: text_field(fields, name.text()),
     }
+    .required()
 }
 
-/// A list with at least one entry: an empty list counts as absent.
-pub fn entries<'a>(fields: Part<'a>, name: FieldName) -> NamedField<Items<'a>>
-    ensures name { result.name ≡ name }
-    ensures field { field_map entries_in result.field ≡ (entries (tree_at fields.entry) name).field }
+/// The entries of a list that has to be there.
+#[tactic(auto, unfolding(crate::specs::Fields::required, crate::specs::Fields::list))]
+pub fn required_list<'a>(fields: Node<'a>, name: FieldName) -> Result<Entries<'a>, CallFault>
+    ensures { MatchResult result
+        (λ items. required (list (tree_at fields.entry) name) ≡ Ok (entries_in items))
+        (λ fault. required (list (tree_at fields.entry) name) ≡ Err fault) }
 {
     NamedField {
         name,
-        field: with_entries(list_field(fields, name.text())),
+        field: list_field(fields, name.text()),
     }
-}
-
-fn with_entries(field: Field<Items<'_>>) -> Field<Items<'_>>
-    ensures { field_map entries_in result ≡ with_entries (field_map entries_in field.entry) }
-{
-    match field {
-        Field::Value(entries) if entries.is_empty() => Field::Absent,
-        other => other,
-    }
+    .required()
 }

@@ -21,5 +21,5 @@ pub use action_kind::ActionKind;
 pub use call_fault::CallFault;
 pub use field_name::FieldName;
 pub use response::{Response, ScheduleResponse};
-pub use response_text::write_response;
+pub use response_text::{push_response, write_response};
 pub use side::{Side, side_of};

@@ -1,8 +1,9 @@
 //! The fields of an operator's actions.
-ghost use Rattle.std.specs.Prelude.{◌≡◌, IfOk};
-ghost use Rattle.ocppj_frame.specs.Parts.{tree_at};
-ghost use Rattle.messages.specs.Action.{HasPeriods, set_charging_profile_of, clear_charging_profile_of, get_composite_schedule_of};
-ghost use Rattle.messages.specs.Reading.{Reads};
+ghost use Rattle.std.specs.Prelude.{◌≡◌};
+ghost use Rattle.ocppj_frame.specs.Payload.{tree_at};
+ghost use Rattle.messages.specs.OperatorActions.{set_charging_profile_of, clear_charging_profile_of, get_composite_schedule_of};
+ghost use Rattle.ocpp_scalars.specs.Reading.{ReadsUnless};
+ghost use Rattle.messages.specs.CallFault.{is_memory};
 
 use crate::action::{Action, ScheduleRequest};
 use crate::call_fault::CallFault;
@@ -10,27 +11,26 @@ use crate::field_name::FieldName::{
     ChargingProfilePurpose, ChargingRateUnit, ConnectorId, CsChargingProfiles, Duration, Id,
     StackLevel,
 };
-use crate::fields::{object, one_name_of, whole, whole_from_zero};
+use crate::fields::{one_name_of, required_object, whole, whole_from_zero};
 use crate::profile_fields::read_profile;
-use ocppj_frame::Part;
+use ocppj_frame::Node;
 use profile::Criteria;
 use std::alloc::Global;
 
 /// Chapter 6, SetChargingProfile.req.
-#[tactic(auto, unfolding(crate::specs::Action::set_charging_profile_of))]
-pub fn read_set_charging_profile(alloc: Global, payload: Part<'_>) -> Result<Action, CallFault>
-    ensures value { Reads (λ action. action) result (set_charging_profile_of (tree_at payload.entry)) }
-    ensures some { IfOk result HasPeriods }
+#[tactic(auto, unfolding(crate::specs::OperatorActions::set_charging_profile_of))]
+pub fn read_set_charging_profile(alloc: Global, payload: Node<'_>) -> Result<Action, CallFault>
+    ensures value { ReadsUnless is_memory (λ action. action) result (set_charging_profile_of (tree_at payload.entry)) }
 {
     let connector = whole_from_zero(payload, ConnectorId).required()?;
-    let profile = object(payload, CsChargingProfiles).required()?;
-    let profile = read_profile(alloc, profile)?;
+    let fields = required_object(payload, CsChargingProfiles)?;
+    let profile = read_profile(alloc, fields)?;
     Ok(Action::SetChargingProfile { connector, profile })
 }
 
 /// Chapter 6, ClearChargingProfile.req.
-#[tactic(auto, unfolding(crate::specs::Action::clear_charging_profile_of))]
-pub fn read_clear_charging_profile(payload: Part<'_>) -> Result<Action, CallFault>
+#[tactic(auto, unfolding(crate::specs::OperatorActions::clear_charging_profile_of))]
+pub fn read_clear_charging_profile(payload: Node<'_>) -> Result<Action, CallFault>
     ensures value { result ≡ clear_charging_profile_of (tree_at payload.entry) }
 {
     let id = whole(payload, Id).optional()?;
@@ -46,8 +46,8 @@ pub fn read_clear_charging_profile(payload: Part<'_>) -> Result<Action, CallFaul
 }
 
 /// Chapter 6, GetCompositeSchedule.req.
-#[tactic(auto, unfolding(crate::specs::Action::get_composite_schedule_of))]
-pub fn read_get_composite_schedule(payload: Part<'_>) -> Result<Action, CallFault>
+#[tactic(auto, unfolding(crate::specs::OperatorActions::get_composite_schedule_of))]
+pub fn read_get_composite_schedule(payload: Node<'_>) -> Result<Action, CallFault>
     ensures value { result ≡ get_composite_schedule_of (tree_at payload.entry) }
 {
     let connector = whole_from_zero(payload, ConnectorId).required()?;

@@ -1,21 +1,22 @@
 //! The fields of a point's actions.
 ghost use Rattle.std.specs.Prelude.{◌≡◌};
-ghost use Rattle.ocppj_frame.specs.Parts.{tree_at};
-ghost use Rattle.messages.specs.Action.{start_transaction_of, stop_transaction_of, id_tag_of};
-ghost use Rattle.messages.specs.Reading.{Reads};
+ghost use Rattle.ocppj_frame.specs.Payload.{tree_at};
+ghost use Rattle.messages.specs.PointActions.{start_transaction_of, stop_transaction_of, id_tag_of};
+ghost use Rattle.ocpp_scalars.specs.Reading.{ReadsUnless};
+ghost use Rattle.messages.specs.CallFault.{is_memory};
 
 use crate::action::{Action, StartTransaction};
 use crate::call_fault::CallFault;
 use crate::field_name::FieldName::{self, ConnectorId, MeterStart, Timestamp, TransactionId};
-use crate::fields::{instant, text, whole, whole_from_zero};
+use crate::fields::{instant, required_text, whole, whole_from_zero};
 use ocpp_scalars::IdTag;
-use ocppj_frame::Part;
+use ocppj_frame::Node;
 use std::alloc::Global;
 
 /// Chapter 6, StartTransaction.req.
-#[tactic(auto, unfolding(crate::specs::Action::start_transaction_of))]
-pub fn read_start_transaction(alloc: Global, payload: Part<'_>) -> Result<Action, CallFault>
-    ensures value { Reads (λ action. action) result (start_transaction_of (tree_at payload.entry)) }
+#[tactic(auto, unfolding(crate::specs::PointActions::start_transaction_of))]
+pub fn read_start_transaction(alloc: Global, payload: Node<'_>) -> Result<Action, CallFault>
+    ensures value { ReadsUnless is_memory (λ action. action) result (start_transaction_of (tree_at payload.entry)) }
 {
     let connector = whole_from_zero(payload, ConnectorId).required()?;
     let id_tag = read_id_tag(alloc, payload)?;
@@ -30,11 +31,11 @@ pub fn read_start_transaction(alloc: Global, payload: Part<'_>) -> Result<Action
 }
 
 /// The idTag: a text of at most 20 characters (chapter 7, IdToken).
-#[tactic(auto, unfolding(crate::specs::Action::id_tag_of))]
-fn read_id_tag(alloc: Global, payload: Part<'_>) -> Result<IdTag, CallFault>
-    ensures { Reads (λ id_tag. id_tag) result (id_tag_of (tree_at payload.entry)) }
+#[tactic(auto, unfolding(crate::specs::PointActions::id_tag_of))]
+fn read_id_tag(alloc: Global, payload: Node<'_>) -> Result<IdTag, CallFault>
+    ensures { ReadsUnless is_memory (λ id_tag. id_tag) result (id_tag_of (tree_at payload.entry)) }
 {
-    let tag = text(payload, FieldName::IdTag).required()?;
+    let tag = required_text(payload, FieldName::IdTag)?;
     match IdTag::try_new(String::from_str(alloc, tag)?) {
         Ok(id_tag) => Ok(id_tag),
         Err(_) => Err(CallFault::PropertyConstraintViolation(FieldName::IdTag)),
@@ -42,8 +43,8 @@ fn read_id_tag(alloc: Global, payload: Part<'_>) -> Result<IdTag, CallFault>
 }
 
 /// Chapter 6, StopTransaction.req, of which the transaction alone is looked at.
-#[tactic(auto, unfolding(crate::specs::Action::stop_transaction_of))]
-pub fn read_stop_transaction(payload: Part<'_>) -> Result<Action, CallFault>
+#[tactic(auto, unfolding(crate::specs::PointActions::stop_transaction_of))]
+pub fn read_stop_transaction(payload: Node<'_>) -> Result<Action, CallFault>
     ensures value { result ≡ stop_transaction_of (tree_at payload.entry) }
 {
     let transaction = whole(payload, TransactionId).required()?;

@@ -1,8 +1,9 @@
 //! The fields of a charging profile.
-ghost use Rattle.std.specs.Prelude.{◌≡◌, ◌<◌, length, IfOk};
-ghost use Rattle.ocppj_frame.specs.Parts.{entries_in, tree_at};
+ghost use Rattle.std.specs.Prelude.{◌≡◌};
+ghost use Rattle.ocppj_frame.specs.Payload.{entries_in, tree_at};
 ghost use Rattle.messages.specs.ProfileFields.{period_of, periods_of, schedule_of, profile_of};
-ghost use Rattle.messages.specs.Reading.{Reads};
+ghost use Rattle.ocpp_scalars.specs.Reading.{ReadsUnless};
+ghost use Rattle.messages.specs.CallFault.{is_memory};
 
 use crate::call_fault::CallFault;
 use crate::field_name::FieldName::{
@@ -10,16 +11,17 @@ use crate::field_name::FieldName::{
     ChargingSchedule, ChargingSchedulePeriod, Duration, Limit, MinChargingRate, NumberPhases,
     RecurrencyKind, StackLevel, StartPeriod, StartSchedule, TransactionId, ValidFrom, ValidTo,
 };
-use crate::fields::{entries, instant, object, one_name_of, tenths, whole, whole_from_zero};
-use ocppj_frame::{Items, Part};
+use crate::fields::{
+    instant, one_name_of, required_list, required_object, tenths, whole, whole_from_zero,
+};
+use ocppj_frame::{Entries, Node};
 use profile::{Period, PeriodList, ProfileParts, ScheduleParts};
 use std::alloc::Global;
 
 /// Reads the fields of a profile (chapter 7, ChargingProfile), or names the first fault.
 #[tactic(auto, unfolding(crate::specs::ProfileFields::profile_of))]
-pub fn read_profile(alloc: Global, fields: Part<'_>) -> Result<ProfileParts, CallFault>
-    ensures value { Reads (λ parts. parts) result (profile_of (tree_at fields.entry)) }
-    ensures some { IfOk result (λ parts. 0 < length parts.schedule.periods) }
+pub fn read_profile(alloc: Global, fields: Node<'_>) -> Result<ProfileParts, CallFault>
+    ensures value { ReadsUnless is_memory (λ parts. parts) result (profile_of (tree_at fields.entry)) }
 {
     let id = whole(fields, ChargingProfileId).required()?;
     let transaction = whole(fields, TransactionId).optional()?;
@@ -29,8 +31,8 @@ pub fn read_profile(alloc: Global, fields: Part<'_>) -> Result<ProfileParts, Cal
     let recurrency = one_name_of(fields, RecurrencyKind).optional()?;
     let valid_from = instant(fields, ValidFrom).optional()?;
     let valid_to = instant(fields, ValidTo).optional()?;
-    let schedule = object(fields, ChargingSchedule).required()?;
-    let schedule = read_schedule(alloc, schedule)?;
+    let schedule_fields = required_object(fields, ChargingSchedule)?;
+    let schedule = read_schedule(alloc, schedule_fields)?;
     Ok(ProfileParts {
         id,
         transaction,
@@ -46,15 +48,14 @@ pub fn read_profile(alloc: Global, fields: Part<'_>) -> Result<ProfileParts, Cal
 
 /// Reads the fields of a schedule (chapter 7, ChargingSchedule), or names the first fault.
 #[tactic(auto, unfolding(crate::specs::ProfileFields::schedule_of))]
-fn read_schedule(alloc: Global, fields: Part<'_>) -> Result<ScheduleParts, CallFault>
-    ensures value { Reads (λ parts. parts) result (schedule_of (tree_at fields.entry)) }
-    ensures some { IfOk result (λ parts. 0 < length parts.periods) }
+fn read_schedule(alloc: Global, fields: Node<'_>) -> Result<ScheduleParts, CallFault>
+    ensures value { ReadsUnless is_memory (λ parts. parts) result (schedule_of (tree_at fields.entry)) }
 {
     let duration = whole_from_zero(fields, Duration).optional()?;
     let start = instant(fields, StartSchedule).optional()?;
     let unit = one_name_of(fields, ChargingRateUnit).required()?;
-    let periods = entries(fields, ChargingSchedulePeriod).required()?;
-    let periods = read_periods(alloc, periods)?;
+    let entries = required_list(fields, ChargingSchedulePeriod)?;
+    let periods = read_periods(alloc, entries)?;
     let min_charging_rate = tenths(fields, MinChargingRate).optional()?;
     Ok(ScheduleParts {
         duration,
@@ -66,20 +67,23 @@ fn read_schedule(alloc: Global, fields: Part<'_>) -> Result<ScheduleParts, CallF
 }
 
 /// Reads the periods of a list, in order, or names the first fault.
-fn read_periods(alloc: Global, entries: Items<'_>) -> Result<PeriodList, CallFault>
-    ensures value { Reads (λ periods. periods) result (periods_of (entries_in entries.entry)) }
-    ensures count { IfOk result (λ periods. length periods ≡ length (entries_in entries.entry)) }
+fn read_periods(alloc: Global, entries: Entries<'_>) -> Result<PeriodList, CallFault>
+    ensures value { ReadsUnless is_memory (λ periods. periods) result (periods_of (entries_in entries.entry)) }
 {
     let mut periods = Vec::new(alloc);
     for entry in entries.iter() {
         periods.push(read_period(entry)?)?;
     }
-    Ok(PeriodList::new(periods))
+    match PeriodList::try_new(periods) {
+        Ok(periods) => Ok(periods),
+        // A required list that is empty counts as absent.
+        Err(_) => Err(CallFault::OccurenceConstraintViolation(ChargingSchedulePeriod)),
+    }
 }
 
 /// Reads the fields of a period (chapter 7, ChargingSchedulePeriod), or names the first fault.
 #[tactic(auto, unfolding(crate::specs::ProfileFields::period_of))]
-fn read_period(fields: Part<'_>) -> Result<Period, CallFault>
+fn read_period(fields: Node<'_>) -> Result<Period, CallFault>
     ensures { result ≡ period_of (tree_at fields.entry) }
 {
     if !fields.is_object() {

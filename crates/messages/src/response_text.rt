@@ -1,61 +1,86 @@
 //! The texts of answers, byte for byte.
-ghost use Rattle.std.specs.Prelude.{◌≡◌, ◌++◌, OnOk, IfOk, IsOkUnless, string_bytes};
-ghost use Rattle.messages.specs.ResponseText.{accepted_text, boot_notification_text, composite_text, heartbeat_text, is_out_of_memory, period_text, periods_text, refusal_text, rejected_text, response_text, start_transaction_text, unit_text};
+ghost use Rattle.std.specs.Prelude.{◌≡◌, ◌++◌, OnOk, IfOk, string_bytes};
+ghost use Rattle.ocppj_frame.specs.Write.{call_result_text};
+ghost use Rattle.messages.specs.ResponseText.{boot_notification_text, composite_text, current_time_text, heartbeat_text, is_out_of_memory, period_text, periods_text, refusal_text, rejected_text, response_text, schedule_text, start_transaction_text, unit_text};
 
 use crate::response::{Response, ScheduleResponse};
 use meaning::{Composite, CompositePeriod};
 use ocpp_scalars::{Instant, Refusal, push_instant, push_tenths};
-use ocppj_frame::{write_error, write_result};
+use ocppj_frame::{push_error, push_frame_end, push_result_head};
 use profile::Unit;
 use std::alloc::{AllocError, Global};
+
+/// Room for an answer without periods, in bytes.
+const ROOM: usize = 256;
+
+/// Room for a period, in bytes.
+const PERIOD_ROOM: usize = 40;
 
 /// The text that answers the CALL of this id. Its keys stand in a fixed order, without blanks.
 pub fn write_response(alloc: Global, id: &str, response: &Response) -> Result<String, AllocError>
     ensures { IfOk result (λ s. string_bytes s ≡ response_text id.now response.now) }
 {
-    match written(alloc, id, response) {
-        Ok(text) => Ok(text),
-        Err(_) => Err(AllocError),
+    // Room from the start, so that a long schedule isn't copied as it grows.
+    let mut out = String::with_capacity(alloc, room(response))?;
+    push_response(&mut out, id, response)?;
+    Ok(out)
+}
+
+fn room(response: &Response) -> usize {
+    match response {
+        Response::Schedule(response) => {
+            let periods = response.schedule.periods().len();
+            periods.saturating_mul(PERIOD_ROOM).saturating_add(ROOM)
+        }
+        _ => ROOM,
     }
 }
 
-fn written(alloc: Global, id: &str, response: &Response) -> Result<String, Refusal>
-    ensures text { IfOk result (λ s. string_bytes s ≡ response_text id.now response.now) }
-    ensures memory { IsOkUnless result Refusal.OutOfMemory }
+/// Appends the text that answers the CALL of this id.
+pub fn push_response(out: &mut String, id: &str, response: &Response) -> Result<(), AllocError>
+    ensures { OnOk result
+        (string_bytes out.new ≡ string_bytes out.old ++ response_text id.now response.now) }
 {
     match response {
-        Response::Accepted => write_result(alloc, id, r#"{"status":"Accepted"}"#),
-        Response::Rejected(refusal) => write_rejected(alloc, id, *refusal),
-        Response::Unknown => write_result(alloc, id, r#"{"status":"Unknown"}"#),
-        Response::Schedule(response) => {
-            let payload = composite(alloc, response)?;
-            write_result(alloc, id, payload.as_str())
-        }
+        Response::Accepted => push_result(out, id, r#"{"status":"Accepted"}"#),
+        Response::Rejected(refusal) => push_rejected(out, id, *refusal),
+        Response::Unknown => push_result(out, id, r#"{"status":"Unknown"}"#),
+        Response::Schedule(response) => push_schedule_result(out, id, response),
         Response::BootNotification { current_time } => {
-            write_result(alloc, id, boot_notification(alloc, *current_time)?.as_str())
+            push_boot_notification(out, id, *current_time)
         }
-        Response::Heartbeat { current_time } => {
-            write_result(alloc, id, heartbeat(alloc, *current_time)?.as_str())
-        }
-        Response::Authorize => write_result(alloc, id, r#"{"idTagInfo":{"status":"Accepted"}}"#),
+        Response::Heartbeat { current_time } => push_heartbeat(out, id, *current_time),
+        Response::Authorize => push_result(out, id, r#"{"idTagInfo":{"status":"Accepted"}}"#),
         Response::StartTransaction { transaction } => {
-            write_result(alloc, id, start_transaction(alloc, *transaction)?.as_str())
+            push_start_transaction(out, id, *transaction)
         }
-        Response::Empty => write_result(alloc, id, "{}"),
-        Response::UnknownVendorId => write_result(alloc, id, r#"{"status":"UnknownVendorId"}"#),
-        Response::Error(fault) => write_error(alloc, id, fault.code(), fault.description()),
+        Response::Empty => push_result(out, id, "{}"),
+        Response::UnknownVendorId => push_result(out, id, r#"{"status":"UnknownVendorId"}"#),
+        Response::Error(fault) => push_error(out, id, fault.code(), fault.description()),
     }
 }
 
-/// The answer to a refused install or ask. Out of memory is an error, as it is for every action.
-fn write_rejected(alloc: Global, id: &str, refusal: Refusal) -> Result<String, Refusal>
-    ensures text { IfOk result (λ s. string_bytes s ≡ refusal_text id.now refusal) }
-    ensures memory { IsOkUnless result Refusal.OutOfMemory }
+/// Appends a CALLRESULT of this payload.
+fn push_result(out: &mut String, id: &str, payload: &str) -> Result<(), AllocError>
+    ensures { OnOk result
+        (string_bytes out.new ≡ string_bytes out.old ++ call_result_text id.now payload.now) }
+{
+    push_result_head(out, id)?;
+    out.push_str(payload)?;
+    push_frame_end(out)
+}
+
+/// Appends the answer to a refused install or ask. Out of memory is an error, as it is for every action.
+fn push_rejected(out: &mut String, id: &str, refusal: Refusal) -> Result<(), AllocError>
+    ensures { OnOk result
+        (string_bytes out.new ≡ string_bytes out.old ++ refusal_text id.now refusal) }
 {
     if is_out_of_memory(refusal) {
-        return write_error(alloc, id, "InternalError", "OutOfMemory");
+        return push_error(out, id, "InternalError", "OutOfMemory");
     }
-    write_result(alloc, id, rejected(alloc, refusal)?.as_str())
+    push_result_head(out, id)?;
+    push_rejection(out, refusal)?;
+    push_frame_end(out)
 }
 
 fn is_out_of_memory(refusal: Refusal) -> bool
@@ -64,72 +89,119 @@ fn is_out_of_memory(refusal: Refusal) -> bool
     matches!(refusal, Refusal::OutOfMemory)
 }
 
-/// The payload that rejects with a refusal's name as the reason.
-fn rejected(alloc: Global, refusal: Refusal) -> Result<String, Refusal>
-    ensures text { IfOk result (λ s. string_bytes s ≡ rejected_text refusal) }
-    ensures memory { IsOkUnless result Refusal.OutOfMemory }
+/// Appends the payload that rejects, with the refusal's name as the reason.
+fn push_rejection(out: &mut String, refusal: Refusal) -> Result<(), AllocError>
+    ensures { OnOk result
+        (string_bytes out.new ≡ string_bytes out.old ++ rejected_text refusal) }
 {
-    let mut out = String::from_str(alloc, r#"{"status":"Rejected","reason":""#)?;
+    out.push_str(r#"{"status":"Rejected","reason":""#)?;
     out.push_str(refusal.name())?;
     out.push_str(r#""}"#)?;
-    Ok(out)
+    Ok(())
 }
 
-/// The payload of BootNotification's answer.
-fn boot_notification(alloc: Global, current_time: Instant) -> Result<String, Refusal>
-    ensures text { IfOk result (λ s. string_bytes s ≡ boot_notification_text current_time) }
-    ensures memory { IsOkUnless result Refusal.OutOfMemory }
+/// Appends BootNotification's answer.
+fn push_boot_notification(
+    out: &mut String,
+    id: &str,
+    current_time: Instant,
+) -> Result<(), AllocError>
+    ensures { OnOk result (string_bytes out.new
+        ≡ string_bytes out.old ++ call_result_text id.now (boot_notification_text current_time)) }
 {
-    let mut out = String::from_str(alloc, r#"{"currentTime":""#)?;
-    push_instant(&mut out, current_time)?;
-    out.push_str(r#"","interval":300,"status":"Accepted"}"#)?;
-    Ok(out)
+    push_result_head(out, id)?;
+    push_current_time(out, current_time)?;
+    out.push_str(r#","interval":300,"status":"Accepted"}"#)?;
+    push_frame_end(out)
 }
 
-/// The payload of Heartbeat's answer.
-fn heartbeat(alloc: Global, current_time: Instant) -> Result<String, Refusal>
-    ensures text { IfOk result (λ s. string_bytes s ≡ heartbeat_text current_time) }
-    ensures memory { IsOkUnless result Refusal.OutOfMemory }
+/// Appends Heartbeat's answer.
+fn push_heartbeat(out: &mut String, id: &str, current_time: Instant) -> Result<(), AllocError>
+    ensures { OnOk result (string_bytes out.new
+        ≡ string_bytes out.old ++ call_result_text id.now (heartbeat_text current_time)) }
 {
-    let mut out = String::from_str(alloc, r#"{"currentTime":""#)?;
-    push_instant(&mut out, current_time)?;
-    out.push_str(r#""}"#)?;
-    Ok(out)
+    push_result_head(out, id)?;
+    push_current_time(out, current_time)?;
+    out.push_str("}")?;
+    push_frame_end(out)
 }
 
-/// The payload of StartTransaction's answer.
-fn start_transaction(alloc: Global, transaction: u64) -> Result<String, Refusal>
-    ensures text { IfOk result (λ s. string_bytes s ≡ start_transaction_text transaction) }
-    ensures memory { IsOkUnless result Refusal.OutOfMemory }
+/// Appends an object's beginning with its first field, the present moment.
+fn push_current_time(out: &mut String, current_time: Instant) -> Result<(), AllocError>
+    ensures { OnOk result
+        (string_bytes out.new ≡ string_bytes out.old ++ current_time_text current_time) }
 {
-    let mut out = String::from_str(
-        alloc,
-        r#"{"idTagInfo":{"status":"Accepted"},"transactionId":"#,
-    )?;
+    out.push_str(r#"{"currentTime":""#)?;
+    push_instant(out, current_time)?;
+    out.push_str(r#"""#)?;
+    Ok(())
+}
+
+/// Appends StartTransaction's answer.
+fn push_start_transaction(out: &mut String, id: &str, transaction: u64) -> Result<(), AllocError>
+    ensures { OnOk result (string_bytes out.new
+        ≡ string_bytes out.old ++ call_result_text id.now (start_transaction_text transaction)) }
+{
+    push_result_head(out, id)?;
+    push_transaction(out, transaction)?;
+    push_frame_end(out)
+}
+
+/// Appends StartTransaction.conf (chapter 6).
+fn push_transaction(out: &mut String, transaction: u64) -> Result<(), AllocError>
+    ensures { OnOk result
+        (string_bytes out.new ≡ string_bytes out.old ++ start_transaction_text transaction) }
+{
+    out.push_str(r#"{"idTagInfo":{"status":"Accepted"},"transactionId":"#)?;
     write!(out, "{transaction}")?;
     out.push_str("}")?;
-    Ok(out)
+    Ok(())
 }
 
-/// The payload of GetCompositeSchedule's answer (chapter 6, GetCompositeSchedule.conf).
-fn composite(alloc: Global, response: &ScheduleResponse) -> Result<String, Refusal>
-    ensures text { IfOk result (λ s. string_bytes s ≡ composite_text response.now) }
-    ensures memory { IsOkUnless result Refusal.OutOfMemory }
+/// Appends GetCompositeSchedule's answer.
+fn push_schedule_result(
+    out: &mut String,
+    id: &str,
+    response: &ScheduleResponse,
+) -> Result<(), AllocError>
+    ensures { OnOk result (string_bytes out.new
+        ≡ string_bytes out.old ++ call_result_text id.now (composite_text response.now)) }
+{
+    push_result_head(out, id)?;
+    push_composite(out, response)?;
+    push_frame_end(out)
+}
+
+/// Appends GetCompositeSchedule.conf (chapter 6).
+fn push_composite(out: &mut String, response: &ScheduleResponse) -> Result<(), AllocError>
+    ensures { OnOk result
+        (string_bytes out.new ≡ string_bytes out.old ++ composite_text response.now) }
 {
     let connector = response.connector;
-    let duration = response.schedule.duration();
-    let mut out = String::from_str(alloc, r#"{"status":"Accepted","connectorId":"#)?;
+    out.push_str(r#"{"status":"Accepted","connectorId":"#)?;
     write!(out, "{connector}")?;
     out.push_str(r#","scheduleStart":""#)?;
-    push_instant(&mut out, response.start)?;
-    out.push_str(r#"","chargingSchedule":{"duration":"#)?;
+    push_instant(out, response.start)?;
+    out.push_str(r#"","chargingSchedule":"#)?;
+    push_schedule(out, response.unit, &response.schedule)?;
+    out.push_str("}")?;
+    Ok(())
+}
+
+/// Appends a schedule (chapter 7, ChargingSchedule).
+fn push_schedule(out: &mut String, unit: Unit, schedule: &Composite) -> Result<(), AllocError>
+    ensures { OnOk result
+        (string_bytes out.new ≡ string_bytes out.old ++ schedule_text unit schedule.now) }
+{
+    let duration = schedule.duration();
+    out.push_str(r#"{"duration":"#)?;
     write!(out, "{duration}")?;
     out.push_str(r#","chargingRateUnit":""#)?;
-    out.push_str(unit_name(response.unit))?;
+    out.push_str(unit_name(unit))?;
     out.push_str(r#"","chargingSchedulePeriod":["#)?;
-    push_periods(&mut out, response.schedule.periods())?;
-    out.push_str("]}}")?;
-    Ok(out)
+    push_periods(out, schedule.periods())?;
+    out.push_str("]}")?;
+    Ok(())
 }
 
 fn unit_name(unit: Unit) -> &'static str
@@ -141,9 +213,10 @@ fn unit_name(unit: Unit) -> &'static str
     }
 }
 
-fn push_periods(out: &mut String, periods: &[CompositePeriod]) -> Result<(), Refusal>
-    ensures text { OnOk result (string_bytes out.new ≡ string_bytes out.old ++ periods_text periods.now) }
-    ensures memory { IsOkUnless result Refusal.OutOfMemory }
+/// Appends periods, with commas between them.
+fn push_periods(out: &mut String, periods: &[CompositePeriod]) -> Result<(), AllocError>
+    ensures { OnOk result
+        (string_bytes out.new ≡ string_bytes out.old ++ periods_text periods.now) }
 {
     let Some((first, later)) = periods.split_first() else {
         return Ok(());
@@ -156,9 +229,10 @@ fn push_periods(out: &mut String, periods: &[CompositePeriod]) -> Result<(), Ref
     Ok(())
 }
 
-fn push_period(out: &mut String, period: &CompositePeriod) -> Result<(), Refusal>
-    ensures text { OnOk result (string_bytes out.new ≡ string_bytes out.old ++ period_text period.now) }
-    ensures memory { IsOkUnless result Refusal.OutOfMemory }
+/// Appends a period (chapter 7, ChargingSchedulePeriod).
+fn push_period(out: &mut String, period: &CompositePeriod) -> Result<(), AllocError>
+    ensures { OnOk result
+        (string_bytes out.new ≡ string_bytes out.old ++ period_text period.now) }
 {
     let start = period.start;
     out.push_str(r#"{"startPeriod":"#)?;

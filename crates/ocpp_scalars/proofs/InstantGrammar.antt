@@ -5,9 +5,10 @@ use Rattle.std.proofs.lemmas.Int.{ints}
 use Rattle.std.proofs.lemmas.Bool.{eqb-true, and_parts}
 use Rattle.jiff_core.specs.Calendar.{IsCivilDate, days_from_civil, days_in_month}
 use Rattle.jiff_core.proofs.CalendarLemmas.{days_in_month_bounds}
-use Rattle.ocpp_scalars.specs.Digits.{digits_of, after_digits, is_empty, two_digits, four_digits}
+use Rattle.ocpp_scalars.specs.ByCases.Digits.{digits_of, after_digits, is_empty}
+use Rattle.ocpp_scalars.specs.Digits.{two_digits, four_digits}
 use Rattle.ocpp_scalars.specs.InstantText.{date_text, clock_text, time_text, IsSecondFraction, no_second_fraction, second_fraction, IsSeparator, IsClock, IsOffset, no_offset, capital_z, small_z, ahead_of_utc, behind_utc, SpellsInstant}
-use Rattle.ocpp_scalars.specs.InstantValue.{digit_at, two_at, four_at, after_dash, after_colon, after_separator, is_day, date_at, minutes_at, time_at, after_fraction, clock_in, zulu_in, offset_in, total, seconds_of}
+use Rattle.ocpp_scalars.specs.ByCases.InstantText.{digit_at, two_at, four_at, after_dash, after_colon, after_separator, is_day, date_at, minutes_at, time_at, after_fraction, clock_in, zulu_in, offset_in, total_seconds, seconds_of}
 use Rattle.ocpp_scalars.proofs.Cases.{by_test, and_then-some, map-some, test-some, or-true}
 use Rattle.ocpp_scalars.proofs.Texts.{AreDigits-digits_of}
 use Rattle.ocpp_scalars.proofs.NumberGrammar.{digits_split, Stops, digits_only, is_empty-nil}
@@ -327,11 +328,11 @@ offset_follows _ _ (behind_utc hour minute clock) = (refl, refl)
 pub seconds_found : (text : List ℕ) (z : ℤ) → seconds_of text ≡ Some z → SpellsInstant text z
 unfolding seconds_of
 seconds_found text z e =
-    let (date, date_is, e1) = and_then-some (λ (date : ℤ × List ℕ). option_and_then (λ (a : List ℕ). option_and_then (λ (time : ℕ × List ℕ). option_and_then (λ (b : List ℕ). option_map (λ (offset : ℤ). total date.0 time.0 offset) (offset_in b)) (after_fraction time.1)) (time_at a)) (after_separator date.1)) (date_at text) z e in
-    let (a, a_is, e2) = and_then-some (λ (a : List ℕ). option_and_then (λ (time : ℕ × List ℕ). option_and_then (λ (b : List ℕ). option_map (λ (offset : ℤ). total date.0 time.0 offset) (offset_in b)) (after_fraction time.1)) (time_at a)) (after_separator date.1) z e1 in
-    let (time, time_is, e3) = and_then-some (λ (time : ℕ × List ℕ). option_and_then (λ (b : List ℕ). option_map (λ (offset : ℤ). total date.0 time.0 offset) (offset_in b)) (after_fraction time.1)) (time_at a) z e2 in
-    let (b, b_is, e4) = and_then-some (λ (b : List ℕ). option_map (λ (offset : ℤ). total date.0 time.0 offset) (offset_in b)) (after_fraction time.1) z e3 in
-    let (offset, offset_is, made) = map-some (λ (offset : ℤ). total date.0 time.0 offset) (offset_in b) z e4 in
+    let (date, date_is, e1) = and_then-some (λ (date : ℤ × List ℕ). option_and_then (λ (a : List ℕ). option_and_then (λ (time : ℕ × List ℕ). option_and_then (λ (b : List ℕ). option_map (λ (offset : ℤ). total_seconds date.0 time.0 offset) (offset_in b)) (after_fraction time.1)) (time_at a)) (after_separator date.1)) (date_at text) z e in
+    let (a, a_is, e2) = and_then-some (λ (a : List ℕ). option_and_then (λ (time : ℕ × List ℕ). option_and_then (λ (b : List ℕ). option_map (λ (offset : ℤ). total_seconds date.0 time.0 offset) (offset_in b)) (after_fraction time.1)) (time_at a)) (after_separator date.1) z e1 in
+    let (time, time_is, e3) = and_then-some (λ (time : ℕ × List ℕ). option_and_then (λ (b : List ℕ). option_map (λ (offset : ℤ). total_seconds date.0 time.0 offset) (offset_in b)) (after_fraction time.1)) (time_at a) z e2 in
+    let (b, b_is, e4) = and_then-some (λ (b : List ℕ). option_map (λ (offset : ℤ). total_seconds date.0 time.0 offset) (offset_in b)) (after_fraction time.1) z e3 in
+    let (offset, offset_is, made) = map-some (λ (offset : ℤ). total_seconds date.0 time.0 offset) (offset_in b) z e4 in
     let d = date_found text date date_is in
     let (separator, separator_is, separated) = separator_found date.1 a a_is in
     let (hour, minute, second, clock, bound, count, timed) = time_found a time time_is in
@@ -355,7 +356,7 @@ seconds_found text z e =
       is_second = bound;
       is_fraction = fraction_is;
       is_offset = offset_found b offset offset_is;
-      is_seconds = sym made ∙ (ap (λ n. total n time.0 offset) d.is_number ∙ ap (λ n. total (days_from_civil (pos d.year) d.month d.day) n offset) count);
+      is_seconds = sym made ∙ (ap (λ n. total_seconds n time.0 offset) d.is_number ∙ ap (λ n. total_seconds (days_from_civil (pos d.year) d.month d.day) n offset) count);
     }
 
 pub seconds_only : (text : List ℕ) (z : ℤ) → SpellsInstant text z → seconds_of text ≡ Some z

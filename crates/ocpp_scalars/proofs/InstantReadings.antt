@@ -5,9 +5,9 @@ use Rattle.std.proofs.lemmas.Bool.{cases_lt}
 use Rattle.ocpp_scalars.specs.declared.instant_text.InstantFault.{InstantFault}
 use Rattle.ocpp_scalars.specs.declared.instant_text.InstantFault.TheVariants.{Form, Range}
 use Rattle.ocpp_scalars.specs.CalendarDay.{calendar_day}
-use Rattle.ocpp_scalars.specs.InstantText.{SpellsInstant, instant_text, no_second_fraction, capital_z}
-use Rattle.ocpp_scalars.specs.InstantValue.{seconds_of, in_range, reading, instant_of}
-use Rattle.ocpp_scalars.specs.InstantReading.{IsInstantReading}
+use Rattle.ocpp_scalars.specs.InstantText.{SpellsInstant, no_second_fraction, capital_z, IsInstantReading}
+use Rattle.ocpp_scalars.specs.Writing.{instant_text}
+use Rattle.ocpp_scalars.specs.ByCases.InstantText.{seconds_of, in_range, reading, instant_of}
 use Rattle.ocpp_scalars.proofs.Calendar.{calendar_day-number, calendar_day-year, calendar_day-civil}
 use Rattle.ocpp_scalars.proofs.InstantGrammar.{seconds_found, seconds_only}
 

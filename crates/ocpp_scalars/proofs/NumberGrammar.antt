@@ -2,10 +2,12 @@
 use Rattle.std.proofs.Common.{◌≡◌, ℕ, ◌+◌, ◌-◌, ◌*◌, ◌≤◌, Bool, true, false, not, ◌||◌, ◌==◌, if◌then◌else◌, inl, inr, List, [], ◌∷◌, ◌++◌, length, ℤ, pos, ◌-ℤ◌, Option, Some, None, option_and_then, refl, sym, ap, subst, ◌∙◌, append-nil, arith}
 use Rattle.std.specs.Char.{is_ascii_digit}
 use Rattle.std.proofs.lemmas.Bool.{cond_both, eqb-true, ne_eqb}
-use Rattle.ocpp_scalars.specs.Digits.{IsDigit, AreDigits, value_after, decimal_value, digits_of, after_digits, is_empty}
-use Rattle.ocpp_scalars.specs.NumberParts.{Parts, parts_made, sign_at, is_whole, whole_at, digits_at, fraction_at, exponent_sign_at, exponent_in, parts_of}
-use Rattle.ocpp_scalars.specs.NumberText.{AreSomeDigits, IsMinus, no_minus, minus_sign, IsWhole, IsFraction, no_fraction, decimal_point, IsE, IsExponent, no_exponent, unsigned_exponent, plus_exponent, minus_exponent, SpellsNumber, signed}
-use Rattle.ocpp_scalars.specs.NumberValue.{number_of_parts}
+use Rattle.ocpp_scalars.specs.Digits.{IsDigit, AreDigits, value_after, decimal_value}
+use Rattle.ocpp_scalars.specs.ByCases.Digits.{digits_of, after_digits, is_empty}
+use Rattle.ocpp_scalars.specs.ByCases.NumberText.{Parts, parts_made, sign_at, is_whole, whole_at, digits_at, fraction_at, exponent_sign_at, exponent_in, parts_of}
+use Rattle.ocpp_scalars.specs.NumberText.{AreSomeDigits, IsMinus, no_minus, minus_sign, IsWhole, IsFraction, no_fraction, decimal_point, IsE, IsExponent, no_exponent, unsigned_exponent, plus_exponent, minus_exponent, SpellsNumber}
+use Rattle.ocpp_scalars.specs.Number.{with_sign}
+use Rattle.ocpp_scalars.specs.ByCases.Number.{number_of_parts}
 use Rattle.ocpp_scalars.proofs.Cases.{by_test, and_then-some, test-some, test-none, or-true}
 use Rattle.ocpp_scalars.proofs.Texts.{AreDigits-digits_of}
 
@@ -73,13 +75,13 @@ fraction_found (b ∷ bs) x e =
     let same : ◌≡◌ {A = List ℕ × List ℕ} ([], b ∷ bs) x = cc in
     subst (λ (x : List ℕ × List ℕ). (f : List ℕ) × IsFraction x.0 f × (b ∷ bs ≡ f ++ x.1)) same ([], no_fraction, refl))
 
-exponent_sign_found : (e : ℕ) (text ds : List ℕ) → IsE e → AreSomeDigits ds → (exponent_sign_at text).1 ≡ ds → IsExponent (signed (exponent_sign_at text).0 (decimal_value ds)) (e ∷ text)
+exponent_sign_found : (e : ℕ) (text ds : List ℕ) → IsE e → AreSomeDigits ds → (exponent_sign_at text).1 ≡ ds → IsExponent (with_sign (exponent_sign_at text).0 (decimal_value ds)) (e ∷ text)
 exponent_sign_found e [] ds is_e digits = λ same. absurd (omega (arith, digits.0, ap length same))
 exponent_sign_found e (c ∷ cs) ds is_e digits =
-    cond_both {A = Bool × List ℕ} (c == 45) (true, cs) (if c == 43 then (false, cs) else (false, c ∷ cs)) (λ s. s.1 ≡ ds → IsExponent (signed s.0 (decimal_value ds)) (e ∷ (c ∷ cs)))
+    cond_both {A = Bool × List ℕ} (c == 45) (true, cs) (if c == 43 then (false, cs) else (false, c ∷ cs)) (λ s. s.1 ≡ ds → IsExponent (with_sign s.0 (decimal_value ds)) (e ∷ (c ∷ cs)))
     (λ held same. rw (eqb-true c 45 held, same) (minus_exponent e ds is_e digits))
     (λ failed.
-    cond_both {A = Bool × List ℕ} (c == 43) (false, cs) (false, c ∷ cs) (λ s. s.1 ≡ ds → IsExponent (signed s.0 (decimal_value ds)) (e ∷ (c ∷ cs)))
+    cond_both {A = Bool × List ℕ} (c == 43) (false, cs) (false, c ∷ cs) (λ s. s.1 ≡ ds → IsExponent (with_sign s.0 (decimal_value ds)) (e ∷ (c ∷ cs)))
     (λ held same. rw (eqb-true c 43 held, same) (plus_exponent e ds is_e digits))
     (λ none same. rw same (unsigned_exponent e ds is_e digits)))
 
@@ -87,10 +89,10 @@ is_e-found : (b : ℕ) → ((b == 101) || (b == 69)) ≡ true → IsE b
 is_e-found b e =
     elim (or-true (b == 101) (b == 69) e) [ inl small ↦ inl (eqb-true b 101 small) | inr capital ↦ inr (eqb-true b 69 capital) ]
 
-exponent_found : (text : List ℕ) (x : Bool × List ℕ) → exponent_in text ≡ Some x → IsExponent (signed x.0 (decimal_value x.1)) text
+exponent_found : (text : List ℕ) (x : Bool × List ℕ) → exponent_in text ≡ Some x → IsExponent (with_sign x.0 (decimal_value x.1)) text
 exponent_found [] x e =
     let same : ◌≡◌ {A = Bool × List ℕ} (false, []) x = cc in
-    subst (λ (x : Bool × List ℕ). IsExponent (signed x.0 (decimal_value x.1)) []) same no_exponent
+    subst (λ (x : Bool × List ℕ). IsExponent (with_sign x.0 (decimal_value x.1)) []) same no_exponent
 exponent_found (b ∷ bs) x e =
     by_test ((b == 101) || (b == 69))
     (λ held.
@@ -98,7 +100,7 @@ exponent_found (b ∷ bs) x e =
     let t = test-some (is_empty d.1) ((exponent_sign_at bs).0, d.0) x end in
     let h = digits_found (exponent_sign_at bs).1 d is in
     let all : (exponent_sign_at bs).1 ≡ d.0 = h.1 ∙ ap (λ r. d.0 ++ r) (is_empty-nil d.1 t.0) ∙ append-nil d.0 in
-    subst (λ (x : Bool × List ℕ). IsExponent (signed x.0 (decimal_value x.1)) (b ∷ bs)) t.1 (exponent_sign_found b bs d.0 (is_e-found b held) h.0 all))
+    subst (λ (x : Bool × List ℕ). IsExponent (with_sign x.0 (decimal_value x.1)) (b ∷ bs)) t.1 (exponent_sign_found b bs d.0 (is_e-found b held) h.0 all))
     (λ failed. let none : ◌≡◌ {A = Option (Bool × List ℕ)} None (Some x) = rw failed at e in cc)
 
 pub parts_found : (text : List ℕ) (p : Parts) → parts_of text ≡ Some p → SpellsNumber text p.negative (number_of_parts p).digits (number_of_parts p).power
@@ -108,17 +110,17 @@ parts_found text p e =
     let (w, w_is, e1) = and_then-some (λ (whole : List ℕ × List ℕ). option_and_then (λ (fraction : List ℕ × List ℕ). option_and_then (λ (exponent : Bool × List ℕ). parts_made (sign_at text).0 whole.0 fraction.0 exponent) (exponent_in fraction.1)) (fraction_at whole.1)) (whole_at (sign_at text).1) p e in
     let (f, f_is, e2) = and_then-some (λ (fraction : List ℕ × List ℕ). option_and_then (λ (exponent : Bool × List ℕ). parts_made (sign_at text).0 w.0 fraction.0 exponent) (exponent_in fraction.1)) (fraction_at w.1) p e1 in
     let (x, x_is, e3) = and_then-some (λ (exponent : Bool × List ℕ). parts_made (sign_at text).0 w.0 f.0 exponent) (exponent_in f.1) p e2 in
-    let made : Parts = record { negative = (sign_at text).0; whole = w.0; fraction = f.0; lowered = x.0; exponent = x.1 } in
+    let made : Parts = record { negative = (sign_at text).0; whole = w.0; fraction = f.0; negative_exponent = x.0; exponent = x.1 } in
     let same : made ≡ p = cc in
     let whole = whole_found (sign_at text).1 w w_is in
     let fraction = fraction_found w.1 f f_is in
     subst (λ (p : Parts). SpellsNumber text p.negative (number_of_parts p).digits (number_of_parts p).power) {x = made} same (record {
-      minus = s.0;
+      sign = s.0;
       whole = w.0;
       fraction = fraction.0;
       fraction_digits = f.0;
       exponent = f.1;
-      exponent_power = signed x.0 (decimal_value x.1);
+      exponent_power = with_sign x.0 (decimal_value x.1);
       is_text = s.2 ∙ ap (λ r. s.0 ++ r) (whole.1 ∙ ap (λ r. w.0 ++ r) fraction.2);
       is_minus = s.1;
       is_whole = whole.0;
@@ -200,7 +202,7 @@ all_digits : (ds : List ℕ) → AreSomeDigits ds → digits_at ds ≡ Some (ds,
 unfolding Stops
 all_digits ds digits = rw append-nil at (digits_at-only ds [] digits tt)
 
-exponent_only : (power : ℤ) (x : List ℕ) → IsExponent power x → (r : Bool × List ℕ) × (exponent_in x ≡ Some r) × (signed r.0 (decimal_value r.1) ≡ power)
+exponent_only : (power : ℤ) (x : List ℕ) → IsExponent power x → (r : Bool × List ℕ) × (exponent_in x ≡ Some r) × (with_sign r.0 (decimal_value r.1) ≡ power)
 exponent_only _ _ no_exponent = ((false, []), refl, refl)
 exponent_only _ _ (unsigned_exponent e ds is_e digits) =
     let test : ((e == 101) || (e == 69)) ≡ true = is_e_test e is_e in
@@ -237,10 +239,10 @@ unfolding parts_of
 parts_only text negative digits power n =
     let stops = exponent_stops n.exponent_power n.exponent n.is_exponent in
     let x = exponent_only n.exponent_power n.exponent n.is_exponent in
-    let sign : sign_at text ≡ (negative, n.whole ++ (n.fraction ++ n.exponent)) = ap sign_at n.is_text ∙ sign_only negative n.minus n.whole (n.fraction ++ n.exponent) n.is_minus n.is_whole.0 in
+    let sign : sign_at text ≡ (negative, n.whole ++ (n.fraction ++ n.exponent)) = ap sign_at n.is_text ∙ sign_only negative n.sign n.whole (n.fraction ++ n.exponent) n.is_minus n.is_whole.0 in
     let whole : whole_at (n.whole ++ (n.fraction ++ n.exponent)) ≡ Some (n.whole, n.fraction ++ n.exponent) = whole_only n.whole (n.fraction ++ n.exponent) n.is_whole (fraction_stops n.fraction_digits n.fraction n.exponent n.is_fraction stops.0) in
     let fraction : fraction_at (n.fraction ++ n.exponent) ≡ Some (n.fraction_digits, n.exponent) = fraction_only n.fraction_digits n.fraction n.exponent n.is_fraction stops.0 stops.1 in (
-      record { negative = negative; whole = n.whole; fraction = n.fraction_digits; lowered = x.0.0; exponent = x.0.1 },
+      record { negative = negative; whole = n.whole; fraction = n.fraction_digits; negative_exponent = x.0.0; exponent = x.0.1 },
       rw sign (rw whole (rw fraction (rw x.1 refl))),
       refl,
       sym (value_after-append 0 n.whole n.fraction_digits) ∙ sym n.is_digits,

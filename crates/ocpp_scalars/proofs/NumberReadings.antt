@@ -6,25 +6,25 @@ use Rattle.std.proofs.lemmas.Grind.{pow_more}
 use Rattle.ocpp_scalars.specs.declared.number.NumberFault.{NumberFault}
 use Rattle.ocpp_scalars.specs.declared.number.NumberFault.TheVariants.{Form, TooLong, Range}
 use Rattle.ocpp_scalars.specs.declared.number.Number.{Number}
-use Rattle.ocpp_scalars.specs.NumberParts.{Parts, parts_of}
-use Rattle.ocpp_scalars.specs.NumberText.{SpellsNumber, IsNumber, IsScaled, signed, is_number_text}
-use Rattle.ocpp_scalars.specs.NumberValue.{number_of_parts, scaled, at_most, number_in, most_tenths, tenths_of_number, tenths_of, most_whole, whole_of_number, whole_of}
-use Rattle.ocpp_scalars.specs.NumberReading.{IsShort, IsTenthsReading, IsWholeReading}
+use Rattle.ocpp_scalars.specs.ByCases.NumberText.{Parts, parts_of, is_number_text}
+use Rattle.ocpp_scalars.specs.NumberText.{SpellsNumber, IsNumber}
+use Rattle.ocpp_scalars.specs.Number.{IsScaled, with_sign, IsShort, IsTenthsReading, IsWholeReading}
+use Rattle.ocpp_scalars.specs.ByCases.Number.{number_of_parts, times_power, at_most, number_in, most_tenths, tenths_of_number, tenths_of, most_whole, whole_of_number, whole_of}
 use Rattle.ocpp_scalars.proofs.Cases.{by_test, test-some}
 use Rattle.ocpp_scalars.proofs.NumberGrammar.{parts_found, parts_only}
 use Rattle.ocpp_scalars.proofs.Scaling.{scaled-lowered}
 
 -- digits times a power of ten
 
-scaled-found : (m : ℕ) (power : ℤ) (n : ℕ) → scaled m power ≡ Some n → IsScaled m power n
-unfolding scaled
+scaled-found : (m : ℕ) (power : ℤ) (n : ℕ) → times_power m power ≡ Some n → IsScaled m power n
+unfolding times_power
 scaled-found m (pos k) n e = let same : m * 10 ^ k ≡ n = cc in sym same
 scaled-found m (negsuc k) n e =
     let t = test-some (m % 10 ^ suc k == 0) (m / 10 ^ suc k) n e in
     rw (← t.1) (omega (arith, div-add-mod' m (10 ^ suc k), eqb-true (m % 10 ^ suc k) 0 t.0))
 
-scaled-only : (m : ℕ) (power : ℤ) (n : ℕ) → IsScaled m power n → scaled m power ≡ Some n
-unfolding scaled
+scaled-only : (m : ℕ) (power : ℤ) (n : ℕ) → IsScaled m power n → times_power m power ≡ Some n
+unfolding times_power
 scaled-only m (pos k) n is = ap Some (sym is)
 scaled-only m (negsuc k) n is = scaled-lowered m (suc k) n (omega arith) is
 
@@ -115,11 +115,11 @@ most_tenths-only false n sign h = h
 pub tenths_of_spelling : (text : List ℕ) (negative : Bool) (digits : ℕ) (power : ℤ) (n : ℕ) → IsShort text → SpellsNumber text negative digits power → IsScaled (10 * digits) power n → (negative ≡ true → n ≡ 0) → n ≤ 1_000_000_000 → tenths_of text ≡ Ok n
 unfolding tenths_of
 tenths_of_spelling text negative digits power n short spells scale sign bound =
-    let value : scaled digits (power +ℤ pos 1) ≡ Some n = scaled-only digits (power +ℤ pos 1) n (tenths-down digits power n scale) in
+    let value : times_power digits (power +ℤ pos 1) ≡ Some n = scaled-only digits (power +ℤ pos 1) n (tenths-down digits power n scale) in
     let inside : at_most (most_tenths negative) (Some n) ≡ Some n = at_most-only (most_tenths negative) n (most_tenths-only negative n sign bound) in
     rw (number_in-only text negative digits power short spells, value, inside) refl
 
-tenths_in_bounds : (text : List ℕ) (number : Number) → IsShort text → SpellsNumber text number.negative number.digits number.power → tenths_of text ≡ tenths_of_number (Ok number) → (o : Option ℕ) → at_most (most_tenths number.negative) (scaled number.digits (number.power +ℤ pos 1)) ≡ o → IsTenthsReading text (ok_or o Range)
+tenths_in_bounds : (text : List ℕ) (number : Number) → IsShort text → SpellsNumber text number.negative number.digits number.power → tenths_of text ≡ tenths_of_number (Ok number) → (o : Option ℕ) → at_most (most_tenths number.negative) (times_power number.digits (number.power +ℤ pos 1)) ≡ o → IsTenthsReading text (ok_or o Range)
 tenths_in_bounds text number short spells whole None e = (
   short,
   (number.negative, number.digits, number.power, spells),
@@ -130,14 +130,14 @@ tenths_in_bounds text number short spells whole None e = (
       cc,
 )
 tenths_in_bounds text number short spells whole (Some n) e =
-    let h = at_most-found (most_tenths number.negative) (scaled number.digits (number.power +ℤ pos 1)) n e in
+    let h = at_most-found (most_tenths number.negative) (times_power number.digits (number.power +ℤ pos 1)) n e in
     let b = most_tenths-found number.negative n h.1 in
     (short, ((number.negative, number.digits, number.power, spells, tenths-up number.digits number.power n (scaled-found number.digits (number.power +ℤ pos 1) n h.0), b.0), b.1))
 
 tenths_read : (text : List ℕ) (r : Result Number NumberFault) → number_in text ≡ r → NumberFacts text r → tenths_of text ≡ tenths_of_number r → IsTenthsReading text (tenths_of_number r)
 unfolding NumberFacts
 tenths_read text (Ok number) e h whole =
-    tenths_in_bounds text number h.0 h.1 whole (at_most (most_tenths number.negative) (scaled number.digits (number.power +ℤ pos 1))) refl
+    tenths_in_bounds text number h.0 h.1 whole (at_most (most_tenths number.negative) (times_power number.digits (number.power +ℤ pos 1))) refl
 tenths_read text (Err TooLong) e h whole = h
 tenths_read text (Err Form) e h whole = h
 tenths_read text (Err Range) e h whole = absurd h
@@ -169,41 +169,41 @@ tenths_reading text r =
 
 -- whole numbers
 
-most_whole-found : (negative : Bool) (n : ℕ) → n ≤ most_whole negative → (neg_ℤ (pos 2_147_483_648) ≤ℤ signed negative n) × (signed negative n ≤ℤ pos 2_147_483_647)
+most_whole-found : (negative : Bool) (n : ℕ) → n ≤ most_whole negative → (neg_ℤ (pos 2_147_483_648) ≤ℤ with_sign negative n) × (with_sign negative n ≤ℤ pos 2_147_483_647)
 most_whole-found true n h = (omega (arith, ints), omega (arith, ints))
 most_whole-found false n h = (omega (arith, ints), omega (arith, ints))
 
-most_whole-only : (negative : Bool) (n : ℕ) → neg_ℤ (pos 2_147_483_648) ≤ℤ signed negative n → signed negative n ≤ℤ pos 2_147_483_647 → n ≤ most_whole negative
+most_whole-only : (negative : Bool) (n : ℕ) → neg_ℤ (pos 2_147_483_648) ≤ℤ with_sign negative n → with_sign negative n ≤ℤ pos 2_147_483_647 → n ≤ most_whole negative
 most_whole-only true n low high = omega (arith, ints)
 most_whole-only false n low high = omega (arith, ints)
 
-whole_of_spelling : (text : List ℕ) (negative : Bool) (digits : ℕ) (power : ℤ) (n : ℕ) (z : ℤ) → IsShort text → SpellsNumber text negative digits power → IsScaled digits power n → z ≡ signed negative n → neg_ℤ (pos 2_147_483_648) ≤ℤ z → z ≤ℤ pos 2_147_483_647 → whole_of text ≡ Ok z
+whole_of_spelling : (text : List ℕ) (negative : Bool) (digits : ℕ) (power : ℤ) (n : ℕ) (z : ℤ) → IsShort text → SpellsNumber text negative digits power → IsScaled digits power n → z ≡ with_sign negative n → neg_ℤ (pos 2_147_483_648) ≤ℤ z → z ≤ℤ pos 2_147_483_647 → whole_of text ≡ Ok z
 unfolding whole_of
 whole_of_spelling text negative digits power n z short spells scale is low high =
-    let value : scaled digits power ≡ Some n = scaled-only digits power n scale in
+    let value : times_power digits power ≡ Some n = scaled-only digits power n scale in
     let fits : n ≤ most_whole negative = most_whole-only negative n (rw is at low) (rw is at high) in
     let inside : at_most (most_whole negative) (Some n) ≡ Some n = at_most-only (most_whole negative) n fits in
     rw (number_in-only text negative digits power short spells, value, inside, is) refl
 
-whole_in_bounds : (text : List ℕ) (number : Number) → IsShort text → SpellsNumber text number.negative number.digits number.power → whole_of text ≡ whole_of_number (Ok number) → (o : Option ℕ) → at_most (most_whole number.negative) (scaled number.digits number.power) ≡ o → IsWholeReading text (ok_or (option_map (signed number.negative) o) Range)
+whole_in_bounds : (text : List ℕ) (number : Number) → IsShort text → SpellsNumber text number.negative number.digits number.power → whole_of text ≡ whole_of_number (Ok number) → (o : Option ℕ) → at_most (most_whole number.negative) (times_power number.digits number.power) ≡ o → IsWholeReading text (ok_or (option_map (with_sign number.negative) o) Range)
 whole_in_bounds text number short spells whole None e = (
   short,
   (number.negative, number.digits, number.power, spells),
   λ z (spelling, low, high).
       let (negative, digits, power, n, again, scale, sign) = spelling in
       let is : whole_of text ≡ Ok z = whole_of_spelling text negative digits power n z short again scale sign low high in
-      let is_not : whole_of text ≡ Err Range = whole ∙ ap (λ (o : Option ℕ). ok_or (option_map (signed number.negative) o) Range) e in
+      let is_not : whole_of text ≡ Err Range = whole ∙ ap (λ (o : Option ℕ). ok_or (option_map (with_sign number.negative) o) Range) e in
       cc,
 )
 whole_in_bounds text number short spells whole (Some n) e =
-    let h = at_most-found (most_whole number.negative) (scaled number.digits number.power) n e in
+    let h = at_most-found (most_whole number.negative) (times_power number.digits number.power) n e in
     let b = most_whole-found number.negative n h.1 in
     (short, ((number.negative, number.digits, number.power, n, spells, scaled-found number.digits number.power n h.0, refl), b.0, b.1))
 
 whole_read : (text : List ℕ) (r : Result Number NumberFault) → number_in text ≡ r → NumberFacts text r → whole_of text ≡ whole_of_number r → IsWholeReading text (whole_of_number r)
 unfolding NumberFacts
 whole_read text (Ok number) e h whole =
-    whole_in_bounds text number h.0 h.1 whole (at_most (most_whole number.negative) (scaled number.digits number.power)) refl
+    whole_in_bounds text number h.0 h.1 whole (at_most (most_whole number.negative) (times_power number.digits number.power)) refl
 whole_read text (Err TooLong) e h whole = h
 whole_read text (Err Form) e h whole = h
 whole_read text (Err Range) e h whole = absurd h

@@ -4,7 +4,7 @@ use Rattle.std.proofs.Math.Nat.{one-le-pow, pow-le-pow_right, mul-mod_left, eq_o
 use Rattle.std.proofs.lemmas.Nat.{pow-add}
 use Rattle.std.proofs.lemmas.Int.{ints}
 use Rattle.std.proofs.lemmas.Grind.{pow_more}
-use Rattle.ocpp_scalars.specs.NumberValue.{scaled, at_most}
+use Rattle.ocpp_scalars.specs.ByCases.Number.{times_power, at_most}
 
 pub ten_pow_pos : (k : ℕ) → 0 < 10 ^ k
 ten_pow_pos k = one-le-pow k 10 (omega arith)
@@ -13,26 +13,26 @@ pub ten_pow_mono : (i j : ℕ) → i ≤ j → 10 ^ i ≤ 10 ^ j
 ten_pow_mono i j h = pow-le-pow_right (omega arith) h
 
 -- nothing times any power of ten is nothing
-pub scaled-zero : (power : ℤ) → scaled 0 power ≡ Some 0
-unfolding scaled
+pub scaled-zero : (power : ℤ) → times_power 0 power ≡ Some 0
+unfolding times_power
 scaled-zero (pos k) = rw zero-mul refl
 scaled-zero (negsuc k) = rw (zero-mod, zero-div) refl
 
-pub scaled-raised : (digits zeros value : ℕ) → value ≡ digits * 10 ^ zeros → scaled digits (pos zeros) ≡ Some value
-unfolding scaled
+pub scaled-raised : (digits zeros value : ℕ) → value ≡ digits * 10 ^ zeros → times_power digits (pos zeros) ≡ Some value
+unfolding times_power
 scaled-raised digits zeros value e = rw (← e) refl
 
 pub at_most-over : (most value : ℕ) → most < value → at_most most (Some value) ≡ None
 at_most-over most value h = grind arith
 
 -- once past the bound, further zeros lead no way back
-pub scaled-over : (most digits zeros counter value : ℕ) → value ≡ digits * 10 ^ counter → most < value → counter ≤ zeros → at_most most (scaled digits (pos zeros)) ≡ None
-unfolding scaled
+pub scaled-over : (most digits zeros counter value : ℕ) → value ≡ digits * 10 ^ counter → most < value → counter ≤ zeros → at_most most (times_power digits (pos zeros)) ≡ None
+unfolding times_power
 scaled-over most digits zeros counter value e over h =
     at_most-over most (digits * 10 ^ zeros) (omega (arith, mul-le-mul_left digits (ten_pow_mono counter zeros h)))
 
-pub scaled-lowered : (digits zeros value : ℕ) → 0 < zeros → value * 10 ^ zeros ≡ digits → scaled digits (neg_ℤ (pos zeros)) ≡ Some value
-unfolding scaled
+pub scaled-lowered : (digits zeros value : ℕ) → 0 < zeros → value * 10 ^ zeros ≡ digits → times_power digits (neg_ℤ (pos zeros)) ≡ Some value
+unfolding times_power
 scaled-lowered digits zero value h e = absurd (omega arith)
 scaled-lowered digits (suc k) value h e =
     let exact : digits % 10 ^ suc k ≡ 0 = rw (← e) (mul-mod_left value (10 ^ suc k)) in
@@ -49,8 +49,8 @@ odd_digit digits zeros counter value n e h whole =
     let is : value ≡ n * 10 ^ rest * 10 = eq_of_mul-eq-mul_right (10 ^ counter) (ten_pow_pos counter) value (n * 10 ^ rest * 10) same in
     rw is (mul-mod_left (n * 10 ^ rest) 10)
 
-pub scaled-odd : (digits zeros counter value : ℕ) → value * 10 ^ counter ≡ digits → value % 10 ≢ 0 → counter < zeros → scaled digits (neg_ℤ (pos zeros)) ≡ None
-unfolding scaled
+pub scaled-odd : (digits zeros counter value : ℕ) → value * 10 ^ counter ≡ digits → value % 10 ≢ 0 → counter < zeros → times_power digits (neg_ℤ (pos zeros)) ≡ None
+unfolding times_power
 scaled-odd digits zero counter value e odd h = absurd (omega arith)
 scaled-odd digits (suc k) counter value e odd h =
     let rest : (digits % 10 ^ suc k ≡ 0) → ⊥ = λ exact. odd (odd_digit digits (suc k) counter value (digits / 10 ^ suc k) e h (omega (arith, div-add-mod' digits (10 ^ suc k)))) in

@@ -3,8 +3,8 @@ use Rattle.std.proofs.Common.{◌≡◌, ℕ, ◌+◌, ◌/◌, ◌%◌, ◌≤�
 use Rattle.std.proofs.lemmas.Fmt.{decimal_by_steps, decimal_digit, length-decimal-le}
 use Rattle.ocpp_scalars.specs.Digits.{AreDigits, value_after, decimal_value}
 use Rattle.ocpp_scalars.specs.NumberText.{IsWhole, no_minus, decimal_point, no_exponent, SpellsNumber}
-use Rattle.ocpp_scalars.specs.NumberValue.{tenths_of}
-use Rattle.ocpp_scalars.specs.TenthsText.{tenths_text}
+use Rattle.ocpp_scalars.specs.ByCases.Number.{tenths_of}
+use Rattle.ocpp_scalars.specs.Writing.{tenths_text}
 use Rattle.ocpp_scalars.proofs.NumberGrammar.{value_after-append}
 use Rattle.ocpp_scalars.proofs.NumberReadings.{tenths_of_spelling}
 
@@ -69,7 +69,7 @@ tenths_again tenths h =
     let value : decimal_value (whole ++ tenth) ≡ tenths =
     value_after-append 0 whole tenth ∙ ap (λ n. value_after n tenth) w.value ∙ ap (λ ds. value_after (tenths / 10) ds) single ∙ omega arith in
     let spells : SpellsNumber (whole ++ (46 ∷ tenth)) false tenths (negsuc 0) = record {
-      minus = [];
+      sign = [];
       whole = whole;
       fraction = 46 ∷ tenth;
       fraction_digits = tenth;

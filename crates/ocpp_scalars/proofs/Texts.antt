@@ -1,7 +1,8 @@
 -- Texts that begin with digits.
 use Rattle.std.proofs.Common.{◌≡◌, ℕ, ◌+◌, ◌-◌, ◌*◌, ◌<◌, List, [], ◌∷◌, length, get_or, drop, refl, arith, add-one, drop-cons, true, false}
 use Rattle.std.specs.Char.{is_ascii_digit}
-use Rattle.ocpp_scalars.specs.Digits.{IsDigit, digits_of, after_digits, AreDigits, value_after}
+use Rattle.ocpp_scalars.specs.Digits.{IsDigit, AreDigits, value_after}
+use Rattle.ocpp_scalars.specs.ByCases.Digits.{digits_of, after_digits}
 
 pub AreDigits-digits_of : (bs : List ℕ) → AreDigits (digits_of bs)
 AreDigits-digits_of [] = tt

@@ -1,5 +1,6 @@
+//! Moments, in whole seconds.
 ghost use Rattle.std.specs.Prelude.{◌≡◌, ℕ, ◌+◌, ◌≤◌, ◌↔◌, IsSome, IfSome};
-ghost use Rattle.ocpp_scalars.specs.declared.instant.TheConstants.{LAST_SECOND};
+ghost use Rattle.ocpp_scalars.specs.Limits.{last_second};
 
 use std::marker::Model;
 
@@ -18,7 +19,7 @@ impl Model for Instant {
 
     ghost view = { λ i. i.seconds };
 
-    ghost invariant = { λ i. i.seconds ≤ 253_402_300_799 };
+    ghost invariant = { λ i. i.seconds ≤ last_second };
 
     ghost inverse = { λ n. record { seconds = n } };
 }
@@ -26,7 +27,7 @@ impl Model for Instant {
 impl Instant {
     /// The instant of so many seconds, or `None` past the last one.
     pub fn try_new(seconds: u64) -> Option<Instant>
-        ensures valid { IsSome result ↔ (seconds ≤ LAST_SECOND) }
+        ensures valid { IsSome result ↔ (seconds ≤ last_second) }
         ensures value { IfSome result (λ i. i ≡ seconds) }
     {
         if seconds <= LAST_SECOND {
@@ -39,14 +40,14 @@ impl Instant {
     /// Seconds since 1970-01-01T00:00:00Z.
     pub fn seconds(self) -> u64
         ensures value { result ≡ self }
-        ensures last { self ≤ LAST_SECOND }
+        ensures last { self ≤ last_second }
     {
         self.seconds
     }
 
     /// The instant so many seconds later.
     pub fn plus(self, seconds: u64) -> Instant
-        requires { self + seconds ≤ LAST_SECOND }
+        requires { self + seconds ≤ last_second }
         ensures { result ≡ self + seconds }
     {
         Instant {

@@ -1,6 +1,6 @@
 ghost use Rattle.std.specs.Prelude.{◌≡◌, ℕ, ◌+◌, ◌*◌, ◌≤◌, ◌<◌, pos, neg_ℤ, ◌+ℤ◌, ◌-ℤ◌, ◌*ℤ◌, ◌≤ℤ◌, Some, None, option_map, IfSome, if◌then◌else◌};
 ghost use Rattle.jiff_core.specs.Calendar.{IsEpochDay, days_from_civil};
-ghost use Rattle.ocpp_scalars.specs.InstantValue.{digit_at, two_at, four_at, after_dash, after_colon, after_separator, is_day, date_at, minutes_at, time_at, after_fraction, clock_in, offset_in, zulu_in, total, seconds_of, in_range, instant_of};
+ghost use Rattle.ocpp_scalars.specs.ByCases.InstantText.{digit_at, two_at, four_at, after_dash, after_colon, after_separator, is_day, date_at, minutes_at, time_at, after_fraction, clock_in, offset_in, zulu_in, total_seconds, seconds_of, in_range, instant_of};
 
 use crate::instant::{Instant, LAST_SECOND};
 use crate::number_text::split_digits;
@@ -35,7 +35,7 @@ impl Error for InstantFault {}
 /// The instant that a text is worth: `YYYY-MM-DD`, `T`, `t` or a space, `hh:mm:ss`, an optional
 /// fraction of 1 to 9 digits, which is dropped, and `Z`, `z`, `+hh:mm`, `-hh:mm` or nothing, which is
 /// UTC. Another text is `Form`, and a moment before 1970 or after the year 9999 is `Range`.
-#[tactic(auto, unfolding(crate::specs::InstantValue::instant_of))]
+#[tactic(auto, unfolding(crate::specs::ByCases::InstantText::instant_of))]
 pub fn read_instant(text: &str) -> Result<Instant, InstantFault>
     ensures { result ≡ instant_of text.now }
 {
@@ -58,7 +58,7 @@ fn in_range(seconds: i64) -> Result<Instant, InstantFault>
 }
 
 /// The seconds since 1970-01-01T00:00:00Z of a whole text.
-#[tactic(auto, unfolding(crate::specs::InstantValue::seconds_of))]
+#[tactic(auto, unfolding(crate::specs::ByCases::InstantText::seconds_of))]
 fn seconds(text: &[u8]) -> Option<i64>
     ensures { result ≡ seconds_of text.now }
 {
@@ -67,21 +67,21 @@ fn seconds(text: &[u8]) -> Option<i64>
     let (time, text) = split_time(text)?;
     let text = skip_fraction(text)?;
     let offset = offset(text)?;
-    Some(total(date, time, offset))
+    Some(total_seconds(date, time, offset))
 }
 
-fn total(date: i64, time: u32, offset: i64) -> i64
+fn total_seconds(date: i64, time: u32, offset: i64) -> i64
     requires date { IsEpochDay date }
     requires time { time < 86_400 }
     requires low { neg_ℤ (pos 86_400) ≤ℤ offset }
     requires high { offset ≤ℤ pos 86_400 }
-    ensures { result ≡ total date time offset }
+    ensures { result ≡ total_seconds date time offset }
 {
     date * 86_400 + time as i64 - offset
 }
 
 /// The number of the day of a date, 0 for 1 January 1970, and what follows the date.
-#[tactic(auto, unfolding(crate::specs::InstantValue::date_at))]
+#[tactic(auto, unfolding(crate::specs::ByCases::InstantText::date_at))]
 fn split_date(text: &[u8]) -> Option<(i64, &[u8])>
     ensures value { option_map (λ x. (x.0, x.1.now)) result ≡ date_at text.now }
     ensures bound { IfSome result (λ x. IsEpochDay x.0) }
@@ -110,7 +110,7 @@ fn day_number(year: u16, month: u8, day: u8) -> Option<i64>
 }
 
 /// The seconds since midnight, and what follows the time of day.
-#[tactic(auto, unfolding(crate::specs::InstantValue::time_at))]
+#[tactic(auto, unfolding(crate::specs::ByCases::InstantText::time_at))]
 fn split_time(text: &[u8]) -> Option<(u32, &[u8])>
     ensures value { option_map (λ x. (x.0, x.1.now)) result ≡ time_at text.now }
     ensures bound { IfSome result (λ x. x.0 < 86_400) }
@@ -126,7 +126,7 @@ fn split_time(text: &[u8]) -> Option<(u32, &[u8])>
 }
 
 /// The minutes since midnight of an hour and a minute, and what follows them.
-#[tactic(auto, unfolding(crate::specs::InstantValue::minutes_at))]
+#[tactic(auto, unfolding(crate::specs::ByCases::InstantText::minutes_at))]
 fn split_minutes(text: &[u8]) -> Option<(u32, &[u8])>
     ensures value { option_map (λ x. (x.0, x.1.now)) result ≡ minutes_at text.now }
     ensures bound { IfSome result (λ x. x.0 < 1_440) }
@@ -164,8 +164,8 @@ fn offset(text: &[u8]) -> Option<i64>
     match text {
         [] => Some(0),
         [b'Z' | b'z', rest @ ..] => zulu(rest),
-        [b'+', rest @ ..] => ahead(rest),
-        [b'-', rest @ ..] => behind(rest),
+        [b'+', rest @ ..] => ahead_of_utc(rest),
+        [b'-', rest @ ..] => behind_utc(rest),
         _ => None,
     }
 }
@@ -177,7 +177,7 @@ fn zulu(text: &[u8]) -> Option<i64>
     if text.is_empty() { Some(0) } else { None }
 }
 
-fn ahead(text: &[u8]) -> Option<i64>
+fn ahead_of_utc(text: &[u8]) -> Option<i64>
     ensures value { result ≡ option_map pos (clock_in text.now) }
     ensures low { IfSome result (λ z. neg_ℤ (pos 86_400) ≤ℤ z) }
     ensures high { IfSome result (λ z. z ≤ℤ pos 86_400) }
@@ -186,7 +186,7 @@ fn ahead(text: &[u8]) -> Option<i64>
     Some(seconds as i64)
 }
 
-fn behind(text: &[u8]) -> Option<i64>
+fn behind_utc(text: &[u8]) -> Option<i64>
     ensures value { result ≡ option_map (λ n. neg_ℤ (pos n)) (clock_in text.now) }
     ensures low { IfSome result (λ z. neg_ℤ (pos 86_400) ≤ℤ z) }
     ensures high { IfSome result (λ z. z ≤ℤ pos 86_400) }

@@ -1,11 +1,12 @@
 ghost use Rattle.std.specs.Prelude.{◌≡◌, ℕ, ℤ, ◌↔◌, List, IsTrue, Result};
 ghost use Rattle.ocpp_scalars.specs.declared.instant_text.InstantFault.{InstantFault};
 ghost use Rattle.ocpp_scalars.specs.declared.number.NumberFault.{NumberFault};
-ghost use Rattle.ocpp_scalars.specs.InstantReading.{IsInstantReading};
-ghost use Rattle.ocpp_scalars.specs.InstantValue.{instant_of};
-ghost use Rattle.ocpp_scalars.specs.NumberReading.{IsTenthsReading, IsWholeReading};
-ghost use Rattle.ocpp_scalars.specs.NumberText.{IsNumber, is_number_text};
-ghost use Rattle.ocpp_scalars.specs.NumberValue.{tenths_of, whole_of};
+ghost use Rattle.ocpp_scalars.specs.InstantText.{IsInstantReading};
+ghost use Rattle.ocpp_scalars.specs.ByCases.InstantText.{instant_of};
+ghost use Rattle.ocpp_scalars.specs.Number.{IsTenthsReading, IsWholeReading};
+ghost use Rattle.ocpp_scalars.specs.NumberText.{IsNumber};
+ghost use Rattle.ocpp_scalars.specs.ByCases.NumberText.{is_number_text};
+ghost use Rattle.ocpp_scalars.specs.ByCases.Number.{tenths_of, whole_of};
 
 /// A law of all texts: what the readers of numbers give is what RFC 8259's grammar has, in both
 /// directions. It does nothing.

@@ -2,6 +2,7 @@
 //! written, beside what every crate above shares: the refusals by name and the source of moments.
 #![tactic(auto)]
 
+mod bounded_text;
 mod characters;
 mod id_tag;
 mod instant;
@@ -13,6 +14,7 @@ mod number_text;
 mod refusal;
 mod writing;
 
+pub use bounded_text::BoundedText;
 pub use characters::character_count;
 pub use id_tag::{IdTag, MAX_ID_TAG_CHARACTERS};
 pub use instant::{Instant, LAST_SECOND};

@@ -1,7 +1,7 @@
 ghost use Rattle.std.specs.Prelude.{Some, ◌≡◌, ◌≢◌, ℕ, ◌+◌, ◌*◌, ◌^◌, ◌≤◌, ◌<◌, length, pos, neg_ℤ, ◌-ℤ◌, ◌≤ℤ◌, IfOk, IfSome, IfNone};
 ghost use Rattle.ocpp_scalars.specs.Digits.{AreDigits, value_after};
-ghost use Rattle.ocpp_scalars.specs.NumberText.{signed};
-ghost use Rattle.ocpp_scalars.specs.NumberValue.{number_in, scaled, at_most, tenths_of, whole_of};
+ghost use Rattle.ocpp_scalars.specs.Number.{with_sign};
+ghost use Rattle.ocpp_scalars.specs.ByCases.Number.{number_in, times_power, at_most, tenths_of, whole_of};
 
 use crate::number_text::number_parts;
 use std::error::Error;
@@ -44,13 +44,13 @@ pub(crate) struct Number {
 
 /// The tenths that a number's text is worth, from 0 to 1,000,000,000. A text of more than 32 bytes
 /// is `TooLong`, another that isn't a number's is `Form`, and any other value is `Range`.
-#[tactic(auto, unfolding(crate::specs::NumberValue::tenths_of))]
+#[tactic(auto, unfolding(crate::specs::ByCases::Number::tenths_of))]
 pub fn read_tenths(text: &str) -> Result<u32, NumberFault>
     ensures { result ≡ tenths_of text.now }
 {
     let number = read_number(text)?;
     let most = if number.negative { 0 } else { 1_000_000_000 };
-    match scaled_at_most(most, number.digits, number.power + 1) {
+    match times_power_at_most(most, number.digits, number.power + 1) {
         Some(tenths) => Ok(tenths),
         None => Err(NumberFault::Range),
     }
@@ -58,7 +58,7 @@ pub fn read_tenths(text: &str) -> Result<u32, NumberFault>
 
 /// The whole number of 32 bits that a number's text is worth. A text of more than 32 bytes is
 /// `TooLong`, another that isn't a number's is `Form`, and any other value is `Range`.
-#[tactic(auto, unfolding(crate::specs::NumberValue::whole_of))]
+#[tactic(auto, unfolding(crate::specs::ByCases::Number::whole_of))]
 pub fn read_whole(text: &str) -> Result<i32, NumberFault>
     ensures { result ≡ whole_of text.now }
 {
@@ -68,14 +68,14 @@ pub fn read_whole(text: &str) -> Result<i32, NumberFault>
     } else {
         2_147_483_647
     };
-    match scaled_at_most(most, number.digits, number.power) {
+    match times_power_at_most(most, number.digits, number.power) {
         Some(value) if number.negative => Ok((-(value as i64)) as i32),
         Some(value) => Ok(value as i32),
         None => Err(NumberFault::Range),
     }
 }
 
-#[tactic(auto, unfolding(crate::specs::NumberValue::number_in))]
+#[tactic(auto, unfolding(crate::specs::ByCases::Number::number_in))]
 fn read_number(text: &str) -> Result<Number, NumberFault>
     ensures value { result ≡ number_in text.now }
     ensures bound { IfOk result (λ n. (n.digits < 10 ^ 32) × (neg_ℤ (pos (10 ^ 33)) ≤ℤ n.power) × (n.power ≤ℤ pos (10 ^ 33))) }
@@ -92,7 +92,7 @@ fn read_number(text: &str) -> Result<Number, NumberFault>
     Ok(Number {
         negative: parts.negative,
         digits,
-        power: power(parts.lowered, exponent, parts.fraction.len()),
+        power: power(parts.negative_exponent, exponent, parts.fraction.len()),
     })
 }
 
@@ -111,14 +111,14 @@ fn read_digits(start: u128, digits: &[u8]) -> u128
 }
 
 /// The power of ten of digits with so many places after the point.
-fn power(lowered: bool, exponent: u128, places: usize) -> i128
+fn power(negative: bool, exponent: u128, places: usize) -> i128
     requires exponent { exponent < 10 ^ 32 }
     requires places { places ≤ 32 }
-    ensures value { result ≡ signed lowered exponent -ℤ pos places }
+    ensures value { result ≡ with_sign negative exponent -ℤ pos places }
     ensures low { neg_ℤ (pos (10 ^ 33)) ≤ℤ result }
     ensures high { result ≤ℤ pos (10 ^ 33) }
 {
-    if lowered {
+    if negative {
         -(exponent as i128) - places as i128
     } else {
         exponent as i128 - places as i128
@@ -127,24 +127,24 @@ fn power(lowered: bool, exponent: u128, places: usize) -> i128
 
 /// The digits times the power of ten, where that is whole and at most `most`.
 #[tactic(auto, using(crate::proofs::Scaling::scaling))]
-fn scaled_at_most(most: u32, digits: u128, power: i128) -> Option<u32>
+fn times_power_at_most(most: u32, digits: u128, power: i128) -> Option<u32>
     requires low { neg_ℤ (pos (10 ^ 34)) ≤ℤ power }
     requires high { power ≤ℤ pos (10 ^ 34) }
-    ensures { result ≡ at_most most (scaled digits power) }
+    ensures { result ≡ at_most most (times_power digits power) }
 {
     if digits == 0 {
         return Some(0);
     }
     let zeros = power.unsigned_abs();
     if power < 0 {
-        within(most, lowered(digits, zeros)?)
+        value_at_most(most, without_zeros(digits, zeros)?)
     } else {
-        within(most, raised(most, digits, zeros)?)
+        value_at_most(most, with_zeros(most, digits, zeros)?)
     }
 }
 
 /// The value, where it is at most `most`.
-fn within(most: u32, value: u128) -> Option<u32>
+fn value_at_most(most: u32, value: u128) -> Option<u32>
     ensures { result ≡ at_most most (Some value) }
 {
     if value <= most as u128 {
@@ -156,10 +156,10 @@ fn within(most: u32, value: u128) -> Option<u32>
 
 /// The digits with so many zeros more behind them, or `None` where that is past `most`.
 #[tactic(auto, using(crate::proofs::Scaling::scaling))]
-fn raised(most: u32, digits: u128, zeros: u128) -> Option<u128>
+fn with_zeros(most: u32, digits: u128, zeros: u128) -> Option<u128>
     requires { 0 < digits }
-    ensures some { IfSome result (λ n. scaled digits (pos zeros) ≡ Some n) }
-    ensures none { IfNone result (at_most most (scaled digits (pos zeros)) ≡ None) }
+    ensures some { IfSome result (λ n. times_power digits (pos zeros) ≡ Some n) }
+    ensures none { IfNone result (at_most most (times_power digits (pos zeros)) ≡ None) }
 {
     let mut value = digits;
     for _ in 0..zeros {
@@ -173,10 +173,10 @@ fn raised(most: u32, digits: u128, zeros: u128) -> Option<u128>
 
 /// The digits without so many zeros behind them, or `None` where they have fewer.
 #[tactic(auto, using(crate::proofs::Scaling::scaling))]
-fn lowered(digits: u128, zeros: u128) -> Option<u128>
+fn without_zeros(digits: u128, zeros: u128) -> Option<u128>
     requires digits { 0 < digits }
     requires zeros { 0 < zeros }
-    ensures { result ≡ scaled digits (neg_ℤ (pos zeros)) }
+    ensures { result ≡ times_power digits (neg_ℤ (pos zeros)) }
 {
     let mut value = digits;
     for _ in 0..zeros {

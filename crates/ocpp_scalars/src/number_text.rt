@@ -1,7 +1,7 @@
 ghost use Rattle.std.specs.Prelude.{◌≡◌, ℕ, ◌+◌, ◌≤◌, length, option_map, IfSome};
-ghost use Rattle.ocpp_scalars.specs.Digits.{digits_of, after_digits, AreDigits};
-ghost use Rattle.ocpp_scalars.specs.NumberParts.{Parts, sign_at, whole_at, digits_at, fraction_at, exponent_sign_at, exponent_in, parts_of};
-ghost use Rattle.ocpp_scalars.specs.NumberText.{is_number_text};
+ghost use Rattle.ocpp_scalars.specs.ByCases.Digits.{digits_of, after_digits};
+ghost use Rattle.ocpp_scalars.specs.Digits.{AreDigits};
+ghost use Rattle.ocpp_scalars.specs.ByCases.NumberText.{Parts, sign_at, whole_at, digits_at, fraction_at, exponent_sign_at, exponent_in, parts_of, is_number_text};
 
 /// The parts of a number's text (RFC 8259, section 6).
 #[derive(Clone, Copy)]
@@ -13,13 +13,13 @@ pub(crate) struct NumberParts<'a> {
     /// The digits after the point, none where there is no point.
     pub(crate) fraction: &'a [u8],
     /// The exponent has a minus.
-    pub(crate) lowered: bool,
+    pub(crate) negative_exponent: bool,
     /// The digits of the exponent, none where there is no exponent.
     pub(crate) exponent: &'a [u8],
 }
 
 /// Whether a text is a number's (RFC 8259, section 6), of any length.
-#[tactic(auto, unfolding(crate::specs::NumberText::is_number_text))]
+#[tactic(auto, unfolding(crate::specs::ByCases::NumberText::is_number_text))]
 pub fn is_number_text(text: &str) -> bool
     ensures { result ≡ is_number_text text.now }
 {
@@ -27,21 +27,21 @@ pub fn is_number_text(text: &str) -> bool
 }
 
 /// The parts of a number's text, or `None` where the text is none.
-#[tactic(auto, unfolding(crate::specs::NumberParts::parts_of))]
+#[tactic(auto, unfolding(crate::specs::ByCases::NumberText::parts_of))]
 pub(crate) fn number_parts(text: &[u8]) -> Option<NumberParts<'_>>
-    ensures parts { option_map (λ p. record { negative = p.negative; whole = p.whole.now; fraction = p.fraction.now; lowered = p.lowered; exponent = p.exponent.now }) result ≡ parts_of text.now }
+    ensures parts { option_map (λ p. record { negative = p.negative; whole = p.whole.now; fraction = p.fraction.now; negative_exponent = p.negative_exponent; exponent = p.exponent.now }) result ≡ parts_of text.now }
     ensures lengths { IfSome result (λ p. length p.whole.now + length p.fraction.now + length p.exponent.now ≤ length text.now) }
     ensures digits { IfSome result (λ p. AreDigits p.whole.now × AreDigits p.fraction.now × AreDigits p.exponent.now) }
 {
     let (negative, text) = split_sign(text);
     let (whole, text) = split_whole(text)?;
     let (fraction, text) = split_fraction(text)?;
-    let (lowered, exponent) = exponent(text)?;
+    let (negative_exponent, exponent) = exponent(text)?;
     Some(NumberParts {
         negative,
         whole,
         fraction,
-        lowered,
+        negative_exponent,
         exponent,
     })
 }
@@ -88,10 +88,10 @@ fn exponent(text: &[u8]) -> Option<(bool, &[u8])>
     match text {
         [] => Some((false, text)),
         [b'e' | b'E', rest @ ..] => {
-            let (lowered, rest) = split_exponent_sign(rest);
+            let (negative_exponent, rest) = split_exponent_sign(rest);
             let (digits, rest) = split_some_digits(rest)?;
             if rest.is_empty() {
-                Some((lowered, digits))
+                Some((negative_exponent, digits))
             } else {
                 None
             }

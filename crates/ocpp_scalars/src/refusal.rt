@@ -1,12 +1,13 @@
+//! Why the central system refuses what it was asked.
 ghost use Rattle.std.specs.Prelude.{◌≡◌, Some};
 ghost use Rattle.ocpp_scalars.specs.Refusal.{refusal_name};
 
-use std::alloc::AllocError;
+use std::alloc::{AllocError, AllocFailed};
 use std::error::Error;
 use std::fmt;
 
-/// Why the central system refuses what it was asked, by name. After a refusal everything is as it
-/// was, and a value that was handed in comes back.
+/// Why the central system refuses what it was asked, by name. Each function's contract says what a
+/// refusal leaves.
 #[derive(Clone, Copy, Debug, PartialEq, Eq, Hash)]
 pub enum Refusal {
     /// The site has no point of this identity.
@@ -15,19 +16,19 @@ pub enum Refusal {
     UnknownConnector,
     /// The schedule's unit isn't the site's.
     WrongUnit,
-    /// The stack level is above 99.
+    /// The stack level is above the limit.
     LevelTooHigh,
-    /// The schedule has more than 200 periods.
+    /// The schedule has more periods than the limit.
     TooManyPeriods,
     /// A period doesn't start later than the one before it.
     PeriodsOutOfOrder,
     /// The kind is Recurring and recurrencyKind is absent.
     NoRecurrency,
-    /// The duration asked is 0 or above a week.
+    /// The duration asked is 0 or above the limit.
     BadDuration,
     /// The schedule asked would run past the last instant.
     PastCalendar,
-    /// The composite schedule has more than 1,000 periods.
+    /// The composite schedule has more periods than the limit.
     ResultTooLong,
     /// Memory ran out.
     OutOfMemory,
@@ -70,6 +71,16 @@ impl From<AllocError> for Refusal {
     ghost from_gives = { λ _ r. r ≡ Refusal.OutOfMemory };
 
     fn from(_error: AllocError) -> Refusal {
+        Refusal::OutOfMemory
+    }
+}
+
+impl<T: Drop> From<AllocFailed<T>> for Refusal {
+    ghost use Rattle.ocpp_scalars.specs.declared.refusal.Refusal.{Refusal};
+
+    ghost from_gives = { λ _ r. r ≡ Refusal.OutOfMemory };
+
+    fn from(_failed: AllocFailed<T>) -> Refusal {
         Refusal::OutOfMemory
     }
 }

@@ -1,16 +1,18 @@
+//! Instants and tenths, written.
 ghost use Rattle.std.specs.Prelude.{◌≡◌, ℕ, ◌+◌, ◌*◌, ◌/◌, ◌%◌, ◌≤◌, ◌<◌, ◌++◌, pos, Ok, IfOk, OnOk, IsErrOf, IsOkUnless, string_bytes};
 ghost use Rattle.jiff_core.specs.Date.{epoch_day};
 ghost use Rattle.ocpp_scalars.specs.CalendarDay.{calendar_day};
 ghost use Rattle.ocpp_scalars.specs.Digits.{two_digits, four_digits};
-ghost use Rattle.ocpp_scalars.specs.InstantText.{day_text, clock_text, time_of_day_text, instant_text};
-ghost use Rattle.ocpp_scalars.specs.InstantValue.{instant_of};
-ghost use Rattle.ocpp_scalars.specs.NumberValue.{tenths_of};
-ghost use Rattle.ocpp_scalars.specs.TenthsText.{tenths_text};
+ghost use Rattle.ocpp_scalars.specs.Limits.{last_day, last_second, max_tenths};
+ghost use Rattle.ocpp_scalars.specs.Writing.{day_text, time_of_day_text, instant_text, tenths_text};
+ghost use Rattle.ocpp_scalars.specs.InstantText.{clock_text};
+ghost use Rattle.ocpp_scalars.specs.ByCases.InstantText.{instant_of};
+ghost use Rattle.ocpp_scalars.specs.ByCases.Number.{tenths_of};
 
-use crate::instant::{Instant, LAST_SECOND};
+use crate::instant::Instant;
 use crate::refusal::Refusal;
 use jiff_core::civil::Date;
-use std::alloc::Global;
+use std::alloc::{AllocError, Global};
 
 /// The text of an instant, `YYYY-MM-DDThh:mm:ssZ`, or `OutOfMemory`.
 pub fn write_instant(alloc: Global, instant: Instant) -> Result<String, Refusal>
@@ -23,20 +25,18 @@ pub fn write_instant(alloc: Global, instant: Instant) -> Result<String, Refusal>
     Ok(out)
 }
 
-/// Appends the text of an instant, `YYYY-MM-DDThh:mm:ssZ`, or gives `OutOfMemory`.
-pub fn push_instant(out: &mut String, instant: Instant) -> Result<(), Refusal>
+/// Appends the text of an instant, `YYYY-MM-DDThh:mm:ssZ`.
+pub fn push_instant(out: &mut String, instant: Instant) -> Result<(), AllocError>
     ensures text { OnOk result (string_bytes out.new ≡ string_bytes out.old ++ instant_text instant) }
-    ensures memory { IsOkUnless result Refusal.OutOfMemory }
 {
     push_seconds(out, instant.seconds())
 }
 
 /// Appends the text of the instant so many seconds after 1970-01-01T00:00:00Z.
-#[tactic(auto, unfolding(crate::specs::InstantText::instant_text))]
-fn push_seconds(out: &mut String, seconds: u64) -> Result<(), Refusal>
-    requires { seconds ≤ LAST_SECOND }
+#[tactic(auto, unfolding(crate::specs::Writing::instant_text))]
+fn push_seconds(out: &mut String, seconds: u64) -> Result<(), AllocError>
+    requires { seconds ≤ last_second }
     ensures text { OnOk result (string_bytes out.new ≡ string_bytes out.old ++ instant_text seconds) }
-    ensures memory { IsOkUnless result Refusal.OutOfMemory }
 {
     push_day(out, seconds / 86_400)?;
     out.push('T')?;
@@ -46,10 +46,9 @@ fn push_seconds(out: &mut String, seconds: u64) -> Result<(), Refusal>
 }
 
 /// Appends the date of the day that comes so many days after 1 January 1970.
-fn push_day(out: &mut String, day: u64) -> Result<(), Refusal>
-    requires { day ≤ 2_932_896 }
+fn push_day(out: &mut String, day: u64) -> Result<(), AllocError>
+    requires { day ≤ last_day }
     ensures text { OnOk result (string_bytes out.new ≡ string_bytes out.old ++ day_text (calendar_day day)) }
-    ensures memory { IsOkUnless result Refusal.OutOfMemory }
 {
     let (year, month, day) = civil_date(day);
     push_two(out, (year / 100) as u8)?;
@@ -62,7 +61,7 @@ fn push_day(out: &mut String, day: u64) -> Result<(), Refusal>
 
 /// Year, month and day of the day that comes so many days after 1 January 1970.
 fn civil_date(day: u64) -> (u16, u8, u8)
-    requires { day ≤ 2_932_896 }
+    requires { day ≤ last_day }
     ensures year { result.0 ≡ (calendar_day day).year }
     ensures month { result.1 ≡ (calendar_day day).month }
     ensures day { result.2 ≡ (calendar_day day).day }
@@ -73,10 +72,9 @@ fn civil_date(day: u64) -> (u16, u8, u8)
 }
 
 /// Appends a time of day, `hh:mm:ss`.
-fn push_time(out: &mut String, seconds: u32) -> Result<(), Refusal>
+fn push_time(out: &mut String, seconds: u32) -> Result<(), AllocError>
     requires { seconds < 86_400 }
     ensures text { OnOk result (string_bytes out.new ≡ string_bytes out.old ++ time_of_day_text seconds) }
-    ensures memory { IsOkUnless result Refusal.OutOfMemory }
 {
     push_two(out, (seconds / 3600) as u8)?;
     out.push(':')?;
@@ -86,10 +84,9 @@ fn push_time(out: &mut String, seconds: u32) -> Result<(), Refusal>
 }
 
 /// Appends a number below 100 in two digits.
-fn push_two(out: &mut String, number: u8) -> Result<(), Refusal>
+fn push_two(out: &mut String, number: u8) -> Result<(), AllocError>
     requires { number < 100 }
     ensures text { OnOk result (string_bytes out.new ≡ string_bytes out.old ++ two_digits number) }
-    ensures memory { IsOkUnless result Refusal.OutOfMemory }
 {
     out.push((b'0' + number / 10) as char)?;
     out.push((b'0' + number % 10) as char)?;
@@ -99,7 +96,7 @@ fn push_two(out: &mut String, number: u8) -> Result<(), Refusal>
 /// The text of so many tenths: the whole part, a point and one digit, or `OutOfMemory`.
 pub fn write_tenths(alloc: Global, tenths: u32) -> Result<String, Refusal>
     ensures text { IfOk result (λ s. string_bytes s ≡ tenths_text tenths) }
-    ensures again { tenths ≤ 1_000_000_000 → IfOk result (λ s. tenths_of (string_bytes s) ≡ Ok tenths) }
+    ensures again { tenths ≤ max_tenths → IfOk result (λ s. tenths_of (string_bytes s) ≡ Ok tenths) }
     ensures memory { IsOkUnless result Refusal.OutOfMemory }
 {
     let mut out = String::new(alloc);
@@ -107,11 +104,10 @@ pub fn write_tenths(alloc: Global, tenths: u32) -> Result<String, Refusal>
     Ok(out)
 }
 
-/// Appends the text of so many tenths, or gives `OutOfMemory`.
-#[tactic(auto, unfolding(crate::specs::TenthsText::tenths_text))]
-pub fn push_tenths(out: &mut String, tenths: u32) -> Result<(), Refusal>
+/// Appends the text of so many tenths.
+#[tactic(auto, unfolding(crate::specs::Writing::tenths_text))]
+pub fn push_tenths(out: &mut String, tenths: u32) -> Result<(), AllocError>
     ensures text { OnOk result (string_bytes out.new ≡ string_bytes out.old ++ tenths_text tenths) }
-    ensures memory { IsOkUnless result Refusal.OutOfMemory }
 {
     let whole = tenths / 10;
     let tenth = tenths % 10;

@@ -1,7 +1,7 @@
 -- Elements taken one after another are those of the list.
 use Rattle.std.proofs.Common.{◌≡◌, ℕ, List, [], ◌∷◌, drop, slice_get, Option, Some, Err, refl, sym, ap, ◌∙◌}
 use Rattle.std.specs.Option.{option_map_or}
-use Rattle.ocppj_frame.specs.Message.{message_by, message_id, message_of_elements, message_of_tree, message_type}
+use Rattle.ocppj_frame.specs.ByCases.Message.{message_by, message_id, message_of_elements, message_of_tree, message_type}
 use Rattle.ocppj_frame.specs.Tree.{Tree, as_list}
 use Rattle.ocppj_frame.specs.declared.fault.FrameFault.TheVariants.{Dropped}
 use Rattle.ocppj_frame.specs.declared.message.MessageType.{MessageType}

@@ -1,5 +1,5 @@
 pub mod MarkedText
 pub mod Markings
-pub mod UnmarkedText
+pub mod AfterMark
 pub mod TreeParts
 pub mod Elements

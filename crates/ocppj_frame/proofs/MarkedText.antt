@@ -6,7 +6,7 @@ use Rattle.std.proofs.lemmas.Bool.Decides.{nat_tests}
 use Rattle.std.proofs.lemmas.Str.{IsUtf8-append, IsUtf8-encode, IsUtf8-from_ascii, IsUtf8-nil, encode_ascii, inside_one, length-encode, len_utf8_bounds}
 use Rattle.std.proofs.Math.Utf8.{encode, encodes, scalars}
 use Rattle.std.specs.Str.{IsUtf8, IsAscii}
-use Rattle.ocppj_frame.specs.Marked.{place_after, marked_outside, marked_byte, marked_end, marked_from, marked}
+use Rattle.ocppj_frame.specs.ByCases.Mark.{place_after, marked_outside, marked_byte, marked_end, marked_from, marked_text}
 use Rattle.ocppj_frame.specs.declared.mark.Place.{Place}
 use Rattle.ocppj_frame.specs.declared.mark.Place.TheVariants.{Outside, Inside, Escaped, Number}
 
@@ -100,5 +100,5 @@ utf8_from place (c ∷ cs) h = ⊎_elim
     (λ high. utf8_past place (encode c) (encodes cs) (some_encode c) (high_encode c high) (IsUtf8-encode c (and_parts _ _ h).0) (λ p. utf8_from p cs (and_parts _ _ h).1))
     (cases_lt c 128)
 
-pub IsUtf8-marked : (bs : List ℕ) → IsUtf8 bs → IsUtf8 (marked bs)
-IsUtf8-marked bs u = subst (λ (t : List ℕ). IsUtf8 (marked t)) u.1.1 (utf8_from Outside u.0 u.1.0)
+pub IsUtf8-marked_text : (bs : List ℕ) → IsUtf8 bs → IsUtf8 (marked_text bs)
+IsUtf8-marked_text bs u = subst (λ (t : List ℕ). IsUtf8 (marked_text t)) u.1.1 (utf8_from Outside u.0 u.1.0)

@@ -3,8 +3,8 @@ use Rattle.std.proofs.Common.{◌≡◌, ℕ, ◌==◌, Bool, true, false, List,
 use Rattle.std.specs.Prelude.{◌≢◌, ◌↔◌}
 use Rattle.std.proofs.lemmas.Bool.{eqb-true, ne_eqb, eqb-false}
 use Rattle.std.proofs.lemmas.Bool.Decides.{nat_tests}
-use Rattle.ocppj_frame.specs.Marked.{begins_number, continues_number, marked_from, marked}
-use Rattle.ocppj_frame.specs.Marking.{IsContent, no_content, content_byte, content_pair, IsUnclosed, no_byte, last_backslash, unclosed_byte, unclosed_pair, AreNumberBytes, EndsNumber, IsMarked, no_text, string, unclosed_string, number, other_byte}
+use Rattle.ocppj_frame.specs.ByCases.Mark.{marked_from, marked_text}
+use Rattle.ocppj_frame.specs.Mark.{begins_number, continues_number, IsContent, no_content, content_byte, content_pair, IsUnclosed, no_byte, last_backslash, unclosed_byte, unclosed_pair, AreNumberBytes, EndsNumber, IsMarked, no_text, string, unclosed_string, number, other_byte}
 use Rattle.ocppj_frame.specs.declared.mark.Place.TheVariants.{Outside, Inside, Number}
 
 by_test : {P : Type 0} → (t : Bool) → (t ≡ true → P) → (t ≡ false → P) → P
@@ -110,7 +110,7 @@ all_found (b ∷ bs) =
     let text = text_found b bs done quote digit in
     (text, quote_found b bs done quote slash, pair_after_quote b bs quote, digit_found b bs text digit)
 
-pub marked_by_rules : (text out : List ℕ) → (marked text ≡ out) ↔ IsMarked text out
+pub marked_by_rules : (text out : List ℕ) → (marked_text text ≡ out) ↔ IsMarked text out
 marked_by_rules text out = (
   λ same. subst (λ (r : List ℕ). IsMarked text r) same (all_found text).0,
   only_marked text out,

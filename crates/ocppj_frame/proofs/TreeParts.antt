@@ -6,10 +6,10 @@ use Rattle.serde_json.specs.Data as json
 use Rattle.serde_json.specs.View.{view, items_view, members_view}
 use Rattle.serde_json.specs.declared.value.Value.{Value, Array, Object}
 use Rattle.serde_json.proofs.Views.{view-Array, view-Object}
-use Rattle.ocppj_frame.specs.Member.{is_key_of, member_named}
-use Rattle.ocppj_frame.specs.Parts.{value_tree}
+use Rattle.ocppj_frame.specs.ByCases.Member.{is_key_of, member_named}
+use Rattle.ocppj_frame.specs.Payload.{value_tree}
 use Rattle.ocppj_frame.specs.Tree.{Tree, null, list, object, Trees, no_entries, entry, entries, Fields, field, field_at, field_of, as_list}
-use Rattle.ocppj_frame.specs.TreeReading.{tree_of, trees_of, fields_of, name_of_key}
+use Rattle.ocppj_frame.specs.Read.{tree_of, trees_of, fields_of, name_of_key}
 
 -- a list's first entry and the others
 first_entry : (o : Option Tree) (p : Option Trees) → is_some (option_and_then (λ t. option_map (entry t) p) o) ≡ true → is_some o ≡ true

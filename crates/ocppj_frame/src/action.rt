@@ -1,3 +1,4 @@
+//! The name of an action.
 ghost use Rattle.std.specs.Prelude.{◌≡◌, string_bytes};
 
 use std::marker::Model;
@@ -29,13 +30,5 @@ impl ActionName {
         ensures { result.now ≡ self.now }
     {
         self.text.as_str()
-    }
-
-    /// The name's text, given back.
-    pub fn into_string(self) -> String
-        ensures { string_bytes result ≡ self }
-    {
-        let ActionName { text } = self;
-        text
     }
 }

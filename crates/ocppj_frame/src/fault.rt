@@ -1,40 +1,28 @@
-ghost use Rattle.std.specs.Prelude.{◌≡◌, Some};
-ghost use Rattle.ocppj_frame.specs.FrameFaultName.{frame_fault_name};
-
+//! Why a text holds no frame.
 use crate::message_id::MessageId;
-use std::error::Error;
-use std::fmt;
+use std::alloc::AllocError;
 
-/// Why a text gives no frame.
-#[derive(Debug, Drop)]
+/// Why a text holds no frame.
+#[derive(Debug, Drop, thiserror::Error)]
 pub enum FrameFault {
     /// The text gets no answer: it is no frame, or has no id that an answer could name.
+    #[error("no frame that could be answered")]
     Dropped,
     /// A CALL whose action or payload is malformed: the answer is a FormationViolation with this id.
+    #[error("a CALL whose action or payload is malformed")]
     Formation { id: MessageId },
     /// Memory ran out.
+    #[error("out of memory")]
     OutOfMemory,
 }
 
-impl FrameFault {
-    /// The fault's name.
-    pub fn name(&self) -> &'static str
-        ensures { result.now ≡ frame_fault_name self.now }
-    {
-        match self {
-            FrameFault::Dropped => "Dropped",
-            FrameFault::Formation { .. } => "Formation",
-            FrameFault::OutOfMemory => "OutOfMemory",
-        }
+impl From<AllocError> for FrameFault {
+    ghost use Rattle.std.specs.Prelude.{◌≡◌};
+    ghost use Rattle.ocppj_frame.specs.declared.fault.FrameFault.{FrameFault};
+
+    ghost from_gives = { λ _ fault. fault ≡ FrameFault.OutOfMemory };
+
+    fn from(_error: AllocError) -> FrameFault {
+        FrameFault::OutOfMemory
     }
 }
-
-impl fmt::Display for FrameFault {
-    ghost output = { λ fault. Some (frame_fault_name fault) };
-
-    fn fmt<W: fmt::Write>(&self, f: &mut fmt::Formatter<W>) -> fmt::Result {
-        f.write_str(self.name())
-    }
-}
-
-impl Error for FrameFault {}

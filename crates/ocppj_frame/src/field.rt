@@ -1,14 +1,15 @@
+//! The fields of an object, each read as one kind of value.
 ghost use Rattle.std.specs.Prelude.{◌≡◌, option_map, Result};
-ghost use Rattle.ocppj_frame.specs.FieldReading.{field_map, instant_field_of, list_field_of, object_field_of, present_field, tenths_field_of, text_field_of, value_or_fault, whole_field_of};
-ghost use Rattle.ocppj_frame.specs.Parts.{entries_in, tree_at};
+ghost use Rattle.ocppj_frame.specs.Field.{field_map, instant_field_of, list_field_of, object_field_of, present_field, tenths_field_of, text_field_of, value_or_fault, whole_field_of};
+ghost use Rattle.ocppj_frame.specs.Payload.{entries_in, tree_at};
 
-use crate::payload::{Items, Part};
+use crate::payload::{Entries, Node};
 use ocpp_scalars::{Instant, read_instant, read_tenths, read_whole};
 
 /// What an object has at the name of a field.
 #[derive(Clone, Copy, Debug, PartialEq, Eq)]
 pub enum Field<T> {
-    /// The field is missing or null, or the part is no object.
+    /// The field is missing or null, or the node is no object.
     Absent,
     /// Another kind of JSON value than the one asked for.
     WrongKind,
@@ -19,10 +20,10 @@ pub enum Field<T> {
 }
 
 /// The text of a field. Never `WrongValue`.
-pub fn text_field<'a>(part: Part<'a>, name: &str) -> Field<&'a str>
-    ensures { field_map (λ t. t.now) result ≡ text_field_of name.now (tree_at part.entry) }
+pub fn text_field<'a>(node: Node<'a>, name: &str) -> Field<&'a str>
+    ensures { field_map (λ t. t.now) result ≡ text_field_of name.now (tree_at node.entry) }
 {
-    let Some(field) = present_field(part, name) else {
+    let Some(field) = present_field(node, name) else {
         return Field::Absent;
     };
     match field.text() {
@@ -32,10 +33,10 @@ pub fn text_field<'a>(part: Part<'a>, name: &str) -> Field<&'a str>
 }
 
 /// The whole number of a field, from -2,147,483,648 to 2,147,483,647.
-pub fn whole_field(part: Part<'_>, name: &str) -> Field<i32>
-    ensures { result ≡ whole_field_of name.now (tree_at part.entry) }
+pub fn whole_field(node: Node<'_>, name: &str) -> Field<i32>
+    ensures { result ≡ whole_field_of name.now (tree_at node.entry) }
 {
-    let Some(field) = present_field(part, name) else {
+    let Some(field) = present_field(node, name) else {
         return Field::Absent;
     };
     match field.number() {
@@ -45,10 +46,10 @@ pub fn whole_field(part: Part<'_>, name: &str) -> Field<i32>
 }
 
 /// The tenths of a field, from 0 to 1,000,000,000.
-pub fn tenths_field(part: Part<'_>, name: &str) -> Field<u32>
-    ensures { result ≡ tenths_field_of name.now (tree_at part.entry) }
+pub fn tenths_field(node: Node<'_>, name: &str) -> Field<u32>
+    ensures { result ≡ tenths_field_of name.now (tree_at node.entry) }
 {
-    let Some(field) = present_field(part, name) else {
+    let Some(field) = present_field(node, name) else {
         return Field::Absent;
     };
     match field.number() {
@@ -58,10 +59,10 @@ pub fn tenths_field(part: Part<'_>, name: &str) -> Field<u32>
 }
 
 /// The instant of a field, which is written as a text.
-pub fn instant_field(part: Part<'_>, name: &str) -> Field<Instant>
-    ensures { result ≡ instant_field_of name.now (tree_at part.entry) }
+pub fn instant_field(node: Node<'_>, name: &str) -> Field<Instant>
+    ensures { result ≡ instant_field_of name.now (tree_at node.entry) }
 {
-    let Some(field) = present_field(part, name) else {
+    let Some(field) = present_field(node, name) else {
         return Field::Absent;
     };
     match field.text() {
@@ -71,23 +72,23 @@ pub fn instant_field(part: Part<'_>, name: &str) -> Field<Instant>
 }
 
 /// The entries of a field that is a list. Never `WrongValue`.
-pub fn list_field<'a>(part: Part<'a>, name: &str) -> Field<Items<'a>>
-    ensures { field_map entries_in result ≡ list_field_of name.now (tree_at part.entry) }
+pub fn list_field<'a>(node: Node<'a>, name: &str) -> Field<Entries<'a>>
+    ensures { field_map entries_in result ≡ list_field_of name.now (tree_at node.entry) }
 {
-    let Some(field) = present_field(part, name) else {
+    let Some(field) = present_field(node, name) else {
         return Field::Absent;
     };
     match field.list() {
-        Some(items) => Field::Value(items),
+        Some(entries) => Field::Value(entries),
         None => Field::WrongKind,
     }
 }
 
 /// The object of a field. Never `WrongValue`.
-pub fn object_field<'a>(part: Part<'a>, name: &str) -> Field<Part<'a>>
-    ensures { field_map tree_at result ≡ object_field_of name.now (tree_at part.entry) }
+pub fn object_field<'a>(node: Node<'a>, name: &str) -> Field<Node<'a>>
+    ensures { field_map tree_at result ≡ object_field_of name.now (tree_at node.entry) }
 {
-    let Some(field) = present_field(part, name) else {
+    let Some(field) = present_field(node, name) else {
         return Field::Absent;
     };
     if field.is_object() {
@@ -98,10 +99,10 @@ pub fn object_field<'a>(part: Part<'a>, name: &str) -> Field<Part<'a>>
 }
 
 /// The field, where it is there and not null.
-fn present_field<'a>(part: Part<'a>, name: &str) -> Option<Part<'a>>
-    ensures { option_map tree_at result ≡ present_field name.now (tree_at part.entry) }
+fn present_field<'a>(node: Node<'a>, name: &str) -> Option<Node<'a>>
+    ensures { option_map tree_at result ≡ present_field name.now (tree_at node.entry) }
 {
-    match part.field(name) {
+    match node.field(name) {
         Some(field) if !field.is_null() => Some(field),
         _ => None,
     }

@@ -1,7 +1,10 @@
+//! From a text to a frame.
 ghost use Rattle.std.specs.Prelude.{◌≡◌, IfErr, IfOk, MatchResult, Err, None, Ok, Some, drop, option_and_then, option_map, slice_get};
-ghost use Rattle.ocppj_frame.specs.FrameReading.{HasObject, IsFrameFault, message_in};
-ghost use Rattle.ocppj_frame.specs.Message.{call_of, message_by, message_of_text, message_of_tree, payload_of};
-ghost use Rattle.ocppj_frame.specs.Parts.{elements_left, tree_in};
+ghost use Rattle.ocpp_scalars.specs.Reading.{ReadsUnless};
+ghost use Rattle.ocppj_frame.specs.Fault.{is_memory};
+ghost use Rattle.ocppj_frame.specs.Frame.{HasObject, message_in};
+ghost use Rattle.ocppj_frame.specs.ByCases.Message.{call_of, message_by, message_of_text, message_of_tree, payload_of};
+ghost use Rattle.ocppj_frame.specs.Payload.{elements_left, tree_in};
 ghost use Rattle.ocppj_frame.specs.Tree.{as_text};
 
 use crate::action::ActionName;
@@ -38,9 +41,8 @@ pub enum Frame {
 
 /// Reads a text as a message.
 pub fn read_frame(alloc: Global, text: &str) -> Result<Frame, FrameFault>
-    ensures frame { IfOk result (λ frame. message_of_text text.now ≡ Ok (message_in frame)) }
+    ensures message { ReadsUnless is_memory message_in result (message_of_text text.now) }
     ensures object { IfOk result HasObject }
-    ensures fault { IfErr result (IsFrameFault (message_of_text text.now)) }
 {
     if text.len() > MAX_FRAME_BYTES {
         return Err(FrameFault::Dropped);

@@ -24,5 +24,8 @@ pub use field::{
 pub use frame::{Frame, MAX_FRAME_BYTES, read_frame};
 pub use laws::marked_texts;
 pub use message_id::{MAX_ID_CHARACTERS, MessageId};
-pub use payload::{Items, Part, Parts, Payload, read_tree};
-pub use write::{write_call, write_error, write_result};
+pub use payload::{Entries, EntriesIter, Node, Payload, read_tree};
+pub use write::{
+    push_call_head, push_error, push_frame_end, push_result_head, write_call, write_error,
+    write_result,
+};

@@ -1,5 +1,8 @@
+//! Marked texts. `serde_json` reads a number into 64 bits, which loses digits: so the text that it reads has no numbers,
+//! but strings in their place, and each string has a mark that says which it was.
 ghost use Rattle.std.specs.Prelude.{◌≡◌, ◌++◌, ◌<◌, IfOk, OnOk, option_map, string_bytes};
-ghost use Rattle.ocppj_frame.specs.Marked.{begins_number, continues_number, marked, marked_byte, marked_end, marked_outside, place_after, place_outside, text_mark, unmarked};
+ghost use Rattle.ocppj_frame.specs.Mark.{after_mark, begins_number, continues_number, text_mark};
+ghost use Rattle.ocppj_frame.specs.ByCases.Mark.{marked_byte, marked_end, marked_outside, marked_text, place_after, place_outside};
 
 use std::alloc::{AllocError, Global};
 
@@ -17,8 +20,16 @@ pub enum Place {
 }
 
 /// The text with each string and each number marked, as a JSON text without numbers.
-pub(crate) fn mark_text(alloc: Global, text: &str) -> Result<Vec<u8>, AllocError>
-    ensures { IfOk result (λ out. out.items ≡ marked text.now) }
+pub(crate) fn mark_text(alloc: Global, text: &str) -> Result<String, AllocError>
+    ensures { IfOk result (λ out. string_bytes out ≡ marked_text text.now) }
+{
+    let bytes = mark_bytes(alloc, text)?;
+    // Proved to be UTF-8, so that nobody has to look.
+    Ok(unsafe { String::from_utf8_unchecked(bytes) })
+}
+
+fn mark_bytes(alloc: Global, text: &str) -> Result<Vec<u8>, AllocError>
+    ensures { IfOk result (λ out. out.items ≡ marked_text text.now) }
 {
     let mut out = Vec::with_capacity(alloc, text.len())?;
     let mut place = Place::Outside;
@@ -31,16 +42,16 @@ pub(crate) fn mark_text(alloc: Global, text: &str) -> Result<Vec<u8>, AllocError
 }
 
 /// What follows the mark.
-pub(crate) fn unmarked(text: &str, mark: char) -> Option<&str>
+pub(crate) fn after_mark(text: &str, mark: char) -> Option<&str>
     requires { mark < 128 }
-    ensures { option_map (λ t. t.now) result ≡ unmarked mark text.now }
+    ensures { option_map (λ t. t.now) result ≡ after_mark mark text.now }
 {
     text.strip_prefix(mark)
 }
 
 /// What follows the mark `s`, in the same memory.
 pub(crate) fn without_mark(mut marked: String) -> Option<String>
-    ensures { option_map string_bytes result ≡ unmarked text_mark (string_bytes marked) }
+    ensures { option_map string_bytes result ≡ after_mark text_mark (string_bytes marked) }
 {
     match marked.as_bytes() {
         [b's', ..] => {

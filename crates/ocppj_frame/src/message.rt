@@ -1,6 +1,7 @@
+//! The elements of a message.
 ghost use Rattle.std.specs.Prelude.{◌≡◌, IfSome, Some, option_map, true};
-ghost use Rattle.ocppj_frame.specs.Message.{message_id, message_type, payload_of, type_of_number};
-ghost use Rattle.ocppj_frame.specs.Parts.{tree_in};
+ghost use Rattle.ocppj_frame.specs.ByCases.Message.{message_id, message_type, payload_of, type_of_number};
+ghost use Rattle.ocppj_frame.specs.Payload.{tree_in};
 ghost use Rattle.ocppj_frame.specs.Tree.{is_object};
 
 use crate::message_id::MessageId;

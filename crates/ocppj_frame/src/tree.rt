@@ -1,8 +1,9 @@
+//! Whether a value that was read from a marked text is a tree.
 ghost use Rattle.std.specs.Prelude.{◌≡◌, is_some};
 ghost use Rattle.serde_json.specs.View.{items_view, members_view, view};
-ghost use Rattle.ocppj_frame.specs.TreeReading.{fields_of, name_of_key, tree_of, tree_of_string, trees_of};
+ghost use Rattle.ocppj_frame.specs.Read.{fields_of, name_of_key, tree_of, tree_of_string, trees_of};
 
-use crate::mark::unmarked;
+use crate::mark::after_mark;
 use ocpp_scalars::is_number_text;
 use serde_json::{Map, Value};
 
@@ -47,9 +48,9 @@ fn are_fields(members: &Map<String, Value>) -> bool
 fn is_marked(text: &str) -> bool
     ensures { result ≡ is_some (tree_of_string text.now) }
 {
-    match unmarked(text, 's') {
+    match after_mark(text, 's') {
         Some(_) => true,
-        None => match unmarked(text, 'n') {
+        None => match after_mark(text, 'n') {
             Some(number) => is_number_text(number),
             None => false,
         },
@@ -59,5 +60,5 @@ fn is_marked(text: &str) -> bool
 fn is_key(key: &str) -> bool
     ensures { result ≡ is_some (name_of_key key.now) }
 {
-    unmarked(key, 's').is_some()
+    after_mark(key, 's').is_some()
 }

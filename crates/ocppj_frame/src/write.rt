@@ -1,33 +1,39 @@
-ghost use Rattle.std.specs.Prelude.{◌≡◌, ◌++◌, IfErr, IfOk, OnOk, string_bytes};
+//! Frames, written: each as one text, or appended to a text in parts.
+ghost use Rattle.std.specs.Prelude.{◌≡◌, ◌++◌, IfOk, OnOk, string_bytes};
 ghost use Rattle.json.specs.Print.{quoted};
-ghost use Rattle.ocppj_frame.specs.Written.{call_error_text, call_result_text, call_text};
+ghost use Rattle.ocppj_frame.specs.Write.{call_error_text, call_head, call_result_text, call_text, frame_end, result_head};
 
-use ocpp_scalars::Refusal;
-use serde_json::Value;
+use json::Writer;
 use std::alloc::{AllocError, Global};
+use std::mem;
 
 /// The text of a CALL, `[2,"id","action",payload]`, whose payload is given as its text
 /// (OCPP-J 1.6, section 4.2.1).
-pub fn write_call(alloc: Global, id: &str, action: &str, payload: &str) -> Result<String, Refusal>
-    ensures text { IfOk result (λ s. string_bytes s ≡ call_text id.now action.now payload.now) }
-    ensures memory { IfErr result (λ e. e ≡ Refusal.OutOfMemory) }
+pub fn write_call(
+    alloc: Global,
+    id: &str,
+    action: &str,
+    payload: &str,
+) -> Result<String, AllocError>
+    ensures { IfOk result (λ s. string_bytes s ≡ call_text id.now action.now payload.now) }
 {
-    match call_text(alloc, id, action, payload) {
-        Ok(text) => Ok(text),
-        Err(_) => Err(Refusal::OutOfMemory),
-    }
+    let mut out = String::new(alloc);
+    push_call_head(&mut out, id, action)?;
+    out.push_str(payload)?;
+    push_frame_end(&mut out)?;
+    Ok(out)
 }
 
 /// The text of a CALLRESULT, `[3,"id",payload]`, whose payload is given as its text
 /// (OCPP-J 1.6, section 4.2.2).
-pub fn write_result(alloc: Global, id: &str, payload: &str) -> Result<String, Refusal>
-    ensures text { IfOk result (λ s. string_bytes s ≡ call_result_text id.now payload.now) }
-    ensures memory { IfErr result (λ e. e ≡ Refusal.OutOfMemory) }
+pub fn write_result(alloc: Global, id: &str, payload: &str) -> Result<String, AllocError>
+    ensures { IfOk result (λ s. string_bytes s ≡ call_result_text id.now payload.now) }
 {
-    match call_result_text(alloc, id, payload) {
-        Ok(text) => Ok(text),
-        Err(_) => Err(Refusal::OutOfMemory),
-    }
+    let mut out = String::new(alloc);
+    push_result_head(&mut out, id)?;
+    out.push_str(payload)?;
+    push_frame_end(&mut out)?;
+    Ok(out)
 }
 
 /// The text of a CALLERROR without details, `[4,"id","code","description",{}]`
@@ -37,62 +43,71 @@ pub fn write_error(
     id: &str,
     code: &str,
     description: &str,
-) -> Result<String, Refusal>
-    ensures text { IfOk result (λ s. string_bytes s ≡ call_error_text id.now code.now description.now) }
-    ensures memory { IfErr result (λ e. e ≡ Refusal.OutOfMemory) }
+) -> Result<String, AllocError>
+    ensures { IfOk result
+        (λ s. string_bytes s ≡ call_error_text id.now code.now description.now) }
 {
-    match call_error_text(alloc, id, code, description) {
-        Ok(text) => Ok(text),
-        Err(_) => Err(Refusal::OutOfMemory),
-    }
-}
-
-fn call_text(alloc: Global, id: &str, action: &str, payload: &str) -> Result<String, AllocError>
-    ensures { IfOk result (λ s. string_bytes s ≡ call_text id.now action.now payload.now) }
-{
-    let mut out = String::from_str(alloc, "[2,")?;
-    push_string(alloc, &mut out, id)?;
-    out.push_str(",")?;
-    push_string(alloc, &mut out, action)?;
-    out.push_str(",")?;
-    out.push_str(payload)?;
-    out.push_str("]")?;
+    let mut out = String::new(alloc);
+    push_error(&mut out, id, code, description)?;
     Ok(out)
 }
 
-fn call_result_text(alloc: Global, id: &str, payload: &str) -> Result<String, AllocError>
-    ensures { IfOk result (λ s. string_bytes s ≡ call_result_text id.now payload.now) }
+/// Appends what stands before a CALL's payload, `[2,"id","action",`.
+pub fn push_call_head(out: &mut String, id: &str, action: &str) -> Result<(), AllocError>
+    ensures { OnOk result
+        (string_bytes out.new ≡ string_bytes out.old ++ call_head id.now action.now) }
 {
-    let mut out = String::from_str(alloc, "[3,")?;
-    push_string(alloc, &mut out, id)?;
+    out.push_str("[2,")?;
+    push_string(out, id)?;
     out.push_str(",")?;
-    out.push_str(payload)?;
-    out.push_str("]")?;
-    Ok(out)
+    push_string(out, action)?;
+    out.push_str(",")
 }
 
-fn call_error_text(
-    alloc: Global,
+/// Appends what stands before a CALLRESULT's payload, `[3,"id",`.
+pub fn push_result_head(out: &mut String, id: &str) -> Result<(), AllocError>
+    ensures { OnOk result (string_bytes out.new ≡ string_bytes out.old ++ result_head id.now) }
+{
+    out.push_str("[3,")?;
+    push_string(out, id)?;
+    out.push_str(",")
+}
+
+/// Appends what stands after a payload, `]`.
+pub fn push_frame_end(out: &mut String) -> Result<(), AllocError>
+    ensures { OnOk result (string_bytes out.new ≡ string_bytes out.old ++ frame_end) }
+{
+    out.push_str("]")
+}
+
+/// Appends a CALLERROR without details, `[4,"id","code","description",{}]`.
+pub fn push_error(
+    out: &mut String,
     id: &str,
     code: &str,
     description: &str,
-) -> Result<String, AllocError>
-    ensures { IfOk result (λ s. string_bytes s ≡ call_error_text id.now code.now description.now) }
+) -> Result<(), AllocError>
+    ensures { OnOk result (string_bytes out.new
+        ≡ string_bytes out.old ++ call_error_text id.now code.now description.now) }
 {
-    let mut out = String::from_str(alloc, "[4,")?;
-    push_string(alloc, &mut out, id)?;
+    out.push_str("[4,")?;
+    push_string(out, id)?;
     out.push_str(",")?;
-    push_string(alloc, &mut out, code)?;
+    push_string(out, code)?;
     out.push_str(",")?;
-    push_string(alloc, &mut out, description)?;
-    out.push_str(",{}]")?;
-    Ok(out)
+    push_string(out, description)?;
+    out.push_str(",{}]")
 }
 
-/// Adds a JSON string, as `serde_json` writes it.
-fn push_string(alloc: Global, out: &mut String, text: &str) -> Result<(), AllocError>
+/// Appends a JSON string.
+fn push_string(out: &mut String, text: &str) -> Result<(), AllocError>
     ensures { OnOk result (string_bytes out.new ≡ string_bytes out.old ++ quoted text.now) }
 {
-    let quoted = Value::String(String::from_str(alloc, text)?).to_string(alloc)?;
-    out.push_str(quoted.as_str())
+    // The library writes onto bytes that it owns: the text's own, so that nothing is copied.
+    let alloc = *out.allocator();
+    let bytes = mem::replace(out, String::new(alloc)).into_bytes();
+    let mut writer = Writer::new(bytes);
+    let written = writer.string(text);
+    *out = unsafe { String::from_utf8_unchecked(writer.into_inner()) };
+    written
 }

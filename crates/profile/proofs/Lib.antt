@@ -1,3 +1,3 @@
 pub mod GreatestLemmas
 pub mod PeriodLemmas
-pub mod MadeLemmas
+pub mod ProfileLemmas

@@ -1,3 +1,4 @@
+-- Which rows of a point speak for a connector.
 use Rattle.std.specs.Prelude.{ℕ, ◌==◌, Bool, not, ◌&&◌, ◌||◌, List, filter}
 use Rattle.std.specs.List.{list_any}
 use Rattle.profile.specs.declared.purpose.Purpose.{Purpose}

@@ -1,4 +1,6 @@
+-- How a profile of each kind counts its seconds.
 use Rattle.std.specs.Prelude.{ℕ, ◌%◌, Option, Some, None}
+use Rattle.profile.specs.Limits.{day, week}
 use Rattle.profile.specs.declared.kind.Recurrency.{Recurrency}
 use Rattle.profile.specs.declared.kind.Recurrency.TheVariants.{Daily, Weekly}
 use Rattle.profile.specs.declared.kind.ProfileKind.{ProfileKind}
@@ -8,8 +10,8 @@ use Rattle.profile.specs.declared.kind.Kind.TheVariants.{Absolute, Recurring, Re
 
 -- after how many seconds a recurring schedule begins anew (OCPP 1.6, chapter 7, RecurrencyKindType)
 abbrev pub recurrence_length : Recurrency → ℕ
-recurrence_length Daily = 86400
-recurrence_length Weekly = 604800
+recurrence_length Daily = day
+recurrence_length Weekly = week
 
 -- the kind of a profile: chargingProfileKind with its recurrencyKind, none where a Recurring one
 -- lacks it (OCPP 1.6, chapter 7, ChargingProfile)

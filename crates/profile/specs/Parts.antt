@@ -1,29 +1,19 @@
-use Rattle.std.specs.Prelude.{◌≡◌, nat_lt, not, length, Option, Some, None, if◌then◌else◌}
+-- What the fields of a charging profile make: a well-formed profile, or the first cause of a refusal.
+use Rattle.std.specs.Prelude.{◌≡◌, nat_le, length, Some, Result, Ok}
 use Rattle.ocpp_scalars.specs.declared.refusal.Refusal.{Refusal}
 use Rattle.ocpp_scalars.specs.declared.refusal.Refusal.TheVariants.{LevelTooHigh, TooManyPeriods, PeriodsOutOfOrder, NoRecurrency}
-use Rattle.profile.specs.declared.kind.Kind.{Kind}
 use Rattle.profile.specs.declared.parts.ProfileParts.{ProfileParts}
 use Rattle.profile.specs.declared.charging_profile.Profile.{Profile}
-use Rattle.profile.specs.declared.charging_profile.TheConstants.{MAX_STACK_LEVEL}
-use Rattle.profile.specs.declared.periods.TheConstants.{MAX_PERIODS}
+use Rattle.profile.specs.Limits.{max_stack_level, max_periods}
 use Rattle.profile.specs.Kind.{kind_of, start_of}
 use Rattle.profile.specs.Purpose.{transaction_of}
 use Rattle.profile.specs.Periods.{are_in_order}
+use Rattle.ocpp_scalars.specs.ResultSteps.{◌>>=◌}
+use Rattle.profile.specs.Refusing.{fact_or, value_or}
+use Rattle.profile.specs.ByCases.Parts.{profile_with}
 
-abbrev pub refused_kind : Option Kind → Option Refusal
-refused_kind None = Some NoRecurrency
-refused_kind (Some kind) = None
-
--- why these parts make no well-formed profile, the first cause in this order
-abbrev pub first_refusal : ProfileParts → Option Refusal
-first_refusal parts =
-    if nat_lt MAX_STACK_LEVEL parts.stack_level then Some LevelTooHigh
-    else (if nat_lt MAX_PERIODS (length parts.schedule.periods) then Some TooManyPeriods
-    else (if not (are_in_order parts.schedule.periods) then Some PeriodsOutOfOrder
-    else refused_kind (kind_of parts.kind parts.recurrency)))
-
--- the well-formed profile of these parts: what belongs to another purpose or kind is dropped, and all
--- else is as it came
+-- the well-formed profile of these fields: what belongs to another purpose or kind is dropped, and all
+-- else is as it came (OCPP 1.6, chapter 7, ChargingProfile)
 pub record IsProfileOf (parts : ProfileParts) (profile : Profile) : Type 0 where
   pub id : profile.id ≡ parts.id
   pub transaction : profile.transaction ≡ transaction_of parts.purpose parts.transaction
@@ -37,3 +27,13 @@ pub record IsProfileOf (parts : ProfileParts) (profile : Profile) : Type 0 where
   pub unit : profile.schedule.unit ≡ parts.schedule.unit
   pub periods : profile.schedule.periods ≡ parts.schedule.periods
   pub min_charging_rate : profile.schedule.min_charging_rate ≡ parts.schedule.min_charging_rate
+
+-- The profile that these fields make, or why they make none, the first cause in this order. That there
+-- is a period is no question here: a list of periods that came in has one by its type.
+abbrev pub profile_of_parts : ProfileParts → Result Profile Refusal
+profile_of_parts parts = do
+  low ← fact_or LevelTooHigh (nat_le parts.stack_level max_stack_level)
+  few ← fact_or TooManyPeriods (nat_le (length parts.schedule.periods) max_periods)
+  ordered ← fact_or PeriodsOutOfOrder (are_in_order parts.schedule.periods)
+  kind ← value_or NoRecurrency (kind_of parts.kind parts.recurrency)
+  Ok (profile_with parts kind low)

@@ -1,3 +1,4 @@
+-- What a profile of each purpose keeps.
 use Rattle.std.specs.Prelude.{ℤ, Bool, true, false, Option, None}
 use Rattle.profile.specs.declared.purpose.Purpose.{Purpose}
 use Rattle.profile.specs.declared.purpose.Purpose.TheVariants.{ChargePointMaxProfile, TxDefaultProfile, TxProfile}

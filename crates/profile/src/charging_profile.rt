@@ -1,5 +1,7 @@
-ghost use Rattle.std.specs.Prelude.{◌≡◌, ℕ, ◌<◌, ◌≤◌, length, nat_le, IsTrue, IfOk, IsOkUnless, MatchResult, Some, None};
-ghost use Rattle.profile.specs.declared.charging_profile.TheConstants.{MAX_STACK_LEVEL};
+//! A well-formed charging profile, and its limit at a second.
+
+ghost use Rattle.std.specs.Prelude.{◌≡◌, ◌↔◌, ℕ, nat_le, IsTrue, IfErr, IfOk, MatchResult, Ok, Err};
+ghost use Rattle.profile.specs.Limits.{max_stack_level};
 ghost use Rattle.profile.specs.Purpose.{transaction_of};
 ghost use Rattle.profile.specs.Kind.{start_of};
 
@@ -9,6 +11,7 @@ use crate::periods::{MAX_PERIODS, Periods, are_in_order};
 use crate::purpose::Purpose;
 use crate::schedule::Schedule;
 use ocpp_scalars::{Instant, Refusal};
+use std::alloc::AllocError;
 
 /// The highest stack level.
 pub const MAX_STACK_LEVEL: u32 = 99;
@@ -31,26 +34,26 @@ pub struct Profile {
     pub valid_to: Option<Instant>,
     /// chargingSchedule.
     pub schedule: Schedule,
-    pub ghost low: { IsTrue (nat_le stack_level MAX_STACK_LEVEL) },
+    pub ghost low: { IsTrue (nat_le stack_level max_stack_level) },
     pub ghost own_transaction: { transaction_of purpose transaction ≡ transaction },
     pub ghost own_start: { start_of kind schedule.start ≡ schedule.start },
 }
 
 impl Profile {
-    ghost use Rattle.profile.specs.Parts.{first_refusal, IsProfileOf};
-    ghost use Rattle.profile.specs.Made.{made_profile};
-    ghost use Rattle.profile.specs.Rate.{anchor, offset, is_valid_at, rate_within, rate};
+    ghost use Rattle.profile.specs.Parts.{IsProfileOf, profile_of_parts};
+    ghost use Rattle.profile.specs.ByCases.Same.{HaveSameKeys, HaveSameTimes};
+    ghost use Rattle.profile.specs.ChargingProfile.{anchor, offset, is_valid_at, rate_within, rate};
 
     /// The well-formed profile of these parts. What belongs to another purpose or kind is dropped: a
     /// transactionId unless it is a TxProfile, a recurrencyKind unless it is Recurring, and the
     /// startSchedule of a Relative one. The parts come back with the first cause of a refusal:
     /// `LevelTooHigh`, `TooManyPeriods`, `PeriodsOutOfOrder` or `NoRecurrency`.
     pub fn try_new(parts: ProfileParts) -> Result<Profile, (Refusal, ProfileParts)>
-        requires some { 0 < length parts.schedule.periods }
-        ensures judged { MatchResult result
-            (λ profile. (first_refusal parts ≡ None) × IsProfileOf parts profile)
-            (λ refused. (first_refusal parts ≡ Some refused.0) × (refused.1 ≡ parts)) }
-        ensures made { IfOk result (λ profile. made_profile parts ≡ Some profile) }
+        ensures made { MatchResult result
+            (λ profile. profile_of_parts parts ≡ Ok profile)
+            (λ refused. profile_of_parts parts ≡ Err refused.0) }
+        ensures fields { IfOk result (λ profile. IsProfileOf parts profile) }
+        ensures back { IfErr result (λ refused. refused.1 ≡ parts) }
     {
         if parts.stack_level > MAX_STACK_LEVEL {
             return Err((Refusal::LevelTooHigh, parts));
@@ -84,10 +87,9 @@ impl Profile {
         })
     }
 
-    /// The same profile once more; `OutOfMemory` is the one refusal.
-    pub fn copy(&self) -> Result<Profile, Refusal>
-        ensures copied { IfOk result (λ copy. copy ≡ self.now) }
-        ensures memory { IsOkUnless result Refusal.OutOfMemory }
+    /// A copy.
+    pub fn copy(&self) -> Result<Profile, AllocError>
+        ensures { IfOk result (λ copy. copy ≡ self.now) }
     {
         let schedule = self.schedule.copy()?;
         Ok(Profile {
@@ -102,6 +104,30 @@ impl Profile {
         })
     }
 
+    /// Whether two profiles are equal.
+    pub fn same(&self, other: &Profile) -> bool
+        ensures { IsTrue result ↔ (self.now ≡ other.now) }
+    {
+        self.has_keys_of(other) && self.has_times_of(other) && self.schedule.same(&other.schedule)
+    }
+
+    fn has_keys_of(&self, other: &Profile) -> bool
+        ensures { IsTrue result ↔ HaveSameKeys self.now other.now }
+    {
+        self.id == other.id
+            && self.transaction == other.transaction
+            && self.stack_level == other.stack_level
+            && self.purpose == other.purpose
+    }
+
+    fn has_times_of(&self, other: &Profile) -> bool
+        ensures { IsTrue result ↔ HaveSameTimes self.now other.now }
+    {
+        self.kind == other.kind
+            && self.valid_from == other.valid_from
+            && self.valid_to == other.valid_to
+    }
+
     /// From which second on the profile counts, given the base that stands in for a startSchedule.
     pub fn anchor(&self, base: Instant) -> Instant
         ensures { result ≡ anchor self.now base }
@@ -110,34 +136,34 @@ impl Profile {
     }
 
     /// How many seconds into its schedule the profile is, or `None` before its anchor.
-    pub fn offset(&self, base: Instant, second: Instant) -> Option<u64>
-        ensures { result ≡ offset self.now base second }
+    pub fn offset(&self, base: Instant, instant: Instant) -> Option<u64>
+        ensures { result ≡ offset self.now base instant }
     {
         let anchor = self.anchor(base);
-        if second < anchor {
+        if instant < anchor {
             return None;
         }
-        Some(self.kind.offset_after(second.seconds() - anchor.seconds()))
+        Some(self.kind.offset_after(instant.seconds() - anchor.seconds()))
     }
 
     /// The limit at a second, in tenths, counted from a base, or `None` where the profile has none:
     /// outside its validity, before its anchor, past its duration, or before its first period.
-    pub fn rate(&self, base: Instant, second: Instant) -> Option<u32>
-        ensures { result ≡ rate self.now base second }
+    pub fn rate(&self, base: Instant, instant: Instant) -> Option<u32>
+        ensures { result ≡ rate self.now base instant }
     {
-        if !self.is_valid_at(second) {
+        if !self.is_valid_at(instant) {
             return None;
         }
-        let offset = self.offset(base, second)?;
+        let offset = self.offset(base, instant)?;
         self.rate_within(offset)
     }
 
     /// Whether a second lies within validFrom and validTo, each where given.
-    pub fn is_valid_at(&self, second: Instant) -> bool
-        ensures { result ≡ is_valid_at self.now second }
+    pub fn is_valid_at(&self, instant: Instant) -> bool
+        ensures { result ≡ is_valid_at self.now instant }
     {
-        self.valid_from.is_none_or(|from| from <= second)
-            && self.valid_to.is_none_or(|to| second < to)
+        self.valid_from.is_none_or(|from| from <= instant)
+            && self.valid_to.is_none_or(|to| instant < to)
     }
 
     /// The limit at an offset, which has to lie within the schedule's duration.
@@ -149,6 +175,6 @@ impl Profile {
                 return None;
             }
         }
-        self.schedule.periods.limit_at(offset)
+        self.schedule.periods.limit_in_force(offset)
     }
 }

@@ -1,3 +1,5 @@
+//! Which profiles are cleared.
+
 use crate::purpose::Purpose;
 
 /// Which profiles a ClearChargingProfile is for (chapter 6, ClearChargingProfile.req): those that

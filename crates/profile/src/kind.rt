@@ -1,3 +1,5 @@
+//! The kinds of profiles, and how each counts its seconds.
+
 ghost use Rattle.std.specs.Prelude.{◌≡◌, ℕ};
 ghost use Rattle.profile.specs.Kind.{recurrence_length, kind_of, start_of, offset_after};
 

@@ -5,6 +5,7 @@
 
 mod charging_profile;
 mod criteria;
+mod greatest;
 mod kind;
 mod names;
 mod parts;
@@ -18,8 +19,9 @@ mod unit;
 
 pub use charging_profile::{MAX_STACK_LEVEL, Profile};
 pub use criteria::Criteria;
+pub use greatest::greatest_is_greatest;
 pub use kind::{Kind, ProfileKind, Recurrency};
-pub use names::Named;
+pub use names::{Named, named_in};
 pub use parts::{ProfileParts, ScheduleParts};
 pub use period::Period;
 pub use period_list::PeriodList;

@@ -1,11 +1,13 @@
-ghost use Rattle.std.specs.Prelude.{◌≡◌, ℕ, List, Option};
-ghost use Rattle.profile.specs.Names.{purpose_named, kind_named, recurrency_named, unit_named};
+//! The names that payloads write for the values of a few fields.
+
+ghost use Rattle.std.specs.Prelude.{◌≡◌, ℕ, List, Option, map};
+ghost use Rattle.profile.specs.Names.{named_in, purpose_named, kind_named, recurrency_named, unit_named};
 
 use crate::kind::{ProfileKind, Recurrency};
 use crate::purpose::Purpose;
 use crate::unit::Unit;
 
-/// A value that payloads write as one of a few names, each taken exactly as written.
+/// A value that payloads write as one of a few names, each accepted exactly as written.
 pub trait Named {
     /// The value of a name.
     ghost named: { List ℕ → Option Self };
@@ -15,19 +17,30 @@ pub trait Named {
         ensures { result ≡ named text.now };
 }
 
+const PURPOSES: [(&str, Purpose); 3] = [
+    ("ChargePointMaxProfile", Purpose::ChargePointMaxProfile),
+    ("TxDefaultProfile", Purpose::TxDefaultProfile),
+    ("TxProfile", Purpose::TxProfile),
+];
+
+const KINDS: [(&str, ProfileKind); 3] = [
+    ("Absolute", ProfileKind::Absolute),
+    ("Recurring", ProfileKind::Recurring),
+    ("Relative", ProfileKind::Relative),
+];
+
+const RECURRENCIES: [(&str, Recurrency); 2] = [
+    ("Daily", Recurrency::Daily),
+    ("Weekly", Recurrency::Weekly),
+];
+
+const UNITS: [(&str, Unit); 2] = [("A", Unit::A), ("W", Unit::W)];
+
 impl Named for Purpose {
     ghost named = { purpose_named };
 
     fn named(text: &str) -> Option<Purpose> {
-        if text == "ChargePointMaxProfile" {
-            Some(Purpose::ChargePointMaxProfile)
-        } else if text == "TxDefaultProfile" {
-            Some(Purpose::TxDefaultProfile)
-        } else if text == "TxProfile" {
-            Some(Purpose::TxProfile)
-        } else {
-            None
-        }
+        named_in(&PURPOSES, text)
     }
 }
 
@@ -35,15 +48,7 @@ impl Named for ProfileKind {
     ghost named = { kind_named };
 
     fn named(text: &str) -> Option<ProfileKind> {
-        if text == "Absolute" {
-            Some(ProfileKind::Absolute)
-        } else if text == "Recurring" {
-            Some(ProfileKind::Recurring)
-        } else if text == "Relative" {
-            Some(ProfileKind::Relative)
-        } else {
-            None
-        }
+        named_in(&KINDS, text)
     }
 }
 
@@ -51,13 +56,7 @@ impl Named for Recurrency {
     ghost named = { recurrency_named };
 
     fn named(text: &str) -> Option<Recurrency> {
-        if text == "Daily" {
-            Some(Recurrency::Daily)
-        } else if text == "Weekly" {
-            Some(Recurrency::Weekly)
-        } else {
-            None
-        }
+        named_in(&RECURRENCIES, text)
     }
 }
 
@@ -65,12 +64,18 @@ impl Named for Unit {
     ghost named = { unit_named };
 
     fn named(text: &str) -> Option<Unit> {
-        if text == "A" {
-            Some(Unit::A)
-        } else if text == "W" {
-            Some(Unit::W)
-        } else {
-            None
+        named_in(&UNITS, text)
+    }
+}
+
+/// The value of a name in a table of names and values, or `None` where the table lacks it.
+pub fn named_in<T: Copy>(table: &[(&str, T)], text: &str) -> Option<T>
+    ensures { result ≡ named_in (map (λ row. (row.0.now, row.1)) table.now) text.now }
+{
+    for (name, value) in table {
+        if text == *name {
+            return Some(*value);
         }
     }
+    None
 }

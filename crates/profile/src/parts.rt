@@ -1,3 +1,5 @@
+//! The fields of a profile as they come in.
+
 use crate::kind::{ProfileKind, Recurrency};
 use crate::period_list::PeriodList;
 use crate::purpose::Purpose;

@@ -1,3 +1,5 @@
+//! One step of a charging schedule.
+
 ghost use Rattle.std.specs.Prelude.{◌≡◌};
 
 /// One step of a charging schedule (chapter 7, ChargingSchedulePeriod).

@@ -1,10 +1,12 @@
-ghost use Rattle.std.specs.Prelude.{◌≡◌, ℕ, ◌<◌, ◌≤◌, List, length, IsTrue, IfOk, IsOkUnless, option_map};
+//! The periods of a schedule, in order.
+
+ghost use Rattle.std.specs.Prelude.{◌≡◌, ◌↔◌, ℕ, List, IsTrue, IfOk};
 ghost use Rattle.profile.specs.declared.period.Period.{Period};
 ghost use Rattle.profile.specs.Periods.{are_in_order, AreSchedulePeriods, limit_in};
 
 use crate::period::Period;
 use crate::period_list::PeriodList;
-use ocpp_scalars::Refusal;
+use std::alloc::AllocError;
 use std::marker::Model;
 
 /// The most periods that a schedule has.
@@ -43,30 +45,34 @@ impl Periods {
         self.items.as_slice()
     }
 
-    /// The same periods once more; `OutOfMemory` is the one refusal.
-    pub fn copy(&self) -> Result<Periods, Refusal>
-        ensures copied { IfOk result (λ copy. copy ≡ self.now) }
-        ensures memory { IsOkUnless result Refusal.OutOfMemory }
+    /// A copy.
+    pub fn copy(&self) -> Result<Periods, AllocError>
+        ensures { IfOk result (λ copy. copy ≡ self.now) }
     {
         let alloc = *self.items.allocator();
-        match Vec::from_slice(alloc, self.items.as_slice()) {
-            Ok(items) => Ok(Periods { items }),
-            Err(_) => Err(Refusal::OutOfMemory),
-        }
+        let items = Vec::from_slice(alloc, self.items.as_slice())?;
+        Ok(Periods { items })
+    }
+
+    /// Whether two schedules have equal periods.
+    pub fn same(&self, other: &Periods) -> bool
+        ensures { IsTrue result ↔ (self.now ≡ other.now) }
+    {
+        self.as_slice() == other.as_slice()
     }
 
     /// The limit at an offset in seconds from the schedule's start, in tenths: that of the period
     /// with the greatest start up to there.
-    pub fn limit_at(&self, offset: u64) -> Option<u32>
+    pub fn limit_in_force(&self, offset: u64) -> Option<u32>
         ensures { result ≡ limit_in self.now offset }
     {
-        let mut found = None;
-        for period in &self.items {
-            if u64::from(period.start) <= offset {
-                found = Some(period.limit);
-            }
+        let periods = self.as_slice();
+        // They are in order, so those that have begun stand first.
+        let begun = periods.partition_point(|period| u64::from(period.start) <= offset);
+        if begun == 0 {
+            return None;
         }
-        found
+        Some(periods[begun - 1].limit)
     }
 }
 

@@ -1,3 +1,5 @@
+//! What a profile is for.
+
 ghost use Rattle.std.specs.Prelude.{◌≡◌};
 ghost use Rattle.profile.specs.Purpose.{transaction_of};
 

@@ -1,8 +1,11 @@
-ghost use Rattle.std.specs.Prelude.{◌≡◌, IfOk, IsOkUnless};
+//! A profile as a point keeps it.
+
+ghost use Rattle.std.specs.Prelude.{◌≡◌, ◌↔◌, IsTrue, IfOk};
 
 use crate::charging_profile::Profile;
 use crate::purpose::Purpose;
-use ocpp_scalars::{Instant, Refusal};
+use ocpp_scalars::Instant;
+use std::alloc::AllocError;
 
 /// A profile as a point keeps it (chapter 5.16): at which connector it stands, 0 being the whole
 /// point, and when it was installed.
@@ -15,7 +18,7 @@ pub struct Row {
 }
 
 impl Row {
-    ghost use Rattle.profile.specs.Base.{base};
+    ghost use Rattle.profile.specs.Row.{base};
 
     /// From where the profile counts its seconds if it has no start of its own: its install for a
     /// ChargePointMaxProfile, else the start of the active transaction at the connector looked at,
@@ -29,15 +32,23 @@ impl Row {
         }
     }
 
-    /// The same row once more; `OutOfMemory` is the one refusal.
-    pub fn copy(&self) -> Result<Row, Refusal>
-        ensures copied { IfOk result (λ copy. copy ≡ self.now) }
-        ensures memory { IsOkUnless result Refusal.OutOfMemory }
+    /// A copy.
+    pub fn copy(&self) -> Result<Row, AllocError>
+        ensures { IfOk result (λ copy. copy ≡ self.now) }
     {
         Ok(Row {
             connector: self.connector,
             moment: self.moment,
             profile: self.profile.copy()?,
         })
+    }
+
+    /// Whether two rows are equal.
+    pub fn same(&self, other: &Row) -> bool
+        ensures { IsTrue result ↔ (self.now ≡ other.now) }
+    {
+        self.connector == other.connector
+            && self.moment == other.moment
+            && self.profile.same(&other.profile)
     }
 }

@@ -1,8 +1,11 @@
-ghost use Rattle.std.specs.Prelude.{◌≡◌, IfOk, IsOkUnless};
+//! A charging schedule.
+
+ghost use Rattle.std.specs.Prelude.{◌≡◌, ◌↔◌, IsTrue, IfOk};
 
 use crate::periods::Periods;
 use crate::unit::Unit;
-use ocpp_scalars::{Instant, Refusal};
+use ocpp_scalars::Instant;
+use std::alloc::AllocError;
 
 /// A charging schedule (chapter 7, ChargingSchedule).
 #[derive(Debug, Drop)]
@@ -20,10 +23,9 @@ pub struct Schedule {
 }
 
 impl Schedule {
-    /// The same schedule once more; `OutOfMemory` is the one refusal.
-    pub fn copy(&self) -> Result<Schedule, Refusal>
-        ensures copied { IfOk result (λ copy. copy ≡ self.now) }
-        ensures memory { IsOkUnless result Refusal.OutOfMemory }
+    /// A copy.
+    pub fn copy(&self) -> Result<Schedule, AllocError>
+        ensures { IfOk result (λ copy. copy ≡ self.now) }
     {
         Ok(Schedule {
             duration: self.duration,
@@ -32,5 +34,16 @@ impl Schedule {
             periods: self.periods.copy()?,
             min_charging_rate: self.min_charging_rate,
         })
+    }
+
+    /// Whether two schedules are equal.
+    pub fn same(&self, other: &Schedule) -> bool
+        ensures { IsTrue result ↔ (self.now ≡ other.now) }
+    {
+        self.duration == other.duration
+            && self.start == other.start
+            && self.unit.is_same(other.unit)
+            && self.min_charging_rate == other.min_charging_rate
+            && self.periods.same(&other.periods)
     }
 }

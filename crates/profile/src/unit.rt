@@ -1,3 +1,8 @@
+//! The unit of a schedule's limits.
+
+ghost use Rattle.std.specs.Prelude.{◌≡◌};
+ghost use Rattle.profile.specs.Unit.{unit_eq};
+
 /// The unit of a schedule's limits (chapter 7, ChargingRateUnitType).
 #[derive(Clone, Copy, Debug, PartialEq, Eq, Hash)]
 pub enum Unit {
@@ -5,4 +10,16 @@ pub enum Unit {
     A,
     /// Watts.
     W,
+}
+
+impl Unit {
+    /// Whether two units are the same.
+    pub fn is_same(self, other: Unit) -> bool
+        ensures { result ≡ unit_eq self other }
+    {
+        match (self, other) {
+            (Unit::A, Unit::A) | (Unit::W, Unit::W) => true,
+            (Unit::A, Unit::W) | (Unit::W, Unit::A) => false,
+        }
+    }
 }

@@ -1,7 +1,8 @@
+//! The elements of a list, owned, as a frame is taken apart.
 ghost use Rattle.std.specs.Prelude.{◌≡◌, is_some, true};
 ghost use Rattle.std.specs.Vec.Iter.{into_iter_items};
 ghost use Rattle.serde_json.specs.View.{items_view};
-ghost use Rattle.ocppj_frame.specs.TreeReading.{trees_of};
+ghost use Rattle.ocppj_frame.specs.Read.{trees_of};
 
 use super::Payload;
 use crate::mark::without_mark;
@@ -9,7 +10,7 @@ use serde_json::{Map, Value};
 use std::alloc::Global;
 use std::vec::IntoIter;
 
-/// The elements of a list that are left to take, in order.
+/// The elements of a list that are left to visit, in order.
 #[derive(Drop)]
 pub(crate) struct Elements {
     values: IntoIter<Value>,
@@ -18,7 +19,7 @@ pub(crate) struct Elements {
 
 impl Elements {
     ghost use Rattle.std.specs.Prelude.{◌≡◌, drop, option_map, slice_get};
-    ghost use Rattle.ocppj_frame.specs.Parts.{elements_left, tree_in};
+    ghost use Rattle.ocppj_frame.specs.Payload.{elements_left, tree_in};
 
     /// Takes the next element, where there is one.
     pub(crate) fn next(&mut self) -> Option<Payload>
@@ -34,7 +35,7 @@ impl Elements {
 
 impl Payload {
     ghost use Rattle.std.specs.Prelude.{◌≡◌, option_map, string_bytes};
-    ghost use Rattle.ocppj_frame.specs.Parts.{elements_left, tree_in};
+    ghost use Rattle.ocppj_frame.specs.Payload.{elements_left, tree_in};
     ghost use Rattle.ocppj_frame.specs.Tree.{as_list, as_text, no_fields, object};
 
     /// The object without fields. Takes no memory.

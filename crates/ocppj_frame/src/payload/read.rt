@@ -1,7 +1,9 @@
-ghost use Rattle.std.specs.Prelude.{◌≡◌, IfErr, IfOk, Some};
-ghost use Rattle.ocppj_frame.specs.Parts.{tree_in};
-ghost use Rattle.ocppj_frame.specs.TreeFault.{IsTreeFault};
-ghost use Rattle.ocppj_frame.specs.TreeReading.{tree_of_text};
+//! From a JSON text to a tree.
+ghost use Rattle.std.specs.Prelude.{ok_or};
+ghost use Rattle.ocpp_scalars.specs.Reading.{ReadsUnless};
+ghost use Rattle.ocppj_frame.specs.Fault.{is_memory};
+ghost use Rattle.ocppj_frame.specs.Payload.{tree_in};
+ghost use Rattle.ocppj_frame.specs.Read.{tree_of_text};
 
 use super::Payload;
 use crate::fault::FrameFault;
@@ -13,17 +15,17 @@ use std::alloc::Global;
 /// Reads a JSON text of any length as a tree. A text that is refused is `Dropped`; there is never a
 /// `Formation`.
 pub fn read_tree(alloc: Global, text: &str) -> Result<Payload, FrameFault>
-    ensures tree { IfOk result (λ payload. tree_of_text text.now ≡ Some (tree_in payload)) }
-    ensures fault { IfErr result (IsTreeFault text.now) }
+    ensures { ReadsUnless is_memory tree_in result
+        (ok_or (tree_of_text text.now) FrameFault.Dropped) }
 {
-    let Ok(marked) = mark_text(alloc, text) else {
-        return Err(FrameFault::OutOfMemory);
-    };
-    let value = match Value::from_slice(alloc, marked.as_slice()) {
+    let marked = mark_text(alloc, text)?;
+    let value = match Value::from_str(alloc, marked.as_str()) {
         Ok(value) => value,
         Err(error) if error.is_memory() => return Err(FrameFault::OutOfMemory),
         Err(_) => return Err(FrameFault::Dropped),
     };
+    // `serde_json` has read a text without numbers: whether each was one is tested only now, and of
+    // repeated keys only for the last.
     if is_tree(&value) {
         Ok(Payload { value })
     } else {

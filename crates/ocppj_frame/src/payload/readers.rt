@@ -1,65 +1,66 @@
+//! What a node is and what it holds.
 ghost use Rattle.std.specs.Prelude.{◌≡◌, option_map};
 ghost use Rattle.serde_json.specs.View.{members_view, view};
-ghost use Rattle.ocppj_frame.specs.Member.{is_key_of, member_named};
-ghost use Rattle.ocppj_frame.specs.Parts.{entries_in, tree_at, tree_in};
+ghost use Rattle.ocppj_frame.specs.ByCases.Member.{is_key_of, member_named};
+ghost use Rattle.ocppj_frame.specs.Payload.{entries_in, tree_at, tree_in};
 ghost use Rattle.ocppj_frame.specs.Tree.{as_list, as_number, as_text, field_of, is_null, is_object};
 
-use super::{Items, Part, Payload};
-use crate::mark::unmarked;
+use super::{Entries, Node, Payload};
+use crate::mark::after_mark;
 use serde_json::{Map, Value};
 
 impl Payload {
     /// The whole tree, borrowed.
-    pub fn root(&self) -> Part<'_>
+    pub fn root(&self) -> Node<'_>
         ensures { tree_at result ≡ tree_in self.now }
     {
-        Part { value: &self.value }
+        Node { value: &self.value }
     }
 }
 
-impl<'a> Part<'a> {
-    /// Whether the part is an object.
+impl<'a> Node<'a> {
+    /// Whether the node is an object.
     pub fn is_object(self) -> bool
         ensures { result ≡ is_object (tree_at self.entry) }
     {
         matches!(self.value, Value::Object(_))
     }
 
-    /// Whether the part is null.
+    /// Whether the node is null.
     pub fn is_null(self) -> bool
         ensures { result ≡ is_null (tree_at self.entry) }
     {
         matches!(self.value, Value::Null)
     }
 
-    /// The text, where the part is one.
+    /// The text, where the node is one.
     pub fn text(self) -> Option<&'a str>
         ensures { option_map (λ t. t.now) result ≡ as_text (tree_at self.entry) }
     {
         if let Value::String(marked) = self.value {
-            unmarked(marked.as_str(), 's')
+            after_mark(marked.as_str(), 's')
         } else {
             None
         }
     }
 
-    /// The number's text, where the part is a number.
+    /// The number's text, where the node is a number.
     pub fn number(self) -> Option<&'a str>
         ensures { option_map (λ t. t.now) result ≡ as_number (tree_at self.entry) }
     {
         if let Value::String(marked) = self.value {
-            unmarked(marked.as_str(), 'n')
+            after_mark(marked.as_str(), 'n')
         } else {
             None
         }
     }
 
-    /// The entries, where the part is a list.
-    pub fn list(self) -> Option<Items<'a>>
+    /// The entries, where the node is a list.
+    pub fn list(self) -> Option<Entries<'a>>
         ensures { option_map entries_in result ≡ as_list (tree_at self.entry) }
     {
         if let Value::Array(values) = self.value {
-            Some(Items {
+            Some(Entries {
                 values: values.as_slice(),
             })
         } else {
@@ -67,15 +68,15 @@ impl<'a> Part<'a> {
         }
     }
 
-    /// The field of this name, where the part is an object that has it.
-    pub fn field(self, name: &str) -> Option<Part<'a>>
+    /// The field of this name, where the node is an object that has it.
+    pub fn field(self, name: &str) -> Option<Node<'a>>
         ensures { option_map tree_at result ≡ field_of name.now (tree_at self.entry) }
     {
         let Value::Object(members) = self.value else {
             return None;
         };
         match find_member(members, name) {
-            Some(value) => Some(Part { value }),
+            Some(value) => Some(Node { value }),
             None => None,
         }
     }
@@ -95,7 +96,7 @@ fn find_member<'a>(members: &'a Map<String, Value>, name: &str) -> Option<&'a Va
 fn is_key_of(name: &str, key: &str) -> bool
     ensures { result ≡ is_key_of name.now key.now }
 {
-    match unmarked(key, 's') {
+    match after_mark(key, 's') {
         Some(other) => other == name,
         None => false,
     }

@@ -1,11 +1,10 @@
-use Rattle.std.proofs.Common.{◌≡◌, ◌+◌, length, vec_len}
-use Rattle.ocppj_frame.specs.Parts.{entries_in, parts_left}
-use Rattle.messages.specs.ProfileFields.{periods_of}
-use Rattle.messages.proofs.PeriodsRead.{with_front}
+-- What was missing: the periods so far and those of the entries that are left are all.
+use Rattle.std.proofs.Common.{◌≡◌}
+use Rattle.ocppj_frame.specs.Payload.{entries_in, entries_left}
+use Rattle.messages.specs.ProfileFields.{each_period_of}
+use Rattle.messages.proofs.PeriodsRead.{after_periods}
 use Rattle.messages.proofs.profile_fields.read_periods.Given as goal
 
 abbrev pub invariant-loop-entry : goal.invariant-loop-entry
-invariant-loop-entry l = record {
-  read : with_front l.periods.items (periods_of (parts_left l.entry-iterator)) ≡ periods_of (entries_in l.fn.entries);
-  count : vec_len l.periods + length (parts_left l.entry-iterator) ≡ length (entries_in l.fn.entries);
-}
+invariant-loop-entry l =
+    after_periods l.periods.items (each_period_of (entries_left l.entry-iterator)) ≡ each_period_of (entries_in l.fn.entries)

@@ -1,3 +1,4 @@
+-- What was missing: what is written and the periods that are left make the whole.
 use Rattle.std.proofs.Common.{◌≡◌, ◌++◌, drop, string_bytes}
 use Rattle.messages.specs.ResponseText.{later_periods_text, periods_text}
 use Rattle.messages.proofs.response_text.push_periods.Given as goal

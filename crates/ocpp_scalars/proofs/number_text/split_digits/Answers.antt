@@ -1,7 +1,8 @@
 -- What is taken are the digits that the text begins with, and those are digits.
 use Rattle.std.proofs.Common.{◌≡◌, sym, subst, arith}
 use Rattle.std.proofs.lemmas.Grind.{common_steps}
-use Rattle.ocpp_scalars.specs.Digits.{digits_of, AreDigits}
+use Rattle.ocpp_scalars.specs.ByCases.Digits.{digits_of}
+use Rattle.ocpp_scalars.specs.Digits.{AreDigits}
 use Rattle.ocpp_scalars.proofs.Texts.{digit_steps, AreDigits-digits_of}
 use Rattle.ocpp_scalars.proofs.number_text.split_digits.Goals as goal
 

@@ -1,6 +1,6 @@
 -- The digits passed so far, with those to come, are those that the text begins with.
 use Rattle.std.proofs.Common.{◌≡◌, ◌++◌, take, drop}
-use Rattle.ocpp_scalars.specs.Digits.{digits_of, after_digits}
+use Rattle.ocpp_scalars.specs.ByCases.Digits.{digits_of, after_digits}
 use Rattle.ocpp_scalars.proofs.number_text.split_digits.Given as goal
 
 abbrev pub invariant-loop-count : goal.invariant-loop-count

@@ -1,7 +1,7 @@
 -- A printed instant is read as itself.
 use Rattle.std.proofs.Common.{◌≡◌, string_bytes, ap, ◌∙◌, rules}
-use Rattle.ocpp_scalars.specs.InstantText.{instant_text}
-use Rattle.ocpp_scalars.specs.InstantValue.{instant_of}
+use Rattle.ocpp_scalars.specs.Writing.{instant_text}
+use Rattle.ocpp_scalars.specs.ByCases.InstantText.{instant_of}
 use Rattle.ocpp_scalars.proofs.InstantReadings.{instant_again}
 use Rattle.ocpp_scalars.proofs.writing.write_instant.Goals as goal
 

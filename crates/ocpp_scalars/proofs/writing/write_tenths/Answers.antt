@@ -1,7 +1,7 @@
 -- Printed tenths are read as themselves.
 use Rattle.std.proofs.Common.{◌≡◌, string_bytes, ap, ◌∙◌, rules}
-use Rattle.ocpp_scalars.specs.TenthsText.{tenths_text}
-use Rattle.ocpp_scalars.specs.NumberValue.{tenths_of}
+use Rattle.ocpp_scalars.specs.Writing.{tenths_text}
+use Rattle.ocpp_scalars.specs.ByCases.Number.{tenths_of}
 use Rattle.ocpp_scalars.proofs.TenthsPrinted.{tenths_again}
 use Rattle.ocpp_scalars.proofs.writing.write_tenths.Goals as goal
 

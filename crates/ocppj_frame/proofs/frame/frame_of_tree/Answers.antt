@@ -1,6 +1,6 @@
 use Rattle.std.proofs.Common.{◌≡◌, sym, subst, Result, Ok, Err}
 use Rattle.std.specs.Prelude.{IfOk, IfErr}
-use Rattle.ocppj_frame.specs.FrameReading.{message_in}
+use Rattle.ocppj_frame.specs.Frame.{message_in}
 use Rattle.ocppj_frame.specs.Message.{Message}
 use Rattle.ocppj_frame.specs.declared.fault.FrameFault.{FrameFault}
 use Rattle.ocppj_frame.proofs.Elements.{message_of_taken}

@@ -1,6 +1,6 @@
 use Rattle.std.proofs.Common.{◌≡◌, is_some, drop}
 use Rattle.serde_json.specs.View.{items_view, members_view}
-use Rattle.ocppj_frame.specs.TreeReading.{fields_of, trees_of}
+use Rattle.ocppj_frame.specs.Read.{fields_of, trees_of}
 use Rattle.ocppj_frame.proofs.tree.+tree.Given as goal
 
 -- what is left decides

@@ -1,6 +1,6 @@
 use Rattle.std.proofs.Common.{ℕ, ◌+◌, min, ◌∙◌, sym, ap, cond, Bool, filter, is_some, arith}
 use Rattle.std.specs.List.{range_with_len, sum_by}
-use Rattle.meaning.specs.Book.{book_of, active_since}
+use Rattle.meaning.specs.View.{point_state, active_since}
 use Rattle.meaning.specs.Limit.{own_limit}
 use Rattle.meaning.proofs.Ranges.{sum_passing_more, min_more}
 use Rattle.meaning.proofs.view.View.shared_limit_within.Goals as goal
@@ -8,9 +8,9 @@ use Rattle.meaning.proofs.view.View.shared_limit_within.Goals.{then-is_some, els
 
 pub loop-index-preserved : goal.loop-index-preserved
 loop-index-preserved c =
-    let book = book_of c.args.self.now in
-    let give = λ (connector : ℕ). own_limit book connector c.args.asked c.args.second in
-    let test = λ (connector : ℕ). is_some (active_since book connector) in
+    let state = point_state c.args.self.now in
+    let give = λ (connector : ℕ). own_limit state connector c.args.asked c.args.instant in
+    let test = λ (connector : ℕ). is_some (active_since state connector) in
     let next = c.loop-index.index + 1 in
     let before : ℕ = sum_by give (filter test (range_with_len 1 c.loop-index.index)) in
     let more = sum_passing_more give test 1 c.loop-index.index next (omega arith) in

@@ -1,5 +1,5 @@
 use Rattle.std.proofs.Common.{◌∙◌, ap, Some, map}
-use Rattle.ocppj_frame.specs.Parts.{value_tree}
+use Rattle.ocppj_frame.specs.Payload.{value_tree}
 use Rattle.ocppj_frame.proofs.TreeParts.{value_list}
 use Rattle.ocppj_frame.proofs.payload.Payload.into_elements.Goals as goal
 

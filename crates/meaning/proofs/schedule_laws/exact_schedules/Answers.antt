@@ -1,0 +1,13 @@
+-- Exact periods are the ones that are computed, and too many exactly where those are.
+use Rattle.meaning.proofs.ExactTheory.{exact_is, exact_are}
+use Rattle.meaning.proofs.Compiling.{computed, answered, refused, too_long-is}
+use Rattle.meaning.proofs.schedule_laws.exact_schedules.Goals as goal
+
+pub returns-clause-periods : goal.returns-clause-periods
+returns-clause-periods c = λ limit duration periods some. (exact_is limit duration periods, λ same. rw same (exact_are limit duration some))
+
+pub returns-clause-answer : goal.returns-clause-answer
+returns-clause-answer c = λ limit duration schedule some. (computed limit duration schedule, answered limit duration schedule some)
+
+pub returns-clause-too_long : goal.returns-clause-too_long
+returns-clause-too_long c = λ limit duration some. (refused limit duration some, too_long-is limit duration)

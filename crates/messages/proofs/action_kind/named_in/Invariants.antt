@@ -1,9 +1,0 @@
--- What was missing: the rows that are left have what all have, as none before them has the name.
-use Rattle.std.proofs.Common.{◌≡◌, drop, map}
-use Rattle.messages.specs.ActionKind.{named_in}
-use Rattle.messages.proofs.action_kind.named_in.Given as goal
-
-abbrev pub invariant-loop-name : goal.invariant-loop-name
-invariant-loop-name g l =
-    named_in (map (λ row. (row.0.now, row.1)) (drop l.name-index l.rows)) l.text
-    ≡ named_in (map (λ row. (row.0.now, row.1)) l.rows) l.text

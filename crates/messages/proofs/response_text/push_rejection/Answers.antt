@@ -1,0 +1,11 @@
+-- What was missing: the pieces make one text.
+use Rattle.std.proofs.Common.{codes}
+use Rattle.messages.proofs.TextPieces.{three_pieces}
+use Rattle.messages.proofs.response_text.push_rejection.Goals as goal
+
+pub returns : goal.returns
+returns c =
+    rw (← c.name.ensures)
+    (three_pieces _ (codes "{\"status\":\"Rejected\",\"reason\":\"") _ (codes "\"}")
+    _ _ _
+    c.in_ok-push_str.ensures.bytes c.in_ok-push_str-2.ensures.bytes c.in_ok-push_str-3.ensures.bytes)

@@ -1,0 +1,10 @@
+-- What was missing: the pieces make one text.
+use Rattle.std.proofs.Common.{codes}
+use Rattle.messages.proofs.TextPieces.{three_pieces}
+use Rattle.messages.proofs.response_text.push_transaction.Goals as goal
+
+pub returns : goal.returns
+returns c =
+    three_pieces _ (codes "{\"idTagInfo\":{\"status\":\"Accepted\"},\"transactionId\":") _ (codes "}")
+    _ _ _
+    c.in_ok-push_str.ensures.bytes c.in_ok-write.ensures.bytes c.in_ok-push_str-2.ensures.bytes

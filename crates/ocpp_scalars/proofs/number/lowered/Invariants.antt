@@ -1,6 +1,0 @@
--- Each zero taken off is one power of ten.
-use Rattle.std.proofs.Common.{◌≡◌, ◌*◌, ◌^◌, ◌<◌}
-use Rattle.ocpp_scalars.proofs.number.lowered.Given as goal
-
-abbrev pub invariant-loop : goal.invariant-loop
-invariant-loop l = (l.value * 10 ^ l.counter ≡ l.digits) × (0 < l.value)

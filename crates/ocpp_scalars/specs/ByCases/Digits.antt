@@ -1,0 +1,17 @@
+-- Of private clauses: the digits that a text begins with, and what follows them.
+use Rattle.std.specs.Prelude.{ℕ, Bool, true, false, if◌then◌else◌, List, [], ◌∷◌}
+use Rattle.std.specs.Char.{is_ascii_digit}
+
+-- the digits that a text begins with
+abbrev pub digits_of : List ℕ → List ℕ
+digits_of [] = []
+digits_of (b ∷ bs) = if is_ascii_digit b then b ∷ digits_of bs else []
+
+-- what follows the digits that a text begins with
+abbrev pub after_digits : List ℕ → List ℕ
+after_digits [] = []
+after_digits (b ∷ bs) = if is_ascii_digit b then after_digits bs else b ∷ bs
+
+abbrev pub is_empty : List ℕ → Bool
+is_empty [] = true
+is_empty (b ∷ bs) = false

@@ -1,0 +1,55 @@
+//! Texts of at most so many characters.
+ghost use Rattle.std.specs.Prelude.{◌≡◌, ◌↔◌, ◌≤◌, IfErr, IfOk, IsOk, length, string_bytes};
+ghost use Rattle.std.specs.Str.{chars};
+
+use crate::characters::character_count;
+use std::marker::Model;
+
+/// A text of 0 to `MAX` characters, counted as Unicode scalar values.
+#[derive(Debug, Drop)]
+pub struct BoundedText<const MAX: usize> {
+    text: String,
+}
+
+// Clauses see the text's bytes.
+impl<const MAX: usize> Model for BoundedText<MAX> {
+    ghost use Rattle.std.specs.Prelude.{List, ℕ, ◌≤◌, length, string_bytes};
+    ghost use Rattle.std.specs.Str.{chars};
+
+    ghost Value = { List ℕ };
+
+    ghost view = { λ bounded. string_bytes bounded.text };
+
+    ghost invariant = { λ bounded. length (chars (string_bytes bounded.text)) ≤ MAX };
+}
+
+impl<const MAX: usize> BoundedText<MAX> {
+    /// The bounded text of this text, or the text again where it has more than `MAX` characters. Takes no
+    /// memory.
+    pub fn try_new(text: String) -> Result<BoundedText<MAX>, String>
+        ensures valid { IsOk result ↔ (length (chars (string_bytes text)) ≤ MAX) }
+        ensures ok { IfOk result (λ bounded. bounded ≡ string_bytes text) }
+        ensures err { IfErr result (λ s. s ≡ text) }
+    {
+        if character_count(text.as_str()) > MAX {
+            return Err(text);
+        }
+        Ok(BoundedText { text })
+    }
+
+    /// The text.
+    pub fn as_str(&self) -> &str
+        ensures text { result.now ≡ self.now }
+        ensures short { length (chars self.now) ≤ MAX }
+    {
+        self.text.as_str()
+    }
+
+    /// The text, given back.
+    pub fn into_string(self) -> String
+        ensures { string_bytes result ≡ self.entry }
+    {
+        let BoundedText { text } = self;
+        text
+    }
+}

@@ -1,7 +1,0 @@
-use Rattle.std.proofs.Common.{◌≡◌, ◌++◌, drop}
-use Rattle.ocppj_frame.specs.Marked.{marked, marked_from}
-use Rattle.ocppj_frame.proofs.mark.mark_text.Given as goal
-
--- what is written so far, and what is still to be written, are the marked text
-abbrev pub invariant-loop-byte : goal.invariant-loop-byte
-invariant-loop-byte l = l.out.items ++ marked_from l.place (drop l.byte-index l.text) ≡ marked l.text

@@ -1,0 +1,34 @@
+-- The library's print of one string is that string, quoted.
+use Rattle.std.proofs.Common.{◌≡◌, ◌∙◌, ◌++◌, ap, sym, subst, ℕ, List, [], ◌∷◌, Result, Ok, Err}
+use Rattle.std.specs.Prelude.{OnOk, string_bytes}
+use Rattle.std.specs.Str.{IsUtf8}
+use Rattle.std.proofs.lemmas.List.{append-nil}
+use Rattle.std.proofs.lemmas.Str.{IsUtf8-append, IsUtf8-had}
+use Rattle.json.specs.Token.{Token, string}
+use Rattle.json.specs.Print.{print, print_from, quoted}
+use Rattle.ocppj_frame.proofs.write.push_string.Goals as goal
+
+-- one string, printed
+print_string : (text : List ℕ) (tokens : List Token) → tokens ≡ string text ∷ [] → print tokens ≡ quoted text
+unfolding print_from
+print_string text tokens e = ap print e ∙ append-nil (quoted text)
+
+on_ok : {E : Type 0} {P Q : Type 0} → (r : Result (Unit {0}) E) → (P → Q) → OnOk r P → OnOk r Q
+on_ok (Ok x) f h = f h
+on_ok (Err e) f h = h
+
+pub from_utf8_unchecked-requires : goal.from_utf8_unchecked-requires
+from_utf8_unchecked-requires c =
+    let old : IsUtf8 (string_bytes c.replace.result) = IsUtf8-had _ c.replace.result.ok in
+    let bytes : c.string-written.new.self.before ≡ string_bytes c.replace.result = cc (c.string-written.ensures.room.0) in
+    subst IsUtf8 (sym c.into_inner.ensures.items)
+    (IsUtf8-append _ _ (subst IsUtf8 (sym bytes) old) c.into_inner.ensures.utf8)
+
+pub returns : goal.returns
+returns c =
+    on_ok c.string-written.result (λ tokens.
+    let quotes : print c.string-written.new.self.tokens ≡ quoted c.args.text.now =
+    print_string c.args.text.now _ (tokens ∙ ap (λ (ts : List Token). ts ++ (string c.args.text.now ∷ [])) c.new-writer.ensures.tokens) in
+    let before : c.string-written.new.self.before ≡ string_bytes c.args.out.now = cc (c.string-written.ensures.room.0) in
+    cc (quotes, before))
+    c.string-written.ensures.ok

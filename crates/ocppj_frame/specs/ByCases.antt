@@ -1,0 +1,4 @@
+-- Forms by cases, with which proofs compute.
+pub mod Mark
+pub mod Member
+pub mod Message

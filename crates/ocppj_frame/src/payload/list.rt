@@ -1,0 +1,62 @@
+//! The entries of a list.
+ghost use Rattle.std.specs.Prelude.{◌≡◌, ◌==◌, length, option_map, slice_get};
+ghost use Rattle.std.specs.Iterator.{YieldsFirstBy, item_count};
+ghost use Rattle.ocppj_frame.specs.Payload.{entries_in, entries_left, tree_at};
+
+use super::{Entries, Node};
+
+impl<'a> Entries<'a> {
+    /// How many entries there are.
+    pub fn len(self) -> usize
+        ensures { result ≡ length (entries_in self.entry) }
+    {
+        self.values.len()
+    }
+
+    /// Whether there are none.
+    pub fn is_empty(self) -> bool
+        ensures { result ≡ (length (entries_in self.entry) == 0) }
+    {
+        self.values.is_empty()
+    }
+
+    /// The entry at this index, from 0.
+    pub fn get(self, index: usize) -> Option<Node<'a>>
+        ensures { option_map tree_at result ≡ slice_get (entries_in self.entry) index }
+    {
+        let values = self.values;
+        if index < values.len() {
+            let value = &values[index];
+            Some(Node { value })
+        } else {
+            None
+        }
+    }
+
+    /// The entries in order.
+    pub fn iter(self) -> EntriesIter<'a>
+        ensures { entries_left result ≡ entries_in self.entry }
+    {
+        EntriesIter { left: self }
+    }
+}
+
+/// The entries of a list that are left to visit, in order.
+#[derive(Drop)]
+pub struct EntriesIter<'a> {
+    left: Entries<'a>,
+}
+
+impl<'a> Iterator for EntriesIter<'a> {
+    type Item = Node<'a>;
+
+    ghost next_gives = { YieldsFirstBy tree_at entries_left };
+
+    ghost remaining = { item_count entries_left };
+
+    fn next(&mut self) -> Option<Node<'a>> {
+        let (value, others) = self.left.values.split_first()?;
+        self.left = Entries { values: others };
+        Some(Node { value })
+    }
+}

@@ -1,6 +1,0 @@
-use Rattle.std.proofs.Common.{◌≡◌, take}
-use Rattle.profile.specs.Periods.{limit_in}
-use Rattle.profile.proofs.periods.Periods.limit_at.Given as goal
-
-abbrev pub invariant-loop-period : goal.invariant-loop-period
-invariant-loop-period l = l.found ≡ limit_in (take l.period-index l.period-items) l.offset

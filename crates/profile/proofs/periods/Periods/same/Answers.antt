@@ -1,0 +1,17 @@
+-- That `==` on periods decides whether they are equal, and so on lists of them.
+use Rattle.std.proofs.Common.{◌≡◌, ◌==◌, ◌&&◌, sym, ◌∙◌, rules}
+use Rattle.std.specs.Bool.{Decides}
+use Rattle.std.specs.Option.{option_eq}
+use Rattle.std.proofs.lemmas.Slice.Eq.{slice_eq-Decides}
+use Rattle.profile.specs.declared.period.Period.{Period}
+use Rattle.profile.proofs.periods.Periods.same.Goals as goal
+
+decided : (a b : Period) → Decides ((a.start == b.start) && ((a.limit == b.limit) && option_eq (λ m n. m == n) a.number_phases b.number_phases)) (a ≡ b)
+decided a b = search rules
+
+pub returns : goal.returns
+returns c =
+    let d = slice_eq-Decides decided c.as_slice.result.now c.as_slice-2.result.now c.eq.result c.eq.ensures in
+    let first = c.as_slice.ensures.value in
+    let second = c.as_slice-2.ensures.value in
+    (λ t. sym first ∙ d.0 t ∙ second, λ e. d.1 (first ∙ e ∙ sym second))

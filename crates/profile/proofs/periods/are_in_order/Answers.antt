@@ -1,0 +1,6 @@
+-- That the loop's form of the order is that of the definition.
+use Rattle.profile.proofs.PeriodLemmas.{in_order-after}
+use Rattle.profile.proofs.periods.are_in_order.Goals as goal
+
+pub loop-period-init : goal.loop-period-init
+loop-period-init c = in_order-after c.args.periods.now

@@ -1,0 +1,3 @@
+pub mod Periods
+pub mod Parts
+pub mod Same
