@@ -11,7 +11,8 @@ use Rattle.std.proofs.Math.Seq.{take-append_seam, drop-append-add, get_or-append
 use Rattle.messages.specs.declared.side.Side.{Side}
 use Rattle.messages.specs.declared.side.Side.TheVariants.{Operator, Point}
 use Rattle.replay.specs.Form.{Form, sent_text, sender_word, IsWord, IsOfForm}
-use Rattle.replay.specs.ByCases.Form.{◌>>=◌, is_space, word_at, sender_named, form_of}
+use Rattle.ocpp_scalars.specs.OptionSteps.{◌>>=◌}
+use Rattle.replay.specs.ByCases.Form.{is_space, word_at, sender_named, form_of}
 
 -- both tests held where a choice gave its value
 both : {X : Type 0} (a b : Bool) (x y : X) → cond (a && b) (Some x) None ≡ Some y → (a ≡ true) × (b ≡ true) × (x ≡ y)

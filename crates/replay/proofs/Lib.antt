@@ -2,7 +2,6 @@ pub mod CeilingsRead
 pub mod FormLemmas
 pub mod LineLemmas
 pub mod OutputLemmas
-pub mod Scheduling
 pub mod ScriptLemmas
 pub mod SiteLemmas
 pub mod WriteLemmas

@@ -3,7 +3,7 @@ use Rattle.std.proofs.Common.{◌≡◌, ℕ, ◌<◌, ◌≤◌, List, length, 
 use Rattle.std.specs.Str.{IsUtf8, is_utf8}
 use Rattle.std.proofs.lemmas.Str.{IsUtf8-from_is_utf8, is_utf8-from_IsUtf8}
 use Rattle.std.proofs.lemmas.Bool.{le-ltb, lt-ltb}
-use Rattle.ocppj_frame.specs.TreeReading.{tree_of_text}
+use Rattle.ocppj_frame.specs.Read.{tree_of_text}
 use Rattle.replay.specs.Limits.{max_site_bytes}
 use Rattle.replay.specs.SiteReading.{site_of, site_by}
 use Rattle.replay.specs.declared.site.fault.SiteFault.TheVariants.{TooLarge, NotUtf8}

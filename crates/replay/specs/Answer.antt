@@ -1,9 +1,7 @@
--- The text that answers with what a step replied.
-use Rattle.std.specs.Prelude.{ℕ, List}
+-- The answer to a CALL whose step was made.
 use Rattle.profile.specs.declared.unit.Unit.{Unit}
 use Rattle.messages.specs.declared.response.Response.{Response}
 use Rattle.messages.specs.declared.response.Response.TheVariants.{Accepted, Rejected, Schedule}
-use Rattle.messages.specs.ResponseText.{response_text}
 use Rattle.replay.specs.declared.system.step.Reply.{Reply}
 use Rattle.replay.specs.declared.system.step.Reply.TheVariants.{Installed, Composed, Refused}
 
@@ -13,7 +11,3 @@ response_of unit Installed = Accepted
 response_of unit (Composed connector start schedule) =
     Schedule (record { connector = connector; start = start; unit = unit; schedule = schedule })
 response_of unit (Refused refusal) = Rejected refusal
-
--- the text of a reply, with the id of its CALL
-abbrev pub reply_text : List ℕ → Unit → Reply → List ℕ
-reply_text id unit reply = response_text id (response_of unit reply)

@@ -1,7 +1,7 @@
 -- What the central system knows.
 use Rattle.std.specs.Prelude.{List, []}
 use Rattle.profile.specs.declared.row.Row.{Row}
-use Rattle.meaning.specs.Book.{Book}
+use Rattle.meaning.specs.View.{PointState}
 use Rattle.replay.specs.Site.{SiteState}
 
 pub record SystemState : Type 0 where
@@ -13,5 +13,5 @@ abbrev pub first_state : SystemState
 first_state = record { rows = [] }
 
 -- the point of a site with its rows; no transaction is active
-abbrev pub point_state : SiteState → SystemState → Book
-point_state site state = record { ceiling = site.ceiling; ceilings = site.ceilings; starts = []; rows = state.rows }
+abbrev pub state_of_point : SiteState → SystemState → PointState
+state_of_point site state = record { ceiling = site.ceiling; ceilings = site.ceilings; starts = []; rows = state.rows }

@@ -1,15 +1,13 @@
 -- The forms of a line of a script.
 use Rattle.std.specs.Prelude.{ℕ, ◌≡◌, ◌≢◌, ◌<◌, List, ◌∷◌, ◌++◌, length, slice_index, codes}
 use Rattle.std.specs.List.{EachIndex}
+use Rattle.ocpp_scalars.specs.Ascii.{space}
 use Rattle.messages.specs.declared.side.Side.{Side}
 use Rattle.messages.specs.declared.side.Side.TheVariants.{Operator, Point}
 
 pub data Form : Type 0 where
   -- `INSTANT operator ID FRAME` and `INSTANT point ID FRAME`
   sent_text : List ℕ → Side → List ℕ → List ℕ → Form
-
-abbrev pub space : ℕ
-space = 32
 
 abbrev pub sender_word : Side → List ℕ
 sender_word Operator = codes "operator"

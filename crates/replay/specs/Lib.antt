@@ -1,6 +1,5 @@
 pub mod Limits
 pub mod ByCases
-pub mod Reading
 pub mod Site
 pub mod SiteReading
 pub mod SiteRules

@@ -1,7 +1,7 @@
 -- What a line of a script says, or its first fault.
 use Rattle.std.specs.Prelude.{ℕ, Bool, false, not, nat_lt, if◌then◌else◌, List, length, codes, Option, Some, None, Result, Ok, Err}
 use Rattle.std.specs.Str.{bytes_eq, is_utf8}
-use Rattle.ocpp_scalars.specs.InstantValue.{instant_of}
+use Rattle.ocpp_scalars.specs.ByCases.InstantText.{instant_of}
 use Rattle.ocpp_scalars.specs.declared.instant_text.InstantFault.{InstantFault}
 use Rattle.messages.specs.declared.side.Side.{Side}
 use Rattle.messages.specs.declared.side.Side.TheVariants.{Operator, Point}

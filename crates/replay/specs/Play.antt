@@ -14,7 +14,7 @@ use Rattle.replay.specs.SentText.{Sent}
 use Rattle.replay.specs.CentralSystem.{SystemState}
 use Rattle.replay.specs.Step.{Stepped, stepped}
 use Rattle.replay.specs.Todo.{todo_of}
-use Rattle.replay.specs.Answer.{reply_text}
+use Rattle.replay.specs.Answer.{response_of}
 use Rattle.replay.specs.Line.{line_of, fault_name}
 
 -- ---- texts
@@ -25,7 +25,7 @@ pub record Handled : Type 0 where
   pub after : SystemState
 
 abbrev pub step_handled : List ℕ → Unit → Stepped → Handled
-step_handled id unit step = record { answer = Some (reply_text id unit step.reply); after = step.after }
+step_handled id unit step = record { answer = Some (response_text id (response_of unit step.reply)); after = step.after }
 
 abbrev pub todo_handled : SiteState → List ℕ → SystemState → Todo → Handled
 todo_handled site point old todo.Nothing = record { answer = None; after = old }

@@ -3,12 +3,13 @@ use Rattle.std.specs.Prelude.{ℕ, nat_le, nat_lt, ◌==◌, Bool, true, false, 
 use Rattle.std.specs.List.{list_all}
 use Rattle.std.specs.Str.{is_utf8}
 use Rattle.ocpp_scalars.specs.declared.number.NumberFault.{NumberFault}
-use Rattle.ocpp_scalars.specs.NumberValue.{tenths_of}
+use Rattle.ocpp_scalars.specs.ByCases.Number.{tenths_of}
 use Rattle.ocppj_frame.specs.declared.field.Field.{Field}
 use Rattle.ocppj_frame.specs.declared.field.Field.TheVariants.{Absent, WrongKind, WrongValue, Value}
 use Rattle.ocppj_frame.specs.Tree.{Tree, is_object, as_number}
-use Rattle.ocppj_frame.specs.TreeReading.{tree_of_text}
-use Rattle.ocppj_frame.specs.FieldReading.{◌>>=◌, text_field_of, tenths_field_of, list_field_of}
+use Rattle.ocppj_frame.specs.Read.{tree_of_text}
+use Rattle.ocpp_scalars.specs.ResultSteps.{◌>>=◌}
+use Rattle.ocppj_frame.specs.Field.{text_field_of, tenths_field_of, list_field_of}
 use Rattle.profile.specs.declared.unit.Unit.{Unit}
 use Rattle.profile.specs.Names.{unit_named}
 use Rattle.replay.specs.declared.site.fault.SiteFault.{SiteFault}

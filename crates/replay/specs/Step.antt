@@ -1,13 +1,12 @@
 -- What a step of the central system does at a point of its site: each step is a case, and all else stays.
-use Rattle.std.specs.Prelude.{ℕ, ◌≡◌, ◌+◌, nat_lt, List, [], ◌∷◌, length, Option, Some, None, if◌then◌else◌}
+use Rattle.std.specs.Prelude.{ℕ, ◌≡◌, List, [], ◌∷◌, Option, Some, None, Result, Ok, Err}
 use Rattle.ocpp_scalars.specs.declared.refusal.Refusal.{Refusal}
-use Rattle.ocpp_scalars.specs.declared.refusal.Refusal.TheVariants.{ResultTooLong}
 use Rattle.profile.specs.declared.row.Row.{Row}
-use Rattle.meaning.specs.declared.composite.CompositePeriod.{CompositePeriod}
-use Rattle.meaning.specs.declared.composite.TheConstants.{MAX_COMPOSITE_PERIODS}
-use Rattle.meaning.specs.Book.{Book}
-use Rattle.meaning.specs.Limit.{limit}
-use Rattle.meaning.specs.ExactPeriods.{exact_periods}
+use Rattle.meaning.specs.declared.ask.Ask.{Ask}
+use Rattle.meaning.specs.View.{PointState}
+use Rattle.meaning.specs.Composite.{Schedule}
+use Rattle.meaning.specs.Limit.{limit_asked}
+use Rattle.meaning.specs.ByCases.Exact.{exact_schedule}
 use Rattle.messages.specs.declared.action.ScheduleRequest.{ScheduleRequest}
 use Rattle.replay.specs.declared.system.step.Step.{Step}
 use Rattle.replay.specs.declared.system.step.Step.TheVariants.{Install, Compose}
@@ -15,8 +14,8 @@ use Rattle.replay.specs.declared.system.step.Reply.{Reply}
 use Rattle.replay.specs.declared.system.step.Reply.TheVariants.{Installed, Composed, Refused}
 use Rattle.replay.specs.Site.{SiteState}
 use Rattle.replay.specs.SiteRules.{install_refusal}
-use Rattle.replay.specs.Ask.{request_refusal}
-use Rattle.replay.specs.CentralSystem.{SystemState, point_state}
+use Rattle.replay.specs.Ask.{ask_at}
+use Rattle.replay.specs.CentralSystem.{SystemState, state_of_point}
 
 -- what a step replies, and what is known after it
 pub record Stepped : Type 0 where
@@ -35,35 +34,27 @@ stepped_install None old row = record { reply = Installed; after = with_row old 
 
 -- ---- GetCompositeSchedule (OCPP 1.6, 5.7)
 
--- the periods of the exact schedule
-abbrev pub composed_periods : Book → ℕ → ℕ → ℕ → List CompositePeriod
-composed_periods point connector start duration =
-    exact_periods (λ (second : ℕ). limit point connector start (start + second)) duration
+abbrev pub schedule_reply : ℕ → ℕ → Result Schedule Refusal → Reply
+schedule_reply connector start (Ok schedule) = Composed connector start schedule
+schedule_reply connector start (Err refusal) = Refused refusal
 
-abbrev pub periods_reply : ℕ → ℕ → ℕ → List CompositePeriod → Reply
-periods_reply connector start duration periods =
-    if nat_lt MAX_COMPOSITE_PERIODS (length periods)
-    then Refused ResultTooLong
-    else Composed connector start (record { duration = duration; periods = periods })
+-- the exact schedule of the limits that an ask means, unless it is too long
+abbrev pub composed_reply : PointState → Ask → Reply
+composed_reply point ask =
+    schedule_reply ask.connector ask.start (exact_schedule (limit_asked point ask.connector ask.start) ask.duration)
 
-abbrev pub schedule_reply : Book → ℕ → ℕ → ℕ → Reply
-schedule_reply point connector start duration =
-    periods_reply connector start duration (composed_periods point connector start duration)
+abbrev pub asked_reply : PointState → Result Ask Refusal → Reply
+asked_reply point (Ok ask) = composed_reply point ask
+asked_reply point (Err refusal) = Refused refusal
 
-abbrev pub reply_unless : Option Refusal → Reply → Reply
-reply_unless (Some refusal) reply = Refused refusal
-reply_unless None reply = reply
-
-abbrev pub composed_reply : SiteState → List ℕ → SystemState → ℕ → ScheduleRequest → Reply
-composed_reply site point state start request =
-    reply_unless (request_refusal site point start request)
-    (schedule_reply (point_state site state) request.connector start request.duration)
+abbrev pub request_reply : SiteState → List ℕ → SystemState → ℕ → ScheduleRequest → Reply
+request_reply site point state start request = asked_reply (state_of_point site state) (ask_at site point start request)
 
 -- ---- all steps
 
 abbrev pub stepped : SiteState → List ℕ → SystemState → Step → Stepped
 stepped site point old (Install row) = stepped_install (install_refusal site point row.profile) old row
-stepped site point old (Compose start request) = record { reply = composed_reply site point old start request; after = old }
+stepped site point old (Compose start request) = record { reply = request_reply site point old start request; after = old }
 
 -- from one state a step leads to another, and replies
 abbrev pub Steps : SiteState → List ℕ → SystemState → Step → Reply → SystemState → Type 0

@@ -4,10 +4,10 @@ use Rattle.ocpp_scalars.specs.declared.refusal.Refusal.{Refusal}
 use Rattle.ocppj_frame.specs.declared.fault.FrameFault.{FrameFault}
 use Rattle.ocppj_frame.specs.declared.fault.FrameFault.TheVariants.{Formation}
 use Rattle.ocppj_frame.specs.Tree.{Tree}
-use Rattle.ocppj_frame.specs.Message.{Message, call, message_of_text}
+use Rattle.ocppj_frame.specs.Message.{Message, call}
+use Rattle.ocppj_frame.specs.ByCases.Message.{message_of_text}
 use Rattle.profile.specs.declared.charging_profile.Profile.{Profile}
-use Rattle.profile.specs.Parts.{first_refusal}
-use Rattle.profile.specs.Made.{made_profile}
+use Rattle.profile.specs.Parts.{profile_of_parts}
 use Rattle.messages.specs.declared.side.Side.{Side}
 use Rattle.messages.specs.declared.side.Side.TheVariants.{Operator, Point}
 use Rattle.messages.specs.declared.action.Action.{Action}
@@ -34,15 +34,13 @@ step_of_profile moment connector profile =
     then Ok (Install (record { connector = connector; moment = moment; profile = profile }))
     else Err not_supported
 
--- the profile that the fields make, or why they make none; parts that aren't refused make one
-abbrev pub step_of_parts : ℕ → ℕ → Option Refusal → Option Profile → Result Step Response
-step_of_parts moment connector (Some refusal) made = Err (Rejected refusal)
-step_of_parts moment connector None None = Err not_supported
-step_of_parts moment connector None (Some profile) = step_of_profile moment connector profile
+-- the profile that the fields make, or why they make none
+abbrev pub step_of_made : ℕ → ℕ → Result Profile Refusal → Result Step Response
+step_of_made moment connector (Ok profile) = step_of_profile moment connector profile
+step_of_made moment connector (Err refusal) = Err (Rejected refusal)
 
 abbrev pub step_of : ℕ → Action → Result Step Response
-step_of moment (actions.SetChargingProfile connector parts) =
-    step_of_parts moment connector (first_refusal parts) (made_profile parts)
+step_of moment (actions.SetChargingProfile connector parts) = step_of_made moment connector (profile_of_parts parts)
 step_of moment (actions.ClearChargingProfile criteria) = Err not_supported
 step_of moment (actions.GetCompositeSchedule request) = Ok (Compose moment request)
 step_of moment actions.BootNotification = Err (BootNotification moment)

@@ -1,15 +1,12 @@
 -- The form of a line, word by word. `read_line` has the law that this is the form that `IsOfForm` says.
-use Rattle.std.specs.Prelude.{ℕ, ◌==◌, ◌&&◌, Bool, nat_lt, if◌then◌else◌, List, length, codes, Option, Some, None, option_and_then}
+use Rattle.std.specs.Prelude.{ℕ, ◌==◌, ◌&&◌, Bool, nat_lt, if◌then◌else◌, List, length, codes, Option, Some, None}
 use Rattle.std.specs.List.{position_or_len, before_first, after_first}
 use Rattle.std.specs.Str.{bytes_eq}
+use Rattle.ocpp_scalars.specs.Ascii.{space}
+use Rattle.ocpp_scalars.specs.OptionSteps.{◌>>=◌}
 use Rattle.messages.specs.declared.side.Side.{Side}
 use Rattle.messages.specs.declared.side.Side.TheVariants.{Operator, Point}
-use Rattle.replay.specs.Form.{Form, sent_text, space}
-
-infixl 10 ◌>>=◌
-abbrev pub ◌>>=◌ : {A B : Type 0} → Option A → (A → Option B) → Option B
-None >>= f = None
-(Some x) >>= f = f x
+use Rattle.replay.specs.Form.{Form, sent_text}
 
 abbrev pub is_space : ℕ → Bool
 is_space b = b == space

@@ -1,15 +1,16 @@
 //! What a line of a script prints, and what the central system does at it.
 
-ghost use Rattle.std.specs.Prelude.{◌≡◌, false, IfOk, OnErr, option_map, string_bytes};
-ghost use Rattle.replay.specs.Play.{handled, answer_played, line_played, IsPlayed, IsOneOf};
+ghost use Rattle.std.specs.Prelude.{◌≡◌, false, Some, IfOk, OnErr, string_bytes};
+ghost use Rattle.messages.specs.ResponseText.{response_text};
+ghost use Rattle.replay.specs.Play.{handled, answer_line, answer_played, line_played, IsPlayed, IsOneOf};
 
 use crate::script::line::{ScriptLine, read_line};
-use crate::session::answer::write_reply;
+use crate::session::answer::response_of;
 use crate::session::sent_text::SentText;
 use crate::session::todo::{Todo, todo_of};
 use crate::site::site::Site;
 use crate::system::central_system::CentralSystem;
-use messages::write_response;
+use messages::{Response, push_response};
 use std::alloc::{AllocError, Global};
 
 /// What a line of the script prints.
@@ -61,29 +62,22 @@ fn answer_line(
         ≡ record { printed = string_bytes line; is_fault = false; after = system.new }) }
     ensures kept { OnErr result (IsOneOf system.old (handled site.now system.old text.now).after system.new) }
 {
-    match handle_text(alloc, site, system, text)? {
-        Some(answer) => format!(in alloc; "> {answer}\n"),
-        None => Ok(String::new(alloc)),
+    match todo_of(alloc, text)? {
+        Todo::Nothing => Ok(String::new(alloc)),
+        Todo::Answer { id, response } => response_line(alloc, id.as_str(), &response),
+        Todo::Step { id, step } => {
+            let reply = system.step(site, text.point(), step)?;
+            response_line(alloc, id.as_str(), &response_of(site.unit(), reply))
+        }
     }
 }
 
-/// The answer to a text, if it has one.
-fn handle_text(
-    alloc: Global,
-    site: &Site,
-    system: &mut CentralSystem,
-    text: &SentText<'_>,
-) -> Result<Option<String>, AllocError>
-    ensures handled { IfOk result (λ answer. handled site.now system.old text.now
-        ≡ record { answer = option_map string_bytes answer; after = system.new }) }
-    ensures kept { OnErr result (IsOneOf system.old (handled site.now system.old text.now).after system.new) }
+/// The line with a response to the CALL of this id.
+fn response_line(alloc: Global, id: &str, response: &Response) -> Result<String, AllocError>
+    ensures { IfOk result (λ line. string_bytes line ≡ answer_line (Some (response_text id.now response.now))) }
 {
-    match todo_of(alloc, text)? {
-        Todo::Nothing => Ok(None),
-        Todo::Answer { id, response } => Ok(Some(write_response(alloc, id.as_str(), &response)?)),
-        Todo::Step { id, step } => {
-            let reply = system.step(site, text.point(), step)?;
-            Ok(Some(write_reply(alloc, id.as_str(), site.unit(), reply)?))
-        }
-    }
+    let mut line = String::from_str(alloc, "> ")?;
+    push_response(&mut line, id, response)?;
+    line.push_str("\n")?;
+    Ok(line)
 }

@@ -1,17 +1,18 @@
 //! What a text asks for: nothing, an answer without a step, or a step.
 
 ghost use Rattle.std.specs.Prelude.{◌≡◌, Ok, IfOk};
-ghost use Rattle.ocppj_frame.specs.FrameReading.{message_in};
-ghost use Rattle.ocppj_frame.specs.Parts.{tree_at};
-ghost use Rattle.messages.specs.Action.{action_of_kind, HasPeriods};
-ghost use Rattle.replay.specs.Todo.{side_eq, step_of, step_of_profile, step_of_call, step_of_reading, todo_with, todo_of_message, todo_of};
+ghost use Rattle.ocppj_frame.specs.Frame.{message_in};
+ghost use Rattle.ocppj_frame.specs.Payload.{tree_at};
+ghost use Rattle.profile.specs.Parts.{profile_of_parts};
+ghost use Rattle.messages.specs.Action.{action_of_kind};
+ghost use Rattle.replay.specs.Todo.{side_eq, step_of, step_of_profile, step_of_made, step_of_call, step_of_reading, todo_with, todo_of_message, todo_of};
 
 use crate::session::sent_text::SentText;
 use crate::session::supported::{NOT_SUPPORTED, is_supported};
 use crate::system::step::Step;
 use messages::{Action, ActionKind, CallFault, Response, Side, read_fields};
 use ocpp_scalars::{Instant, Refusal};
-use ocppj_frame::{Frame, FrameFault, MessageId, Part, read_frame};
+use ocppj_frame::{Frame, FrameFault, MessageId, Node, read_frame};
 use profile::{Profile, ProfileParts, Row};
 use std::alloc::{AllocError, Global};
 
@@ -21,15 +22,9 @@ pub enum Todo {
     /// The text isn't answered.
     Nothing,
     /// The CALL of this id is answered without a step.
-    Answer {
-        id: MessageId,
-        response: Response,
-    },
+    Answer { id: MessageId, response: Response },
     /// The CALL of this id asks for a step.
-    Step {
-        id: MessageId,
-        step: Step,
-    },
+    Step { id: MessageId, step: Step },
 }
 
 /// What a text asks for.
@@ -49,11 +44,7 @@ pub fn todo_of(alloc: Global, text: &SentText<'_>) -> Result<Todo, AllocError>
 }
 
 /// What a message asks for: only a CALL is answered.
-fn todo_of_message(
-    alloc: Global,
-    text: &SentText<'_>,
-    frame: Frame,
-) -> Result<Todo, AllocError>
+fn todo_of_message(alloc: Global, text: &SentText<'_>, frame: Frame) -> Result<Todo, AllocError>
     ensures { IfOk result (λ todo. todo ≡ todo_of_message text.now (Ok (message_in frame))) }
 {
     match frame {
@@ -84,7 +75,7 @@ fn step_of_call(
     alloc: Global,
     text: &SentText<'_>,
     name: &str,
-    payload: Part<'_>,
+    payload: Node<'_>,
 ) -> Result<Result<Step, Response>, AllocError>
     ensures { IfOk result (λ asked. asked ≡ step_of_call text.now name.now (tree_at payload.entry)) }
 {
@@ -110,7 +101,7 @@ fn step_of_fields(
     alloc: Global,
     moment: Instant,
     kind: ActionKind,
-    payload: Part<'_>,
+    payload: Node<'_>,
 ) -> Result<Result<Step, Response>, AllocError>
     ensures { IfOk result (λ asked. asked ≡ step_of_reading moment (action_of_kind kind (tree_at payload.entry))) }
 {
@@ -123,7 +114,6 @@ fn step_of_fields(
 
 /// The step that an action asks for at a moment, or the answer where it asks for none.
 fn step_of(moment: Instant, action: Action) -> Result<Step, Response>
-    requires { HasPeriods action }
     ensures { result ≡ step_of moment action }
 {
     match action {
@@ -154,13 +144,8 @@ fn step_of(moment: Instant, action: Action) -> Result<Step, Response>
 }
 
 /// The install of the profile that these fields make.
-fn step_of_parts(
-    moment: Instant,
-    connector: u32,
-    parts: ProfileParts,
-) -> Result<Step, Response>
-    requires { HasPeriods (Action.SetChargingProfile connector parts) }
-    ensures { result ≡ step_of moment (Action.SetChargingProfile connector parts) }
+fn step_of_parts(moment: Instant, connector: u32, parts: ProfileParts) -> Result<Step, Response>
+    ensures { result ≡ step_of_made moment connector (profile_of_parts parts) }
 {
     match Profile::try_new(parts) {
         Ok(profile) => step_of_profile(moment, connector, profile),

@@ -1,18 +1,18 @@
 //! Reading a site file.
 
 ghost use Rattle.std.specs.Prelude.{◌≡◌, Ok, Err, MatchResult};
-ghost use Rattle.ocppj_frame.specs.FieldReading.{field_map};
+ghost use Rattle.ocppj_frame.specs.Field.{field_map};
 ghost use Rattle.std.specs.List.{list_all};
-ghost use Rattle.ocppj_frame.specs.TreeReading.{tree_of_text};
-ghost use Rattle.ocppj_frame.specs.Parts.{entries_in, tree_at};
+ghost use Rattle.ocppj_frame.specs.Read.{tree_of_text};
+ghost use Rattle.ocppj_frame.specs.Payload.{entries_in, tree_at};
 ghost use Rattle.replay.specs.SiteReading.{or_fault, some_or, is_id_byte, is_point_id, id_or_wrong, only_entry, object_or, ceiling_of, ceilings_of, few_entries, point_of, site_of_tree, site_by, site_of, is_memory};
-ghost use Rattle.replay.specs.Reading.{ReadsUnless};
+ghost use Rattle.ocpp_scalars.specs.Reading.{ReadsUnless};
 
 use crate::site::fault::SiteFault;
 use crate::site::site::Site;
 use ocpp_scalars::read_tenths;
 use ocppj_frame::{
-    Field, FrameFault, Items, Part, list_field, read_tree, tenths_field, text_field,
+    Entries, Field, FrameFault, Node, list_field, read_tree, tenths_field, text_field,
 };
 use profile::{Named, Unit};
 use std::alloc::Global;
@@ -51,7 +51,7 @@ fn read_site_text(alloc: Global, text: &str) -> Result<Site, SiteFault>
 }
 
 #[tactic(auto, unfolding(crate::specs::SiteReading::site_of_tree))]
-fn read_site_tree(alloc: Global, tree: Part<'_>) -> Result<Site, SiteFault>
+fn read_site_tree(alloc: Global, tree: Node<'_>) -> Result<Site, SiteFault>
     ensures { ReadsUnless is_memory (λ site. site) result (site_of_tree (tree_at tree.entry)) }
 {
     let fields = object_or(SiteFault::NotAnObject, tree)?;
@@ -63,7 +63,7 @@ fn read_site_tree(alloc: Global, tree: Part<'_>) -> Result<Site, SiteFault>
 }
 
 #[tactic(auto, unfolding(crate::specs::SiteReading::point_of))]
-fn read_point(alloc: Global, unit: Unit, point: Part<'_>) -> Result<Site, SiteFault>
+fn read_point(alloc: Global, unit: Unit, point: Node<'_>) -> Result<Site, SiteFault>
     ensures { ReadsUnless is_memory (λ site. site) result (point_of unit (tree_at point.entry)) }
 {
     let fields = object_or(SiteFault::BadPoints, point)?;
@@ -95,7 +95,7 @@ fn some_or<T: Drop>(fault: SiteFault, value: Option<T>) -> Result<T, SiteFault>
     }
 }
 
-fn object_or(fault: SiteFault, part: Part<'_>) -> Result<Part<'_>, SiteFault>
+fn object_or(fault: SiteFault, part: Node<'_>) -> Result<Node<'_>, SiteFault>
     ensures { MatchResult result
         (λ object. object_or fault (tree_at part.entry) ≡ Ok (tree_at object))
         (λ found. object_or fault (tree_at part.entry) ≡ Err found) }
@@ -107,7 +107,7 @@ fn object_or(fault: SiteFault, part: Part<'_>) -> Result<Part<'_>, SiteFault>
     }
 }
 
-fn only_entry(entries: Items<'_>) -> Result<Part<'_>, SiteFault>
+fn only_entry(entries: Entries<'_>) -> Result<Node<'_>, SiteFault>
     ensures { MatchResult result
         (λ point. only_entry (entries_in entries.entry) ≡ Ok (tree_at point))
         (λ fault. only_entry (entries_in entries.entry) ≡ Err fault) }
@@ -149,7 +149,7 @@ fn is_id_byte(b: u8) -> bool
     matches!(b, b'A'..=b'Z' | b'a'..=b'z' | b'0'..=b'9' | b'.' | b'_' | b'-' | b'~')
 }
 
-fn few_entries(entries: Items<'_>) -> Result<Items<'_>, SiteFault>
+fn few_entries(entries: Entries<'_>) -> Result<Entries<'_>, SiteFault>
     ensures { MatchResult result
         (λ few. few_entries (entries_in entries.entry) ≡ Ok (entries_in few))
         (λ fault. few_entries (entries_in entries.entry) ≡ Err fault) }
@@ -162,7 +162,7 @@ fn few_entries(entries: Items<'_>) -> Result<Items<'_>, SiteFault>
     }
 }
 
-fn read_ceilings(alloc: Global, entries: Items<'_>) -> Result<Vec<u32>, SiteFault>
+fn read_ceilings(alloc: Global, entries: Entries<'_>) -> Result<Vec<u32>, SiteFault>
     ensures { ReadsUnless is_memory (λ ceilings. ceilings.items) result (ceilings_of (entries_in entries.entry)) }
 {
     let mut ceilings = Vec::new(alloc);
@@ -173,7 +173,7 @@ fn read_ceilings(alloc: Global, entries: Items<'_>) -> Result<Vec<u32>, SiteFaul
     Ok(ceilings)
 }
 
-fn read_ceiling(entry: Part<'_>) -> Result<u32, SiteFault>
+fn read_ceiling(entry: Node<'_>) -> Result<u32, SiteFault>
     ensures { result ≡ ceiling_of (tree_at entry.entry) }
 {
     match entry.number() {

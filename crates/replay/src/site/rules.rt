@@ -1,11 +1,11 @@
 //! What a site lets in: which profiles may be installed at its point.
 
 ghost use Rattle.std.specs.Prelude.{◌≡◌};
-ghost use Rattle.replay.specs.SiteRules.{unit_eq, install_refusal};
+ghost use Rattle.replay.specs.SiteRules.{install_refusal};
 
 use crate::site::site::Site;
 use ocpp_scalars::Refusal;
-use profile::{Profile, Unit};
+use profile::Profile;
 
 /// Why a profile isn't installed, the first cause: `UnknownPoint` or `WrongUnit`.
 pub fn install_refusal(site: &Site, point: &str, profile: &Profile) -> Option<Refusal>
@@ -13,18 +13,9 @@ pub fn install_refusal(site: &Site, point: &str, profile: &Profile) -> Option<Re
 {
     if point != site.point() {
         Some(Refusal::UnknownPoint)
-    } else if !is_same_unit(profile.schedule.unit, site.unit()) {
+    } else if !profile.schedule.unit.is_same(site.unit()) {
         Some(Refusal::WrongUnit)
     } else {
         None
-    }
-}
-
-pub fn is_same_unit(first: Unit, second: Unit) -> bool
-    ensures { result ≡ unit_eq first second }
-{
-    match (first, second) {
-        (Unit::A, Unit::A) | (Unit::W, Unit::W) => true,
-        (Unit::A, Unit::W) | (Unit::W, Unit::A) => false,
     }
 }

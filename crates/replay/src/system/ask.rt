@@ -1,9 +1,8 @@
 //! The ask of a GetCompositeSchedule, or why there is none.
 
-ghost use Rattle.std.specs.Prelude.{◌≡◌, ◌≤◌, length, None, Some, IfOk, MatchResult};
-ghost use Rattle.replay.specs.Ask.{is_other_unit, request_refusal, IsAskOf};
+ghost use Rattle.std.specs.Prelude.{◌≡◌, ◌≤◌, length, IfOk};
+ghost use Rattle.replay.specs.Ask.{is_other_unit, ask_at};
 
-use crate::site::rules::is_same_unit;
 use crate::site::site::Site;
 use meaning::Ask;
 use messages::ScheduleRequest;
@@ -12,16 +11,13 @@ use profile::Unit;
 
 /// The ask of a request at a point from a start on, or the first cause why there is none:
 /// `UnknownPoint`, `UnknownConnector`, `WrongUnit`, `BadDuration` or `PastCalendar`.
-pub fn asked(
+pub fn ask_at(
     site: &Site,
     point: &str,
     start: Instant,
     request: &ScheduleRequest,
 ) -> Result<Ask, Refusal>
-    ensures refusal { MatchResult result
-        (λ _. request_refusal site.now point.now start request.now ≡ None)
-        (λ refusal. request_refusal site.now point.now start request.now ≡ Some refusal) }
-    ensures ask { IfOk result (IsAskOf start request.now) }
+    ensures ask { result ≡ ask_at site.now point.now start request.now }
     ensures connector { IfOk result (λ ask. ask.connector ≤ length site.now.ceilings) }
 {
     if point != site.point() {
@@ -41,6 +37,6 @@ fn is_other_unit(asked: Option<Unit>, unit: Unit) -> bool
 {
     match asked {
         None => false,
-        Some(asked) => !is_same_unit(asked, unit),
+        Some(asked) => !asked.is_same(unit),
     }
 }

@@ -4,9 +4,9 @@ ghost use Rattle.std.specs.Prelude.{◌≡◌, ◌≤◌, length, IfOk, OnErr};
 
 use crate::site::rules::install_refusal;
 use crate::site::site::Site;
-use crate::system::ask::asked;
+use crate::system::ask::ask_at;
 use crate::system::step::{Reply, Step};
-use meaning::{Ask, View, compile_plain};
+use meaning::{Ask, View, compile_plain, exact_schedules};
 use messages::ScheduleRequest;
 use ocpp_scalars::{Instant, Refusal};
 use profile::Row;
@@ -29,9 +29,9 @@ impl Model for CentralSystem {
 }
 
 impl CentralSystem {
-    ghost use Rattle.meaning.specs.Book.{book_of};
-    ghost use Rattle.replay.specs.CentralSystem.{first_state, point_state};
-    ghost use Rattle.replay.specs.Step.{Steps, composed_reply, schedule_reply};
+    ghost use Rattle.meaning.specs.View.{point_state};
+    ghost use Rattle.replay.specs.CentralSystem.{first_state, state_of_point};
+    ghost use Rattle.replay.specs.Step.{Steps, request_reply, composed_reply};
 
     /// The central system with nothing installed.
     pub fn new(alloc: Global) -> CentralSystem
@@ -77,9 +77,9 @@ impl CentralSystem {
         start: Instant,
         request: &ScheduleRequest,
     ) -> Result<Reply, AllocError>
-        ensures { IfOk result (λ reply. reply ≡ composed_reply site.now point.now self.now start request.now) }
+        ensures { IfOk result (λ reply. reply ≡ request_reply site.now point.now self.now start request.now) }
     {
-        match asked(site, point, start, request) {
+        match ask_at(site, point, start, request) {
             Ok(ask) => self.compose_ask(site, &ask),
             Err(refusal) => Ok(Reply::Refused(refusal)),
         }
@@ -88,9 +88,9 @@ impl CentralSystem {
     /// Composes the schedule of an ask.
     fn compose_ask(&self, site: &Site, ask: &Ask) -> Result<Reply, AllocError>
         requires { ask.now.connector ≤ length site.now.ceilings }
-        ensures { IfOk result (λ reply. reply ≡ schedule_reply (point_state site.now self.now)
-            ask.now.connector ask.now.start ask.now.duration) }
+        ensures { IfOk result (λ reply. reply ≡ composed_reply (state_of_point site.now self.now) ask.now) }
     {
+        exact_schedules();
         match compile_plain(self.alloc, &self.view(site), ask) {
             Ok(schedule) => Ok(Reply::Composed {
                 connector: ask.connector,
@@ -104,7 +104,7 @@ impl CentralSystem {
 
     /// What the point has: its ceilings, no active transaction, and its rows.
     fn view<'a>(&'a self, site: &'a Site) -> View<'a>
-        ensures point { book_of result ≡ point_state site.entry.now self.entry.now }
+        ensures point { point_state result ≡ state_of_point site.entry.now self.entry.now }
         ensures ceilings { result.ceilings.now ≡ site.entry.now.ceilings }
     {
         View {

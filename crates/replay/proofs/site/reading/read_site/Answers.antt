@@ -1,9 +1,9 @@
 -- A file that is short enough is read as a text, or is none.
 use Rattle.std.proofs.Common.{◌∙◌, ap, subst, sym, Result}
-use Rattle.ocppj_frame.specs.TreeReading.{tree_of_text}
+use Rattle.ocppj_frame.specs.Read.{tree_of_text}
 use Rattle.replay.specs.declared.site.fault.SiteFault.{SiteFault}
 use Rattle.replay.specs.Site.{SiteState}
-use Rattle.replay.specs.Reading.{ReadsUnless}
+use Rattle.ocpp_scalars.specs.Reading.{ReadsUnless}
 use Rattle.replay.specs.SiteReading.{is_memory, site_by}
 use Rattle.replay.proofs.SiteLemmas.{site_of-text, site_of-not_text}
 use Rattle.replay.proofs.site.reading.read_site.Goals as goal
