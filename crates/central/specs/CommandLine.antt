@@ -6,8 +6,12 @@ use Rattle.central.specs.declared.program.command_line.Job.{Job}
 use Rattle.central.specs.declared.program.command_line.Job.TheVariants.{Replay}
 
 -- an option that is needed and takes one value
+abbrev pub needed_option : Text → Rule
+needed_option name = record (new_rule name) { long = Some name; action = Some Set; required = true }
+
+-- the same, and the help has a name for the value
 abbrev pub required_option : Text → Rule
-required_option name = record (new_rule name) { long = Some name; action = Some Set; required = true }
+required_option name = record (needed_option name) { value_names = 1 }
 
 -- a command that prints its version, with one subcommand, which is required
 abbrev pub with_one_subcommand : App → App → App

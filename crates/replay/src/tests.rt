@@ -31,38 +31,53 @@ impl Read for Pieces<'_> {
         }
         self.calls -= 1;
         let count = self.text.len().min(buf.len()).min(9);
-        let (front, rest) = self.text.split_at(count);
-        buf[..count].copy_from_slice(front);
+        let (piece, rest) = self.text.split_at(count);
+        buf[..count].copy_from_slice(piece);
         self.text = rest;
         Ok(count)
     }
 }
 
-/// Takes a byte a call, and fails after so many calls.
+/// Accepts a byte a call. The call of one number is interrupted, a flush too, and after so many calls each
+/// fails.
 #[derive(Drop)]
 struct Bytes {
-    taken: Vec<u8>,
+    accepted: Vec<u8>,
     calls: usize,
+    until_interrupted: Option<usize>,
 }
 
-impl Write for Bytes {
-    fn write(&mut self, buf: &[u8]) -> io::Result<usize> {
+impl Bytes {
+    /// One call more, or why it fails.
+    fn call(&mut self) -> io::Result<()> {
+        match self.until_interrupted {
+            Some(0) => {
+                self.until_interrupted = None;
+                return Err(io::Error::from(ErrorKind::Interrupted));
+            }
+            Some(calls) => self.until_interrupted = Some(calls - 1),
+            None => {}
+        }
         if self.calls == 0 {
             return Err(io::Error::from(ErrorKind::Other));
         }
         self.calls -= 1;
+        Ok(())
+    }
+}
+
+impl Write for Bytes {
+    fn write(&mut self, buf: &[u8]) -> io::Result<usize> {
+        self.call()?;
         let Some(byte) = buf.first() else {
             return Ok(0);
         };
-        self.taken.push(*byte)?;
+        self.accepted.push(*byte)?;
         Ok(1)
     }
 
     fn flush(&mut self) -> io::Result<()> {
-        if self.calls == 0 {
-            return Err(io::Error::from(ErrorKind::Other));
-        }
-        Ok(())
+        self.call()
     }
 }
 
@@ -92,8 +107,9 @@ fn a_read_fails(rt: HostRuntime) -> Result<(), Fail> {
 fn a_write_fails(rt: HostRuntime) -> Result<(), Fail> {
     for calls in 0..OUTPUT.len() + 2 {
         let mut writer = Bytes {
-            taken: Vec::new(rt.alloc()),
+            accepted: Vec::new(rt.alloc()),
             calls,
+            until_interrupted: None,
         };
         let mut script = SCRIPT.as_slice();
         let outcome = replay(rt.alloc(), &mut script, &mut writer, site(rt.alloc())?);
@@ -102,8 +118,26 @@ fn a_write_fails(rt: HostRuntime) -> Result<(), Fail> {
         } else {
             assert_eq!(rt; outcome, Ok(Summary { script_faults: 2 }));
         }
-        let front = OUTPUT.as_slice().split_at(calls.min(OUTPUT.len())).0;
-        assert_eq!(rt; writer.taken.as_slice(), front);
+        let prefix = OUTPUT.as_slice().split_at(calls.min(OUTPUT.len())).0;
+        assert_eq!(rt; writer.accepted.as_slice(), prefix);
+    }
+    Ok(())
+}
+
+/// Each write, and the flush at the end, is interrupted in turn.
+#[test]
+fn a_write_is_interrupted(rt: HostRuntime) -> Result<(), Fail> {
+    for place in 0..OUTPUT.len() + 1 {
+        let mut writer = Bytes {
+            accepted: Vec::new(rt.alloc()),
+            calls: usize::MAX,
+            until_interrupted: Some(place),
+        };
+        let mut script = SCRIPT.as_slice();
+        let outcome = replay(rt.alloc(), &mut script, &mut writer, site(rt.alloc())?);
+        assert_eq!(rt; outcome, Ok(Summary { script_faults: 2 }), "interrupted at {place}");
+        assert_eq!(rt; writer.accepted.as_slice(), OUTPUT.as_slice());
+        assert!(rt; writer.until_interrupted.is_none());
     }
     Ok(())
 }

@@ -1,8 +1,8 @@
 //! The command line, by clap's own definition of how words are read.
 
 ghost use Rattle.std.specs.Prelude.{◌≡◌, false, codes, Some, IfOk, map, string_bytes};
-ghost use Rattle.clap.specs.Words.{FailsBy, app_of, fields_of, new_app, rule_of};
-ghost use Rattle.central.specs.CommandLine.{required_option, central_app, line_faults, site_named, site_of_job};
+ghost use Rattle.clap.specs.Words.{FailsBy, app_of, rule_of};
+ghost use Rattle.central.specs.CommandLine.{needed_option, required_option, central_app, line_faults, site_named, site_of_job};
 
 use crate::program::help_text::{ABOUT, REPLAY_ABOUT, REPLAY_EXAMPLE, SITE_HELP, STATUSES, VERSION};
 use clap::{Arg, ArgAction, Command, Error};
@@ -36,17 +36,16 @@ pub fn job_of<'a>(alloc: Global, words: &'a [String]) -> Result<Job<'a>, Error>
 fn central_command<'a>(alloc: Global) -> Result<Command<'a>, AllocError>
     ensures { IfOk result (λ command. app_of command ≡ central_app) }
 {
-    let replay = new_command(alloc, "replay", REPLAY_ABOUT, REPLAY_EXAMPLE).arg(site(alloc))?;
-    let central = new_command(alloc, "central", ABOUT, STATUSES).version(VERSION);
-    central.subcommand_required(true).subcommand(replay)
-}
-
-/// A command of this name; help says what it does, and ends with a text.
-fn new_command<'a>(alloc: Global, name: &'a str, about: &'a str, end: &'a str) -> Command<'a>
-    ensures app { app_of result ≡ new_app name.entry.now }
-    ensures local { (fields_of result).has_globals ≡ false }
-{
-    Command::new(alloc, name).about(about).after_help(end)
+    let replay = Command::new(alloc, "replay")
+        .about(REPLAY_ABOUT)
+        .after_help(REPLAY_EXAMPLE)
+        .arg(site(alloc))?;
+    Command::new(alloc, "central")
+        .version(VERSION)
+        .about(ABOUT)
+        .after_help(STATUSES)
+        .subcommand_required(true)
+        .subcommand(replay)
 }
 
 /// `--site F`, which is needed.
@@ -54,10 +53,16 @@ fn site<'a>(alloc: Global) -> Arg<'a>
     ensures rule { rule_of result ≡ required_option (codes "site") }
     ensures global { result.global ≡ false }
 {
-    Arg::new(alloc, "site")
-        .long("site")
-        .value_name("F")
-        .help(SITE_HELP)
+    required(alloc, "site").value_name("F").help(SITE_HELP)
+}
+
+/// An option that is needed and takes one value.
+fn required<'a>(alloc: Global, name: &'a str) -> Arg<'a>
+    ensures rule { rule_of result ≡ needed_option name.now }
+    ensures global { result.global ≡ false }
+{
+    Arg::new(alloc, name)
+        .long(name)
         .required(true)
         .action(ArgAction::Set)
 }

@@ -1,7 +1,7 @@
-//! Writing a whole text.
+//! Writing whole texts, however often the writer is interrupted.
 
 ghost use Rattle.std.specs.Prelude.{◌≡◌, OnOk, OnErr};
-ghost use Rattle.std.specs.Io.KnownBytes.{Appends};
+ghost use Rattle.std.specs.Io.KnownBytes.{Appends, Keeps};
 ghost use Rattle.replay.specs.Output.{AppendsPrefix, AppendsProperPrefix};
 
 use std::io::{ErrorKind, Write};
@@ -36,4 +36,18 @@ pub fn write_text<W: Write>(writer: &mut W, text: &str) -> Result<(), WriteFault
         return Err(WriteFault);
     }
     Ok(())
+}
+
+/// Has a writer pass on what it holds. `Write::flush` gives up where it is interrupted.
+pub fn flush_all<W: Write>(writer: &mut W) -> Result<(), WriteFault>
+    ensures { Keeps (W.contents writer.old) (W.contents writer.new) }
+{
+    for _ in 0..u64::MAX {
+        match writer.flush() {
+            Ok(()) => return Ok(()),
+            Err(error) if error.kind() == ErrorKind::Interrupted => {}
+            Err(_) => return Err(WriteFault),
+        }
+    }
+    Err(WriteFault)
 }

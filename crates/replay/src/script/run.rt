@@ -10,7 +10,7 @@ ghost use Rattle.replay.specs.Run.{output_of, fault_count, IsReading, IsWriting}
 
 use crate::script::input::{InputFault, read_all};
 use crate::script::lines::split_line;
-use crate::script::output::{WriteFault, write_text};
+use crate::script::output::{WriteFault, flush_all, write_text};
 use crate::script::play::play_line;
 use crate::site::site::Site;
 use crate::system::central_system::CentralSystem;
@@ -127,10 +127,8 @@ fn write_output<W: Write>(
     ensures late { IfErr result IsWriting }
 {
     let summary = write_lines(alloc, writer, script, site)?;
-    match writer.flush() {
-        Ok(()) => Ok(summary),
-        Err(_) => Err(ReplayFault::Write),
-    }
+    flush_all(writer)?;
+    Ok(summary)
 }
 
 /// Writes what the lines of a script print.
