@@ -1,3 +1,4 @@
+-- The greatest of what a loop has met so far.
 use Rattle.std.proofs.Common.{◌≡◌, ℕ, ◌+◌, ◌<◌, Bool, true, false, List, [], ◌∷◌, ◌++◌, length, filter, take, get_or, Option, Some, None, cond, refl, ap, sym, ◌∙◌, arith}
 use Rattle.std.specs.List.{filter_map}
 use Rattle.std.proofs.lemmas.List.{take_more, append-nil}

@@ -1,3 +1,4 @@
+-- What one second more adds to the exact periods, and when they are too many.
 use Rattle.std.proofs.Common.{◌≡◌, ℕ, ◌+◌, ◌-◌, ◌<◌, ◌≤◌, zero, suc, Bool, List, [], ◌∷◌, ◌++◌, length, cond, Option, Some, None, refl, ap, sym, ◌∙◌, add-one, arith}
 use Rattle.std.proofs.lemmas.List.{length-append}
 use Rattle.ocpp_scalars.specs.declared.refusal.Refusal.{Refusal}

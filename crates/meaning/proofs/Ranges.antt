@@ -1,3 +1,4 @@
+-- A range with one number more, and the sum over it.
 use Rattle.std.proofs.Common.{◌≡◌, ℕ, ◌+◌, zero, suc, Bool, true, false, List, [], ◌∷◌, ◌++◌, filter, cond, ap, ◌∙◌, min, arith}
 use Rattle.std.specs.List.{range_with_len, sum_by}
 use Rattle.std.proofs.lemmas.List.Elements.{filter-append}

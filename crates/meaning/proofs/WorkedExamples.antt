@@ -1,3 +1,5 @@
+-- Examples computed by the definitions alone, against values found by hand. The point has a ceiling of
+-- 63.0 A and two connectors of 32.0 A; limits are in tenths.
 use Rattle.std.specs.Prelude.{◌≡◌, ℕ, ◌+◌, nat_le, IsTrue, List, [], ◌∷◌, map, Option, Some, None}
 use Rattle.std.proofs.Common.{refl}
 use Rattle.std.specs.List.{range_with_len}
@@ -17,9 +19,6 @@ use Rattle.meaning.specs.declared.composite.CompositePeriod.{CompositePeriod}
 use Rattle.meaning.specs.View.{PointState}
 use Rattle.meaning.specs.Limit.{limit}
 use Rattle.meaning.specs.ByCases.Exact.{exact_periods}
-
--- Examples computed by the definitions alone, against values found by hand. The point has a ceiling of
--- 63.0 A and two connectors of 32.0 A; limits are in tenths.
 
 -- 2025-01-01T00:00:00Z
 abbrev midnight : ℕ

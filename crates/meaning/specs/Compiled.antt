@@ -1,4 +1,4 @@
--- What a compiler of exact schedules answers.
+-- What a compiler of exact schedules returns.
 use Rattle.std.specs.Prelude.{◌≡◌, ℕ, ◌<◌, ◌≤◌, List, length, Result, Ok, Err}
 use Rattle.ocpp_scalars.specs.declared.refusal.Refusal.{Refusal}
 use Rattle.ocpp_scalars.specs.declared.refusal.Refusal.TheVariants.{ResultTooLong, OutOfMemory}
@@ -22,7 +22,7 @@ IsPermitted limit duration ResultTooLong = IsTooLong limit duration
 IsPermitted limit duration OutOfMemory = Unit {0}
 IsPermitted limit duration other = ⊥
 
--- What a compiler answers: the exact schedule, or ResultTooLong where that has too many periods, or that
+-- What a compiler returns: the exact schedule, or ResultTooLong where that has too many periods, or that
 -- memory ran out.
 abbrev pub IsCompiled : (ℕ → ℕ) → ℕ → Result Schedule Refusal → Type 0
 IsCompiled limit duration (Ok schedule) = IsExactAnswer limit duration schedule

@@ -1,4 +1,4 @@
--- The limit of a connector at a second (OCPP 1.6, 3.13).
+-- The limit of a connector at an instant (OCPP 1.6, 3.13).
 use Rattle.std.specs.Prelude.{ℕ, ◌+◌, ◌==◌, Bool, true, false, min, List, length, filter, sum_by, Option, Some, None, is_some}
 use Rattle.std.specs.List.{range_with_len}
 use Rattle.profile.specs.declared.purpose.Purpose.TheVariants.{ChargePointMaxProfile, TxDefaultProfile, TxProfile}
@@ -13,18 +13,18 @@ abbrev pub at_most : ℕ → Option ℕ → ℕ
 at_most limit None = limit
 at_most limit (Some other) = min limit other
 
--- what the prevailing TxProfile gives, or else the prevailing TxDefaultProfile (OCPP 1.6, 3.13)
+-- the limit of the prevailing TxProfile, or else of the prevailing TxDefaultProfile (OCPP 1.6, 3.13)
 abbrev pub transaction_limit : PointState → ℕ → ℕ → ℕ → Option ℕ
-transaction_limit state connector asked second =
-    or_else (prevailing TxProfile state connector asked second) (prevailing TxDefaultProfile state connector asked second)
+transaction_limit state connector asked instant =
+    or_else (prevailing TxProfile state connector asked instant) (prevailing TxDefaultProfile state connector asked instant)
 
 -- the least of the connector's ceiling and its transaction limit
 abbrev pub own_limit : PointState → ℕ → ℕ → ℕ → ℕ
-own_limit state connector asked second = at_most (ceiling_of state connector) (transaction_limit state connector asked second)
+own_limit state connector asked instant = at_most (ceiling_of state connector) (transaction_limit state connector asked instant)
 
 -- the least of the point's ceiling and the prevailing ChargePointMaxProfile
 abbrev pub point_limit : PointState → ℕ → ℕ → ℕ
-point_limit state asked second = at_most state.ceiling (prevailing ChargePointMaxProfile state 0 asked second)
+point_limit state asked instant = at_most state.ceiling (prevailing ChargePointMaxProfile state 0 asked instant)
 
 -- the connectors with an active transaction
 abbrev pub active_connectors : PointState → List ℕ
@@ -32,17 +32,17 @@ active_connectors state = filter (λ connector. is_some (active_since state conn
 
 -- what the active connectors may draw together, a whole number without bound
 abbrev pub shared_limit : PointState → ℕ → ℕ → ℕ
-shared_limit state asked second = sum_by (λ connector. own_limit state connector asked second) (active_connectors state)
+shared_limit state asked instant = sum_by (λ connector. own_limit state connector asked instant) (active_connectors state)
 
 -- Connector 0 is the whole point, and its limit bounds what the active connectors draw together (this
 -- system's choice); any other connector has its own limit below the point's (OCPP 1.6, 3.13).
 abbrev pub limit_by : Bool → PointState → ℕ → ℕ → ℕ → ℕ
-limit_by true state connector asked second = min (point_limit state asked second) (shared_limit state asked second)
-limit_by false state connector asked second = min (point_limit state asked second) (own_limit state connector asked second)
+limit_by true state connector asked instant = min (point_limit state asked instant) (shared_limit state asked instant)
+limit_by false state connector asked instant = min (point_limit state asked instant) (own_limit state connector asked instant)
 
--- the limit of a connector at a second, in tenths, in a schedule asked from `asked` on
+-- the limit of a connector at an instant, in tenths, in a schedule asked from `asked` on
 abbrev pub limit : PointState → ℕ → ℕ → ℕ → ℕ
-limit state connector asked second = limit_by (connector == 0) state connector asked second
+limit state connector asked instant = limit_by (connector == 0) state connector asked instant
 
 -- the limits that an ask of a connector from a start on means: at each count of seconds after it
 abbrev pub limit_asked : PointState → ℕ → ℕ → ℕ → ℕ

@@ -8,7 +8,7 @@ use crate::view::View;
 use ocpp_scalars::Instant;
 use profile::Purpose;
 
-/// The limit of a connector at a second, in tenths, in a schedule asked from `asked` on (chapter
+/// The limit of a connector at an instant, in tenths, in a schedule asked from `asked` on (chapter
 /// 3.13). Connector 0 is the whole point.
 pub fn limit_at(view: &View<'_>, connector: u32, asked: Instant, instant: Instant) -> u32
     requires has_connector { connector ≤ length view.now.ceilings.now }
@@ -46,7 +46,7 @@ impl View<'_> {
         }
     }
 
-    /// What the prevailing TxProfile gives, or else the prevailing TxDefaultProfile.
+    /// The limit of the prevailing TxProfile, or else of the prevailing TxDefaultProfile.
     fn transaction_limit(&self, connector: usize, asked: Instant, instant: Instant) -> Option<u32>
         ensures { result ≡ transaction_limit (point_state self.now) connector asked instant }
     {

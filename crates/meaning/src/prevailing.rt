@@ -12,7 +12,7 @@ use ocpp_scalars::Instant;
 use profile::{Purpose, Row};
 
 impl View<'_> {
-    /// The limit of a connector at a second by the prevailing profile of a purpose (chapter 3.13), in
+    /// The limit of a connector at an instant by the prevailing profile of a purpose (chapter 3.13), in
     /// tenths, or `None` where no profile of that purpose has one.
     pub(crate) fn prevailing(
         &self,
@@ -62,7 +62,7 @@ impl View<'_> {
         })
     }
 
-    /// A row's stack level and its limit for a connector at a second, where it has one.
+    /// A row's stack level and its limit for a connector at an instant, where it has one.
     fn level_and_limit(
         &self,
         connector: usize,

@@ -26,7 +26,7 @@ pub fn one_schedule()
 {}
 
 /// The law that the periods and the schedule that are computed second by second are the exact ones:
-/// what a compiler answers is that schedule, or that it is too long, or that memory ran out.
+/// what a compiler returns is that schedule, or that it is too long, or that memory ran out.
 pub fn exact_schedules()
     ensures periods { (limit : ℕ → ℕ) (duration : ℕ) (periods : List CompositePeriod) → 0 < duration
         → IsExact limit duration periods ↔ (periods ≡ exact_periods limit duration) }

@@ -1,2 +1,3 @@
+pub mod FirstFaults
 pub mod PeriodsRead
 pub mod TextPieces

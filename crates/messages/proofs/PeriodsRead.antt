@@ -1,3 +1,4 @@
+-- Periods that are read one after the other.
 use Rattle.std.proofs.Common.{List, ◌++◌, Result, Ok, Err}
 use Rattle.profile.specs.declared.period.Period.{Period}
 use Rattle.messages.specs.declared.call_fault.CallFault.{CallFault}

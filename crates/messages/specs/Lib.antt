@@ -6,4 +6,5 @@ pub mod ProfileFields
 pub mod OperatorActions
 pub mod PointActions
 pub mod Action
+pub mod FieldFaults
 pub mod ResponseText

@@ -1,5 +1,5 @@
 -- The fields of an operator's actions, in the order in which they are checked (OCPP 1.6, chapter 6).
-use Rattle.std.specs.Prelude.{Result, Ok, Err}
+use Rattle.std.specs.Prelude.{Result, Ok}
 use Rattle.ocpp_scalars.specs.ResultSteps.{◌>>=◌}
 use Rattle.ocppj_frame.specs.Tree.{Tree}
 use Rattle.profile.specs.Names.{purpose_named, unit_named}

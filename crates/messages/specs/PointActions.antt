@@ -13,7 +13,8 @@ use Rattle.messages.specs.Fields.{required, whole, whole_from_zero, instant, tex
 
 -- An idTag is a text of at most so many characters (chapter 7, IdToken).
 abbrev pub as_id_tag : List ℕ → Result (List ℕ) CallFault
-as_id_tag tag = if nat_le (length (chars tag)) max_id_tag_characters then Ok tag else Err (PropertyConstraintViolation IdTag)
+as_id_tag tag =
+    if nat_le (length (chars tag)) max_id_tag_characters then Ok tag else Err (PropertyConstraintViolation IdTag)
 
 unfoldable pub id_tag_of : Tree → Result (List ℕ) CallFault
 id_tag_of payload = do
@@ -27,7 +28,8 @@ start_transaction_of payload = do
   tag ← id_tag_of payload
   meter_start ← required (whole payload MeterStart)
   timestamp ← required (instant payload Timestamp)
-  Ok (StartTransaction (record { connector = connector; id_tag = tag; meter_start = meter_start; timestamp = timestamp }))
+  Ok (StartTransaction (record
+      { connector = connector; id_tag = tag; meter_start = meter_start; timestamp = timestamp }))
 
 -- StopTransaction.req
 unfoldable pub stop_transaction_of : Tree → Result Action CallFault

@@ -11,11 +11,11 @@ use Rattle.messages.specs.declared.call_fault.CallFault.TheVariants.{OccurenceCo
 use Rattle.profile.specs.Names.{purpose_named, kind_named, recurrency_named, unit_named}
 use Rattle.messages.specs.Fields.{required, optional, whole, whole_from_zero, tenths, instant, one_name_of, list, object}
 
--- an entry of chargingSchedulePeriod has to be an object
+-- An entry of chargingSchedulePeriod has to be an object
 abbrev pub as_period : Tree → Result Tree CallFault
 as_period entry = if is_object entry then Ok entry else Err (TypeConstraintViolation ChargingSchedulePeriod)
 
--- the fields of a period, in the order in which they are checked (OCPP 1.6, chapter 7, ChargingSchedulePeriod)
+-- ChargingSchedulePeriod
 unfoldable pub period_of : Tree → Result Period CallFault
 period_of entry = do
   fields ← as_period entry
@@ -24,7 +24,7 @@ period_of entry = do
   number_phases ← optional (whole_from_zero fields NumberPhases)
   Ok (record { start = start; limit = limit; number_phases = number_phases })
 
--- the periods of a list, in order
+-- The periods of a list, in order.
 abbrev pub each_period_of : List Tree → Result (List Period) CallFault
 each_period_of [] = Ok []
 each_period_of (entry ∷ entries) = do
@@ -32,7 +32,7 @@ each_period_of (entry ∷ entries) = do
   periods ← each_period_of entries
   Ok (period ∷ periods)
 
--- a required list that is empty counts as absent
+-- A required list that is empty counts as absent.
 abbrev pub unless_empty : List Period → Result (List Period) CallFault
 unless_empty [] = Err (OccurenceConstraintViolation ChargingSchedulePeriod)
 unless_empty (period ∷ periods) = Ok (period ∷ periods)
@@ -42,7 +42,7 @@ periods_of entries = do
   periods ← each_period_of entries
   unless_empty periods
 
--- the fields of a schedule (OCPP 1.6, chapter 7, ChargingSchedule)
+-- ChargingSchedule
 unfoldable pub schedule_of : Tree → Result ScheduleParts CallFault
 schedule_of fields = do
   duration ← optional (whole_from_zero fields Duration)
@@ -51,9 +51,10 @@ schedule_of fields = do
   entries ← required (list fields ChargingSchedulePeriod)
   periods ← periods_of entries
   min_charging_rate ← optional (tenths fields MinChargingRate)
-  Ok (record { duration = duration; start = start; unit = unit; periods = periods; min_charging_rate = min_charging_rate })
+  Ok (record
+      { duration = duration; start = start; unit = unit; periods = periods; min_charging_rate = min_charging_rate })
 
--- the fields of a profile (OCPP 1.6, chapter 7, ChargingProfile)
+-- ChargingProfile
 unfoldable pub profile_of : Tree → Result ProfileParts CallFault
 profile_of fields = do
   id ← required (whole fields ChargingProfileId)
@@ -66,4 +67,14 @@ profile_of fields = do
   valid_to ← optional (instant fields ValidTo)
   schedule_fields ← required (object fields ChargingSchedule)
   schedule ← schedule_of schedule_fields
-  Ok (record { id = id; transaction = transaction; stack_level = stack_level; purpose = purpose; kind = kind; recurrency = recurrency; valid_from = valid_from; valid_to = valid_to; schedule = schedule })
+  Ok (record {
+    id = id;
+    transaction = transaction;
+    stack_level = stack_level;
+    purpose = purpose;
+    kind = kind;
+    recurrency = recurrency;
+    valid_from = valid_from;
+    valid_to = valid_to;
+    schedule = schedule;
+  })

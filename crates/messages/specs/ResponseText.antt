@@ -42,7 +42,8 @@ authorize_text = codes "{\"idTagInfo\":{\"status\":\"Accepted\"}}"
 
 -- StartTransaction.conf
 abbrev pub start_transaction_text : ℕ → List ℕ
-start_transaction_text transaction = codes "{\"idTagInfo\":{\"status\":\"Accepted\"},\"transactionId\":" ++ decimal transaction ++ codes "}"
+start_transaction_text transaction =
+    codes "{\"idTagInfo\":{\"status\":\"Accepted\"},\"transactionId\":" ++ decimal transaction ++ codes "}"
 
 -- DataTransfer.conf
 abbrev pub unknown_vendor_text : List ℕ
@@ -57,7 +58,8 @@ unit_text A = codes "A"
 unit_text W = codes "W"
 
 abbrev pub period_text : CompositePeriod → List ℕ
-period_text period = codes "{\"startPeriod\":" ++ decimal period.start ++ codes ",\"limit\":" ++ tenths_text period.limit ++ codes "}"
+period_text period =
+    codes "{\"startPeriod\":" ++ decimal period.start ++ codes ",\"limit\":" ++ tenths_text period.limit ++ codes "}"
 
 -- each behind a comma
 abbrev pub later_periods_text : List CompositePeriod → List ℕ

@@ -18,7 +18,7 @@ use profile::{Criteria, ProfileParts, Unit};
 use std::alloc::Global;
 
 /// What a message asks for, by its fields (chapters 4, 5 and 6).
-#[derive(Debug, Drop)]
+#[derive(Drop)]
 pub enum Action {
     SetChargingProfile {
         connector: u32,
@@ -42,7 +42,7 @@ pub enum Action {
 }
 
 /// The fields of a GetCompositeSchedule (chapter 6, GetCompositeSchedule.req).
-#[derive(Debug, Drop)]
+#[derive(Drop)]
 pub struct ScheduleRequest {
     pub connector: u32,
     /// Seconds.
@@ -52,7 +52,7 @@ pub struct ScheduleRequest {
 }
 
 /// The fields of a StartTransaction that this system uses (chapter 6, StartTransaction.req).
-#[derive(Debug, Drop)]
+#[derive(Drop)]
 pub struct StartTransaction {
     pub connector: u32,
     pub id_tag: IdTag,
@@ -62,12 +62,14 @@ pub struct StartTransaction {
     pub timestamp: Instant,
 }
 
-/// Reads what a message asks for, or names the first fault of its CALL: `NotImplemented` for an action
-/// that this system doesn't support, else as [`read_fields`]. Who sends the action
+/// Reads what a message asks for, or names the first fault of its CALL: `NotImplemented` for an
+/// action that this system doesn't support, else as [`read_fields`]. Who sends the action
 /// ([`ActionKind::side`]) is asked before.
 pub fn read_action(alloc: Global, frame: &Frame) -> Result<Action, CallFault>
-    ensures value { ReadsUnless is_memory (λ action. action) result (action_in (message_in frame.now)) }
-    ensures exact { NeedsNoMemory (kind_asked (message_in frame.now)) → result ≡ action_in (message_in frame.now) }
+    ensures value { ReadsUnless is_memory (λ action. action) result
+        (action_in (message_in frame.now)) }
+    ensures exact { NeedsNoMemory (kind_asked (message_in frame.now))
+        → result ≡ action_in (message_in frame.now) }
 {
     let Frame::Call {
         action,
@@ -83,13 +85,13 @@ pub fn read_action(alloc: Global, frame: &Frame) -> Result<Action, CallFault>
     }
 }
 
-/// Reads the fields of an action from the payload of its CALL, or names the first fault in the order of
-/// the action's fields. `Refused(OutOfMemory)` comes only from a SetChargingProfile or a
-/// StartTransaction.
-#[tactic(auto, unfolding(crate::specs::OperatorActions::clear_charging_profile_of, crate::specs::OperatorActions::get_composite_schedule_of, crate::specs::PointActions::start_transaction_of, crate::specs::PointActions::stop_transaction_of))]
+/// Reads the fields of an action from the payload of its CALL, or names the first fault in the order
+/// in which they are checked. Only a SetChargingProfile or a StartTransaction can be out of memory.
 pub fn read_fields(alloc: Global, kind: ActionKind, payload: Node<'_>) -> Result<Action, CallFault>
-    ensures value { ReadsUnless is_memory (λ action. action) result (action_of_kind kind (tree_at payload.entry)) }
-    ensures exact { NeedsNoMemory (Some kind) → result ≡ action_of_kind kind (tree_at payload.entry) }
+    ensures value { ReadsUnless is_memory (λ action. action) result
+        (action_of_kind kind (tree_at payload.entry)) }
+    ensures exact { NeedsNoMemory (Some kind)
+        → result ≡ action_of_kind kind (tree_at payload.entry) }
 {
     match kind {
         ActionKind::SetChargingProfile => read_set_charging_profile(alloc, payload),

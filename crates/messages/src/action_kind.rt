@@ -47,8 +47,8 @@ const ACTIONS: [(&str, ActionKind); 13] = [
 ];
 
 impl ActionKind {
-    /// The action of this name, exactly as written. Needs no memory: a CALL's name is looked up before
-    /// its fields are read.
+    /// The action of this name, exactly as written. Needs no memory: a CALL's name is looked up
+    /// before its fields are read.
     pub fn named(text: &str) -> Option<ActionKind>
         ensures { result ≡ action_named text.now }
     {

@@ -1,5 +1,5 @@
-//! The fields of an object, each read under its name and then taken as required or optional, so that
-//! the reading of an action stands as its table of fields does.
+//! The fields of an object, each read under its name and then as required or optional, so that the
+//! reading of an action stands as its table of fields does.
 ghost use Rattle.std.specs.Prelude.{◌≡◌, Ok, Err, MatchResult};
 ghost use Rattle.ocppj_frame.specs.Field.{field_map};
 ghost use Rattle.ocppj_frame.specs.Payload.{entries_in, tree_at};
@@ -15,7 +15,7 @@ use ocppj_frame::{
 use profile::Named;
 
 /// What stands at the name of a field.
-#[derive(Debug, Drop)]
+#[derive(Drop)]
 pub struct NamedField<T> {
     pub name: FieldName,
     pub field: Field<T>,

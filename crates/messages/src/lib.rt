@@ -1,5 +1,5 @@
-//! The actions of OCPP 1.6 that this system supports (chapters 4, 5 and 6): a CALL is read as the action
-//! that it asks for or as the fault to answer, and answers are written.
+//! The actions of OCPP 1.6 that this system supports (chapters 4, 5 and 6): a CALL is read as the
+//! action that it asks for or as the fault to answer, and answers are written.
 #![tactic(auto)]
 
 mod action;
@@ -7,6 +7,7 @@ mod action_kind;
 mod call_fault;
 mod field_name;
 mod fields;
+mod laws;
 mod operator_actions;
 mod point_actions;
 mod profile_fields;
@@ -20,6 +21,7 @@ pub use action::{Action, ScheduleRequest, StartTransaction, read_action, read_fi
 pub use action_kind::ActionKind;
 pub use call_fault::CallFault;
 pub use field_name::FieldName;
+pub use laws::first_faults;
 pub use response::{Response, ScheduleResponse};
 pub use response_text::{push_response, write_response};
 pub use side::{Side, side_of};

@@ -20,7 +20,8 @@ use std::alloc::Global;
 /// Chapter 6, SetChargingProfile.req.
 #[tactic(auto, unfolding(crate::specs::OperatorActions::set_charging_profile_of))]
 pub fn read_set_charging_profile(alloc: Global, payload: Node<'_>) -> Result<Action, CallFault>
-    ensures value { ReadsUnless is_memory (λ action. action) result (set_charging_profile_of (tree_at payload.entry)) }
+    ensures { ReadsUnless is_memory (λ action. action) result
+        (set_charging_profile_of (tree_at payload.entry)) }
 {
     let connector = whole_from_zero(payload, ConnectorId).required()?;
     let fields = required_object(payload, CsChargingProfiles)?;
@@ -31,7 +32,7 @@ pub fn read_set_charging_profile(alloc: Global, payload: Node<'_>) -> Result<Act
 /// Chapter 6, ClearChargingProfile.req.
 #[tactic(auto, unfolding(crate::specs::OperatorActions::clear_charging_profile_of))]
 pub fn read_clear_charging_profile(payload: Node<'_>) -> Result<Action, CallFault>
-    ensures value { result ≡ clear_charging_profile_of (tree_at payload.entry) }
+    ensures { result ≡ clear_charging_profile_of (tree_at payload.entry) }
 {
     let id = whole(payload, Id).optional()?;
     let connector = whole_from_zero(payload, ConnectorId).optional()?;
@@ -48,7 +49,7 @@ pub fn read_clear_charging_profile(payload: Node<'_>) -> Result<Action, CallFaul
 /// Chapter 6, GetCompositeSchedule.req.
 #[tactic(auto, unfolding(crate::specs::OperatorActions::get_composite_schedule_of))]
 pub fn read_get_composite_schedule(payload: Node<'_>) -> Result<Action, CallFault>
-    ensures value { result ≡ get_composite_schedule_of (tree_at payload.entry) }
+    ensures { result ≡ get_composite_schedule_of (tree_at payload.entry) }
 {
     let connector = whole_from_zero(payload, ConnectorId).required()?;
     let duration = whole_from_zero(payload, Duration).required()?;

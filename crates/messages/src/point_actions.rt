@@ -16,7 +16,8 @@ use std::alloc::Global;
 /// Chapter 6, StartTransaction.req.
 #[tactic(auto, unfolding(crate::specs::PointActions::start_transaction_of))]
 pub fn read_start_transaction(alloc: Global, payload: Node<'_>) -> Result<Action, CallFault>
-    ensures value { ReadsUnless is_memory (λ action. action) result (start_transaction_of (tree_at payload.entry)) }
+    ensures { ReadsUnless is_memory (λ action. action) result
+        (start_transaction_of (tree_at payload.entry)) }
 {
     let connector = whole_from_zero(payload, ConnectorId).required()?;
     let id_tag = read_id_tag(alloc, payload)?;
@@ -45,7 +46,7 @@ fn read_id_tag(alloc: Global, payload: Node<'_>) -> Result<IdTag, CallFault>
 /// Chapter 6, StopTransaction.req, of which the transaction alone is looked at.
 #[tactic(auto, unfolding(crate::specs::PointActions::stop_transaction_of))]
 pub fn read_stop_transaction(payload: Node<'_>) -> Result<Action, CallFault>
-    ensures value { result ≡ stop_transaction_of (tree_at payload.entry) }
+    ensures { result ≡ stop_transaction_of (tree_at payload.entry) }
 {
     let transaction = whole(payload, TransactionId).required()?;
     Ok(Action::StopTransaction(transaction))

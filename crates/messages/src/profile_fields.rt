@@ -21,7 +21,8 @@ use std::alloc::Global;
 /// Reads the fields of a profile (chapter 7, ChargingProfile), or names the first fault.
 #[tactic(auto, unfolding(crate::specs::ProfileFields::profile_of))]
 pub fn read_profile(alloc: Global, fields: Node<'_>) -> Result<ProfileParts, CallFault>
-    ensures value { ReadsUnless is_memory (λ parts. parts) result (profile_of (tree_at fields.entry)) }
+    ensures { ReadsUnless is_memory (λ parts. parts) result
+        (profile_of (tree_at fields.entry)) }
 {
     let id = whole(fields, ChargingProfileId).required()?;
     let transaction = whole(fields, TransactionId).optional()?;
@@ -49,7 +50,8 @@ pub fn read_profile(alloc: Global, fields: Node<'_>) -> Result<ProfileParts, Cal
 /// Reads the fields of a schedule (chapter 7, ChargingSchedule), or names the first fault.
 #[tactic(auto, unfolding(crate::specs::ProfileFields::schedule_of))]
 fn read_schedule(alloc: Global, fields: Node<'_>) -> Result<ScheduleParts, CallFault>
-    ensures value { ReadsUnless is_memory (λ parts. parts) result (schedule_of (tree_at fields.entry)) }
+    ensures { ReadsUnless is_memory (λ parts. parts) result
+        (schedule_of (tree_at fields.entry)) }
 {
     let duration = whole_from_zero(fields, Duration).optional()?;
     let start = instant(fields, StartSchedule).optional()?;
@@ -68,7 +70,8 @@ fn read_schedule(alloc: Global, fields: Node<'_>) -> Result<ScheduleParts, CallF
 
 /// Reads the periods of a list, in order, or names the first fault.
 fn read_periods(alloc: Global, entries: Entries<'_>) -> Result<PeriodList, CallFault>
-    ensures value { ReadsUnless is_memory (λ periods. periods) result (periods_of (entries_in entries.entry)) }
+    ensures { ReadsUnless is_memory (λ periods. periods) result
+        (periods_of (entries_in entries.entry)) }
 {
     let mut periods = Vec::new(alloc);
     for entry in entries.iter() {

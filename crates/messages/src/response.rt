@@ -5,7 +5,7 @@ use ocpp_scalars::{Instant, Refusal};
 use profile::Unit;
 
 /// What a CALL is answered (chapter 6, the .conf payloads, and OCPP-J 1.6, 4.2.3, CALLERROR).
-#[derive(Debug, Drop)]
+#[derive(Drop)]
 pub enum Response {
     /// A profile was installed, or a ClearChargingProfile removed some.
     Accepted,
@@ -24,8 +24,8 @@ pub enum Response {
     Authorize,
     /// StartTransaction.conf: accepted, with the transaction's number.
     StartTransaction { transaction: u64 },
-    /// The .conf of StopTransaction, StatusNotification, MeterValues, FirmwareStatusNotification and
-    /// DiagnosticsStatusNotification: an object without fields.
+    /// The .conf of StopTransaction, StatusNotification, MeterValues, FirmwareStatusNotification
+    /// and DiagnosticsStatusNotification: an object without fields.
     Empty,
     /// DataTransfer.conf: no vendor is known.
     UnknownVendorId,
@@ -35,7 +35,7 @@ pub enum Response {
 }
 
 /// The composite schedule of a connector from a start on (chapter 6, GetCompositeSchedule.conf).
-#[derive(Debug, Drop)]
+#[derive(Drop)]
 pub struct ScheduleResponse {
     /// The connector asked.
     pub connector: u32,

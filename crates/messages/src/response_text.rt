@@ -70,7 +70,8 @@ fn push_result(out: &mut String, id: &str, payload: &str) -> Result<(), AllocErr
     push_frame_end(out)
 }
 
-/// Appends the answer to a refused install or ask. Out of memory is an error, as it is for every action.
+/// Appends the answer to a refused install or ask. Out of memory is an error, as it is for every
+/// action.
 fn push_rejected(out: &mut String, id: &str, refusal: Refusal) -> Result<(), AllocError>
     ensures { OnOk result
         (string_bytes out.new ≡ string_bytes out.old ++ refusal_text id.now refusal) }

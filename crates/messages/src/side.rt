@@ -7,15 +7,15 @@ use crate::action_kind::ActionKind;
 /// Who talks to the central system.
 #[derive(Clone, Copy, Debug, PartialEq, Eq)]
 pub enum Side {
-    /// An operator of the site. The operator's texts have the form of OCPP-J, but are this system's own
-    /// use of it.
+    /// An operator of the site. The operator's texts have the form of OCPP-J, but are this system's
+    /// own use of it.
     Operator,
     /// A charge point.
     Point,
 }
 
-/// The side that the action of a name comes from, or `None` where this system doesn't support it. Needs
-/// no memory.
+/// The side that the action of a name comes from, or `None` where this system doesn't support it.
+/// Needs no memory.
 pub fn side_of(action: &str) -> Option<Side>
     ensures { result ≡ side_of action.now }
 {

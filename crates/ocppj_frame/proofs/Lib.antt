@@ -3,3 +3,4 @@ pub mod Markings
 pub mod AfterMark
 pub mod TreeParts
 pub mod Elements
+pub mod Messages

@@ -6,9 +6,7 @@ use Rattle.std.proofs.lemmas.Bool.Decides.{nat_tests}
 use Rattle.std.proofs.lemmas.Str.{IsUtf8-append, IsUtf8-encode, IsUtf8-from_ascii, IsUtf8-nil, encode_ascii, inside_one, length-encode, len_utf8_bounds}
 use Rattle.std.proofs.Math.Utf8.{encode, encodes, scalars}
 use Rattle.std.specs.Str.{IsUtf8, IsAscii}
-use Rattle.ocppj_frame.specs.ByCases.Mark.{place_after, marked_outside, marked_byte, marked_end, marked_from, marked_text}
-use Rattle.ocppj_frame.specs.declared.mark.Place.{Place}
-use Rattle.ocppj_frame.specs.declared.mark.Place.TheVariants.{Outside, Inside, Escaped, Number}
+use Rattle.ocppj_frame.specs.ByCases.Mark.{Place, outside, inside, escaped, in_number, place_after, marked_outside, marked_byte, marked_end, marked_from, marked_text}
 
 -- each byte is 128 or above
 abbrev IsHigh : List ℕ → Type 0
@@ -21,28 +19,28 @@ high_tail : (b : ℕ) (bs : List ℕ) → IsHigh (b ∷ bs) → IsHigh bs
 high_tail b bs h k l = h (suc k) (omega arith)
 
 -- such a byte is copied, wherever it stands
-outside_high : (b : ℕ) (bs : List ℕ) → 128 ≤ b → marked_from Outside (b ∷ bs) ≡ b ∷ marked_from Outside bs
+outside_high : (b : ℕ) (bs : List ℕ) → 128 ≤ b → marked_from outside (b ∷ bs) ≡ b ∷ marked_from outside bs
 outside_high b bs h = grind (arith, nat_tests)
 
-inside_high : (b : ℕ) (bs : List ℕ) → 128 ≤ b → marked_from Inside (b ∷ bs) ≡ b ∷ marked_from Inside bs
+inside_high : (b : ℕ) (bs : List ℕ) → 128 ≤ b → marked_from inside (b ∷ bs) ≡ b ∷ marked_from inside bs
 inside_high b bs h = grind (arith, nat_tests)
 
-number_high : (b : ℕ) (bs : List ℕ) → 128 ≤ b → marked_from Number (b ∷ bs) ≡ 34 ∷ b ∷ marked_from Outside bs
+number_high : (b : ℕ) (bs : List ℕ) → 128 ≤ b → marked_from in_number (b ∷ bs) ≡ 34 ∷ b ∷ marked_from outside bs
 number_high b bs h = grind (arith, nat_tests)
 
-outside_copied : (bs rest : List ℕ) → IsHigh bs → marked_from Outside (bs ++ rest) ≡ bs ++ marked_from Outside rest
+outside_copied : (bs rest : List ℕ) → IsHigh bs → marked_from outside (bs ++ rest) ≡ bs ++ marked_from outside rest
 outside_copied [] rest h = refl
 outside_copied (b ∷ bs) rest h = outside_high b (bs ++ rest) (high_head b bs h) ∙ ap (λ (t : List ℕ). b ∷ t) (outside_copied bs rest (high_tail b bs h))
 
-inside_copied : (bs rest : List ℕ) → IsHigh bs → marked_from Inside (bs ++ rest) ≡ bs ++ marked_from Inside rest
+inside_copied : (bs rest : List ℕ) → IsHigh bs → marked_from inside (bs ++ rest) ≡ bs ++ marked_from inside rest
 inside_copied [] rest h = refl
 inside_copied (b ∷ bs) rest h = inside_high b (bs ++ rest) (high_head b bs h) ∙ ap (λ (t : List ℕ). b ∷ t) (inside_copied bs rest (high_tail b bs h))
 
-escaped_copied : (bs rest : List ℕ) → 0 < length bs → IsHigh bs → marked_from Escaped (bs ++ rest) ≡ bs ++ marked_from Inside rest
+escaped_copied : (bs rest : List ℕ) → 0 < length bs → IsHigh bs → marked_from escaped (bs ++ rest) ≡ bs ++ marked_from inside rest
 escaped_copied [] rest l h = absurd (omega arith)
 escaped_copied (b ∷ bs) rest l h = ap (λ (t : List ℕ). b ∷ t) (inside_copied bs rest (high_tail b bs h))
 
-number_copied : (bs rest : List ℕ) → 0 < length bs → IsHigh bs → marked_from Number (bs ++ rest) ≡ 34 ∷ (bs ++ marked_from Outside rest)
+number_copied : (bs rest : List ℕ) → 0 < length bs → IsHigh bs → marked_from in_number (bs ++ rest) ≡ 34 ∷ (bs ++ marked_from outside rest)
 number_copied [] rest l h = absurd (omega arith)
 number_copied (b ∷ bs) rest l h = number_high b (bs ++ rest) (high_head b bs h) ∙ ap (λ (t : List ℕ). 34 ∷ b ∷ t) (outside_copied bs rest (high_tail b bs h))
 
@@ -74,23 +72,23 @@ outside_ascii b h = utf8_either _ _ _
     (utf8_either _ _ _ (utf8_two 34 (110 ∷ b ∷ []) (omega arith) (utf8_two 110 (b ∷ []) (omega arith) (utf8_one b h))) (utf8_one b h))
 
 marked_ascii : (place : Place) (b : ℕ) → b < 128 → IsUtf8 (marked_byte place b)
-marked_ascii Outside b h = outside_ascii b h
-marked_ascii Inside b h = utf8_one b h
-marked_ascii Escaped b h = utf8_one b h
-marked_ascii Number b h = utf8_either _ _ _ (utf8_one b h) (utf8_two 34 (marked_outside b) (omega arith) (outside_ascii b h))
+marked_ascii outside b h = outside_ascii b h
+marked_ascii inside b h = utf8_one b h
+marked_ascii escaped b h = utf8_one b h
+marked_ascii in_number b h = utf8_either _ _ _ (utf8_one b h) (utf8_two 34 (marked_outside b) (omega arith) (outside_ascii b h))
 
 end_utf8 : (place : Place) → IsUtf8 (marked_end place)
-end_utf8 Outside = IsUtf8-nil
-end_utf8 Inside = IsUtf8-nil
-end_utf8 Escaped = IsUtf8-nil
-end_utf8 Number = utf8_one 34 (omega arith)
+end_utf8 outside = IsUtf8-nil
+end_utf8 inside = IsUtf8-nil
+end_utf8 escaped = IsUtf8-nil
+end_utf8 in_number = utf8_one 34 (omega arith)
 
 -- past a character from 128 on
 utf8_past : (place : Place) (bs rest : List ℕ) → 0 < length bs → IsHigh bs → IsUtf8 bs → ((p : Place) → IsUtf8 (marked_from p rest)) → IsUtf8 (marked_from place (bs ++ rest))
-utf8_past Outside bs rest l h u more = subst IsUtf8 (sym (outside_copied bs rest h)) (IsUtf8-append bs _ u (more Outside))
-utf8_past Inside bs rest l h u more = subst IsUtf8 (sym (inside_copied bs rest h)) (IsUtf8-append bs _ u (more Inside))
-utf8_past Escaped bs rest l h u more = subst IsUtf8 (sym (escaped_copied bs rest l h)) (IsUtf8-append bs _ u (more Inside))
-utf8_past Number bs rest l h u more = subst IsUtf8 (sym (number_copied bs rest l h)) (utf8_two 34 _ (omega arith) (IsUtf8-append bs _ u (more Outside)))
+utf8_past outside bs rest l h u more = subst IsUtf8 (sym (outside_copied bs rest h)) (IsUtf8-append bs _ u (more outside))
+utf8_past inside bs rest l h u more = subst IsUtf8 (sym (inside_copied bs rest h)) (IsUtf8-append bs _ u (more inside))
+utf8_past escaped bs rest l h u more = subst IsUtf8 (sym (escaped_copied bs rest l h)) (IsUtf8-append bs _ u (more inside))
+utf8_past in_number bs rest l h u more = subst IsUtf8 (sym (number_copied bs rest l h)) (utf8_two 34 _ (omega arith) (IsUtf8-append bs _ u (more outside)))
 
 utf8_from : (place : Place) (cs : List ℕ) → scalars cs ≡ true → IsUtf8 (marked_from place (encodes cs))
 utf8_from place [] h = end_utf8 place
@@ -101,4 +99,4 @@ utf8_from place (c ∷ cs) h = ⊎_elim
     (cases_lt c 128)
 
 pub IsUtf8-marked_text : (bs : List ℕ) → IsUtf8 bs → IsUtf8 (marked_text bs)
-IsUtf8-marked_text bs u = subst (λ (t : List ℕ). IsUtf8 (marked_text t)) u.1.1 (utf8_from Outside u.0 u.1.0)
+IsUtf8-marked_text bs u = subst (λ (t : List ℕ). IsUtf8 (marked_text t)) u.1.1 (utf8_from outside u.0 u.1.0)

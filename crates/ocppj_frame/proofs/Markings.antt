@@ -3,9 +3,8 @@ use Rattle.std.proofs.Common.{◌≡◌, ℕ, ◌==◌, Bool, true, false, List,
 use Rattle.std.specs.Prelude.{◌≢◌, ◌↔◌}
 use Rattle.std.proofs.lemmas.Bool.{eqb-true, ne_eqb, eqb-false}
 use Rattle.std.proofs.lemmas.Bool.Decides.{nat_tests}
-use Rattle.ocppj_frame.specs.ByCases.Mark.{marked_from, marked_text}
+use Rattle.ocppj_frame.specs.ByCases.Mark.{outside, inside, in_number, marked_from, marked_text}
 use Rattle.ocppj_frame.specs.Mark.{begins_number, continues_number, IsContent, no_content, content_byte, content_pair, IsUnclosed, no_byte, last_backslash, unclosed_byte, unclosed_pair, AreNumberBytes, EndsNumber, IsMarked, no_text, string, unclosed_string, number, other_byte}
-use Rattle.ocppj_frame.specs.declared.mark.Place.TheVariants.{Outside, Inside, Number}
 
 by_test : {P : Type 0} → (t : Bool) → (t ≡ true → P) → (t ≡ false → P) → P
 by_test true held failed = held refl
@@ -13,20 +12,20 @@ by_test false held failed = failed refl
 
 -- what the rules have is what the definition gives
 
-content_marked : (content rest : List ℕ) → IsContent content → marked_from Inside (content ++ (34 ∷ rest)) ≡ content ++ (34 ∷ marked_from Outside rest)
+content_marked : (content rest : List ℕ) → IsContent content → marked_from inside (content ++ (34 ∷ rest)) ≡ content ++ (34 ∷ marked_from outside rest)
 content_marked _ rest no_content = refl
 content_marked _ rest (content_byte b bs quote slash h) =
     rw (ne_eqb b 92 slash, ne_eqb b 34 quote) (ap (λ (r : List ℕ). b ∷ r) (content_marked bs rest h))
 content_marked _ rest (content_pair b bs h) = ap (λ (r : List ℕ). 92 ∷ (b ∷ r)) (content_marked bs rest h)
 
-unclosed_marked : (content : List ℕ) → IsUnclosed content → marked_from Inside content ≡ content
+unclosed_marked : (content : List ℕ) → IsUnclosed content → marked_from inside content ≡ content
 unclosed_marked _ no_byte = refl
 unclosed_marked _ last_backslash = refl
 unclosed_marked _ (unclosed_byte b bs quote slash h) =
     rw (ne_eqb b 92 slash, ne_eqb b 34 quote) (ap (λ (r : List ℕ). b ∷ r) (unclosed_marked bs h))
 unclosed_marked _ (unclosed_pair b bs h) = ap (λ (r : List ℕ). 92 ∷ (b ∷ r)) (unclosed_marked bs h)
 
-number_marked : (bs rest : List ℕ) → AreNumberBytes bs → EndsNumber rest → marked_from Number (bs ++ rest) ≡ bs ++ (34 ∷ marked_from Outside rest)
+number_marked : (bs rest : List ℕ) → AreNumberBytes bs → EndsNumber rest → marked_from in_number (bs ++ rest) ≡ bs ++ (34 ∷ marked_from outside rest)
 number_marked [] [] are ends = refl
 number_marked [] (b ∷ rest) are ends = rw ends refl
 number_marked (b ∷ bs) rest are ends = rw are.0 (ap (λ (r : List ℕ). b ∷ r) (number_marked bs rest are.1 ends))
@@ -34,7 +33,7 @@ number_marked (b ∷ bs) rest are ends = rw are.0 (ap (λ (r : List ℕ). b ∷ 
 no_quote : (b : ℕ) → begins_number b ≡ true → (b == 34) ≡ false
 no_quote b h = grind (arith, nat_tests)
 
-only_marked : (text out : List ℕ) → IsMarked text out → marked_from Outside text ≡ out
+only_marked : (text out : List ℕ) → IsMarked text out → marked_from outside text ≡ out
 only_marked _ _ no_text = refl
 only_marked _ _ (string content rest out is h) =
     ap (λ (r : List ℕ). 34 ∷ (115 ∷ r)) (content_marked content rest is ∙ ap (λ (r : List ℕ). content ++ (34 ∷ r)) (only_marked rest out h))
@@ -47,7 +46,7 @@ only_marked _ _ (other_byte b rest out quote begins h) =
 -- what the definition gives the rules have
 
 abbrev IsDone : List ℕ → Type 0
-IsDone text = IsMarked text (marked_from Outside text)
+IsDone text = IsMarked text (marked_from outside text)
 
 -- what follows an opening quote
 data AfterQuote : List ℕ → Type 0 where
@@ -61,14 +60,14 @@ data AfterDigit : List ℕ → Type 0 where
 string_found : (bs : List ℕ) → AfterQuote bs → IsDone (34 ∷ bs)
 string_found _ (closed content rest is h) =
     subst (λ (r : List ℕ). IsMarked (34 ∷ (content ++ (34 ∷ rest))) (34 ∷ (115 ∷ r))) (sym (content_marked content rest is))
-    (string content rest (marked_from Outside rest) is h)
+    (string content rest (marked_from outside rest) is h)
 string_found _ (unclosed content is) =
     subst (λ (r : List ℕ). IsMarked (34 ∷ content) (34 ∷ (115 ∷ r))) (sym (unclosed_marked content is)) (unclosed_string content is)
 
-number_found : (b : ℕ) (bs : List ℕ) → begins_number b ≡ true → AfterDigit bs → IsMarked (b ∷ bs) (34 ∷ (110 ∷ (b ∷ marked_from Number bs)))
+number_found : (b : ℕ) (bs : List ℕ) → begins_number b ≡ true → AfterDigit bs → IsMarked (b ∷ bs) (34 ∷ (110 ∷ (b ∷ marked_from in_number bs)))
 number_found b _ begins (run bs rest are ends h) =
     subst (λ (r : List ℕ). IsMarked (b ∷ (bs ++ rest)) (34 ∷ (110 ∷ (b ∷ r)))) (sym (number_marked bs rest are ends))
-    (number b bs rest (marked_from Outside rest) begins are ends h)
+    (number b bs rest (marked_from outside rest) begins are ends h)
 
 text_found : (b : ℕ) (bs : List ℕ) → IsDone bs → AfterQuote bs → AfterDigit bs → IsDone (b ∷ bs)
 text_found b bs done quote digit =
@@ -76,7 +75,7 @@ text_found b bs done quote digit =
     (λ held. subst (λ (c : ℕ). IsDone (c ∷ bs)) (sym (eqb-true b 34 held)) (string_found bs quote))
     (λ other. by_test (begins_number b)
     (λ begins. rw (other, begins) (number_found b bs begins digit))
-    (λ fails. rw (other, fails) (other_byte b bs (marked_from Outside bs) (eqb-false b 34 other) fails done)))
+    (λ fails. rw (other, fails) (other_byte b bs (marked_from outside bs) (eqb-false b 34 other) fails done)))
 
 byte_after_quote : (b : ℕ) (bs : List ℕ) → b ≢ 34 → b ≢ 92 → AfterQuote bs → AfterQuote (b ∷ bs)
 byte_after_quote b _ quote slash (closed content rest is h) = closed (b ∷ content) rest (content_byte b content quote slash is) h

@@ -1,10 +1,20 @@
-//! Laws of all texts, on functions that do nothing.
-ghost use Rattle.std.specs.Prelude.{◌≡◌, ℕ, ◌↔◌, List};
+//! Laws of all texts and trees, on functions that do nothing.
+ghost use Rattle.std.specs.Prelude.{◌≡◌, ℕ, ◌↔◌, List, Result};
 ghost use Rattle.ocppj_frame.specs.Mark.{IsMarked};
+ghost use Rattle.ocppj_frame.specs.Message.{IsMessage, Message};
+ghost use Rattle.ocppj_frame.specs.Tree.{Tree};
 ghost use Rattle.ocppj_frame.specs.ByCases.Mark.{marked_text};
+ghost use Rattle.ocppj_frame.specs.ByCases.Message.{message_of_tree};
+ghost use Rattle.ocppj_frame.specs.declared.fault.FrameFault.{FrameFault};
 
-/// A law of all texts: the marked text is the one that the rules of marking have, and no other. It does
-/// nothing.
+/// A law of all texts: the marked text is the one that the rules of marking have, and no other.
 pub fn marked_texts()
     ensures { (text : List ℕ) (out : List ℕ) → (marked_text text ≡ out) ↔ IsMarked text out }
+{}
+
+/// A law of all trees: the message, or the fault, is that of the row of OCPP-J's table that the tree
+/// has, and no other.
+pub fn frame_messages()
+    ensures { (tree : Tree) (result : Result Message FrameFault)
+        → (message_of_tree tree ≡ result) ↔ IsMessage tree result }
 {}

@@ -22,7 +22,7 @@ pub use field::{
     Field, instant_field, list_field, object_field, tenths_field, text_field, whole_field,
 };
 pub use frame::{Frame, MAX_FRAME_BYTES, read_frame};
-pub use laws::marked_texts;
+pub use laws::{frame_messages, marked_texts};
 pub use message_id::{MAX_ID_CHARACTERS, MessageId};
 pub use payload::{Entries, EntriesIter, Node, Payload, read_tree};
 pub use write::{

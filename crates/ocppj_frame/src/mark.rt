@@ -1,65 +1,104 @@
-//! Marked texts. `serde_json` reads a number into 64 bits, which loses digits: so the text that it reads has no numbers,
-//! but strings in their place, and each string has a mark that says which it was.
-ghost use Rattle.std.specs.Prelude.{◌≡◌, ◌++◌, ◌<◌, IfOk, OnOk, option_map, string_bytes};
+//! Marked texts. `serde_json` reads a number into 64 bits, which loses digits: so the text that it reads has no
+//! numbers, but strings in their place, and each string has a mark that says which of the two it was.
+ghost use Rattle.std.specs.Prelude.{◌≡◌, ◌<◌, ◌≤◌, ◌+◌, ◌*◌, ◌∷◌, ◌++◌, IfOk, length, option_map, string_bytes, vec_capacity, vec_len};
 ghost use Rattle.ocppj_frame.specs.Mark.{after_mark, begins_number, continues_number, text_mark};
-ghost use Rattle.ocppj_frame.specs.ByCases.Mark.{marked_byte, marked_end, marked_outside, marked_text, place_after, place_outside};
+ghost use Rattle.ocppj_frame.specs.ByCases.Mark.{in_number, inside, marked_from, marked_text, outside};
 
 use std::alloc::{AllocError, Global};
-
-/// Where in a JSON text (RFC 8259) a byte stands.
-#[derive(Clone, Copy)]
-pub enum Place {
-    /// Outside strings and numbers.
-    Outside,
-    /// Inside a string.
-    Inside,
-    /// Inside a string, after a backslash.
-    Escaped,
-    /// Inside a number.
-    Number,
-}
 
 /// The text with each string and each number marked, as a JSON text without numbers.
 pub(crate) fn mark_text(alloc: Global, text: &str) -> Result<String, AllocError>
     ensures { IfOk result (λ out. string_bytes out ≡ marked_text text.now) }
 {
-    let bytes = mark_bytes(alloc, text)?;
+    let bytes = mark_bytes(alloc, text.as_bytes())?;
     // Proved to be UTF-8, so that nobody has to look.
     Ok(unsafe { String::from_utf8_unchecked(bytes) })
 }
 
-fn mark_bytes(alloc: Global, text: &str) -> Result<Vec<u8>, AllocError>
+fn mark_bytes(alloc: Global, text: &[u8]) -> Result<Vec<u8>, AllocError>
     ensures { IfOk result (λ out. out.items ≡ marked_text text.now) }
 {
-    let mut out = Vec::with_capacity(alloc, text.len())?;
-    let mut place = Place::Outside;
-    for byte in text.as_bytes() {
-        push_marked(&mut out, place, *byte)?;
-        place = next_place(place, *byte);
+    // A byte makes at most four. With the whole room from the start no push has to ask for more.
+    let room = text.len().checked_mul(4).ok_or(AllocError)?;
+    let mut out = Vec::with_capacity(alloc, room)?;
+    let mut left = text;
+    while let Some((byte, others)) = left.split_first() {
+        left = push_outside(&mut out, *byte, others);
     }
-    push_end(&mut out, place)?;
     Ok(out)
 }
 
-/// What follows the mark.
-pub(crate) fn after_mark(text: &str, mark: char) -> Option<&str>
-    requires { mark < 128 }
-    ensures { option_map (λ t. t.now) result ≡ after_mark mark text.now }
+/// Appends a byte that stands outside strings and numbers, with the string or the number that it begins. Returns
+/// what is left of the others.
+fn push_outside<'a>(out: &mut Vec<u8>, byte: u8, others: &'a [u8]) -> &'a [u8]
+    requires { vec_len out.old + 4 * (length others.now + 1) ≤ vec_capacity out.old }
+    ensures marked { out.new.items ++ marked_from outside result.now
+        ≡ out.old.items ++ marked_from outside (byte ∷ others.now) }
+    ensures room { vec_len out.new + 4 * length result.now
+        ≤ vec_len out.old + 4 * (length others.now + 1) }
+    ensures capacity { vec_capacity out.new ≡ vec_capacity out.old }
+    ensures shorter { length result.now ≤ length others.now }
 {
-    text.strip_prefix(mark)
+    if byte == b'"' {
+        out.push_reserved(b'"');
+        out.push_reserved(b's');
+        push_string(out, others)
+    } else if begins_number(byte) {
+        out.push_reserved(b'"');
+        out.push_reserved(b'n');
+        out.push_reserved(byte);
+        push_number(out, others)
+    } else {
+        out.push_reserved(byte);
+        others
+    }
 }
 
-/// What follows the mark `s`, in the same memory.
-pub(crate) fn without_mark(mut marked: String) -> Option<String>
-    ensures { option_map string_bytes result ≡ after_mark text_mark (string_bytes marked) }
+/// Appends what follows the opening quote of a string, up to its closing quote. Returns what is left.
+fn push_string<'a>(out: &mut Vec<u8>, text: &'a [u8]) -> &'a [u8]
+    requires { vec_len out.old + length text.now ≤ vec_capacity out.old }
+    ensures marked { out.new.items ++ marked_from outside result.now
+        ≡ out.old.items ++ marked_from inside text.now }
+    ensures room { vec_len out.new + length result.now ≡ vec_len out.old + length text.now }
+    ensures capacity { vec_capacity out.new ≡ vec_capacity out.old }
+    ensures shorter { length result.now ≤ length text.now }
 {
-    match marked.as_bytes() {
-        [b's', ..] => {
-            marked.remove(0);
-            Some(marked)
+    let mut left = text;
+    while let Some((byte, others)) = left.split_first() {
+        out.push_reserved(*byte);
+        left = others;
+        if *byte == b'"' {
+            return left;
         }
-        _ => None,
+        if *byte == b'\\'
+            && let Some((escaped, others)) = left.split_first()
+        {
+            out.push_reserved(*escaped);
+            left = others;
+        }
     }
+    left
+}
+
+/// Appends what follows the first byte of a number, up to its end, and closes its quote. Returns what is left.
+fn push_number<'a>(out: &mut Vec<u8>, text: &'a [u8]) -> &'a [u8]
+    requires { vec_len out.old + length text.now + 1 ≤ vec_capacity out.old }
+    ensures marked { out.new.items ++ marked_from outside result.now
+        ≡ out.old.items ++ marked_from in_number text.now }
+    ensures room { vec_len out.new + length result.now ≡ vec_len out.old + length text.now + 1 }
+    ensures capacity { vec_capacity out.new ≡ vec_capacity out.old }
+    ensures shorter { length result.now ≤ length text.now }
+{
+    let mut left = text;
+    while let Some((byte, others)) = left.split_first() {
+        if !continues_number(*byte) {
+            break;
+        }
+        out.push_reserved(*byte);
+        left = others;
+    }
+    out.push_reserved(b'"');
+    left
 }
 
 fn begins_number(byte: u8) -> bool
@@ -74,64 +113,29 @@ fn continues_number(byte: u8) -> bool
     matches!(byte, b'0'..=b'9' | b'-' | b'+' | b'.' | b'e' | b'E')
 }
 
-fn place_outside(byte: u8) -> Place
-    ensures { result ≡ place_outside byte }
+/// What follows the mark.
+pub(crate) fn after_mark(text: &str, mark: u8) -> Option<&str>
+    requires { mark < 128 }
+    ensures { option_map (λ t. t.now) result ≡ after_mark mark text.now }
 {
-    if byte == b'"' {
-        Place::Inside
-    } else if begins_number(byte) {
-        Place::Number
+    let (first, others) = text.as_bytes().split_first()?;
+    if *first == mark {
+        // What follows a byte of ASCII in UTF-8 is UTF-8.
+        Some(unsafe { std::str::from_utf8_unchecked(others) })
     } else {
-        Place::Outside
+        None
     }
 }
 
-fn next_place(place: Place, byte: u8) -> Place
-    ensures { result ≡ place_after place byte }
+/// What follows the mark `s`, in the same memory.
+pub(crate) fn without_mark(mut marked: String) -> Option<String>
+    ensures { option_map string_bytes result ≡ after_mark text_mark (string_bytes marked) }
 {
-    match place {
-        Place::Outside => place_outside(byte),
-        Place::Inside if byte == b'\\' => Place::Escaped,
-        Place::Inside if byte == b'"' => Place::Outside,
-        Place::Inside | Place::Escaped => Place::Inside,
-        Place::Number if continues_number(byte) => Place::Number,
-        Place::Number => place_outside(byte),
-    }
-}
-
-fn push_marked_outside(out: &mut Vec<u8>, byte: u8) -> Result<(), AllocError>
-    ensures { OnOk result (out.new.items ≡ out.old.items ++ marked_outside byte) }
-{
-    if byte == b'"' {
-        out.extend_from_slice(b"\"s")?;
-    } else if begins_number(byte) {
-        out.extend_from_slice(&[b'"', b'n', byte])?;
-    } else {
-        out.push(byte)?;
-    }
-    Ok(())
-}
-
-fn push_marked(out: &mut Vec<u8>, place: Place, byte: u8) -> Result<(), AllocError>
-    ensures { OnOk result (out.new.items ≡ out.old.items ++ marked_byte place byte) }
-{
-    match place {
-        Place::Outside => push_marked_outside(out, byte)?,
-        Place::Inside | Place::Escaped => out.push(byte)?,
-        Place::Number if continues_number(byte) => out.push(byte)?,
-        Place::Number => {
-            out.push(b'"')?;
-            push_marked_outside(out, byte)?;
+    match marked.as_bytes() {
+        [b's', ..] => {
+            marked.remove(0);
+            Some(marked)
         }
+        _ => None,
     }
-    Ok(())
-}
-
-fn push_end(out: &mut Vec<u8>, place: Place) -> Result<(), AllocError>
-    ensures { OnOk result (out.new.items ≡ out.old.items ++ marked_end place) }
-{
-    if let Place::Number = place {
-        out.push(b'"')?;
-    }
-    Ok(())
 }

@@ -48,9 +48,9 @@ fn are_fields(members: &Map<String, Value>) -> bool
 fn is_marked(text: &str) -> bool
     ensures { result ≡ is_some (tree_of_string text.now) }
 {
-    match after_mark(text, 's') {
+    match after_mark(text, b's') {
         Some(_) => true,
-        None => match after_mark(text, 'n') {
+        None => match after_mark(text, b'n') {
             Some(number) => is_number_text(number),
             None => false,
         },
@@ -60,5 +60,5 @@ fn is_marked(text: &str) -> bool
 fn is_key(key: &str) -> bool
     ensures { result ≡ is_some (name_of_key key.now) }
 {
-    after_mark(key, 's').is_some()
+    after_mark(key, b's').is_some()
 }

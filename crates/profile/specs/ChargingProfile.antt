@@ -1,4 +1,4 @@
--- The limit of a profile at a second.
+-- The limit of a profile at an instant.
 use Rattle.std.specs.Prelude.{ℕ, ◌-◌, nat_le, nat_lt, Bool, true, ◌&&◌, Option, Some, None, unwrap_or, option_and_then, if◌then◌else◌}
 use Rattle.profile.specs.declared.charging_profile.Profile.{Profile}
 use Rattle.profile.specs.Kind.{start_of, offset_after}
@@ -9,12 +9,12 @@ use Rattle.profile.specs.Periods.{limit_in}
 abbrev pub anchor : Profile → ℕ → ℕ
 anchor profile base = unwrap_or (start_of profile.kind profile.schedule.start) base
 
--- how far into its schedule the profile is at a second, none before its anchor
+-- how far into its schedule the profile is at an instant, none before its anchor
 abbrev pub offset : Profile → ℕ → ℕ → Option ℕ
-offset profile base second =
-    if nat_lt second (anchor profile base)
+offset profile base instant =
+    if nat_lt instant (anchor profile base)
     then None
-    else Some (offset_after profile.kind (second - anchor profile base))
+    else Some (offset_after profile.kind (instant - anchor profile base))
 
 abbrev pub is_before : ℕ → Option ℕ → Bool
 is_before n None = true
@@ -24,18 +24,18 @@ abbrev pub is_from : Option ℕ → ℕ → Bool
 is_from None n = true
 is_from (Some bound) n = nat_le bound n
 
--- validFrom is the first second and validTo the one after the last, each where given (OCPP 1.6,
+-- validFrom is the first instant and validTo the one after the last, each where given (OCPP 1.6,
 -- chapter 7, ChargingProfile)
 abbrev pub is_valid_at : Profile → ℕ → Bool
-is_valid_at profile second = is_from profile.valid_from second && is_before second profile.valid_to
+is_valid_at profile instant = is_from profile.valid_from instant && is_before instant profile.valid_to
 
--- what the schedule gives at an offset, which has to lie within its duration (OCPP 1.6, chapter 7,
+-- the limit at an offset, which has to lie within the schedule's duration (OCPP 1.6, chapter 7,
 -- ChargingSchedule)
 abbrev pub rate_within : Profile → ℕ → Option ℕ
 rate_within profile offset =
     if is_before offset profile.schedule.duration then limit_in profile.schedule.periods offset else None
 
--- the profile's limit at a second, in tenths, counted from a base; none where it has none
+-- the profile's limit at an instant, in tenths, counted from a base; none where it has none
 abbrev pub rate : Profile → ℕ → ℕ → Option ℕ
-rate profile base second =
-    if is_valid_at profile second then option_and_then (rate_within profile) (offset profile base second) else None
+rate profile base instant =
+    if is_valid_at profile instant then option_and_then (rate_within profile) (offset profile base instant) else None

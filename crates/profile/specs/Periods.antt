@@ -1,4 +1,4 @@
--- What the periods of a schedule are, and the limit that they give (OCPP 1.6, chapter 7,
+-- What the periods of a schedule are, and their limit at an offset (OCPP 1.6, chapter 7,
 -- ChargingSchedule and ChargingSchedulePeriod).
 use Rattle.std.specs.Prelude.{ℕ, ◌<◌, ◌≤◌, nat_le, nat_lt, Bool, true, ◌&&◌, IsTrue, List, [], ◌∷◌, length, filter, Option, option_map}
 use Rattle.profile.specs.declared.period.Period.{Period}

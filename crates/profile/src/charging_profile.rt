@@ -1,4 +1,4 @@
-//! A well-formed charging profile, and its limit at a second.
+//! A well-formed charging profile, and its limit at an instant.
 
 ghost use Rattle.std.specs.Prelude.{◌≡◌, ◌↔◌, ℕ, nat_le, IsTrue, IfErr, IfOk, MatchResult, Ok, Err};
 ghost use Rattle.profile.specs.Limits.{max_stack_level};
@@ -28,9 +28,9 @@ pub struct Profile {
     pub purpose: Purpose,
     /// chargingProfileKind, with its recurrencyKind.
     pub kind: Kind,
-    /// The first second at which it is valid.
+    /// The first instant at which it is valid.
     pub valid_from: Option<Instant>,
-    /// The first second at which it is valid no more.
+    /// The first instant at which it is valid no more.
     pub valid_to: Option<Instant>,
     /// chargingSchedule.
     pub schedule: Schedule,
@@ -128,7 +128,7 @@ impl Profile {
             && self.valid_to == other.valid_to
     }
 
-    /// From which second on the profile counts, given the base that stands in for a startSchedule.
+    /// From which instant on the profile counts, given the base that stands in for a startSchedule.
     pub fn anchor(&self, base: Instant) -> Instant
         ensures { result ≡ anchor self.now base }
     {
@@ -146,7 +146,7 @@ impl Profile {
         Some(self.kind.offset_after(instant.seconds() - anchor.seconds()))
     }
 
-    /// The limit at a second, in tenths, counted from a base, or `None` where the profile has none:
+    /// The limit at an instant, in tenths, counted from a base, or `None` where the profile has none:
     /// outside its validity, before its anchor, past its duration, or before its first period.
     pub fn rate(&self, base: Instant, instant: Instant) -> Option<u32>
         ensures { result ≡ rate self.now base instant }
@@ -158,7 +158,7 @@ impl Profile {
         self.rate_within(offset)
     }
 
-    /// Whether a second lies within validFrom and validTo, each where given.
+    /// Whether an instant lies within validFrom and validTo, each where given.
     pub fn is_valid_at(&self, instant: Instant) -> bool
         ensures { result ≡ is_valid_at self.now instant }
     {

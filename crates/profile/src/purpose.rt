@@ -8,7 +8,7 @@ ghost use Rattle.profile.specs.Purpose.{transaction_of};
 pub enum Purpose {
     /// Stands at connector 0 and bounds the whole charge point.
     ChargePointMaxProfile,
-    /// Bounds a connector wherever no TxProfile gives a limit.
+    /// Bounds a connector wherever no TxProfile has a limit.
     TxDefaultProfile,
     /// Bounds a connector during its transaction.
     TxProfile,

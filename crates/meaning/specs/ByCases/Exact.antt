@@ -1,5 +1,5 @@
 -- The exact schedule of a limit, computed. The law `exact_schedules` ties it to IsExact of Exact.antt and to
--- what a compiler answers by Compiled.antt.
+-- what a compiler returns by Compiled.antt.
 use Rattle.std.specs.Prelude.{ℕ, ◌==◌, zero, suc, nat_lt, Bool, true, not, List, length, map, filter, Result, Ok, Err, if◌then◌else◌}
 use Rattle.std.specs.List.{range_with_len}
 use Rattle.ocpp_scalars.specs.declared.refusal.Refusal.{Refusal}

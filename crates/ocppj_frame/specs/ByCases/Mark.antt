@@ -2,20 +2,25 @@
 use Rattle.std.specs.Prelude.{ℕ, List, [], ◌∷◌, ◌++◌, ◌==◌, if◌then◌else◌}
 use Rattle.json.specs.Ascii.{quote, backslash}
 use Rattle.ocppj_frame.specs.Mark.{text_mark, number_mark, begins_number, continues_number}
-use Rattle.ocppj_frame.specs.declared.mark.Place.{Place}
-use Rattle.ocppj_frame.specs.declared.mark.Place.TheVariants.{Outside, Inside, Escaped, Number}
+
+-- where a byte stands: outside strings and numbers, inside a string, inside a string after a backslash, or in a number
+pub data Place : Type 0 where
+  outside : Place
+  inside : Place
+  escaped : Place
+  in_number : Place
 
 -- outside strings a quote begins a string, and a digit or `-` begins a number
 abbrev pub place_outside : ℕ → Place
-place_outside b = if b == quote then Inside else if begins_number b then Number else Outside
+place_outside b = if b == quote then inside else if begins_number b then in_number else outside
 
 -- where the text goes on after a byte: a backslash takes the next byte along, a quote that it did not take ends the
 -- string, and a number is the longest stretch of its bytes
 abbrev pub place_after : Place → ℕ → Place
-place_after Outside b = place_outside b
-place_after Inside b = if b == backslash then Escaped else if b == quote then Outside else Inside
-place_after Escaped b = Inside
-place_after Number b = if continues_number b then Number else place_outside b
+place_after outside b = place_outside b
+place_after inside b = if b == backslash then escaped else if b == quote then outside else inside
+place_after escaped b = inside
+place_after in_number b = if continues_number b then in_number else place_outside b
 
 -- outside strings an opening quote gets its mark, and a number its quote and its mark
 abbrev pub marked_outside : ℕ → List ℕ
@@ -23,21 +28,21 @@ marked_outside b = if b == quote then quote ∷ text_mark ∷ [] else if begins_
 
 -- what is written for a byte; the first byte after a number closes the number's quote
 abbrev pub marked_byte : Place → ℕ → List ℕ
-marked_byte Outside b = marked_outside b
-marked_byte Inside b = b ∷ []
-marked_byte Escaped b = b ∷ []
-marked_byte Number b = if continues_number b then b ∷ [] else quote ∷ marked_outside b
+marked_byte outside b = marked_outside b
+marked_byte inside b = b ∷ []
+marked_byte escaped b = b ∷ []
+marked_byte in_number b = if continues_number b then b ∷ [] else quote ∷ marked_outside b
 
 -- what is written at the end of the text
 abbrev pub marked_end : Place → List ℕ
-marked_end Outside = []
-marked_end Inside = []
-marked_end Escaped = []
-marked_end Number = quote ∷ []
+marked_end outside = []
+marked_end inside = []
+marked_end escaped = []
+marked_end in_number = quote ∷ []
 
 abbrev pub marked_from : Place → List ℕ → List ℕ
 marked_from place [] = marked_end place
 marked_from place (b ∷ bs) = marked_byte place b ++ marked_from (place_after place b) bs
 
 abbrev pub marked_text : List ℕ → List ℕ
-marked_text text = marked_from Outside text
+marked_text text = marked_from outside text

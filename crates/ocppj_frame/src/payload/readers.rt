@@ -38,7 +38,7 @@ impl<'a> Node<'a> {
         ensures { option_map (λ t. t.now) result ≡ as_text (tree_at self.entry) }
     {
         if let Value::String(marked) = self.value {
-            after_mark(marked.as_str(), 's')
+            after_mark(marked.as_str(), b's')
         } else {
             None
         }
@@ -49,7 +49,7 @@ impl<'a> Node<'a> {
         ensures { option_map (λ t. t.now) result ≡ as_number (tree_at self.entry) }
     {
         if let Value::String(marked) = self.value {
-            after_mark(marked.as_str(), 'n')
+            after_mark(marked.as_str(), b'n')
         } else {
             None
         }
@@ -96,7 +96,7 @@ fn find_member<'a>(members: &'a Map<String, Value>, name: &str) -> Option<&'a Va
 fn is_key_of(name: &str, key: &str) -> bool
     ensures { result ≡ is_key_of name.now key.now }
 {
-    match after_mark(key, 's') {
+    match after_mark(key, b's') {
         Some(other) => other == name,
         None => false,
     }

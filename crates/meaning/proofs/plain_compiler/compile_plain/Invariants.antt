@@ -1,3 +1,4 @@
+-- The periods so far are the exact ones of the seconds so far.
 use Rattle.std.proofs.Common.{◌≡◌, ◌≤◌, length}
 use Rattle.meaning.specs.Limits.{max_composite_periods}
 use Rattle.meaning.specs.View.{point_state}
@@ -6,7 +7,6 @@ use Rattle.meaning.specs.ByCases.Exact.{exact_periods}
 use Rattle.meaning.proofs.PlainCompiler.{limit_before}
 use Rattle.meaning.proofs.plain_compiler.compile_plain.Given as goal
 
--- the exact periods of the seconds so far
 abbrev pub invariant-loop-second : goal.invariant-loop-second
 invariant-loop-second l = record {
   so_far : l.periods.items ≡ exact_periods (limit_asked (point_state l.view) l.ask.connector l.ask.start) l.second;

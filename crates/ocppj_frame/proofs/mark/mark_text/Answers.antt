@@ -5,4 +5,5 @@ use Rattle.ocppj_frame.proofs.MarkedText.{IsUtf8-marked_text}
 use Rattle.ocppj_frame.proofs.mark.mark_text.Goals as goal
 
 pub from_utf8_unchecked-requires : goal.from_utf8_unchecked-requires
-from_utf8_unchecked-requires c = subst IsUtf8 (sym c.in_ok-bytes.ensures) (IsUtf8-marked_text _ c.utf8.text)
+from_utf8_unchecked-requires c =
+    subst IsUtf8 (sym c.in_ok-bytes.ensures) (IsUtf8-marked_text _ (subst IsUtf8 (sym c.as_bytes.ensures.value) c.utf8.text))

@@ -1,8 +1,8 @@
+-- The rest is in order after the periods so far exactly where all of them are in order.
 use Rattle.std.proofs.Common.{◌≡◌, drop}
 use Rattle.profile.specs.Periods.{are_in_order}
 use Rattle.profile.specs.ByCases.Periods.{are_in_order_after}
 use Rattle.profile.proofs.periods.are_in_order.Given as goal
 
--- the rest is in order after the periods so far exactly where all of them are
 abbrev pub invariant-loop-period : goal.invariant-loop-period
 invariant-loop-period l = are_in_order_after l.previous (drop l.period-index l.periods) ≡ are_in_order l.periods

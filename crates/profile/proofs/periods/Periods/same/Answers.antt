@@ -1,5 +1,5 @@
 -- That `==` on periods decides whether they are equal, and so on lists of them.
-use Rattle.std.proofs.Common.{◌≡◌, ◌==◌, ◌&&◌, sym, ◌∙◌, rules}
+use Rattle.std.proofs.Common.{◌≡◌, ◌==◌, ◌&&◌, rules}
 use Rattle.std.specs.Bool.{Decides}
 use Rattle.std.specs.Option.{option_eq}
 use Rattle.std.proofs.lemmas.Slice.Eq.{slice_eq-Decides}
@@ -11,7 +11,5 @@ decided a b = search rules
 
 pub returns : goal.returns
 returns c =
-    let d = slice_eq-Decides decided c.as_slice.result.now c.as_slice-2.result.now c.eq.result c.eq.ensures in
-    let first = c.as_slice.ensures.value in
-    let second = c.as_slice-2.ensures.value in
-    (λ t. sym first ∙ d.0 t ∙ second, λ e. d.1 (first ∙ e ∙ sym second))
+    let decides = slice_eq-Decides decided c.as_slice.result.now c.as_slice-2.result.now c.eq.result c.eq.ensures in
+    search (rules, decides, c.as_slice.ensures.value, c.as_slice-2.ensures.value)

@@ -1,0 +1,225 @@
+-- The first fault of the fields that are listed is the one that a reading stops at.
+use Rattle.std.proofs.Common.{◌≡◌, Bool, true, false, List, [], ◌∷◌, ◌++◌, Option, Some, None, Result, Ok, Err, refl, sym, ap, subst, ◌∙◌}
+use Rattle.std.specs.Prelude.{◌↔◌, IsOk, if◌then◌else◌}
+use Rattle.std.specs.List.{flat_map}
+use Rattle.std.specs.Result.{result_err}
+use Rattle.ocpp_scalars.specs.ResultSteps.{◌>>=◌}
+use Rattle.ocppj_frame.specs.declared.field.Field.{Field}
+use Rattle.ocppj_frame.specs.declared.field.Field.TheVariants.{Absent, WrongKind, WrongValue, Value}
+use Rattle.ocppj_frame.specs.Tree.{Tree, null, is_object}
+use Rattle.profile.specs.Names.{purpose_named, kind_named, recurrency_named, unit_named}
+use Rattle.profile.specs.declared.period.Period.{Period}
+use Rattle.messages.specs.declared.action_kind.ActionKind.{ActionKind}
+use Rattle.messages.specs.declared.action_kind.ActionKind.TheVariants.{SetChargingProfile, ClearChargingProfile, GetCompositeSchedule, BootNotification, Heartbeat, Authorize, StartTransaction, StopTransaction, StatusNotification, MeterValues, FirmwareStatusNotification, DiagnosticsStatusNotification, DataTransfer}
+use Rattle.messages.specs.declared.call_fault.CallFault.{CallFault}
+use Rattle.messages.specs.declared.field_name.FieldName.{FieldName}
+use Rattle.messages.specs.declared.field_name.FieldName.TheVariants.{ChargingProfileId, ChargingProfileKind, ChargingProfilePurpose, ChargingRateUnit, ChargingSchedule, ChargingSchedulePeriod, ConnectorId, CsChargingProfiles, Duration, Id, Limit, MeterStart, MinChargingRate, NumberPhases, RecurrencyKind, StackLevel, StartPeriod, StartSchedule, Timestamp, TransactionId, ValidFrom, ValidTo}
+use Rattle.messages.specs.Fields.{required, required_value, optional, whole, whole_from_zero, tenths, instant, one_name_of, list, object}
+use Rattle.messages.specs.ProfileFields.{as_period, period_of, each_period_of, unless_empty, periods_of, schedule_of, profile_of}
+use Rattle.messages.specs.OperatorActions.{set_charging_profile_of, clear_charging_profile_of, get_composite_schedule_of}
+use Rattle.messages.specs.PointActions.{id_tag_of, start_transaction_of, stop_transaction_of}
+use Rattle.messages.specs.Action.{action_of_kind}
+use Rattle.messages.specs.FieldFaults.{value_or, object_at, entries_at, period_faults, empty_fault, schedule_faults, profile_faults, field_faults, HaveNoFault, IsFirstFault}
+
+-- ---- the first fault, computed
+
+abbrev pub first_fault : List (Option CallFault) → Option CallFault
+first_fault [] = None
+first_fault (None ∷ fields) = first_fault fields
+first_fault (Some fault ∷ fields) = Some fault
+
+is_first : (fields : List (Option CallFault)) (fault : CallFault) → first_fault fields ≡ Some fault → IsFirstFault fields fault
+is_first [] fault h = cc
+is_first (None ∷ fields) fault h =
+    let there : IsFirstFault fields fault = is_first fields fault h in
+    record { before = None ∷ there.before; after = there.after; stands = ap (λ (l : List (Option CallFault)). None ∷ l) there.stands; none_before = (refl, there.none_before) }
+is_first (Some other ∷ fields) fault h =
+    record { before = []; after = fields; stands = ap (λ (x : Option CallFault). x ∷ fields) h; none_before = tt }
+
+past : (before after : List (Option CallFault)) (fault : CallFault) → HaveNoFault before → first_fault (before ++ (Some fault ∷ after)) ≡ Some fault
+past [] after fault h = refl
+past (None ∷ before) after fault h = past before after fault h.1
+past (Some other ∷ before) after fault h = cc (h.0)
+
+the_first : (fields : List (Option CallFault)) (fault : CallFault) → IsFirstFault fields fault → first_fault fields ≡ Some fault
+the_first fields fault h = ap first_fault h.stands ∙ past h.before h.after fault h.none_before
+
+have_none : (fields : List (Option CallFault)) → first_fault fields ≡ None → HaveNoFault fields
+have_none [] h = tt
+have_none (None ∷ fields) h = (refl, have_none fields h)
+have_none (Some fault ∷ fields) h = cc
+
+no_first : (fields : List (Option CallFault)) → HaveNoFault fields → first_fault fields ≡ None
+no_first [] h = refl
+no_first (None ∷ fields) h = no_first fields h.1
+no_first (Some fault ∷ fields) h = cc (h.0)
+
+-- ---- what a reading stops at
+
+stopped : {A : Type 0} → (reading : Result A CallFault) (fault : CallFault) → result_err reading ≡ Some fault → reading ≡ Err fault
+stopped (Ok x) fault e = cc
+stopped (Err other) fault e = cc
+
+pub fault_law : {A : Type 0} → (reading : Result A CallFault) (fields : List (Option CallFault)) → result_err reading ≡ first_fault fields → (fault : CallFault) → (reading ≡ Err fault) ↔ IsFirstFault fields fault
+fault_law reading fields h fault =
+    (λ e. is_first fields fault (sym h ∙ ap result_err e), λ first. stopped reading fault (h ∙ the_first fields fault first))
+
+pub action_law : {A : Type 0} → (reading : Result A CallFault) (fields : List (Option CallFault)) → result_err reading ≡ first_fault fields → IsOk reading ↔ HaveNoFault fields
+action_law (Ok x) fields h = (λ _. have_none fields (sym h), λ _. refl)
+action_law (Err fault) fields h = (λ ok. absurd (cc (ok)), λ none. absurd (cc (h ∙ no_first fields none)))
+
+-- ---- one field, and then the rest
+
+step : {A B : Type 0} → (reading : Result A CallFault) (next : A → Result B CallFault) (rest : List (Option CallFault)) → ((x : A) → reading ≡ Ok x → result_err (next x) ≡ first_fault rest) → result_err (reading >>= next) ≡ first_fault (result_err reading ∷ rest)
+step (Ok x) next rest h = h x refl
+step (Err fault) next rest h = refl
+
+last : {A B : Type 0} → (reading : Result A CallFault) (f : A → B) → result_err (reading >>= (λ x. Ok (f x))) ≡ result_err reading
+last (Ok x) f = refl
+last (Err fault) f = refl
+
+after_none : (fields rest : List (Option CallFault)) → first_fault fields ≡ None → first_fault (fields ++ rest) ≡ first_fault rest
+after_none [] rest h = refl
+after_none (None ∷ fields) rest h = after_none fields rest h
+after_none (Some fault ∷ fields) rest h = cc
+
+within : (fields rest : List (Option CallFault)) (fault : CallFault) → first_fault fields ≡ Some fault → first_fault (fields ++ rest) ≡ Some fault
+within [] rest fault h = cc
+within (None ∷ fields) rest fault h = within fields rest fault h
+within (Some other ∷ fields) rest fault h = h
+
+-- fields that are read together, and then the rest
+steps : {A B : Type 0} → (reading : Result A CallFault) (next : A → Result B CallFault) (fields rest : List (Option CallFault)) → result_err reading ≡ first_fault fields → ((x : A) → reading ≡ Ok x → result_err (next x) ≡ first_fault rest) → result_err (reading >>= next) ≡ first_fault (fields ++ rest)
+steps (Ok x) next fields rest here h = h x refl ∙ sym (after_none fields rest (sym here))
+steps (Err fault) next fields rest here h = sym (within fields rest fault (sym here))
+
+regrouped : {A B C : Type 0} → (reading : Result A CallFault) (f : A → Result B CallFault) (g : B → Result C CallFault) → ((reading >>= f) >>= g) ≡ (reading >>= (λ x. f x >>= g))
+regrouped (Ok x) f g = refl
+regrouped (Err fault) f g = refl
+
+-- ---- what stands in a field
+
+value_of : {A : Type 0} → (default : A) (name : FieldName) (field : Field A) (x : A) → required_value name field ≡ Ok x → x ≡ value_or default field
+value_of default name Absent x h = cc
+value_of default name WrongKind x h = cc
+value_of default name WrongValue x h = cc
+value_of default name (Value y) x h = cc
+
+object_there : (fields : Tree) (name : FieldName) (node : Tree) → required (object fields name) ≡ Ok node → node ≡ object_at fields name
+unfolding required
+object_there fields name node h = value_of null (object fields name).name (object fields name).field node h
+
+entries_there : (fields : Tree) (name : FieldName) (entries : List Tree) → required (list fields name) ≡ Ok entries → entries ≡ entries_at fields name
+unfolding required
+entries_there fields name entries h = value_of [] (list fields name).name (list fields name).field entries h
+
+-- ---- a profile
+
+by_test : (b : Bool) (entry node : Tree) (fault : CallFault) → (if b then Ok entry else Err fault) ≡ Ok node → node ≡ entry
+by_test true entry node fault h = cc
+by_test false entry node fault h = cc
+
+period_first : (entry : Tree) → result_err (period_of entry) ≡ first_fault (period_faults entry)
+unfolding period_of
+period_first entry =
+    step (as_period entry) _ _ (λ node e. rw (by_test (is_object entry) entry node _ e)
+    (step (required (whole_from_zero entry StartPeriod)) _ _ (λ _ _.
+    step (required (tenths entry Limit)) _ _ (λ _ _.
+    step (optional (whole_from_zero entry NumberPhases)) _ _ (λ _ _. refl)))))
+
+each_first : (entries : List Tree) → result_err (each_period_of entries) ≡ first_fault (flat_map period_faults entries)
+each_first [] = refl
+each_first (entry ∷ entries) =
+    steps (period_of entry) _ (period_faults entry) (flat_map period_faults entries) (period_first entry)
+    (λ period _. last (each_period_of entries) (λ periods. period ∷ periods) ∙ each_first entries)
+
+not_empty : (period : Result Period CallFault) (periods : Result (List Period) CallFault) (read : List Period) → (period >>= (λ p. periods >>= (λ ps. Ok (p ∷ ps)))) ≡ Ok read → result_err (unless_empty read) ≡ None
+not_empty (Ok p) (Ok ps) read h = let e : p ∷ ps ≡ read = cc in subst (λ (l : List Period). result_err (unless_empty l) ≡ None) e refl
+not_empty (Ok p) (Err fault) read h = cc
+not_empty (Err fault) periods read h = cc
+
+empty_alike : (entries : List Tree) (read : List Period) → each_period_of entries ≡ Ok read → result_err (unless_empty read) ≡ empty_fault entries
+empty_alike [] read h = let e : [] ≡ read = cc in subst (λ (l : List Period). result_err (unless_empty l) ≡ empty_fault []) e refl
+empty_alike (entry ∷ entries) read h = not_empty (period_of entry) (each_period_of entries) read h
+
+periods_first : {B : Type 0} → (entries : List Tree) (next : List Period → Result B CallFault) (rest : List (Option CallFault)) → ((x : List Period) → result_err (next x) ≡ first_fault rest)
+    → result_err (periods_of entries >>= next) ≡ first_fault (flat_map period_faults entries ++ (empty_fault entries ∷ rest))
+periods_first entries next rest h =
+    ap result_err (regrouped (each_period_of entries) unless_empty next)
+    ∙ steps (each_period_of entries) _ (flat_map period_faults entries) (empty_fault entries ∷ rest) (each_first entries)
+    (λ read e. step (unless_empty read) next rest (λ periods _. h periods) ∙ ap (λ (x : Option CallFault). first_fault (x ∷ rest)) (empty_alike entries read e))
+
+schedule_first : (fields : Tree) → result_err (schedule_of fields) ≡ first_fault (schedule_faults fields)
+unfolding schedule_of
+schedule_first fields =
+    step (optional (whole_from_zero fields Duration)) _ _ (λ _ _.
+    step (optional (instant fields StartSchedule)) _ _ (λ _ _.
+    step (required (one_name_of unit_named fields ChargingRateUnit)) _ _ (λ _ _.
+    step (required (list fields ChargingSchedulePeriod)) _ _ (λ entries e. rw (entries_there fields ChargingSchedulePeriod entries e)
+    (periods_first (entries_at fields ChargingSchedulePeriod) _ _ (λ _.
+    step (optional (tenths fields MinChargingRate)) _ _ (λ _ _. refl)))))))
+
+profile_first : (fields : Tree) → result_err (profile_of fields) ≡ first_fault (profile_faults fields)
+unfolding profile_of
+profile_first fields =
+    step (required (whole fields ChargingProfileId)) _ _ (λ _ _.
+    step (optional (whole fields TransactionId)) _ _ (λ _ _.
+    step (required (whole_from_zero fields StackLevel)) _ _ (λ _ _.
+    step (required (one_name_of purpose_named fields ChargingProfilePurpose)) _ _ (λ _ _.
+    step (required (one_name_of kind_named fields ChargingProfileKind)) _ _ (λ _ _.
+    step (optional (one_name_of recurrency_named fields RecurrencyKind)) _ _ (λ _ _.
+    step (optional (instant fields ValidFrom)) _ _ (λ _ _.
+    step (optional (instant fields ValidTo)) _ _ (λ _ _.
+    step (required (object fields ChargingSchedule)) _ _ (λ node e. rw (object_there fields ChargingSchedule node e)
+    (last (schedule_of (object_at fields ChargingSchedule)) _ ∙ schedule_first (object_at fields ChargingSchedule)))))))))))
+
+-- ---- the actions
+
+set_first : (payload : Tree) → result_err (set_charging_profile_of payload) ≡ first_fault (field_faults SetChargingProfile payload)
+unfolding set_charging_profile_of
+set_first payload =
+    step (required (whole_from_zero payload ConnectorId)) _ _ (λ _ _.
+    step (required (object payload CsChargingProfiles)) _ _ (λ node e. rw (object_there payload CsChargingProfiles node e)
+    (last (profile_of (object_at payload CsChargingProfiles)) _ ∙ profile_first (object_at payload CsChargingProfiles))))
+
+clear_first : (payload : Tree) → result_err (clear_charging_profile_of payload) ≡ first_fault (field_faults ClearChargingProfile payload)
+unfolding clear_charging_profile_of
+clear_first payload =
+    step (optional (whole payload Id)) _ _ (λ _ _.
+    step (optional (whole_from_zero payload ConnectorId)) _ _ (λ _ _.
+    step (optional (one_name_of purpose_named payload ChargingProfilePurpose)) _ _ (λ _ _.
+    step (optional (whole_from_zero payload StackLevel)) _ _ (λ _ _. refl))))
+
+get_first : (payload : Tree) → result_err (get_composite_schedule_of payload) ≡ first_fault (field_faults GetCompositeSchedule payload)
+unfolding get_composite_schedule_of
+get_first payload =
+    step (required (whole_from_zero payload ConnectorId)) _ _ (λ _ _.
+    step (required (whole_from_zero payload Duration)) _ _ (λ _ _.
+    step (optional (one_name_of unit_named payload ChargingRateUnit)) _ _ (λ _ _. refl)))
+
+start_first : (payload : Tree) → result_err (start_transaction_of payload) ≡ first_fault (field_faults StartTransaction payload)
+unfolding start_transaction_of
+start_first payload =
+    step (required (whole_from_zero payload ConnectorId)) _ _ (λ _ _.
+    step (id_tag_of payload) _ _ (λ _ _.
+    step (required (whole payload MeterStart)) _ _ (λ _ _.
+    step (required (instant payload Timestamp)) _ _ (λ _ _. refl))))
+
+stop_first : (payload : Tree) → result_err (stop_transaction_of payload) ≡ first_fault (field_faults StopTransaction payload)
+unfolding stop_transaction_of
+stop_first payload = step (required (whole payload TransactionId)) _ _ (λ _ _. refl)
+
+pub action_first : (kind : ActionKind) (payload : Tree) → result_err (action_of_kind kind payload) ≡ first_fault (field_faults kind payload)
+action_first SetChargingProfile payload = set_first payload
+action_first ClearChargingProfile payload = clear_first payload
+action_first GetCompositeSchedule payload = get_first payload
+action_first BootNotification payload = refl
+action_first Heartbeat payload = refl
+action_first Authorize payload = refl
+action_first StartTransaction payload = start_first payload
+action_first StopTransaction payload = stop_first payload
+action_first StatusNotification payload = refl
+action_first MeterValues payload = refl
+action_first FirmwareStatusNotification payload = refl
+action_first DiagnosticsStatusNotification payload = refl
+action_first DataTransfer payload = refl
