@@ -1,3 +1,4 @@
+-- An entry is the tree of its value.
 use Rattle.std.proofs.Common.{◌≡◌, ◌∙◌, ap, subst, sym, is_some, true, Some}
 use Rattle.serde_json.specs.View.{view}
 use Rattle.serde_json.specs.declared.value.Value.{Value}
