@@ -2,8 +2,8 @@
 """program.py PROGRAM: runs the built program `central` on what no contract says, and prints 'N passed, M failed'.
 
 It replays each folder of examples/ and tests/replay/ (site.json, script, stdout, status) and compares the bytes of
-standard output, standard error and the exit status; then it tries command lines, site files, devices that fail and
-memory that is refused.
+standard output, standard error and the exit status; a folder without a site.json has that of tests/replay. Then it
+tries command lines, site files, devices that fail and memory that is refused.
 """
 import os
 import subprocess
@@ -19,6 +19,12 @@ def bytes_of(path):
         return file.read()
 
 
+def site_of(case):
+    """The site file of a folder: its own, or else the one that the replay cases share."""
+    own = os.path.join(case, "site.json")
+    return own if os.path.isfile(own) else os.path.join(TOP, "tests", "replay", "site.json")
+
+
 def replay_cases():
     """Each folder with a script: name, arguments, standard input, and what is wanted."""
     for folder in ("examples", os.path.join("tests", "replay")):
@@ -30,7 +36,7 @@ def replay_cases():
             status = os.path.join(case, "status")
             yield (
                 f"{folder}/{name}",
-                ["replay", "--site", os.path.join(case, "site.json")],
+                ["replay", "--site", site_of(case)],
                 bytes_of(os.path.join(case, "script")),
                 bytes_of(os.path.join(case, "stdout")),
                 b"",
@@ -61,6 +67,10 @@ def fault_cases(folder):
         ("BadConnectors", b'{"unit":"A","points":[{"id":"CP1","ceiling":1,"connectors":[]}]}'),
     ):
         yield name, site(name, content), b"x\n", b"", f"central: site: {name}\n".encode(), 1
+    site("blank", b"[]")
+    yield "a site file whose name ends in a blank", site("blank ", SITE), b"x\n", b"! 1 BadLine\n", b"", 2
+    yield "a site file whose name begins with a blank", site(" blank", SITE), b"x\n", b"! 1 BadLine\n", b"", 2
+    yield "a site file whose name has no blank", site("blank", b"[]"), b"x\n", b"", b"central: site: NotAnObject\n", 1
     yield "two points", site("two", b'{"unit":"A","points":[' + point + b"," + point + b"]}"), b"", b"", b"central: site: BadPoints\n", 1
     yield "no site file", ["replay", "--site", os.path.join(folder, "none")], b"", b"", b"central: device: read\n", 3
     yield "a folder as site file", ["replay", "--site", folder], b"", b"", b"central: device: read\n", 3
@@ -75,16 +85,29 @@ def limit_cases(good):
     yield "a line of the limit", good, b"x" * 1_048_576 + b"\r\n", b"! 1 BadLine\n", b"", 2
     yield "a line past the limit", good, b"\n" + b"x" * 1_048_577 + b"\r\ny", b"! 2 TooLong\n! 3 BadLine\n", b"", 2
     yield "a line that is no text", good, b"\xff\n", b"! 1 BadText\n", b"", 2
-    front, end = b'2025-01-01T00:00:00Z point CP1 [2,"1","Heartbeat",{"pad":"', b'"}]'
+    prefix, end = b'2025-01-01T00:00:00Z point CP1 [2,"1","Heartbeat",{"pad":"', b'"}]'
     answer = b'> [3,"1",{"currentTime":"2025-01-01T00:00:00Z"}]\n'
-    room = 1_048_576 - len(front) - len(end)
-    yield "a frame on a line of the limit", good, front + b"x" * room + end + b"\n", answer, b"", 0
-    yield "a frame on a line past the limit", good, front + b"x" * (room + 1) + end + b"\n", b"! 1 TooLong\n", b"", 2
-    yield "a script of frames of the limit", good, (front + b"x" * (room - 1) + end + b"\n") * 16, answer * 16, b"", 0
+    room = 1_048_576 - len(prefix) - len(end)
+    yield "a frame on a line of the limit", good, prefix + b"x" * room + end + b"\n", answer, b"", 0
+    yield "a frame on a line past the limit", good, prefix + b"x" * (room + 1) + end + b"\n", b"! 1 TooLong\n", b"", 2
+    yield "a script of frames of the limit", good, (prefix + b"x" * (room - 1) + end + b"\n") * 16, answer * 16, b"", 0
 
 
 def run(program, arguments, given, stdout=subprocess.PIPE):
     return subprocess.run([program, *arguments], input=given, stdout=stdout, stderr=subprocess.PIPE, timeout=120)
+
+
+def run_on(program, arguments, given, is_full):
+    """Runs it on bytes, or on a folder, as standard input, with a full device as standard output if wanted."""
+    with open("/dev/full" if is_full else os.devnull, "wb") as device:
+        stdout = device if is_full else subprocess.PIPE
+        if isinstance(given, bytes):
+            return run(program, arguments, given, stdout)
+        handle = os.open(given, os.O_RDONLY)
+        try:
+            return subprocess.run([program, *arguments], stdin=handle, stdout=stdout, stderr=subprocess.PIPE, timeout=120)
+        finally:
+            os.close(handle)
 
 
 def first_difference(want, got):
@@ -107,10 +130,19 @@ def differences(done, want_out, want_err, want_status):
 
 def command_line_problems(program):
     """Command lines: the help on standard output with status 0, the refusals on standard error with status 4."""
-    for arguments in (["--help"], ["help"], ["replay", "--help"]):
+    replay = (b"Usage", b"--site <F>", b"JSON file", b"standard input", b"Example:", b"central replay --site", b"exit statuses")
+    for arguments, wanted in (
+        (["--help"], (b"Usage", b"OCPP 1.6", b"Exit statuses:", b"replay", b"  4  ")),
+        (["-h"], (b"Usage", b"Exit statuses:")),
+        (["help"], (b"Usage", b"Exit statuses:")),
+        (["replay", "--help"], replay),
+        (["help", "replay"], replay),
+        (["--version"], (b"central 0.1.0\nproved with rattle-kit-13b logic dac8208d650f15bf\n",)),
+    ):
         done = run(program, arguments, b"")
-        ok = done.returncode == 0 and b"Usage" in done.stdout and not done.stderr
-        yield f"central {' '.join(arguments)}", [] if ok else [f"status {done.returncode}, {done.stderr[:200]!r}"]
+        missing = [text for text in wanted if text not in done.stdout]
+        ok = done.returncode == 0 and not missing and not done.stderr
+        yield f"central {' '.join(arguments)}", [] if ok else [f"status {done.returncode}, without {missing}, {done.stderr[:200]!r}"]
     for arguments in ([], ["replay"], ["replay", "--site"], ["replay", "--site", "a", "--site", "b"], ["play"], ["replay", "x"]):
         done = run(program, arguments, b"")
         ok = done.returncode == 4 and not done.stdout and done.stderr
@@ -118,21 +150,30 @@ def command_line_problems(program):
 
 
 def device_problems(program, folder):
-    """A full device as standard output, and a folder as standard input."""
-    arguments = ["replay", "--site", os.path.join(folder, "good")]
-    with open("/dev/full", "wb") as full:
-        done = run(program, arguments, b"x\n", stdout=full)
-    ok = done.returncode == 3 and done.stderr == b"central: device: write\n"
-    yield "standard output is full", [] if ok else [f"status {done.returncode}, {done.stderr!r}"]
-    handle = os.open(folder, os.O_RDONLY)
-    done = subprocess.run([program, *arguments], stdin=handle, capture_output=True, timeout=120)
-    os.close(handle)
-    ok = done.returncode == 3 and done.stderr == b"central: device: read\n" and not done.stdout
-    yield "standard input can't be read", [] if ok else [f"status {done.returncode}, {done.stderr!r}"]
+    """Which device failed: a full device as standard output, a folder as standard input or as the site file."""
+    read, write, none = b"central: device: read\n", b"central: device: write\n", b""
+
+    def replay(site):
+        return ["replay", "--site", site]
+
+    good, bad = replay(os.path.join(folder, "good")), replay(os.path.join(folder, "blank"))
+    for name, arguments, given, is_full, error, status in (
+        ("standard output is full", good, b"x\n", True, write, 3),
+        ("standard output is full for the help", ["--help"], none, True, write, 3),
+        ("standard output is full for the version", ["--version"], none, True, write, 3),
+        ("standard output is full, and nothing to write", good, none, True, none, 0),
+        ("standard input can't be read", good, folder, False, read, 3),
+        ("neither can be used: the script is read first", good, folder, True, read, 3),
+        ("the site file can't be read: it is read first", replay(folder), b"x\n", True, read, 3),
+        ("the site file has a fault, which comes before the script", bad, folder, True, b"central: site: NotAnObject\n", 1),
+    ):
+        done = run_on(program, arguments, given, is_full)
+        ok = (done.returncode, done.stderr, done.stdout or none) == (status, error, none)
+        yield name, [] if ok else [f"status {done.returncode}, {done.stderr!r}, {done.stdout!r}"]
 
 
 def memory_problems(program, folder):
-    """Examples with each of their allocations refused in turn: a front of the output and OutOfMemory."""
+    """Examples with each of their allocations refused in turn: a prefix of the output and OutOfMemory."""
     library = os.path.join(folder, "refuse_allocation.so")
     source = os.path.join(TOP, "tests", "refuse_allocation.c")
     subprocess.run(["cc", "-O2", "-shared", "-fPIC", "-o", library, source, "-ldl"], check=True)

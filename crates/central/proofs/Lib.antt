@@ -1,9 +1,1 @@
-pub mod CeilingsRead
 pub mod CommandLineLemmas
-pub mod FormLemmas
-pub mod LineLemmas
-pub mod OutputLemmas
-pub mod Scheduling
-pub mod ScriptLemmas
-pub mod SiteLemmas
-pub mod WriteLemmas

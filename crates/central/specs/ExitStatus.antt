@@ -1,11 +1,11 @@
 -- The program's exit statuses: 0 done; 1 the site file has a fault; 2 the script has one; 3 a device
 -- failed or memory ran out; 4 no such command line.
 use Rattle.std.specs.Prelude.{ℕ, ◌==◌, if◌then◌else◌}
-use Rattle.central.specs.declared.replay.ReplayFault.{ReplayFault}
-use Rattle.central.specs.declared.replay.ReplayFault.TheVariants as replay_fault
-use Rattle.central.specs.declared.replay.Summary.{Summary}
-use Rattle.central.specs.declared.program_fault.ProgramFault.{ProgramFault}
-use Rattle.central.specs.declared.program_fault.ProgramFault.TheVariants.{Words, Site, SiteFile, Help, Replay, OutOfMemory}
+use Rattle.replay.specs.declared.script.run.ReplayFault.{ReplayFault}
+use Rattle.replay.specs.declared.script.run.ReplayFault.TheVariants as replay_fault
+use Rattle.replay.specs.declared.script.run.Summary.{Summary}
+use Rattle.central.specs.declared.program.program_fault.ProgramFault.{ProgramFault}
+use Rattle.central.specs.declared.program.program_fault.ProgramFault.TheVariants.{Words, Site, SiteFile, Help, Replay, OutOfMemory}
 
 abbrev pub replay_status : ReplayFault → ℕ
 replay_status replay_fault.Read = 3

@@ -1,11 +1,3 @@
-pub mod SiteView
-pub mod SiteFile
-pub mod Script
-pub mod Line
-pub mod CentralSystem
-pub mod Output
-pub mod Replay
-pub mod Input
 pub mod ExitStatus
 pub mod SiteStop
 pub mod CommandLine

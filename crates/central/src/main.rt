@@ -2,28 +2,13 @@
 //! a site and writes its output to standard output.
 #![tactic(auto)]
 
-mod central_system;
-mod checks;
-mod command_line;
-mod input;
-mod line;
-mod output;
-mod printing;
-mod program_fault;
-mod replay;
-mod script;
-mod site;
-mod site_fault;
-mod site_file;
-mod site_reading;
-#[cfg(test)]
-mod tests;
+mod program;
 
-use crate::command_line::{Job, job_of};
-use crate::program_fault::ProgramFault;
-use crate::replay::{Summary, replay};
-use crate::site_file::read_site_file;
+use crate::program::command_line::{Job, job_of};
+use crate::program::program_fault::{ProgramFault, summary_status};
+use crate::program::site_file::read_site_file;
 use clap::error::ErrorKind;
+use replay::{Summary, replay};
 use std::alloc::AllocGlobal;
 use std::io::{BufWriter, Write};
 use std::process::ExitCode;
@@ -34,9 +19,9 @@ fn main(rt: HostRuntime) -> ExitCode {
     ExitCode::from(run(&rt))
 }
 
-/// Does what the command line says. Answers the exit status.
+/// Does what the command line says. Returns the exit status.
 fn run<R: Env + Files + Input + Print + Eprint + AllocGlobal>(rt: &R) -> u8 {
-    match play(rt) {
+    match do_job(rt) {
         Ok(status) => status,
         Err(fault) => {
             let _ = rt.eprintln(&fault);
@@ -45,10 +30,11 @@ fn run<R: Env + Files + Input + Print + Eprint + AllocGlobal>(rt: &R) -> u8 {
     }
 }
 
-fn play<R: Env + Files + Input + Print + Eprint + AllocGlobal>(rt: &R) -> Result<u8, ProgramFault> {
+/// Does the job of the command line, or prints why it has none.
+fn do_job<R: Env + Files + Input + Print + Eprint + AllocGlobal>(rt: &R) -> Result<u8, ProgramFault> {
     let words = command_words(rt)?;
     match job_of(rt.alloc(), words.as_slice()) {
-        Ok(Job::Replay { site }) => Ok(replay_file(rt, site)?.status()),
+        Ok(Job::Replay { site }) => Ok(summary_status(replay_file(rt, site)?)),
         Err(error) => refuse(rt, error),
     }
 }
@@ -87,7 +73,7 @@ fn replay_file<R: Files + Input + Print + AllocGlobal>(
     }
 }
 
-/// Prints why a command line is no job, or the help that it asks for. Answers the exit status.
+/// Prints why a command line is no job, or the help that it asks for. Returns the exit status.
 fn refuse<R: Print + Eprint>(rt: &R, error: clap::Error) -> Result<u8, ProgramFault> {
     if error.kind() == ErrorKind::OutOfMemory {
         return Err(ProgramFault::OutOfMemory);

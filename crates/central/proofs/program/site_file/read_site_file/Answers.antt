@@ -1,0 +1,16 @@
+-- A file with more bytes than the limit is a site file that is too large.
+use Rattle.std.proofs.Common.{◌≡◌, ℕ, ◌<◌, List, length, Err, refl}
+use Rattle.std.proofs.lemmas.Bool.{lt-ltb}
+use Rattle.replay.specs.Limits.{max_site_bytes}
+use Rattle.replay.specs.SiteReading.{site_of}
+use Rattle.replay.specs.declared.site.fault.SiteFault.TheVariants.{TooLarge}
+use Rattle.central.proofs.program.site_file.read_site_file.Goals as goal
+
+site_of-too_large : (bytes : List ℕ) → max_site_bytes < length bytes → site_of bytes ≡ Err TooLarge
+unfolding site_of
+site_of-too_large bytes long = rw (lt-ltb max_site_bytes (length bytes) long) refl
+
+pub returns-in-Err-TooLong-clause-stop : goal.returns-in-Err-TooLong-clause-stop
+returns-in-Err-TooLong-clause-stop g c =
+    let many = c.in-Err-TooLong.ensures.long (rw c.in-Err-TooLong.field-0-is refl) in
+    (many.0, site_of-too_large many.0 many.2)

@@ -1,0 +1,33 @@
+//! The site file, opened and read.
+
+ghost use Rattle.std.specs.Prelude.{◌≡◌, ℕ, List, Ok, IfOk, IfErr};
+ghost use Rattle.replay.specs.SiteReading.{site_of};
+ghost use Rattle.central.specs.SiteStop.{IsSiteStop};
+
+use crate::program::program_fault::ProgramFault;
+use replay::{InputFault, MAX_SITE_BYTES, Site, SiteFault, read_all, read_site};
+use std::alloc::AllocGlobal;
+use std::fs;
+use std::io::ErrorKind;
+use std::rt::Files;
+
+/// Reads the site of a file.
+pub fn read_site_file<R: Files + AllocGlobal>(rt: &R, path: &str) -> Result<Site, ProgramFault>
+    ensures site { IfOk result (λ site. (bytes : List ℕ) × (site_of bytes ≡ Ok site)) }
+    ensures stop { IfErr result IsSiteStop }
+{
+    let mut file = match fs::open(rt, path) {
+        Ok(file) => file,
+        Err(error) if error.kind() == ErrorKind::OutOfMemory => return Err(
+            ProgramFault::OutOfMemory,
+        ),
+        Err(_) => return Err(ProgramFault::SiteFile),
+    };
+    let bytes = match read_all(rt.alloc(), &mut file, MAX_SITE_BYTES) {
+        Ok(bytes) => bytes,
+        Err(InputFault::Read) => return Err(ProgramFault::SiteFile),
+        Err(InputFault::TooLong) => return Err(ProgramFault::Site(SiteFault::TooLarge)),
+        Err(InputFault::OutOfMemory) => return Err(ProgramFault::OutOfMemory),
+    };
+    Ok(read_site(rt.alloc(), bytes.as_slice())?)
+}

@@ -1,0 +1,65 @@
+-- The output of a script, line after line.
+use Rattle.std.proofs.Common.{◌≡◌, ℕ, ◌+◌, ◌≤◌, List, [], ◌∷◌, ◌++◌, Option, Bool, true, false, cond, length, take, append_assoc, append-nil, refl, sym, ap, ◌∙◌, subst, arith, inl, inr}
+use Rattle.std.specs.List.{fold}
+use Rattle.std.specs.Io.KnownBytes.{Appends}
+use Rattle.std.proofs.KnownBytes.{Appends-trans}
+use Rattle.std.proofs.lemmas.Bool.{cases_lt}
+use Rattle.std.proofs.lemmas.List.{take-append-le, take_all, nil_from_length}
+use Rattle.std.proofs.Math.Seq.{take-append-add, take-length}
+use mir.Val.{bool_byte}
+use Rattle.replay.specs.Lines.{script_lines}
+use Rattle.replay.specs.Site.{SiteState}
+use Rattle.replay.specs.Play.{PlayedLine, line_played}
+use Rattle.replay.specs.Run.{Played, with_line, played_more}
+use Rattle.replay.specs.Output.{AppendsPrefix}
+
+-- what is printed is kept
+pub output_grows : (site : SiteState) (before : Played) (lines : List (List ℕ)) → (more : List ℕ) × ((fold (played_more site) before lines).output ≡ before.output ++ more)
+output_grows site before [] = ([], sym (append-nil before.output))
+output_grows site before (line ∷ lines) =
+    let next = output_grows site (played_more site before line) lines in
+    let printed = (line_played site before.state before.number line).printed in
+    (printed ++ next.0, next.1 ∙ append_assoc before.output printed next.0)
+
+-- the next line was played
+pub next_line : (site : SiteState) (before all : Played) (rest line others : List ℕ) → script_lines rest ≡ line ∷ script_lines others
+    → fold (played_more site) before (script_lines rest) ≡ all
+    → fold (played_more site) (played_more site before line) (script_lines others) ≡ all
+next_line site before all rest line others first whole = ap (fold (played_more site) before) (sym first) ∙ whole
+
+-- no line is left
+pub no_line : (site : SiteState) (before all : Played) (rest : List ℕ) → length rest ≡ 0 → fold (played_more site) before (script_lines rest) ≡ all → before ≡ all
+no_line site before all rest none whole =
+    ap (λ r. fold (played_more site) before (script_lines r)) (sym (nil_from_length rest none)) ∙ whole
+
+-- a test as a number counts its fault
+pub one_fault : (n : ℕ) (b fault : Bool) → n ≡ bool_byte b → b ≡ fault → n ≡ cond fault 1 0
+one_fault n true fault here same = here ∙ ap (λ f. cond f 1 0) same
+one_fault n false fault here same = here ∙ ap (λ f. cond f 1 0) same
+
+pub bool_le : (n : ℕ) (b : Bool) → n ≡ bool_byte b → n ≤ 1
+bool_le n true here = omega (arith, here)
+bool_le n false here = omega (arith, here)
+
+-- a prefix of a text is a prefix of what the text is a prefix of
+prefix_within : (n : ℕ) (text more : List ℕ) → (m : ℕ) × (take n text ≡ take m (text ++ more))
+prefix_within n text more =
+    elim (cases_lt n (length text)) [
+      | inl below ↦ (n, sym (take-append-le n text more (omega arith)))
+      | inr above ↦ (length text, take_all n text above ∙ sym (take_all (length text) text (omega arith)) ∙ sym (take-append-le (length text) text more (omega arith)))
+    ]
+
+-- a prefix of a part, after all that comes before the part
+pub prefix_after : (a b c : Option (List ℕ)) (done text more all : List ℕ) → Appends a b done → AppendsPrefix b c text → all ≡ (done ++ text) ++ more → AppendsPrefix a c all
+prefix_after a b c done text more all before prefix whole =
+    let within = prefix_within prefix.0 text more in
+    let parts = sym (append_assoc done text more) ∙ sym whole in (
+      length done + within.0,
+      subst (Appends a c)
+          (ap (λ l. done ++ l) within.1 ∙ sym (take-append-add done (text ++ more) within.0) ∙ ap (take (length done + within.0)) parts)
+          (Appends-trans a b c done (take prefix.0 text) before prefix.1),
+    )
+
+-- the whole text is a prefix of it
+pub prefix_whole : (a b : Option (List ℕ)) (text : List ℕ) → Appends a b text → AppendsPrefix a b text
+prefix_whole a b text whole = (length text, subst (Appends a b) (sym (take-length text)) whole)

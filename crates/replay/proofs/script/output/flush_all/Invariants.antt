@@ -1,0 +1,6 @@
+-- An interrupted flush loses nothing.
+use Rattle.std.specs.Io.KnownBytes.{Keeps}
+use Rattle.replay.proofs.script.output.flush_all.Given as goal
+
+abbrev pub invariant-loop : goal.invariant-loop
+invariant-loop g l = Keeps (g.W.Write.contents l.fn.writer) (g.W.Write.contents l.writer)

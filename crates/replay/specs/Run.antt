@@ -1,0 +1,69 @@
+-- What a script prints, and which faults of a replay come before its first output.
+use Rattle.std.specs.Prelude.{ℕ, ◌+◌, ◌++◌, List, [], if◌then◌else◌}
+use Rattle.std.specs.List.{fold}
+use Rattle.replay.specs.declared.script.input.InputFault.{InputFault}
+use Rattle.replay.specs.declared.script.input.InputFault.TheVariants as input
+use Rattle.replay.specs.declared.script.run.ReplayFault.{ReplayFault}
+use Rattle.replay.specs.declared.script.run.ReplayFault.TheVariants.{Read, ScriptTooLong, Write, OutOfMemory}
+use Rattle.replay.specs.Lines.{script_lines}
+use Rattle.replay.specs.Site.{SiteState}
+use Rattle.replay.specs.CentralSystem.{SystemState, first_state}
+use Rattle.replay.specs.Play.{PlayedLine, line_played}
+
+-- how far a script was played
+pub record Played : Type 0 where
+  -- the number of the next line
+  pub number : ℕ
+  -- how many lines had a fault
+  pub faults : ℕ
+  -- what the lines printed
+  pub output : List ℕ
+  -- what the central system knows
+  pub state : SystemState
+
+abbrev pub first_played : Played
+first_played = record { number = 1; faults = 0; output = []; state = first_state }
+
+abbrev pub with_line : Played → PlayedLine → Played
+with_line before line = record {
+  number = before.number + 1;
+  faults = before.faults + (if line.is_fault then 1 else 0);
+  output = before.output ++ line.printed;
+  state = line.after;
+}
+
+-- one line more
+abbrev pub played_more : SiteState → Played → List ℕ → Played
+played_more site before line = with_line before (line_played site before.state before.number line)
+
+-- the whole script
+unfoldable pub played : SiteState → List ℕ → Played
+played site script = fold (played_more site) first_played (script_lines script)
+
+-- what a script prints
+abbrev pub output_of : SiteState → List ℕ → List ℕ
+output_of site script = (played site script).output
+
+-- how many lines of a script have a fault
+abbrev pub fault_count : SiteState → List ℕ → ℕ
+fault_count site script = (played site script).faults
+
+-- why a script that isn't read stops its replay
+abbrev pub replay_fault : InputFault → ReplayFault
+replay_fault input.Read = Read
+replay_fault input.TooLong = ScriptTooLong
+replay_fault input.OutOfMemory = OutOfMemory
+
+-- the script was not read whole
+abbrev pub IsReading : ReplayFault → Type 0
+IsReading Read = Unit {0}
+IsReading ScriptTooLong = Unit {0}
+IsReading Write = ⊥
+IsReading OutOfMemory = ⊥
+
+-- the script was read whole
+abbrev pub IsWriting : ReplayFault → Type 0
+IsWriting Read = ⊥
+IsWriting ScriptTooLong = ⊥
+IsWriting Write = Unit {0}
+IsWriting OutOfMemory = Unit {0}

@@ -1,0 +1,94 @@
+-- What a text asks for: nothing, an answer without a step, or a step.
+use Rattle.std.specs.Prelude.{ℕ, Bool, true, false, List, Option, Some, None, Result, Ok, Err, if◌then◌else◌}
+use Rattle.ocpp_scalars.specs.declared.refusal.Refusal.{Refusal}
+use Rattle.ocppj_frame.specs.declared.fault.FrameFault.{FrameFault}
+use Rattle.ocppj_frame.specs.declared.fault.FrameFault.TheVariants.{Formation}
+use Rattle.ocppj_frame.specs.Tree.{Tree}
+use Rattle.ocppj_frame.specs.Message.{Message, call}
+use Rattle.ocppj_frame.specs.ByCases.Message.{message_of_text}
+use Rattle.profile.specs.declared.charging_profile.Profile.{Profile}
+use Rattle.profile.specs.Parts.{profile_of_parts}
+use Rattle.messages.specs.declared.side.Side.{Side}
+use Rattle.messages.specs.declared.side.Side.TheVariants.{Operator, Point}
+use Rattle.messages.specs.declared.action.Action.{Action}
+use Rattle.messages.specs.declared.action.Action.TheVariants as actions
+use Rattle.messages.specs.declared.call_fault.CallFault.{CallFault}
+use Rattle.messages.specs.declared.call_fault.CallFault.TheVariants.{FormationViolation}
+use Rattle.messages.specs.declared.response.Response.{Response}
+use Rattle.messages.specs.declared.response.Response.TheVariants.{Rejected, BootNotification, Heartbeat, Authorize, Empty, UnknownVendorId, Error}
+use Rattle.messages.specs.declared.action_kind.ActionKind.{ActionKind}
+use Rattle.messages.specs.ActionKind.{action_named, side_of_kind}
+use Rattle.messages.specs.Action.{action_of_kind}
+use Rattle.replay.specs.declared.session.todo.Todo.{Todo}
+use Rattle.replay.specs.declared.session.todo.Todo.TheVariants as todo
+use Rattle.replay.specs.declared.system.step.Step.{Step}
+use Rattle.replay.specs.declared.system.step.Step.TheVariants.{Install, Compose}
+use Rattle.replay.specs.SentText.{Sent}
+use Rattle.replay.specs.Supported.{is_supported, not_supported}
+
+-- ---- actions: a step, or the answer where there is none
+
+abbrev pub step_of_profile : ℕ → ℕ → Profile → Result Step Response
+step_of_profile moment connector profile =
+    if is_supported connector profile
+    then Ok (Install (record { connector = connector; moment = moment; profile = profile }))
+    else Err not_supported
+
+-- the profile that the fields make, or why they make none
+abbrev pub step_of_made : ℕ → ℕ → Result Profile Refusal → Result Step Response
+step_of_made moment connector (Ok profile) = step_of_profile moment connector profile
+step_of_made moment connector (Err refusal) = Err (Rejected refusal)
+
+abbrev pub step_of : ℕ → Action → Result Step Response
+step_of moment (actions.SetChargingProfile connector parts) = step_of_made moment connector (profile_of_parts parts)
+step_of moment (actions.ClearChargingProfile criteria) = Err not_supported
+step_of moment (actions.GetCompositeSchedule request) = Ok (Compose moment request)
+step_of moment actions.BootNotification = Err (BootNotification moment)
+step_of moment actions.Heartbeat = Err (Heartbeat moment)
+step_of moment actions.Authorize = Err Authorize
+step_of moment (actions.StartTransaction start) = Err not_supported
+step_of moment (actions.StopTransaction transaction) = Err not_supported
+step_of moment actions.StatusNotification = Err Empty
+step_of moment actions.MeterValues = Err Empty
+step_of moment actions.FirmwareStatusNotification = Err Empty
+step_of moment actions.DiagnosticsStatusNotification = Err Empty
+step_of moment actions.DataTransfer = Err UnknownVendorId
+step_of moment actions.NotACall = Err not_supported
+
+-- ---- CALLs
+
+-- a CALL that can't be read is answered with its first fault
+abbrev pub step_of_reading : ℕ → Result Action CallFault → Result Step Response
+step_of_reading moment (Ok action) = step_of moment action
+step_of_reading moment (Err fault) = Err (Error fault)
+
+abbrev pub side_eq : Side → Side → Bool
+side_eq Operator Operator = true
+side_eq Operator Point = false
+side_eq Point Operator = false
+side_eq Point Point = true
+
+-- an action that isn't its sender's, or is nobody's, isn't supported, whatever its fields are
+abbrev pub step_of_kind : Sent → Option ActionKind → Tree → Result Step Response
+step_of_kind text None payload = Err not_supported
+step_of_kind text (Some kind) payload =
+    if side_eq (side_of_kind kind) text.sender then step_of_reading text.moment (action_of_kind kind payload) else Err not_supported
+
+abbrev pub step_of_call : Sent → List ℕ → Tree → Result Step Response
+step_of_call text name payload = step_of_kind text (action_named name) payload
+
+-- ---- texts
+
+-- the step or the answer, with the id of its CALL
+abbrev pub todo_with : List ℕ → Result Step Response → Todo
+todo_with id (Ok step) = todo.Step id step
+todo_with id (Err response) = todo.Answer id response
+
+-- only a CALL is answered, a malformed one too where it has an id
+abbrev pub todo_of_message : Sent → Result Message FrameFault → Todo
+todo_of_message text (Ok (call id name payload)) = todo_with id (step_of_call text name payload)
+todo_of_message text (Err (Formation id)) = todo.Answer id (Error FormationViolation)
+todo_of_message text _ = todo.Nothing
+
+unfoldable pub todo_of : Sent → Todo
+todo_of text = todo_of_message text (message_of_text text.frame)

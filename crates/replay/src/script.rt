@@ -1,0 +1,8 @@
+//! A script: its lines, what each says and prints, and the whole of it from a reader to a writer.
+
+pub mod input;
+pub mod line;
+pub mod lines;
+pub mod output;
+pub mod play;
+pub mod run;

@@ -1,0 +1,81 @@
+//! Reading a whole input of bounded length.
+
+ghost use Rattle.std.specs.Prelude.{◌≡◌, ℕ, ◌+◌, ◌<◌, ◌≤◌, ◌^◌, length, vec_len, IfOk, IfSome, IsErrOf, OnOk};
+ghost use Rattle.std.specs.Io.KnownBytes.{Consumes, IsAtEnd};
+ghost use Rattle.replay.specs.Input.{GaveAtMost, GaveMoreThan};
+ghost use Rattle.replay.specs.ByCases.Input.{ReadOnto};
+
+use std::alloc::{AllocError, Global};
+use std::io::Read;
+
+/// How many bytes are asked for at a time.
+const PIECE: usize = 16_384;
+
+/// Why a whole input was not read.
+#[derive(Clone, Copy, Debug, PartialEq, Eq)]
+pub enum InputFault {
+    /// A read failed, an interrupted one included.
+    Read,
+    /// The input has more bytes than the limit.
+    TooLong,
+    /// Memory ran out.
+    OutOfMemory,
+}
+
+impl From<AllocError> for InputFault {
+    ghost use Rattle.replay.specs.declared.script.input.InputFault.{InputFault};
+
+    ghost from_gives = { λ _ fault. fault ≡ InputFault.OutOfMemory };
+
+    fn from(_error: AllocError) -> InputFault {
+        InputFault::OutOfMemory
+    }
+}
+
+/// Room for the bytes of one read.
+fn new_piece(alloc: Global) -> Result<Vec<u8>, AllocError>
+    ensures { IfOk result (λ piece. vec_len piece ≡ PIECE) }
+{
+    vec![in alloc; 0u8; PIECE]
+}
+
+/// Reads once, and adds the bytes that came. Returns how many these are.
+fn read_onto<R: Read>(
+    reader: &mut R,
+    piece: &mut [u8],
+    bytes: &mut Vec<u8>,
+) -> Result<usize, InputFault>
+    requires { 0 < length piece.old }
+    ensures taken { ReadOnto (R.remaining reader.old) (R.remaining reader.new) bytes.old.items bytes.new.items (length piece.old) result }
+    ensures never_long { ¬ IsErrOf result InputFault.TooLong }
+{
+    let Ok(count) = reader.read(piece) else {
+        return Err(InputFault::Read);
+    };
+    let came = piece.split_at(count).0;
+    bytes.extend_from_slice(came)?;
+    Ok(count)
+}
+
+/// All bytes that a reader has, `limit` at the most. One byte more is asked for, to see whether there is one.
+pub fn read_all<R: Read>(alloc: Global, reader: &mut R, limit: usize) -> Result<Vec<u8>, InputFault>
+    requires { limit < 2 ^ 32 }
+    ensures whole { IfOk result (λ bytes. IfSome (R.remaining reader.old) (λ given. bytes.items ≡ given)) }
+    ensures end { OnOk result (IsAtEnd (R.remaining reader.new)) }
+    ensures consumed { IfOk result (λ bytes. Consumes (R.remaining reader.old) (R.remaining reader.new) bytes.items) }
+    ensures short { IfOk result (λ bytes. vec_len bytes ≤ limit) }
+    ensures most { GaveAtMost (R.remaining reader.old) (R.remaining reader.new) (limit + 1) }
+    ensures long { IsErrOf result InputFault.TooLong → GaveMoreThan (R.remaining reader.old) (R.remaining reader.new) limit }
+{
+    let mut bytes = Vec::new(alloc);
+    let mut piece = new_piece(alloc)?;
+    while bytes.len() <= limit {
+        let room = (limit + 1 - bytes.len()).min(PIECE);
+        match read_onto(reader, &mut piece[..room], &mut bytes) {
+            Ok(0) => return Ok(bytes),
+            Ok(_) => {}
+            Err(fault) => return Err(fault),
+        }
+    }
+    Err(InputFault::TooLong)
+}

@@ -1,0 +1,53 @@
+//! Writing whole texts, however often the writer is interrupted.
+
+ghost use Rattle.std.specs.Prelude.{◌≡◌, OnOk, OnErr};
+ghost use Rattle.std.specs.Io.KnownBytes.{Appends, Keeps};
+ghost use Rattle.replay.specs.Output.{AppendsPrefix, AppendsProperPrefix};
+
+use std::io::{ErrorKind, Write};
+
+/// A write failed; a prefix of the text may have been written.
+#[derive(Clone, Copy, Debug, PartialEq, Eq)]
+pub struct WriteFault;
+
+/// Writes a whole text. Where a write fails, a prefix of it was written, and not the whole, so an empty
+/// text doesn't fail.
+// `Write::write_all` says nothing of what was written before it failed, so the writes stand here. They are
+// counted, since a writer may be interrupted for ever.
+pub fn write_text<W: Write>(writer: &mut W, text: &str) -> Result<(), WriteFault>
+    ensures whole { OnOk result (Appends (W.contents writer.old) (W.contents writer.new) text.now) }
+    ensures prefix { AppendsPrefix (W.contents writer.old) (W.contents writer.new) text.now }
+    ensures part { OnErr result (AppendsProperPrefix (W.contents writer.old) (W.contents writer.new) text.now) }
+{
+    let bytes = text.as_bytes();
+    let mut done = 0;
+    for _ in 0..u64::MAX {
+        if done == bytes.len() {
+            break;
+        }
+        match writer.write(bytes.split_at(done).1) {
+            Ok(0) => return Err(WriteFault),
+            Ok(count) => done += count,
+            Err(error) if error.kind() == ErrorKind::Interrupted => {}
+            Err(_) => return Err(WriteFault),
+        }
+    }
+    if done < bytes.len() {
+        return Err(WriteFault);
+    }
+    Ok(())
+}
+
+/// Has a writer pass on what it holds. `Write::flush` gives up where it is interrupted.
+pub fn flush_all<W: Write>(writer: &mut W) -> Result<(), WriteFault>
+    ensures { Keeps (W.contents writer.old) (W.contents writer.new) }
+{
+    for _ in 0..u64::MAX {
+        match writer.flush() {
+            Ok(()) => return Ok(()),
+            Err(error) if error.kind() == ErrorKind::Interrupted => {}
+            Err(_) => return Err(WriteFault),
+        }
+    }
+    Err(WriteFault)
+}

@@ -1,0 +1,83 @@
+//! What a line of a script prints, and what the central system does at it.
+
+ghost use Rattle.std.specs.Prelude.{◌≡◌, false, Some, IfOk, OnErr, string_bytes};
+ghost use Rattle.messages.specs.ResponseText.{response_text};
+ghost use Rattle.replay.specs.Play.{handled, answer_line, answer_played, line_played, IsPlayed, IsOneOf};
+
+use crate::script::line::{ScriptLine, read_line};
+use crate::session::answer::response_of;
+use crate::session::sent_text::SentText;
+use crate::session::todo::{Todo, todo_of};
+use crate::site::site::Site;
+use crate::system::central_system::CentralSystem;
+use messages::{Response, push_response};
+use std::alloc::{AllocError, Global};
+
+/// What a line of the script prints.
+#[derive(Debug, Drop)]
+pub struct Printed {
+    /// Whole lines, or nothing.
+    pub text: String,
+    /// Whether the script's line has a fault.
+    pub is_fault: bool,
+}
+
+/// Plays the line of this number. After an error the line wasn't played, or only its answer is missing.
+pub fn play_line(
+    alloc: Global,
+    site: &Site,
+    system: &mut CentralSystem,
+    number: u64,
+    line: &[u8],
+) -> Result<Printed, AllocError>
+    ensures played { IfOk result (λ printed. IsPlayed (line_played site.now system.old number line.now) printed system.new) }
+    ensures kept { OnErr result (IsOneOf system.old (line_played site.now system.old number line.now).after system.new) }
+{
+    if line.is_empty() {
+        return Ok(Printed {
+            text: String::new(alloc),
+            is_fault: false,
+        });
+    }
+    match read_line(line, site.point()) {
+        Ok(ScriptLine::Text(text)) => Ok(Printed {
+            text: answer_line(alloc, site, system, &text)?,
+            is_fault: false,
+        }),
+        Err(fault) => Ok(Printed {
+            text: format!(in alloc; "! {number} {fault}\n")?,
+            is_fault: true,
+        }),
+    }
+}
+
+/// The line with the answer to a text, if it has one.
+fn answer_line(
+    alloc: Global,
+    site: &Site,
+    system: &mut CentralSystem,
+    text: &SentText<'_>,
+) -> Result<String, AllocError>
+    ensures played { IfOk result (λ line. answer_played (handled site.now system.old text.now)
+        ≡ record { printed = string_bytes line; is_fault = false; after = system.new }) }
+    ensures kept { OnErr result (IsOneOf system.old (handled site.now system.old text.now).after system.new) }
+{
+    match todo_of(alloc, text)? {
+        Todo::Nothing => Ok(String::new(alloc)),
+        Todo::Answer { id, response } => response_line(alloc, id.as_str(), &response),
+        Todo::Step { id, step } => {
+            let reply = system.step(site, text.point(), step)?;
+            response_line(alloc, id.as_str(), &response_of(site.unit(), reply))
+        }
+    }
+}
+
+/// The line with a response to the CALL of this id.
+fn response_line(alloc: Global, id: &str, response: &Response) -> Result<String, AllocError>
+    ensures { IfOk result (λ line. string_bytes line ≡ answer_line (Some (response_text id.now response.now))) }
+{
+    let mut line = String::from_str(alloc, "> ")?;
+    push_response(&mut line, id, response)?;
+    line.push_str("\n")?;
+    Ok(line)
+}

@@ -1,0 +1,168 @@
+//! What a text asks for: nothing, an answer without a step, or a step.
+
+ghost use Rattle.std.specs.Prelude.{◌≡◌, Ok, IfOk};
+ghost use Rattle.ocppj_frame.specs.Frame.{message_in};
+ghost use Rattle.ocppj_frame.specs.Payload.{tree_at};
+ghost use Rattle.profile.specs.Parts.{profile_of_parts};
+ghost use Rattle.messages.specs.Action.{action_of_kind};
+ghost use Rattle.replay.specs.Todo.{side_eq, step_of, step_of_profile, step_of_made, step_of_call, step_of_reading, todo_with, todo_of_message, todo_of};
+
+use crate::session::sent_text::SentText;
+use crate::session::supported::{NOT_SUPPORTED, is_supported};
+use crate::system::step::Step;
+use messages::{Action, ActionKind, CallFault, Response, Side, read_fields};
+use ocpp_scalars::{Instant, Refusal};
+use ocppj_frame::{Frame, FrameFault, MessageId, Node, read_frame};
+use profile::{Profile, ProfileParts, Row};
+use std::alloc::{AllocError, Global};
+
+/// What a text asks for.
+#[derive(Drop)]
+pub enum Todo {
+    /// The text isn't answered.
+    Nothing,
+    /// The CALL of this id is answered without a step.
+    Answer { id: MessageId, response: Response },
+    /// The CALL of this id asks for a step.
+    Step { id: MessageId, step: Step },
+}
+
+/// What a text asks for.
+#[tactic(auto, unfolding(crate::specs::Todo::todo_of))]
+pub fn todo_of(alloc: Global, text: &SentText<'_>) -> Result<Todo, AllocError>
+    ensures { IfOk result (λ todo. todo ≡ todo_of text.now) }
+{
+    match read_frame(alloc, text.frame()) {
+        Ok(frame) => todo_of_message(alloc, text, frame),
+        Err(FrameFault::Formation { id }) => Ok(Todo::Answer {
+            id,
+            response: Response::Error(CallFault::FormationViolation),
+        }),
+        Err(FrameFault::Dropped) => Ok(Todo::Nothing),
+        Err(FrameFault::OutOfMemory) => Err(AllocError),
+    }
+}
+
+/// What a message asks for: only a CALL is answered.
+fn todo_of_message(alloc: Global, text: &SentText<'_>, frame: Frame) -> Result<Todo, AllocError>
+    ensures { IfOk result (λ todo. todo ≡ todo_of_message text.now (Ok (message_in frame))) }
+{
+    match frame {
+        Frame::Call {
+            id,
+            action,
+            payload,
+        } => {
+            let asked = step_of_call(alloc, text, action.as_str(), payload.root())?;
+            Ok(todo_with(id, asked))
+        }
+        Frame::Reply { .. } | Frame::Fault { .. } | Frame::Other => Ok(Todo::Nothing),
+    }
+}
+
+/// The step or the answer, with the id of its CALL.
+fn todo_with(id: MessageId, asked: Result<Step, Response>) -> Todo
+    ensures { result ≡ todo_with id asked }
+{
+    match asked {
+        Ok(step) => Todo::Step { id, step },
+        Err(response) => Todo::Answer { id, response },
+    }
+}
+
+/// The step that the CALL of an action of this name asks for, or the answer where it asks for none.
+fn step_of_call(
+    alloc: Global,
+    text: &SentText<'_>,
+    name: &str,
+    payload: Node<'_>,
+) -> Result<Result<Step, Response>, AllocError>
+    ensures { IfOk result (λ asked. asked ≡ step_of_call text.now name.now (tree_at payload.entry)) }
+{
+    match ActionKind::named(name) {
+        Some(kind) if is_same_side(kind.side(), text.sender()) => {
+            step_of_fields(alloc, text.moment(), kind, payload)
+        }
+        _ => Ok(Err(NOT_SUPPORTED)),
+    }
+}
+
+fn is_same_side(first: Side, second: Side) -> bool
+    ensures { result ≡ side_eq first second }
+{
+    match (first, second) {
+        (Side::Operator, Side::Operator) | (Side::Point, Side::Point) => true,
+        _ => false,
+    }
+}
+
+/// The step that the fields of an action ask for, or the answer where they ask for none.
+fn step_of_fields(
+    alloc: Global,
+    moment: Instant,
+    kind: ActionKind,
+    payload: Node<'_>,
+) -> Result<Result<Step, Response>, AllocError>
+    ensures { IfOk result (λ asked. asked ≡ step_of_reading moment (action_of_kind kind (tree_at payload.entry))) }
+{
+    match read_fields(alloc, kind, payload) {
+        Ok(action) => Ok(step_of(moment, action)),
+        Err(CallFault::Refused(Refusal::OutOfMemory)) => Err(AllocError),
+        Err(fault) => Ok(Err(Response::Error(fault))),
+    }
+}
+
+/// The step that an action asks for at a moment, or the answer where it asks for none.
+fn step_of(moment: Instant, action: Action) -> Result<Step, Response>
+    ensures { result ≡ step_of moment action }
+{
+    match action {
+        Action::SetChargingProfile { connector, profile } => {
+            step_of_parts(moment, connector, profile)
+        }
+        Action::GetCompositeSchedule(request) => Ok(Step::Compose {
+            start: moment,
+            request,
+        }),
+        Action::BootNotification => Err(Response::BootNotification {
+            current_time: moment,
+        }),
+        Action::Heartbeat => Err(Response::Heartbeat {
+            current_time: moment,
+        }),
+        Action::Authorize => Err(Response::Authorize),
+        Action::StatusNotification
+        | Action::MeterValues
+        | Action::FirmwareStatusNotification
+        | Action::DiagnosticsStatusNotification => Err(Response::Empty),
+        Action::DataTransfer => Err(Response::UnknownVendorId),
+        Action::ClearChargingProfile(_)
+        | Action::StartTransaction(_)
+        | Action::StopTransaction(_)
+        | Action::NotACall => Err(NOT_SUPPORTED),
+    }
+}
+
+/// The install of the profile that these fields make.
+fn step_of_parts(moment: Instant, connector: u32, parts: ProfileParts) -> Result<Step, Response>
+    ensures { result ≡ step_of_made moment connector (profile_of_parts parts) }
+{
+    match Profile::try_new(parts) {
+        Ok(profile) => step_of_profile(moment, connector, profile),
+        Err((refusal, _)) => Err(Response::Rejected(refusal)),
+    }
+}
+
+/// The install of a profile, if it is supported.
+fn step_of_profile(moment: Instant, connector: u32, profile: Profile) -> Result<Step, Response>
+    ensures { result ≡ step_of_profile moment connector profile }
+{
+    if !is_supported(connector, &profile) {
+        return Err(NOT_SUPPORTED);
+    }
+    Ok(Step::Install(Row {
+        connector,
+        moment,
+        profile,
+    }))
+}

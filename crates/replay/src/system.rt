@@ -1,0 +1,5 @@
+//! The central system: what it knows, and its steps, each of which changes that or replies only.
+
+pub mod ask;
+pub mod central_system;
+pub mod step;
