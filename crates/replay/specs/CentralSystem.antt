@@ -14,4 +14,5 @@ first_state = record { rows = [] }
 
 -- the point of a site with its rows; no transaction is active
 abbrev pub state_of_point : SiteState → SystemState → PointState
-state_of_point site state = record { ceiling = site.ceiling; ceilings = site.ceilings; starts = []; rows = state.rows }
+state_of_point site state =
+    record { ceiling = site.ceiling; ceilings = site.ceilings; starts = []; rows = state.rows }

@@ -20,4 +20,5 @@ IsWord word = (0 < length word) × EachIndex word (λ k. slice_index word k ≢ 
 -- A line is of a form: words with one space between them. The frame is the rest of the line.
 abbrev pub IsOfForm : List ℕ → Form → Type 0
 IsOfForm line (sent_text instant sender point frame) =
-    (line ≡ instant ++ (space ∷ (sender_word sender ++ (space ∷ (point ++ space ∷ frame))))) × IsWord instant × IsWord point
+    (line ≡ instant ++ (space ∷ (sender_word sender ++ (space ∷ (point ++ space ∷ frame)))))
+    × IsWord instant × IsWord point

@@ -28,7 +28,8 @@ text_said site_point sender point frame (Ok moment) =
 -- what a line says by its form
 abbrev pub line_of_form : List ℕ → Option Form → Result ScriptLine LineFault
 line_of_form site_point None = Err BadLine
-line_of_form site_point (Some (sent_text instant sender point frame)) = text_said site_point sender point frame (instant_of instant)
+line_of_form site_point (Some (sent_text instant sender point frame)) =
+    text_said site_point sender point frame (instant_of instant)
 
 -- what a line says on the site of a point
 unfoldable pub line_of : List ℕ → List ℕ → Result ScriptLine LineFault

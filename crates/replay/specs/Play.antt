@@ -25,11 +25,13 @@ pub record Handled : Type 0 where
   pub after : SystemState
 
 abbrev pub step_handled : List ℕ → Unit → Stepped → Handled
-step_handled id unit step = record { answer = Some (response_text id (response_of unit step.reply)); after = step.after }
+step_handled id unit step =
+    record { answer = Some (response_text id (response_of unit step.reply)); after = step.after }
 
 abbrev pub todo_handled : SiteState → List ℕ → SystemState → Todo → Handled
 todo_handled site point old todo.Nothing = record { answer = None; after = old }
-todo_handled site point old (todo.Answer id response) = record { answer = Some (response_text id response); after = old }
+todo_handled site point old (todo.Answer id response) =
+    record { answer = Some (response_text id response); after = old }
 todo_handled site point old (todo.Step id step) = step_handled id site.unit (stepped site point old step)
 
 abbrev pub handled : SiteState → SystemState → Sent → Handled
@@ -57,7 +59,8 @@ answer_played text = record { printed = answer_line text.answer; is_fault = fals
 
 abbrev pub said_played : SiteState → SystemState → ℕ → Result ScriptLine LineFault → PlayedLine
 said_played site old number (Ok (Text text)) = answer_played (handled site old text)
-said_played site old number (Err fault) = record { printed = fault_line number fault; is_fault = true; after = old }
+said_played site old number (Err fault) =
+    record { printed = fault_line number fault; is_fault = true; after = old }
 
 -- an empty line prints nothing
 abbrev pub line_played : SiteState → SystemState → ℕ → List ℕ → PlayedLine
@@ -67,7 +70,8 @@ line_played site old number line =
 
 -- a line was played so
 abbrev pub IsPlayed : PlayedLine → Printed → SystemState → Type 0
-IsPlayed line printed new = line ≡ record { printed = string_bytes printed.text; is_fault = printed.is_fault; after = new }
+IsPlayed line printed new =
+    line ≡ record { printed = string_bytes printed.text; is_fault = printed.is_fault; after = new }
 
 -- after an error a line was not played, or only its answer is missing
 abbrev pub IsOneOf : SystemState → SystemState → SystemState → Type 0

@@ -13,4 +13,5 @@ pub record Sent : Type 0 where
   pub frame : List ℕ
 
 abbrev pub sent : ℕ → Side → List ℕ → List ℕ → Sent
-sent moment sender point frame = record { moment = moment; sender = sender; point = point; frame = frame }
+sent moment sender point frame =
+    record { moment = moment; sender = sender; point = point; frame = frame }

@@ -8,6 +8,7 @@ use Rattle.ocppj_frame.specs.declared.field.Field.{Field}
 use Rattle.ocppj_frame.specs.declared.field.Field.TheVariants.{Absent, WrongKind, WrongValue, Value}
 use Rattle.ocppj_frame.specs.Tree.{Tree, is_object, as_number}
 use Rattle.ocppj_frame.specs.Read.{tree_of_text}
+use Rattle.ocpp_scalars.specs.Ascii.{upper_z, lower_z, digit_zero, digit_nine, dot, underscore, minus, tilde}
 use Rattle.ocpp_scalars.specs.ResultSteps.{◌>>=◌}
 use Rattle.ocppj_frame.specs.Field.{text_field_of, tenths_field_of, list_field_of}
 use Rattle.profile.specs.declared.unit.Unit.{Unit}
@@ -41,11 +42,18 @@ only_entry [] = Err faults.BadPoints
 only_entry (point ∷ []) = Ok point
 only_entry (point ∷ (other ∷ points)) = Err faults.BadPoints
 
+abbrev pub upper_a : ℕ
+upper_a = 65
+
+abbrev pub lower_a : ℕ
+lower_a = 97
+
 -- letters, digits, '.', '_', '-' and '~'
 abbrev pub is_id_byte : ℕ → Bool
 is_id_byte b =
-    (nat_le 65 b && nat_le b 90) || (nat_le 97 b && nat_le b 122) || (nat_le 48 b && nat_le b 57)
-    || (b == 46) || (b == 95) || (b == 45) || (b == 126)
+    (nat_le upper_a b && nat_le b upper_z) || (nat_le lower_a b && nat_le b lower_z)
+    || (nat_le digit_zero b && nat_le b digit_nine)
+    || (b == dot) || (b == underscore) || (b == minus) || (b == tilde)
 
 abbrev pub is_point_id : List ℕ → Bool
 is_point_id id = nat_le 1 (length id) && nat_le (length id) max_point_id_characters && list_all is_id_byte id
@@ -59,7 +67,8 @@ id_or_wrong (Value id) = if is_point_id id then Value id else WrongValue
 -- a point has 1 to 64 connectors
 abbrev pub few_entries : List Tree → Result (List Tree) SiteFault
 few_entries entries =
-    if nat_le 1 (length entries) && nat_le (length entries) max_connectors then Ok entries else Err faults.BadConnectors
+    if nat_le 1 (length entries) && nat_le (length entries) max_connectors then Ok entries
+    else Err faults.BadConnectors
 
 abbrev pub ceiling_or : Result ℕ NumberFault → Result ℕ SiteFault
 ceiling_or (Ok ceiling) = Ok ceiling
@@ -78,15 +87,20 @@ ceilings_of [] = Ok []
 ceilings_of (entry ∷ entries) =
     ceiling_of entry >>= (λ (ceiling : ℕ). ceilings_of entries >>= (λ (ceilings : List ℕ). Ok (ceiling ∷ ceilings)))
 
+-- the ceilings of a point's connectors
+unfoldable pub connectors_of : Tree → Result (List ℕ) SiteFault
+connectors_of fields = do
+  list ← or_fault faults.BadConnectors (list_field_of (codes "connectors") fields)
+  entries ← few_entries list
+  ceilings_of entries
+
 -- the site of a point in this unit
 unfoldable pub point_of : Unit → Tree → Result SiteState SiteFault
 point_of unit point = do
   fields ← object_or faults.BadPoints point
   id ← or_fault faults.BadId (id_or_wrong (text_field_of (codes "id") fields))
   ceiling ← or_fault faults.BadCeiling (tenths_field_of (codes "ceiling") fields)
-  list ← or_fault faults.BadConnectors (list_field_of (codes "connectors") fields)
-  entries ← few_entries list
-  ceilings ← ceilings_of entries
+  ceilings ← connectors_of fields
   Ok (record { unit = unit; point = id; ceiling = ceiling; ceilings = ceilings })
 
 unfoldable pub site_of_tree : Tree → Result SiteState SiteFault

@@ -41,20 +41,23 @@ schedule_reply connector start (Err refusal) = Refused refusal
 -- the exact schedule of the limits that an ask means, unless it is too long
 abbrev pub composed_reply : PointState → Ask → Reply
 composed_reply point ask =
-    schedule_reply ask.connector ask.start (exact_schedule (limit_asked point ask.connector ask.start) ask.duration)
+    schedule_reply ask.connector ask.start
+    (exact_schedule (limit_asked point ask.connector ask.start) ask.duration)
 
 abbrev pub asked_reply : PointState → Result Ask Refusal → Reply
 asked_reply point (Ok ask) = composed_reply point ask
 asked_reply point (Err refusal) = Refused refusal
 
 abbrev pub request_reply : SiteState → List ℕ → SystemState → ℕ → ScheduleRequest → Reply
-request_reply site point state start request = asked_reply (state_of_point site state) (ask_at site point start request)
+request_reply site point state start request =
+    asked_reply (state_of_point site state) (ask_at site point start request)
 
 -- ---- all steps
 
 abbrev pub stepped : SiteState → List ℕ → SystemState → Step → Stepped
 stepped site point old (Install row) = stepped_install (install_refusal site point row.profile) old row
-stepped site point old (Compose start request) = record { reply = request_reply site point old start request; after = old }
+stepped site point old (Compose start request) =
+    record { reply = request_reply site point old start request; after = old }
 
 -- from one state a step leads to another, and replies
 abbrev pub Steps : SiteState → List ℕ → SystemState → Step → Reply → SystemState → Type 0

@@ -20,4 +20,5 @@ is_absolute Relative = false
 -- an Absolute TxDefaultProfile of stack level 0 at connector 0
 abbrev pub is_supported : ℕ → Profile → Bool
 is_supported connector profile =
-    is_absolute profile.kind && is_tx_default profile.purpose && (connector == 0) && (profile.stack_level == 0)
+    is_absolute profile.kind && is_tx_default profile.purpose
+    && (connector == 0) && (profile.stack_level == 0)

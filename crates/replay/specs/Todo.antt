@@ -40,7 +40,8 @@ step_of_made moment connector (Ok profile) = step_of_profile moment connector pr
 step_of_made moment connector (Err refusal) = Err (Rejected refusal)
 
 abbrev pub step_of : ℕ → Action → Result Step Response
-step_of moment (actions.SetChargingProfile connector parts) = step_of_made moment connector (profile_of_parts parts)
+step_of moment (actions.SetChargingProfile connector parts) =
+    step_of_made moment connector (profile_of_parts parts)
 step_of moment (actions.ClearChargingProfile criteria) = Err not_supported
 step_of moment (actions.GetCompositeSchedule request) = Ok (Compose moment request)
 step_of moment actions.BootNotification = Err (BootNotification moment)
@@ -72,7 +73,9 @@ side_eq Point Point = true
 abbrev pub step_of_kind : Sent → Option ActionKind → Tree → Result Step Response
 step_of_kind text None payload = Err not_supported
 step_of_kind text (Some kind) payload =
-    if side_eq (side_of_kind kind) text.sender then step_of_reading text.moment (action_of_kind kind payload) else Err not_supported
+    if side_eq (side_of_kind kind) text.sender
+    then step_of_reading text.moment (action_of_kind kind payload)
+    else Err not_supported
 
 abbrev pub step_of_call : Sent → List ℕ → Tree → Result Step Response
 step_of_call text name payload = step_of_kind text (action_named name) payload

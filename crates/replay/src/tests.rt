@@ -135,7 +135,11 @@ fn a_write_is_interrupted(rt: HostRuntime) -> Result<(), Fail> {
         };
         let mut script = SCRIPT.as_slice();
         let outcome = replay(rt.alloc(), &mut script, &mut writer, site(rt.alloc())?);
-        assert_eq!(rt; outcome, Ok(Summary { script_faults: 2 }), "interrupted at {place}");
+        assert_eq!(rt;
+            outcome,
+            Ok(Summary { script_faults: 2 }),
+            "interrupted at {place}"
+        );
         assert_eq!(rt; writer.accepted.as_slice(), OUTPUT.as_slice());
         assert!(rt; writer.until_interrupted.is_none());
     }

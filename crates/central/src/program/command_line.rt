@@ -17,7 +17,8 @@ pub enum Job<'a> {
 
 /// The job of a command line, whose first word is the program's name.
 pub fn job_of<'a>(alloc: Global, words: &'a [String]) -> Result<Job<'a>, Error>
-    ensures job { IfOk result (λ job. site_named (map string_bytes words.now) ≡ Some (site_of_job job)) }
+    ensures job { IfOk result
+        (λ job. site_named (map string_bytes words.now) ≡ Some (site_of_job job)) }
     ensures faults { FailsBy (line_faults (map string_bytes words.now)) result }
 {
     let command = central_command(alloc)?;

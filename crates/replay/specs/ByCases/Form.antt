@@ -21,7 +21,9 @@ word_at text =
 -- the sender that the second word names
 abbrev pub sender_named : List ℕ → Option Side
 sender_named word =
-    if bytes_eq word (codes "operator") then Some Operator else if bytes_eq word (codes "point") then Some Point else None
+    if bytes_eq word (codes "operator") then Some Operator
+    else if bytes_eq word (codes "point") then Some Point
+    else None
 
 abbrev pub text_form : List ℕ → Side → List ℕ → List ℕ → Form
 text_form instant sender point frame = sent_text instant sender point frame

@@ -46,7 +46,8 @@ fn read_onto<R: Read>(
     bytes: &mut Vec<u8>,
 ) -> Result<usize, InputFault>
     requires { 0 < length piece.old }
-    ensures taken { ReadOnto (R.remaining reader.old) (R.remaining reader.new) bytes.old.items bytes.new.items (length piece.old) result }
+    ensures taken { ReadOnto (R.remaining reader.old)
+        (R.remaining reader.new) bytes.old.items bytes.new.items (length piece.old) result }
     ensures never_long { ¬ IsErrOf result InputFault.TooLong }
 {
     let Ok(count) = reader.read(piece) else {
@@ -60,12 +61,15 @@ fn read_onto<R: Read>(
 /// All bytes that a reader has, `limit` at the most. One byte more is asked for, to see whether there is one.
 pub fn read_all<R: Read>(alloc: Global, reader: &mut R, limit: usize) -> Result<Vec<u8>, InputFault>
     requires { limit < 2 ^ 32 }
-    ensures whole { IfOk result (λ bytes. IfSome (R.remaining reader.old) (λ given. bytes.items ≡ given)) }
+    ensures whole { IfOk result
+        (λ bytes. IfSome (R.remaining reader.old) (λ given. bytes.items ≡ given)) }
     ensures end { OnOk result (IsAtEnd (R.remaining reader.new)) }
-    ensures consumed { IfOk result (λ bytes. Consumes (R.remaining reader.old) (R.remaining reader.new) bytes.items) }
+    ensures consumed { IfOk result
+        (λ bytes. Consumes (R.remaining reader.old) (R.remaining reader.new) bytes.items) }
     ensures short { IfOk result (λ bytes. vec_len bytes ≤ limit) }
     ensures most { GaveAtMost (R.remaining reader.old) (R.remaining reader.new) (limit + 1) }
-    ensures long { IsErrOf result InputFault.TooLong → GaveMoreThan (R.remaining reader.old) (R.remaining reader.new) limit }
+    ensures long { IsErrOf result InputFault.TooLong
+        → GaveMoreThan (R.remaining reader.old) (R.remaining reader.new) limit }
 {
     let mut bytes = Vec::new(alloc);
     let mut piece = new_piece(alloc)?;

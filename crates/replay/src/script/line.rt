@@ -62,7 +62,8 @@ pub enum ScriptLine<'a> {
 #[tactic(auto, unfolding(crate::specs::Line::line_of))]
 pub fn read_line<'a>(line: &'a [u8], site_point: &str) -> Result<ScriptLine<'a>, LineFault>
     ensures value { result ≡ line_of site_point.now line.entry.now }
-    ensures form { (form : Form) → ((form_of line.entry.now ≡ Some form) ↔ IsOfForm line.entry.now form) }
+    ensures form { (form : Form)
+        → ((form_of line.entry.now ≡ Some form) ↔ IsOfForm line.entry.now form) }
 {
     if line.len() > MAX_LINE_BYTES {
         return Err(LineFault::TooLong);
@@ -103,7 +104,8 @@ fn is_stranger(site_point: &str, sender: Side, point: &str) -> bool
 /// The instant's text, the sender, the point's identity and the frame of a line.
 #[tactic(auto, unfolding(crate::specs::ByCases::Form::form_of))]
 fn split_words(text: &str) -> Option<(&str, Side, &str, &str)>
-    ensures { option_map (λ words. text_form words.0.now words.1 words.2.now words.3.now) result ≡ form_of text.now }
+    ensures { option_map (λ words. text_form words.0.now words.1 words.2.now words.3.now) result
+        ≡ form_of text.now }
 {
     let (instant, text) = split_word(text)?;
     let (kind, text) = split_word(text)?;

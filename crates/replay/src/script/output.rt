@@ -17,7 +17,8 @@ pub struct WriteFault;
 pub fn write_text<W: Write>(writer: &mut W, text: &str) -> Result<(), WriteFault>
     ensures whole { OnOk result (Appends (W.contents writer.old) (W.contents writer.new) text.now) }
     ensures prefix { AppendsPrefix (W.contents writer.old) (W.contents writer.new) text.now }
-    ensures part { OnErr result (AppendsProperPrefix (W.contents writer.old) (W.contents writer.new) text.now) }
+    ensures part { OnErr result
+        (AppendsProperPrefix (W.contents writer.old) (W.contents writer.new) text.now) }
 {
     let bytes = text.as_bytes();
     let mut done = 0;

@@ -30,8 +30,10 @@ pub fn play_line(
     number: u64,
     line: &[u8],
 ) -> Result<Printed, AllocError>
-    ensures played { IfOk result (λ printed. IsPlayed (line_played site.now system.old number line.now) printed system.new) }
-    ensures kept { OnErr result (IsOneOf system.old (line_played site.now system.old number line.now).after system.new) }
+    ensures played { IfOk result
+        (λ printed. IsPlayed (line_played site.now system.old number line.now) printed system.new) }
+    ensures kept { OnErr result
+        (IsOneOf system.old (line_played site.now system.old number line.now).after system.new) }
 {
     if line.is_empty() {
         return Ok(Printed {
@@ -60,7 +62,8 @@ fn answer_line(
 ) -> Result<String, AllocError>
     ensures played { IfOk result (λ line. answer_played (handled site.now system.old text.now)
         ≡ record { printed = string_bytes line; is_fault = false; after = system.new }) }
-    ensures kept { OnErr result (IsOneOf system.old (handled site.now system.old text.now).after system.new) }
+    ensures kept { OnErr result
+        (IsOneOf system.old (handled site.now system.old text.now).after system.new) }
 {
     match todo_of(alloc, text)? {
         Todo::Nothing => Ok(String::new(alloc)),
@@ -74,9 +77,12 @@ fn answer_line(
 
 /// The line with a response to the CALL of this id.
 fn response_line(alloc: Global, id: &str, response: &Response) -> Result<String, AllocError>
-    ensures { IfOk result (λ line. string_bytes line ≡ answer_line (Some (response_text id.now response.now))) }
+    ensures { IfOk result
+        (λ line. string_bytes line ≡ answer_line (Some (response_text id.now response.now))) }
 {
-    let mut line = String::from_str(alloc, "> ")?;
+    // Room from the start for most answers, so that they aren't copied as they grow.
+    let mut line = String::with_capacity(alloc, 128)?;
+    line.push_str("> ")?;
     push_response(&mut line, id, response)?;
     line.push_str("\n")?;
     Ok(line)

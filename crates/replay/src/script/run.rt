@@ -86,14 +86,19 @@ pub fn replay<R: Read, W: Write>(
     site: Site,
 ) -> Result<Summary, ReplayFault>
     ensures whole { OnOk result (IfSome (R.remaining reader.old)
-        (λ script. Appends (W.contents writer.old) (W.contents writer.new) (output_of site script))) }
+        (λ script. Appends (W.contents writer.old) (W.contents writer.new)
+        (output_of site script))) }
     ensures faults { IfOk result (λ summary. IfSome (R.remaining reader.old)
         (λ script. summary.script_faults ≡ fault_count site script)) }
     ensures prefix { IfSome (R.remaining reader.old)
-        (λ script. AppendsPrefix (W.contents writer.old) (W.contents writer.new) (output_of site script)) }
-    ensures early { IfErr result (λ fault. IsReading fault → Keeps (W.contents writer.old) (W.contents writer.new)) }
-    ensures short { OnOk result (GaveAtMost (R.remaining reader.old) (R.remaining reader.new) max_script_bytes) }
-    ensures most { GaveAtMost (R.remaining reader.old) (R.remaining reader.new) (max_script_bytes + 1) }
+        (λ script. AppendsPrefix (W.contents writer.old) (W.contents writer.new)
+        (output_of site script)) }
+    ensures early { IfErr result
+        (λ fault. IsReading fault → Keeps (W.contents writer.old) (W.contents writer.new)) }
+    ensures short { OnOk result
+        (GaveAtMost (R.remaining reader.old) (R.remaining reader.new) max_script_bytes) }
+    ensures most { GaveAtMost (R.remaining reader.old) (R.remaining reader.new)
+        (max_script_bytes + 1) }
     ensures long { IsErrOf result ReplayFault.ScriptTooLong
         → GaveMoreThan (R.remaining reader.old) (R.remaining reader.new) max_script_bytes }
 {
@@ -103,10 +108,13 @@ pub fn replay<R: Read, W: Write>(
 
 /// The whole script.
 fn read_script<R: Read>(alloc: Global, reader: &mut R) -> Result<Vec<u8>, ReplayFault>
-    ensures whole { IfOk result (λ script. IfSome (R.remaining reader.old) (λ given. script.items ≡ given)) }
-    ensures consumed { IfOk result (λ script. Consumes (R.remaining reader.old) (R.remaining reader.new) script.items) }
+    ensures whole { IfOk result
+        (λ script. IfSome (R.remaining reader.old) (λ given. script.items ≡ given)) }
+    ensures consumed { IfOk result
+        (λ script. Consumes (R.remaining reader.old) (R.remaining reader.new) script.items) }
     ensures short { IfOk result (λ script. vec_len script ≤ max_script_bytes) }
-    ensures most { GaveAtMost (R.remaining reader.old) (R.remaining reader.new) (max_script_bytes + 1) }
+    ensures most { GaveAtMost (R.remaining reader.old) (R.remaining reader.new)
+        (max_script_bytes + 1) }
     ensures long { IsErrOf result ReplayFault.ScriptTooLong
         → GaveMoreThan (R.remaining reader.old) (R.remaining reader.new) max_script_bytes }
 {
@@ -121,9 +129,12 @@ fn write_output<W: Write>(
     site: &Site,
 ) -> Result<Summary, ReplayFault>
     requires { length script.now ≤ max_script_bytes }
-    ensures whole { OnOk result (Appends (W.contents writer.old) (W.contents writer.new) (output_of site.now script.now)) }
-    ensures faults { IfOk result (λ summary. summary.script_faults ≡ fault_count site.now script.now) }
-    ensures prefix { AppendsPrefix (W.contents writer.old) (W.contents writer.new) (output_of site.now script.now) }
+    ensures whole { OnOk result
+        (Appends (W.contents writer.old) (W.contents writer.new) (output_of site.now script.now)) }
+    ensures faults { IfOk result
+        (λ summary. summary.script_faults ≡ fault_count site.now script.now) }
+    ensures prefix { AppendsPrefix (W.contents writer.old) (W.contents writer.new)
+        (output_of site.now script.now) }
     ensures late { IfErr result IsWriting }
 {
     let summary = write_lines(alloc, writer, script, site)?;
@@ -139,9 +150,12 @@ fn write_lines<W: Write>(
     site: &Site,
 ) -> Result<Summary, ReplayFault>
     requires { length script.now ≤ max_script_bytes }
-    ensures whole { OnOk result (Appends (W.contents writer.old) (W.contents writer.new) (output_of site.now script.now)) }
-    ensures faults { IfOk result (λ summary. summary.script_faults ≡ fault_count site.now script.now) }
-    ensures prefix { AppendsPrefix (W.contents writer.old) (W.contents writer.new) (output_of site.now script.now) }
+    ensures whole { OnOk result
+        (Appends (W.contents writer.old) (W.contents writer.new) (output_of site.now script.now)) }
+    ensures faults { IfOk result
+        (λ summary. summary.script_faults ≡ fault_count site.now script.now) }
+    ensures prefix { AppendsPrefix (W.contents writer.old) (W.contents writer.new)
+        (output_of site.now script.now) }
     ensures late { IfErr result IsWriting }
 {
     let mut system = CentralSystem::new(alloc);
@@ -169,12 +183,18 @@ fn write_line<W: Write>(
     number: u64,
     line: &[u8],
 ) -> Result<bool, ReplayFault>
-    ensures whole { OnOk result (Appends (W.contents writer.old) (W.contents writer.new) (line_played site.now system.old number line.now).printed) }
-    ensures fault { IfOk result (λ is_fault. is_fault ≡ (line_played site.now system.old number line.now).is_fault) }
-    ensures after { OnOk result (system.new ≡ (line_played site.now system.old number line.now).after) }
-    ensures prefix { AppendsPrefix (W.contents writer.old) (W.contents writer.new) (line_played site.now system.old number line.now).printed }
+    ensures whole { OnOk result
+        (Appends (W.contents writer.old) (W.contents writer.new)
+        (line_played site.now system.old number line.now).printed) }
+    ensures fault { IfOk result
+        (λ is_fault. is_fault ≡ (line_played site.now system.old number line.now).is_fault) }
+    ensures after { OnOk result
+        (system.new ≡ (line_played site.now system.old number line.now).after) }
+    ensures prefix { AppendsPrefix (W.contents writer.old) (W.contents writer.new)
+        (line_played site.now system.old number line.now).printed }
     ensures part { IsErrOf result ReplayFault.Write
-        → AppendsProperPrefix (W.contents writer.old) (W.contents writer.new) (line_played site.now system.old number line.now).printed }
+        → AppendsProperPrefix (W.contents writer.old) (W.contents writer.new)
+        (line_played site.now system.old number line.now).printed }
     ensures late { IfErr result IsWriting }
 {
     let printed = play_line(alloc, site, system, number, line)?;

@@ -20,7 +20,12 @@ impl<'a> Model for SentText<'a> {
 
     ghost Value = { Sent };
 
-    ghost view = { λ t. record { moment = t.moment; sender = t.sender; point = t.point.now; frame = t.frame.now } };
+    ghost view = { λ t. record {
+      moment = t.moment;
+      sender = t.sender;
+      point = t.point.now;
+      frame = t.frame.now;
+    } };
 }
 
 impl<'a> SentText<'a> {

@@ -77,7 +77,8 @@ fn step_of_call(
     name: &str,
     payload: Node<'_>,
 ) -> Result<Result<Step, Response>, AllocError>
-    ensures { IfOk result (λ asked. asked ≡ step_of_call text.now name.now (tree_at payload.entry)) }
+    ensures { IfOk result
+        (λ asked. asked ≡ step_of_call text.now name.now (tree_at payload.entry)) }
 {
     match ActionKind::named(name) {
         Some(kind) if is_same_side(kind.side(), text.sender()) => {
@@ -103,7 +104,8 @@ fn step_of_fields(
     kind: ActionKind,
     payload: Node<'_>,
 ) -> Result<Result<Step, Response>, AllocError>
-    ensures { IfOk result (λ asked. asked ≡ step_of_reading moment (action_of_kind kind (tree_at payload.entry))) }
+    ensures { IfOk result
+        (λ asked. asked ≡ step_of_reading moment (action_of_kind kind (tree_at payload.entry))) }
 {
     match read_fields(alloc, kind, payload) {
         Ok(action) => Ok(step_of(moment, action)),

@@ -5,7 +5,7 @@ ghost use Rattle.ocppj_frame.specs.Field.{field_map};
 ghost use Rattle.std.specs.List.{list_all};
 ghost use Rattle.ocppj_frame.specs.Read.{tree_of_text};
 ghost use Rattle.ocppj_frame.specs.Payload.{entries_in, tree_at};
-ghost use Rattle.replay.specs.SiteReading.{or_fault, some_or, is_id_byte, is_point_id, id_or_wrong, only_entry, object_or, ceiling_of, ceilings_of, few_entries, point_of, site_of_tree, site_by, site_of, is_memory};
+ghost use Rattle.replay.specs.SiteReading.{or_fault, some_or, is_id_byte, is_point_id, id_or_wrong, only_entry, object_or, ceiling_of, ceilings_of, few_entries, connectors_of, point_of, site_of_tree, site_by, site_of, is_memory};
 ghost use Rattle.ocpp_scalars.specs.Reading.{ReadsUnless};
 
 use crate::site::fault::SiteFault;
@@ -69,11 +69,19 @@ fn read_point(alloc: Global, unit: Unit, point: Node<'_>) -> Result<Site, SiteFa
     let fields = object_or(SiteFault::BadPoints, point)?;
     let id = or_fault(SiteFault::BadId, id_or_wrong(text_field(fields, "id")))?;
     let ceiling = or_fault(SiteFault::BadCeiling, tenths_field(fields, "ceiling"))?;
-    let entries = or_fault(SiteFault::BadConnectors, list_field(fields, "connectors"))?;
-    let entries = few_entries(entries)?;
-    let ceilings = read_ceilings(alloc, entries)?;
+    let ceilings = read_connectors(alloc, fields)?;
     let id = String::from_str(alloc, id)?;
     Ok(Site::new(unit, id, ceiling, ceilings))
+}
+
+#[tactic(auto, unfolding(crate::specs::SiteReading::connectors_of))]
+fn read_connectors(alloc: Global, fields: Node<'_>) -> Result<Vec<u32>, SiteFault>
+    ensures { ReadsUnless is_memory (λ ceilings. ceilings.items) result
+        (connectors_of (tree_at fields.entry)) }
+{
+    let entries = or_fault(SiteFault::BadConnectors, list_field(fields, "connectors"))?;
+    let entries = few_entries(entries)?;
+    read_ceilings(alloc, entries)
 }
 
 /// The value of a field, or the fault where it has none.
@@ -163,7 +171,8 @@ fn few_entries(entries: Entries<'_>) -> Result<Entries<'_>, SiteFault>
 }
 
 fn read_ceilings(alloc: Global, entries: Entries<'_>) -> Result<Vec<u32>, SiteFault>
-    ensures { ReadsUnless is_memory (λ ceilings. ceilings.items) result (ceilings_of (entries_in entries.entry)) }
+    ensures { ReadsUnless is_memory (λ ceilings. ceilings.items) result
+        (ceilings_of (entries_in entries.entry)) }
 {
     let mut ceilings = Vec::new(alloc);
     for entry in entries.iter() {

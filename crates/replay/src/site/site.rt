@@ -20,13 +20,23 @@ impl Model for Site {
 
     ghost Value = { SiteState };
 
-    ghost view = { λ s. record { unit = s.unit; point = string_bytes s.point; ceiling = s.ceiling; ceilings = s.ceilings.items } };
+    ghost view = { λ s. record {
+      unit = s.unit;
+      point = string_bytes s.point;
+      ceiling = s.ceiling;
+      ceilings = s.ceilings.items;
+    } };
 }
 
 impl Site {
     /// The site of a point with these connectors' ceilings, in tenths.
     pub fn new(unit: Unit, point: String, ceiling: u32, ceilings: Vec<u32>) -> Site
-        ensures { result ≡ record { unit = unit; point = string_bytes point; ceiling = ceiling; ceilings = ceilings.items } }
+        ensures { result ≡ record {
+          unit = unit;
+          point = string_bytes point;
+          ceiling = ceiling;
+          ceilings = ceilings.items;
+        } }
     {
         Site {
             unit,

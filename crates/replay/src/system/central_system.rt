@@ -45,7 +45,8 @@ impl CentralSystem {
 
     /// Makes a step at a point of the site. After an error everything is as it was.
     pub fn step(&mut self, site: &Site, point: &str, step: Step) -> Result<Reply, AllocError>
-        ensures done { IfOk result (λ reply. Steps site.now point.now self.old step reply self.new) }
+        ensures done { IfOk result
+            (λ reply. Steps site.now point.now self.old step reply self.new) }
         ensures kept { OnErr result (self.new ≡ self.old) }
     {
         match step {
@@ -56,7 +57,8 @@ impl CentralSystem {
 
     /// Installs a profile in place of the one that is there.
     fn install(&mut self, site: &Site, point: &str, row: Row) -> Result<Reply, AllocError>
-        ensures done { IfOk result (λ reply. Steps site.now point.now self.old (Step.Install row) reply self.new) }
+        ensures done { IfOk result
+            (λ reply. Steps site.now point.now self.old (Step.Install row) reply self.new) }
         ensures kept { OnErr result (self.new ≡ self.old) }
     {
         if let Some(refusal) = install_refusal(site, point, &row.profile) {
@@ -77,7 +79,8 @@ impl CentralSystem {
         start: Instant,
         request: &ScheduleRequest,
     ) -> Result<Reply, AllocError>
-        ensures { IfOk result (λ reply. reply ≡ request_reply site.now point.now self.now start request.now) }
+        ensures { IfOk result
+            (λ reply. reply ≡ request_reply site.now point.now self.now start request.now) }
     {
         match ask_at(site, point, start, request) {
             Ok(ask) => self.compose_ask(site, &ask),
@@ -88,7 +91,8 @@ impl CentralSystem {
     /// Composes the schedule of an ask.
     fn compose_ask(&self, site: &Site, ask: &Ask) -> Result<Reply, AllocError>
         requires { ask.now.connector ≤ length site.now.ceilings }
-        ensures { IfOk result (λ reply. reply ≡ composed_reply (state_of_point site.now self.now) ask.now) }
+        ensures { IfOk result
+            (λ reply. reply ≡ composed_reply (state_of_point site.now self.now) ask.now) }
     {
         exact_schedules();
         match compile_plain(self.alloc, &self.view(site), ask) {
