@@ -1,17 +1,17 @@
 -- The message element by element is the one of the table's row, and no other.
-use Rattle.std.proofs.Common.{◌≡◌, ℕ, ◌==◌, ℤ, pos, negsuc, nat_le, length, Bool, true, false, List, [], ◌∷◌, slice_get, Option, Some, None, option_map, option_and_then, unwrap_or, Result, Ok, Err, refl, sym, ap, ◌∙◌, subst, inl, inr, arith}
-use Rattle.std.specs.Prelude.{◌≢◌, ◌↔◌, ◌⊎◌}
+use Rattle.std.proofs.Common.{◌≡◌, ℕ, ◌==◌, ℤ, pos, negsuc, nat_le, length, Bool, true, false, List, [], ◌∷◌, slice_get, Option, Some, None, option_map, option_and_then, unwrap_or, Result, Ok, Err, refl, ap, ◌∙◌, subst, inl, inr, arith}
+use Rattle.std.specs.Prelude.{◌≢◌, ◌↔◌}
 use Rattle.std.specs.Str.{chars}
 use Rattle.std.specs.Result.{result_ok}
 use Rattle.std.proofs.lemmas.Bool.{eqb-true, ne_eqb, eqb-false}
 use Rattle.std.proofs.lemmas.Bool.Decides.{nat_tests}
 use Rattle.ocpp_scalars.specs.ByCases.Number.{whole_of}
 use Rattle.ocpp_scalars.specs.declared.number.NumberFault.{NumberFault}
-use Rattle.ocppj_frame.specs.Tree.{Tree, Trees, Fields, null, boolean, text, number, list, object, entries, as_list, as_text}
+use Rattle.ocppj_frame.specs.Tree.{Tree, null, boolean, text, number, list, object, entries, as_text}
 use Rattle.ocppj_frame.specs.Message.{Message, call_result, IsId, IsKnownType, IsOtherType, IsPayload, absent_payload, null_payload, object_payload, IsNoPayload, HasNoType, HasNoId, HasNoText, IsFrame, call_row, result_row, malformed_result_row, error_row, other_row, malformed_action, malformed_payload, no_type, no_id, IsMessage, of_list, no_list, empty_object}
 use Rattle.ocppj_frame.specs.ByCases.Message.{call_of, message_by, message_id, message_of_elements, message_of_tree, message_type, payload_of, type_of_number, unless_long}
 use Rattle.ocppj_frame.specs.declared.fault.FrameFault.{FrameFault}
-use Rattle.ocppj_frame.specs.declared.fault.FrameFault.TheVariants.{Dropped, Formation}
+use Rattle.ocppj_frame.specs.declared.fault.FrameFault.TheVariants.{Dropped}
 use Rattle.ocppj_frame.specs.declared.message.MessageType.{MessageType}
 use Rattle.ocppj_frame.specs.declared.message.MessageType.TheVariants as types
 
@@ -188,7 +188,7 @@ typed digits others (pos n) k = by_test (n == 2)
     (λ not_3. by_test (n == 4)
     (λ is. rw (not_2, not_3, is) (with_error digits others _ (k ∙ ap (λ (m : ℕ). Ok (pos m)) (eqb-true n 4 is)) (first_of others)))
     (λ not_4. rw (not_2, not_3, not_4) (other_row digits (pos n) others k
-        ((λ e. eqb-false n 2 not_2 (pos_is n 2 e)), (λ e. eqb-false n 3 not_3 (pos_is n 3 e)), (λ e. eqb-false n 4 not_4 (pos_is n 4 e)))))))
+    ((λ e. eqb-false n 2 not_2 (pos_is n 2 e)), (λ e. eqb-false n 3 not_3 (pos_is n 3 e)), (λ e. eqb-false n 4 not_4 (pos_is n 4 e)))))))
   where
     pos_is : (m o : ℕ) → pos m ≡ pos o → m ≡ o
     pos_is m o e = cc

@@ -6,30 +6,37 @@ use Rattle.serde_json.specs.Data as json
 use Rattle.serde_json.specs.View.{view, items_view, members_view}
 use Rattle.serde_json.specs.declared.value.Value.{Value, Array, Object}
 use Rattle.serde_json.proofs.Views.{view-Array, view-Object}
+use Rattle.ocpp_scalars.specs.OptionSteps.{◌>>=◌}
 use Rattle.ocppj_frame.specs.ByCases.Member.{is_key_of, member_named}
 use Rattle.ocppj_frame.specs.Payload.{value_tree}
 use Rattle.ocppj_frame.specs.Tree.{Tree, null, list, object, Trees, no_entries, entry, entries, Fields, field, field_at, field_of, as_list}
 use Rattle.ocppj_frame.specs.Read.{tree_of, trees_of, fields_of, name_of_key}
 
 -- a list's first entry and the others
-first_entry : (o : Option Tree) (p : Option Trees) → is_some (option_and_then (λ t. option_map (entry t) p) o) ≡ true → is_some o ≡ true
+abbrev entries_step : Option Tree → Option Trees → Option Trees
+entries_step first others = do
+  t ← first
+  ts ← others
+  Some (entry t ts)
+
+first_entry : (o : Option Tree) (p : Option Trees) → is_some (entries_step o p) ≡ true → is_some o ≡ true
 first_entry None p h = h
 first_entry (Some t) p h = refl
 
-other_entries : (o : Option Tree) (p : Option Trees) → is_some (option_and_then (λ t. option_map (entry t) p) o) ≡ true → is_some p ≡ true
+other_entries : (o : Option Tree) (p : Option Trees) → is_some (entries_step o p) ≡ true → is_some p ≡ true
 other_entries None p h = cc
 other_entries (Some t) None h = h
 other_entries (Some t) (Some ts) h = refl
 
-entries_step : (o : Option Tree) (p : Option Trees) (others : List Tree) → entries (unwrap_or p no_entries) ≡ others → is_some (option_and_then (λ t. option_map (entry t) p) o) ≡ true
-    → entries (unwrap_or (option_and_then (λ t. option_map (entry t) p) o) no_entries) ≡ unwrap_or o null ∷ others
-entries_step None p others e h = cc
-entries_step (Some t) None others e h = cc
-entries_step (Some t) (Some ts) others e h = ap (λ (l : List Tree). t ∷ l) e
+entries_stepped : (o : Option Tree) (p : Option Trees) (others : List Tree) → entries (unwrap_or p no_entries) ≡ others → is_some (entries_step o p) ≡ true
+    → entries (unwrap_or (entries_step o p) no_entries) ≡ unwrap_or o null ∷ others
+entries_stepped None p others e h = cc
+entries_stepped (Some t) None others e h = cc
+entries_stepped (Some t) (Some ts) others e h = ap (λ (l : List Tree). t ∷ l) e
 
 pub entries-trees_of : (vs : List Value) → is_some (trees_of (items_view vs)) ≡ true → entries (unwrap_or (trees_of (items_view vs)) no_entries) ≡ map value_tree vs
 entries-trees_of [] h = refl
-entries-trees_of (v ∷ vs) h = entries_step (tree_of (view v)) (trees_of (items_view vs)) (map value_tree vs) (entries-trees_of vs (other_entries (tree_of (view v)) (trees_of (items_view vs)) h)) h
+entries-trees_of (v ∷ vs) h = entries_stepped (tree_of (view v)) (trees_of (items_view vs)) (map value_tree vs) (entries-trees_of vs (other_entries (tree_of (view v)) (trees_of (items_view vs)) h)) h
 
 pub first_is_tree : (v : Value) (vs : List Value) → is_some (trees_of (items_view (v ∷ vs))) ≡ true → is_some (tree_of (view v)) ≡ true
 first_is_tree v vs h = first_entry (tree_of (view v)) (trees_of (items_view vs)) h
@@ -52,7 +59,11 @@ list_entries (Some ts) h = refl
 
 -- an object's members
 abbrev fields_step : Option (List ℕ) → Option Tree → Option Fields → Option Fields
-fields_step name tree others = option_and_then (λ n. option_and_then (λ t. option_map (field n t) others) tree) name
+fields_step name tree others = do
+  n ← name
+  t ← tree
+  fs ← others
+  Some (field n t fs)
 
 name_stands : (name : Option (List ℕ)) (tree : Option Tree) (others : Option Fields) → is_some (fields_step name tree others) ≡ true → is_some name ≡ true
 name_stands None tree others h = h

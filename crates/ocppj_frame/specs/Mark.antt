@@ -2,7 +2,8 @@
 -- digits. From left to right, a string has the letter `s` after its opening quote, a number has become a string that
 -- begins with the letter `n`, and every other byte is copied.
 use Rattle.std.specs.Prelude.{◌≡◌, ◌≢◌, ℕ, List, [], ◌∷◌, ◌++◌, Bool, true, false, ◌==◌, ◌||◌, ◌&&◌, nat_le, Option, Some, None, if◌then◌else◌}
-use Rattle.json.specs.Ascii.{quote, backslash, minus, plus, dot, lower_e, upper_e, lower_n}
+use Rattle.json.specs.Ascii.{backslash}
+use Rattle.ocpp_scalars.specs.Ascii.{digit_nine, digit_zero, dot, lower_e, lower_n, minus, plus, quote, upper_e}
 
 -- the letter `s`
 abbrev pub text_mark : ℕ
@@ -14,7 +15,7 @@ number_mark = lower_n
 
 -- a digit or `-`
 abbrev pub begins_number : ℕ → Bool
-begins_number b = (nat_le 48 b && nat_le b 57) || (b == minus)
+begins_number b = (nat_le digit_zero b && nat_le b digit_nine) || (b == minus)
 
 -- a digit, `-`, `+`, `.`, `e` or `E`
 abbrev pub continues_number : ℕ → Bool

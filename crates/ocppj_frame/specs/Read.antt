@@ -1,6 +1,8 @@
--- The tree of a text: `serde_json`'s reading of the marked text, with the marks removed.
-use Rattle.std.specs.Prelude.{ℕ, List, Option, Some, None, option_map, option_and_then, if◌then◌else◌}
+-- The tree of a text: `serde_json`'s reading of the marked text, with the marks removed. Of members with one name it
+-- keeps the last, so that a value before that one is never looked at: only what is kept has to be a tree.
+use Rattle.std.specs.Prelude.{ℕ, List, Option, Some, None, option_map, if◌then◌else◌}
 use Rattle.ocpp_scalars.specs.ByCases.NumberText.{is_number_text}
+use Rattle.ocpp_scalars.specs.OptionSteps.{◌>>=◌}
 use Rattle.serde_json.specs.Data as json
 use Rattle.serde_json.specs.Read.{read}
 use Rattle.ocppj_frame.specs.Mark.{after_mark, text_mark, number_mark}
@@ -32,12 +34,21 @@ abbrev mutual
 
   pub trees_of : json.Items → Option Trees
   trees_of json.no_items = Some no_entries
-  trees_of (json.item d ds) = option_and_then (λ t. option_map (entry t) (trees_of ds)) (tree_of d)
+  trees_of (json.item d ds) = do
+    first ← tree_of d
+    others ← trees_of ds
+    Some (entry first others)
 
   pub fields_of : json.Members → Option Fields
   fields_of json.no_members = Some no_fields
-  fields_of (json.member key d ms) = option_and_then (λ name. option_and_then (λ t. option_map (field name t) (fields_of ms)) (tree_of d)) (name_of_key key)
+  fields_of (json.member key d ms) = do
+    name ← name_of_key key
+    value ← tree_of d
+    others ← fields_of ms
+    Some (field name value others)
 
 -- the tree of a text, or `None` where the text is refused
 abbrev pub tree_of_text : List ℕ → Option Tree
-tree_of_text bytes = option_and_then tree_of (read (marked_text bytes))
+tree_of_text bytes = do
+  value ← read (marked_text bytes)
+  tree_of value

@@ -52,7 +52,8 @@ pub fn read_frame(alloc: Global, text: &str) -> Result<Frame, FrameFault>
 }
 
 fn frame_of_tree(alloc: Global, tree: Payload) -> Result<Frame, FrameFault>
-    ensures frame { IfOk result (λ frame. message_of_tree (tree_in tree) ≡ Ok (message_in frame)) }
+    ensures frame { IfOk result
+        (λ frame. message_of_tree (tree_in tree) ≡ Ok (message_in frame)) }
     ensures object { IfOk result HasObject }
     ensures fault { IfErr result (λ e. message_of_tree (tree_in tree) ≡ Err e) }
 {
@@ -73,9 +74,13 @@ fn frame_by(
     third: Option<Payload>,
     fourth: Option<Payload>,
 ) -> Result<Frame, FrameFault>
-    ensures frame { IfOk result (λ frame. message_by kind id (option_map tree_in third) (option_map tree_in fourth) ≡ Ok (message_in frame)) }
+    ensures frame { IfOk result
+        (λ frame. message_by kind id (option_map tree_in third) (option_map tree_in fourth)
+        ≡ Ok (message_in frame)) }
     ensures object { IfOk result HasObject }
-    ensures fault { IfErr result (λ e. message_by kind id (option_map tree_in third) (option_map tree_in fourth) ≡ Err e) }
+    ensures fault { IfErr result
+        (λ e. message_by kind id (option_map tree_in third) (option_map tree_in fourth)
+        ≡ Err e) }
 {
     match (kind, id) {
         (Some(MessageType::Other), _) => Ok(Frame::Other),
@@ -95,9 +100,15 @@ fn call_of(
     third: Option<Payload>,
     fourth: Option<Payload>,
 ) -> Result<Frame, FrameFault>
-    ensures frame { IfOk result (λ frame. call_of id (option_and_then as_text (option_map tree_in third)) (payload_of (option_map tree_in fourth)) ≡ Ok (message_in frame)) }
+    ensures frame { IfOk result
+        (λ frame. call_of id (option_and_then as_text (option_map tree_in third))
+        (payload_of (option_map tree_in fourth))
+        ≡ Ok (message_in frame)) }
     ensures object { IfOk result HasObject }
-    ensures fault { IfErr result (λ e. call_of id (option_and_then as_text (option_map tree_in third)) (payload_of (option_map tree_in fourth)) ≡ Err e) }
+    ensures fault { IfErr result
+        (λ e. call_of id (option_and_then as_text (option_map tree_in third))
+        (payload_of (option_map tree_in fourth))
+        ≡ Err e) }
 {
     let Some(action) = action_of(third) else {
         return Err(FrameFault::Formation { id });

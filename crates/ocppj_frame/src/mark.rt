@@ -1,5 +1,6 @@
-//! Marked texts. `serde_json` reads a number into 64 bits, which loses digits: so the text that it reads has no
-//! numbers, but strings in their place, and each string has a mark that says which of the two it was.
+//! Marked texts. `serde_json` reads a number into 64 bits, which loses digits: so the text that it
+//! reads has no numbers, but strings in their place, and each string has a mark that says which of the
+//! two it was.
 ghost use Rattle.std.specs.Prelude.{◌≡◌, ◌<◌, ◌≤◌, ◌+◌, ◌*◌, ◌∷◌, ◌++◌, IfOk, length, option_map, string_bytes, vec_capacity, vec_len};
 ghost use Rattle.ocppj_frame.specs.Mark.{after_mark, begins_number, continues_number, text_mark};
 ghost use Rattle.ocppj_frame.specs.ByCases.Mark.{in_number, inside, marked_from, marked_text, outside};
@@ -28,8 +29,8 @@ fn mark_bytes(alloc: Global, text: &[u8]) -> Result<Vec<u8>, AllocError>
     Ok(out)
 }
 
-/// Appends a byte that stands outside strings and numbers, with the string or the number that it begins. Returns
-/// what is left of the others.
+/// Appends a byte that stands outside strings and numbers, with the string or the number that it
+/// begins. Returns what is left of the others.
 fn push_outside<'a>(out: &mut Vec<u8>, byte: u8, others: &'a [u8]) -> &'a [u8]
     requires { vec_len out.old + 4 * (length others.now + 1) ≤ vec_capacity out.old }
     ensures marked { out.new.items ++ marked_from outside result.now
@@ -80,7 +81,8 @@ fn push_string<'a>(out: &mut Vec<u8>, text: &'a [u8]) -> &'a [u8]
     left
 }
 
-/// Appends what follows the first byte of a number, up to its end, and closes its quote. Returns what is left.
+/// Appends what follows the first byte of a number, up to its end, and closes its quote. Returns what
+/// is left.
 fn push_number<'a>(out: &mut Vec<u8>, text: &'a [u8]) -> &'a [u8]
     requires { vec_len out.old + length text.now + 1 ≤ vec_capacity out.old }
     ensures marked { out.new.items ++ marked_from outside result.now

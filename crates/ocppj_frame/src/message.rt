@@ -42,7 +42,7 @@ fn type_of_number(number: i32) -> MessageType
     }
 }
 
-/// The id that the second element gives.
+/// The id in the second element.
 pub(crate) fn message_id(element: Option<Payload>) -> Option<MessageId>
     ensures { result ≡ message_id (option_map tree_in element) }
 {
@@ -53,8 +53,8 @@ pub(crate) fn message_id(element: Option<Payload>) -> Option<MessageId>
     }
 }
 
-/// The payload that an element gives: the empty object where it is absent or null, `None` where it is
-/// no object. Takes no memory.
+/// The payload in an element: the empty object where it is absent or null, `None` where it is
+/// no object. Needs no memory.
 pub(crate) fn payload_of(alloc: Global, element: Option<Payload>) -> Option<Payload>
     ensures value { option_map tree_in result ≡ payload_of (option_map tree_in element) }
     ensures object { IfSome result (λ payload. is_object (tree_in payload) ≡ true) }

@@ -1,12 +1,14 @@
+//! What no replayed script shows: which frames get no answer and why, texts of their largest size,
+//! fields by kind, and written frames. `tests/replay` at the top of the repository has the texts of
+//! JSON conformance suites.
 use crate::{
-    Field, Frame, FrameFault, instant_field, list_field, object_field, read_frame, read_tree,
-    tenths_field, text_field, whole_field, write_call, write_error, write_result,
+    Field, Frame, FrameFault, instant_field, list_field, object_field, push_call_head, push_error,
+    push_frame_end, push_result_head, read_frame, read_tree, tenths_field, text_field, whole_field,
+    write_call, write_error, write_result,
 };
 use ocpp_scalars::Instant;
 use std::alloc::{AllocError, Global};
 use std::test::Fail;
-
-mod texts;
 
 fn outcome(alloc: Global, text: &str) -> &'static str {
     match read_frame(alloc, text) {
@@ -20,166 +22,113 @@ fn outcome(alloc: Global, text: &str) -> &'static str {
     }
 }
 
-fn push_times(out: &mut String, piece: &str, times: u32) -> Result<(), AllocError> {
-    for _ in 0..times {
-        out.push_str(piece)?;
+// On each line an outcome and a text that has it.
+const FRAMES: &str = r#"Call [2,"5","Heartbeat",{}]
+Call [2,"5","Heartbeat"]
+Call [2,"5","Heartbeat",null]
+Call [2,"5","Heartbeat",{},7,[],null]
+Call [2,"","",{}]
+Call [2.0,"5","Heartbeat",{}]
+Call [20e-1,"5","Heartbeat",{}]
+Call [0.2E+1,"5","Heartbeat",{}]
+Call [2.000000000000000000000000000000,"5","Heartbeat",{}]
+Call [2,"5","Heartbeat",{"x":-1.5E+3}]
+Call [2,"5","Heartbeat",{"k\"1":"-5e"}]
+Reply [3,"1"]
+Reply [3,"1",7]
+Reply [3,"1",null]
+Reply [3,"1",{}]
+Reply [3,"1",[],{}]
+Reply [30E-1,"1",{}]
+Fault [4,"1"]
+Fault [4,"1",7,null,[]]
+Fault [4,"1","GenericError","",{}]
+Fault [4000000000000000000000000000e-27,"1"]
+Other [7,"5"]
+Other [7]
+Other [5]
+Other [7,7,7]
+Other [0,"5"]
+Other [-0,"5"]
+Other [0e999,"5"]
+Other [0e99999999999999999999999999999,"5"]
+Other [-2,"5","Heartbeat",{}]
+Other [1,"5","Heartbeat",{}]
+Other [22,"5","Heartbeat",{}]
+Other [2147483647]
+Other [-2147483648]
+Formation [2,"5"]
+Formation [2,"5",7,{}]
+Formation [2,"5",null,{}]
+Formation [2,"5",["Heartbeat"],{}]
+Formation [2,"5",{},{}]
+Formation [2,"5",true]
+Formation [2,"5","Heartbeat",[]]
+Formation [2,"5","Heartbeat",""]
+Formation [2,"5","Heartbeat",7]
+Formation [2,"5","Heartbeat",false]
+Formation [2,"5","Heartbeat",[{}]]
+Dropped 
+Dropped null
+Dropped true
+Dropped 2
+Dropped "2"
+Dropped {}
+Dropped {"2":"5"}
+Dropped []
+Dropped [[]]
+Dropped [null,"5"]
+Dropped [true,"5"]
+Dropped ["2","5","Heartbeat",{}]
+Dropped ["n2","5","Heartbeat",{}]
+Dropped [[2],"5","Heartbeat",{}]
+Dropped [{},"5","Heartbeat",{}]
+Dropped [2.5,"5","Heartbeat",{}]
+Dropped [2e-1,"5","Heartbeat",{}]
+Dropped [2e40,"5","Heartbeat",{}]
+Dropped [2E400,"5","Heartbeat",{}]
+Dropped [2e99999999999999999999999999999,"5","Heartbeat",{}]
+Dropped [2e-9999999999999999999999999999,"5","Heartbeat",{}]
+Dropped [2147483648]
+Dropped [-2147483649]
+Dropped [2.0000000000000000000000000000000,"5","Heartbeat",{}]
+Dropped [40000000000000000000000000000e-28,"1"]
+Dropped [02,"5","Heartbeat",{}]
+Dropped [+2,"5","Heartbeat",{}]
+Dropped [2.,"5","Heartbeat",{}]
+Dropped [2e,"5","Heartbeat",{}]
+Dropped [2-0,"5","Heartbeat",{}]
+Dropped [7-]
+Dropped [2]
+Dropped [2,5,"Heartbeat",{}]
+Dropped [2,null,"Heartbeat",{}]
+Dropped [2,["5"],"Heartbeat",{}]
+Dropped [2,{},"Heartbeat",{}]
+Dropped [3]
+Dropped [3,1,{}]
+Dropped [4]
+Dropped [4,7]
+Dropped [4,null]
+Dropped 2,"5","Heartbeat",{}
+Dropped [2,"5","Heartbeat",{}],
+Dropped [2,"5","Heartbeat",{},]
+Dropped [2,"5","Heartbeat",{"x":1-2}]
+Dropped [2,"5","Heartbeat",{1:2}]"#;
+
+#[test]
+fn texts_are_frames_by_their_elements(rt: HostRuntime) -> Result<(), Fail> {
+    for line in FRAMES.lines() {
+        let (wanted, text) = line.split_once(' ').ok_or("no text")?;
+        assert_eq!(rt; outcome(rt.alloc(), text), wanted, "{text}");
     }
+    assert_eq!(rt; outcome(rt.alloc(), " \t\r\n[7,\n\"5\"]\n\r\t "), "Other");
+    assert_eq!(rt; outcome(rt.alloc(), "[7,\"a\nb\"]"), "Dropped");
     Ok(())
 }
 
-// Three pieces in a row.
-fn joined(alloc: Global, first: &str, second: &str, third: &str) -> Result<String, AllocError> {
-    let mut text = String::from_str(alloc, first)?;
-    text.push_str(second)?;
-    text.push_str(third)?;
-    Ok(text)
-}
-
-fn outcome_of_joined(
-    alloc: Global,
-    first: &str,
-    second: &str,
-    third: &str,
-) -> Result<&'static str, AllocError> {
-    let text = joined(alloc, first, second, third)?;
-    Ok(outcome(alloc, text.as_str()))
-}
-
-// The outcome of a CALLERROR whose id has this many characters.
-fn outcome_with_id(alloc: Global, character: &str, times: u32) -> Result<&'static str, AllocError> {
-    let mut id = String::new(alloc);
-    push_times(&mut id, character, times)?;
-    outcome_of_joined(alloc, "[4,\"", id.as_str(), "\"]")
-}
-
-// On each line a text of the outcome.
-const CALLS: &str = r#"[2,"5","Heartbeat",{}]
-[2,"5","Heartbeat"]
-[2,"5","Heartbeat",null]
-[2,"5","Heartbeat",{},7,[],null]
-[2,"","",{}]
-[2.0,"5","Heartbeat",{}]
-[20e-1,"5","Heartbeat",{}]
-[0.2E+1,"5","Heartbeat",{}]
-[2.000000000000000000000000000000,"5","Heartbeat",{}]
-[2,"5","Heartbeat",{"x":-1.5E+3}]
-[2,"5","Heartbeat",{"k\"1":"-5e"}]"#;
-
-const REPLIES: &str = r#"[3,"1"]
-[3,"1",7]
-[3,"1",null]
-[3,"1",{}]
-[3,"1",[],{}]
-[30E-1,"1",{}]"#;
-
-const FAULTS: &str = r#"[4,"1"]
-[4,"1",7,null,[]]
-[4,"1","GenericError","",{}]
-[4000000000000000000000000000e-27,"1"]"#;
-
-const OTHERS: &str = r#"[7,"5"]
-[7]
-[5]
-[7,7,7]
-[0,"5"]
-[-0,"5"]
-[0e999,"5"]
-[0e99999999999999999999999999999,"5"]
-[-2,"5","Heartbeat",{}]
-[1,"5","Heartbeat",{}]
-[22,"5","Heartbeat",{}]
-[2147483647]
-[-2147483648]"#;
-
-const FORMATIONS: &str = r#"[2,"5"]
-[2,"5",7,{}]
-[2,"5",null,{}]
-[2,"5",["Heartbeat"],{}]
-[2,"5",{},{}]
-[2,"5",true]
-[2,"5","Heartbeat",[]]
-[2,"5","Heartbeat",""]
-[2,"5","Heartbeat",7]
-[2,"5","Heartbeat",false]
-[2,"5","Heartbeat",[{}]]"#;
-
-const DROPPED: &str = r#"
-null
-true
-2
-"2"
-{}
-{"2":"5"}
-[]
-[[]]
-[null,"5"]
-[true,"5"]
-["2","5","Heartbeat",{}]
-["n2","5","Heartbeat",{}]
-[[2],"5","Heartbeat",{}]
-[{},"5","Heartbeat",{}]
-[2.5,"5","Heartbeat",{}]
-[2e-1,"5","Heartbeat",{}]
-[2e40,"5","Heartbeat",{}]
-[2E400,"5","Heartbeat",{}]
-[2e99999999999999999999999999999,"5","Heartbeat",{}]
-[2e-9999999999999999999999999999,"5","Heartbeat",{}]
-[2147483648]
-[-2147483649]
-[2.0000000000000000000000000000000,"5","Heartbeat",{}]
-[40000000000000000000000000000e-28,"1"]
-[02,"5","Heartbeat",{}]
-[+2,"5","Heartbeat",{}]
-[2.,"5","Heartbeat",{}]
-[2e,"5","Heartbeat",{}]
-[2-0,"5","Heartbeat",{}]
-[7-]
-[2]
-[2,5,"Heartbeat",{}]
-[2,null,"Heartbeat",{}]
-[2,["5"],"Heartbeat",{}]
-[2,{},"Heartbeat",{}]
-[3]
-[3,1,{}]
-[4]
-[4,7]
-[4,null]
-2,"5","Heartbeat",{}
-[2,"5","Heartbeat",{}],
-[2,"5","Heartbeat",{},]
-[2,"5","Heartbeat",{"x":1-2}]
-[2,"5","Heartbeat",{1:2}]"#;
-
-#[test]
-fn texts_are_frames_by_their_elements(rt: HostRuntime) {
-    for (wanted, texts) in [
-        ("Call", CALLS),
-        ("Reply", REPLIES),
-        ("Fault", FAULTS),
-        ("Other", OTHERS),
-        ("Formation", FORMATIONS),
-        ("Dropped", DROPPED),
-    ] {
-        for text in texts.lines() {
-            assert_eq!(rt; outcome(rt.alloc(), text), wanted, "{text}");
-        }
-    }
-}
-
-#[test]
-fn ids_have_at_most_36_characters(rt: HostRuntime) -> Result<(), AllocError> {
-    let alloc = rt.alloc();
-    for character in ["a", "é", "😀", r#"\""#, r"\u00e9", r"\uD83D\uDE00"] {
-        assert_eq!(rt;
-            outcome_with_id(alloc, character, 36)?,
-            "Fault",
-            "{character}"
-        );
-        assert_eq!(rt;
-            outcome_with_id(alloc, character, 37)?,
-            "Dropped",
-            "{character}"
-        );
+fn push_times(out: &mut String, piece: &str, times: u32) -> Result<(), AllocError> {
+    for _ in 0..times {
+        out.push_str(piece)?;
     }
     Ok(())
 }
@@ -194,6 +143,37 @@ fn frames_have_at_most_1048576_bytes(rt: HostRuntime) -> Result<(), AllocError> 
     text.push_str(" ")?;
     assert_eq!(rt; outcome(alloc, text.as_str()), "Dropped");
     assert!(rt; read_tree(alloc, text.as_str()).is_ok());
+    Ok(())
+}
+
+#[test]
+fn texts_nest_to_127_levels(rt: HostRuntime) -> Result<(), AllocError> {
+    let alloc = rt.alloc();
+    for (open, inner, close, times, wanted) in [
+        // the inner value is a level of its own
+        ("[", "[]", "]", 126, true),
+        ("[", "[]", "]", 127, false),
+        ("{\"a\":", "{}", "}", 126, true),
+        ("{\"a\":", "{}", "}", 127, false),
+        ("[", "{}", "]", 126, true),
+        ("[", "{}", "]", 127, false),
+        ("{\"a\":", "[0,\"a\",null]", "}", 126, true),
+        ("{\"a\":", "[0,\"a\",null]", "}", 127, false),
+        ("[", "", "", 100_000, false),
+        ("{\"a\":", "", "", 100_000, false),
+        ("[{\"a\":", "", "", 100_000, false),
+        ("[", "", "]", 100_000, false),
+    ] {
+        let mut text = String::new(alloc);
+        push_times(&mut text, open, times)?;
+        text.push_str(inner)?;
+        push_times(&mut text, close, times)?;
+        assert_eq!(rt;
+            read_tree(alloc, text.as_str()).is_ok(),
+            wanted,
+            "{open}{inner}"
+        );
+    }
     Ok(())
 }
 
@@ -234,13 +214,13 @@ fn fields_are_read_by_kind(rt: HostRuntime) -> Result<(), Fail> {
     assert_eq!(rt; instant_field(root, "time"), Field::Value(ten_seconds));
     assert_eq!(rt; instant_field(root, "half"), Field::WrongKind);
     assert!(rt; matches!(object_field(root, "list"), Field::WrongKind));
-    let Field::Value(items) = list_field(root, "list") else {
+    let Field::Value(entries) = list_field(root, "list") else {
         return Err(Fail::new("no list"));
     };
-    assert_eq!(rt; items.len(), 2);
+    assert_eq!(rt; entries.len(), 2);
     let mut objects = 0u8;
-    for part in items.iter() {
-        if part.is_object() {
+    for node in entries.iter() {
+        if node.is_object() {
             objects = objects.wrapping_add(1);
         }
     }
@@ -259,42 +239,42 @@ fn frames_are_written_without_blanks(rt: HostRuntime) -> Result<(), Fail> {
     assert_eq!(rt; error.as_str(), r#"[4,"a\"\u0001\n","GenericError","",{}]"#);
     let error = write_error(alloc, "", "a\tb", "c\\d")?;
     assert_eq!(rt; error.as_str(), r#"[4,"","a\tb","c\\d",{}]"#);
+    let mut out = String::from_str(alloc, "> ")?;
+    push_call_head(&mut out, "1", "Reset")?;
+    push_frame_end(&mut out)?;
+    push_result_head(&mut out, "\u{1}")?;
+    push_error(&mut out, "2", "é", "")?;
+    assert_eq!(rt;
+        out.as_str(),
+        r#"> [2,"1","Reset",][3,"\u0001",[4,"2","é","",{}]"#
+    );
     Ok(())
 }
 
-// A CALLRESULT with the id that a CALLERROR has, as its string is written between the quotes.
-fn answered(alloc: Global, id: &str) -> Result<String, Fail> {
-    let text = joined(alloc, "[4,\"", id, "\"]")?;
-    let Ok(Frame::Fault { id }) = read_frame(alloc, text.as_str()) else {
-        return Err(Fail::new("no id"));
-    };
-    Ok(write_result(alloc, id.as_str(), "{}")?)
-}
-
 #[test]
-fn ids_are_written_as_json_strings(rt: HostRuntime) -> Result<(), Fail> {
-    for (id, wanted) in [
-        (r"\u0041\/é", r#"[3,"A/é",{}]"#),
-        (r#"\"a\u0001\""#, r#"[3,"\"a\u0001\"",{}]"#),
-        (r"\\\u005c\u002F/", r#"[3,"\\\\//",{}]"#),
-        (r"\u0022\u0027'", r#"[3,"\"''",{}]"#),
-        (
-            r"\u0000\u0001\u0002\u0003\u0004\u0005\u0006\u0007\u0008\u0009\u000A\u000B\u000C\u000D\u000E\u000F",
-            r#"[3,"\u0000\u0001\u0002\u0003\u0004\u0005\u0006\u0007\b\t\n\u000b\f\r\u000e\u000f",{}]"#,
-        ),
-        (
-            r"\u0010\u0011\u0012\u0013\u0014\u0015\u0016\u0017\u0018\u0019\u001A\u001B\u001C\u001D\u001E\u001F",
-            r#"[3,"\u0010\u0011\u0012\u0013\u0014\u0015\u0016\u0017\u0018\u0019\u001a\u001b\u001c\u001d\u001e\u001f",{}]"#,
-        ),
-        (r"\b\f\n\r\t", r#"[3,"\b\f\n\r\t",{}]"#),
-        (
-            r"\u007F\u0080\u2028\uFEFF\uFFFF",
-            "[3,\"\u{7f}\u{80}\u{2028}\u{feff}\u{ffff}\",{}]",
-        ),
-        (r"\uD83D\uDE00😀", "[3,\"😀😀\",{}]"),
+fn the_last_field_of_a_name_counts(rt: HostRuntime) -> Result<(), Fail> {
+    for (text, name, wanted) in [
+        ("{\"a\":1,\"a\":2}", "a", 2),
+        (r#"{"a":1,"b":7,"\u0061":2}"#, "a", 2),
+        (r#"{"\u0061":2,"b":7,"a":1}"#, "a", 1),
+        ("{\"a\":\"x\",\"a\":null,\"a\":3}", "a", 3),
+        ("{\"a\":01,\"a\":4}", "a", 4),
+        ("{\"A\":1,\"a\":5,\"á\":2}", "a", 5),
+        ("{\"sa\":1,\"na\":2,\"a\":6}", "a", 6),
+        ("{\"sa\":1,\"na\":2,\"a\":6}", "sa", 1),
+        ("{\"a\":1,\"\":7}", "", 7),
+        (r#"{"\u0000":8,"":1}"#, "\0", 8),
+        (r#"{"\"\\\/":9}"#, "\"\\/", 9),
+        ("{\"12\":10}", "12", 10),
     ] {
-        let written = answered(rt.alloc(), id)?;
-        assert_eq!(rt; written.as_str(), wanted);
+        let Ok(payload) = read_tree(rt.alloc(), text) else {
+            return Err(Fail::new("no tree"));
+        };
+        assert_eq!(rt;
+            whole_field(payload.root(), name),
+            Field::Value(wanted),
+            "{text}"
+        );
     }
     Ok(())
 }

@@ -1,6 +1,7 @@
 -- The marked text byte by byte. Equal to that of `Mark` by the law `marked_texts`.
 use Rattle.std.specs.Prelude.{ℕ, List, [], ◌∷◌, ◌++◌, ◌==◌, if◌then◌else◌}
-use Rattle.json.specs.Ascii.{quote, backslash}
+use Rattle.json.specs.Ascii.{backslash}
+use Rattle.ocpp_scalars.specs.Ascii.{quote}
 use Rattle.ocppj_frame.specs.Mark.{text_mark, number_mark, begins_number, continues_number}
 
 -- where a byte stands: outside strings and numbers, inside a string, inside a string after a backslash, or in a number

@@ -21,7 +21,7 @@ impl Elements {
     ghost use Rattle.std.specs.Prelude.{◌≡◌, drop, option_map, slice_get};
     ghost use Rattle.ocppj_frame.specs.Payload.{elements_left, tree_in};
 
-    /// Takes the next element, where there is one.
+    /// Returns the next element, where there is one, and moves past it.
     pub(crate) fn next(&mut self) -> Option<Payload>
         ensures element { option_map tree_in result ≡ slice_get (elements_left self.old) 0 }
         ensures left { elements_left self.new ≡ drop 1 (elements_left self.old) }
@@ -38,7 +38,7 @@ impl Payload {
     ghost use Rattle.ocppj_frame.specs.Payload.{elements_left, tree_in};
     ghost use Rattle.ocppj_frame.specs.Tree.{as_list, as_text, no_fields, object};
 
-    /// The object without fields. Takes no memory.
+    /// The object without fields. Needs no memory.
     pub(crate) fn empty(alloc: Global) -> Payload
         ensures { tree_in result ≡ object no_fields }
     {
@@ -60,7 +60,7 @@ impl Payload {
         }
     }
 
-    /// The text, where the tree is one. Takes no memory.
+    /// The text, where the tree is one. Needs no memory.
     pub(crate) fn into_text(self) -> Option<String>
         ensures { option_map string_bytes result ≡ as_text (tree_in self) }
     {

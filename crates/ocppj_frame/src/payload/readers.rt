@@ -56,6 +56,7 @@ impl<'a> Node<'a> {
     }
 
     /// The entries, where the node is a list.
+    #[tactic(auto, using(crate::proofs::TreeParts::value_list))]
     pub fn list(self) -> Option<Entries<'a>>
         ensures { option_map entries_in result ≡ as_list (tree_at self.entry) }
     {
@@ -83,8 +84,11 @@ impl<'a> Node<'a> {
 }
 
 fn find_member<'a>(members: &'a Map<String, Value>, name: &str) -> Option<&'a Value>
-    ensures { option_map (λ v. view v.now) result ≡ member_named name.now (members_view members.now.entries) }
+    ensures { option_map (λ v. view v.now) result
+        ≡ member_named name.now (members_view members.now.entries) }
 {
+    // The keys are marked and the name isn't: a look-up in the map would need memory for a marked name.
+    // Each call looks for few fields, among few members where the object is OCPP's.
     for (key, value) in members {
         if is_key_of(name, key.as_str()) {
             return Some(value);

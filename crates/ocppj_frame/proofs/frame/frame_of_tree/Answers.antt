@@ -1,3 +1,4 @@
+-- The elements taken one after another are those of the list.
 use Rattle.std.proofs.Common.{◌≡◌, sym, subst, Result, Ok, Err}
 use Rattle.std.specs.Prelude.{IfOk, IfErr}
 use Rattle.ocppj_frame.specs.Frame.{message_in}

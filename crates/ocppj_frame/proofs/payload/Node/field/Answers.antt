@@ -1,3 +1,4 @@
+-- The field of an object is the tree of its member.
 use Rattle.std.proofs.Common.{◌∙◌, ap, option_map}
 use Rattle.ocppj_frame.proofs.TreeParts.{data_tree, value_field, value_member}
 use Rattle.ocppj_frame.proofs.payload.Node.field.Goals as goal

@@ -1,3 +1,4 @@
+-- The elements of a list are the trees of its values.
 use Rattle.std.proofs.Common.{◌∙◌, ap, Some, map}
 use Rattle.ocppj_frame.specs.Payload.{value_tree}
 use Rattle.ocppj_frame.proofs.TreeParts.{value_list}
