@@ -21,6 +21,7 @@ impl<'a> Entries<'a> {
     }
 
     /// The entry at this index, from 0.
+    #[tactic(auto, using(crate::proofs::TreeParts::entry_is_tree, crate::proofs::TreeParts::entry_tree, crate::proofs::TreeParts::entry_past))]
     pub fn get(self, index: usize) -> Option<Node<'a>>
         ensures { option_map tree_at result ≡ slice_get (entries_in self.entry) index }
     {

@@ -56,6 +56,7 @@ impl<'a> Node<'a> {
     }
 
     /// The entries, where the node is a list.
+    #[tactic(auto, using(crate::proofs::TreeParts::value_list))]
     pub fn list(self) -> Option<Entries<'a>>
         ensures { option_map entries_in result ≡ as_list (tree_at self.entry) }
     {
