@@ -1,5 +1,6 @@
 -- Taking apart tests and steps that may fail.
-use Rattle.std.proofs.Common.{◌≡◌, Bool, true, false, if◌then◌else◌, ◌||◌, ◌⊎◌, inl, inr, Option, Some, None, option_map, option_and_then, refl}
+use Rattle.std.proofs.Common.{◌≡◌, Bool, true, false, if◌then◌else◌, ◌||◌, ◌⊎◌, inl, inr, Option, Some, None, option_map, refl}
+use Rattle.ocpp_scalars.specs.OptionSteps.{◌>>=◌}
 
 some_is_not_none : {T : Type 0} → (y : T) → ◌≡◌ {A = Option T} None (Some y) → ⊥
 some_is_not_none y e = cc
@@ -8,10 +9,13 @@ pub by_test : {P : Type 0} → (t : Bool) → (t ≡ true → P) → (t ≡ fals
 by_test true held failed = held refl
 by_test false held failed = failed refl
 
--- a step that gave a value had one to start from
-pub and_then-some : {T U : Type 0} → (f : T → Option U) (o : Option T) (y : U) → option_and_then f o ≡ Some y → (x : T) × (o ≡ Some x) × (f x ≡ Some y)
-and_then-some f None y e = absurd (some_is_not_none y e)
-and_then-some f (Some x) y e = (x, refl, e)
+-- a step that has a value had one to start from
+pub step-some : {T U : Type 0} {f : T → Option U} (o : Option T) (y : U) → (o >>= f) ≡ Some y → (x : T) × (o ≡ Some x) × (f x ≡ Some y)
+step-some None y e = absurd (some_is_not_none y e)
+step-some (Some x) y e = (x, refl, e)
+
+pub same-some : {T : Type 0} {x y : T} → ◌≡◌ {A = Option T} (Some x) (Some y) → x ≡ y
+same-some e = cc
 
 pub map-some : {T U : Type 0} → (f : T → U) (o : Option T) (y : U) → option_map f o ≡ Some y → (x : T) × (o ≡ Some x) × (f x ≡ y)
 map-some f None y e = absurd (some_is_not_none y e)

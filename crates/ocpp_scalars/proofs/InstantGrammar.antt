@@ -1,5 +1,5 @@
 -- An instant's text is read exactly as its grammar has it.
-use Rattle.std.proofs.Common.{◌≡◌, ℕ, ◌+◌, ◌-◌, ◌*◌, ◌/◌, ◌%◌, ◌≤◌, ◌<◌, true, false, ◌&&◌, ◌||◌, ◌==◌, nat_le, nat_lt, if◌then◌else◌, inl, inr, List, [], ◌∷◌, ◌++◌, length, ℤ, pos, neg_ℤ, Option, Some, None, option_map, option_and_then, refl, sym, ap, subst, ◌∙◌, arith, le-leb, leb-true, lt-ltb, ltb-true}
+use Rattle.std.proofs.Common.{◌≡◌, ℕ, ◌+◌, ◌-◌, ◌*◌, ◌/◌, ◌%◌, ◌≤◌, ◌<◌, true, false, ◌&&◌, ◌||◌, ◌==◌, nat_le, nat_lt, inl, inr, List, [], ◌∷◌, ◌++◌, length, ℤ, pos, neg_ℤ, Option, Some, None, option_map, refl, sym, ap, subst, ◌∙◌, arith, le-leb, leb-true, lt-ltb, ltb-true}
 use Rattle.std.specs.Char.{is_ascii_digit}
 use Rattle.std.proofs.lemmas.Int.{ints}
 use Rattle.std.proofs.lemmas.Bool.{eqb-true, and_parts}
@@ -8,8 +8,8 @@ use Rattle.jiff_core.proofs.CalendarLemmas.{days_in_month_bounds}
 use Rattle.ocpp_scalars.specs.ByCases.Digits.{digits_of, after_digits, is_empty}
 use Rattle.ocpp_scalars.specs.Digits.{two_digits, four_digits}
 use Rattle.ocpp_scalars.specs.InstantText.{date_text, clock_text, time_text, IsSecondFraction, no_second_fraction, second_fraction, IsSeparator, IsClock, IsOffset, no_offset, capital_z, small_z, ahead_of_utc, behind_utc, SpellsInstant}
-use Rattle.ocpp_scalars.specs.ByCases.InstantText.{digit_at, two_at, four_at, after_dash, after_colon, after_separator, is_day, date_at, minutes_at, time_at, after_fraction, clock_in, zulu_in, offset_in, total_seconds, seconds_of}
-use Rattle.ocpp_scalars.proofs.Cases.{by_test, and_then-some, map-some, test-some, or-true}
+use Rattle.ocpp_scalars.specs.ByCases.InstantText.{digit_at, two_at, four_at, after_dash, after_colon, after_separator, is_day, day_number, date_at, minutes_at, time_at, after_fraction, clock_in, zulu_in, offset_in, total_seconds, seconds_of}
+use Rattle.ocpp_scalars.proofs.Cases.{by_test, step-some, same-some, map-some, test-some, or-true}
 use Rattle.ocpp_scalars.proofs.Texts.{AreDigits-digits_of}
 use Rattle.ocpp_scalars.proofs.NumberGrammar.{digits_split, Stops, digits_only, is_empty-nil}
 
@@ -37,8 +37,9 @@ digit_only d rest h =
 
 two_found : (text : List ℕ) (x : ℕ × List ℕ) → two_at text ≡ Some x → (x.0 ≤ 99) × (text ≡ two_digits x.0 ++ x.1)
 two_found text x e =
-    let (a, a_is, rest) = and_then-some (λ (a : ℕ × List ℕ). option_map (λ (b : ℕ × List ℕ). (a.0 * 10 + b.0, b.1)) (digit_at a.1)) (digit_at text) x e in
-    let (b, b_is, made) = map-some (λ (b : ℕ × List ℕ). (a.0 * 10 + b.0, b.1)) (digit_at a.1) x rest in
+    let (a, a_is, rest) = step-some (digit_at text) x e in
+    let (b, b_is, last) = step-some (digit_at a.1) x rest in
+    let made = same-some last in
     let first = digit_found text a a_is in
     let second = digit_found a.1 b b_is in
     let tens : a.0 ≡ (a.0 * 10 + b.0) / 10 = omega (arith, second.0) in
@@ -56,8 +57,9 @@ two_only n rest h =
 
 four_found : (text : List ℕ) (x : ℕ × List ℕ) → four_at text ≡ Some x → (x.0 ≤ 9999) × (text ≡ four_digits x.0 ++ x.1)
 four_found text x e =
-    let (a, a_is, rest) = and_then-some (λ (a : ℕ × List ℕ). option_map (λ (b : ℕ × List ℕ). (a.0 * 100 + b.0, b.1)) (two_at a.1)) (two_at text) x e in
-    let (b, b_is, made) = map-some (λ (b : ℕ × List ℕ). (a.0 * 100 + b.0, b.1)) (two_at a.1) x rest in
+    let (a, a_is, rest) = step-some (two_at text) x e in
+    let (b, b_is, last) = step-some (two_at a.1) x rest in
+    let made = same-some last in
     let first = two_found text a a_is in
     let second = two_found a.1 b b_is in
     let high : a.0 ≡ (a.0 * 100 + b.0) / 100 = omega (arith, second.0) in
@@ -129,17 +131,18 @@ record FoundDate (text : List ℕ) (x : ℤ × List ℕ) : Type 0 where
 date_found : (text : List ℕ) (x : ℤ × List ℕ) → date_at text ≡ Some x → FoundDate text x
 unfolding date_at
 date_found text x e =
-    let dated = λ (year month day : ℕ × List ℕ). if is_day year.0 month.0 day.0 then Some (days_from_civil (pos year.0) month.0 day.0, day.1) else None in
-    let (year, year_is, e1) = and_then-some (λ (year : ℕ × List ℕ). option_and_then (λ (a : List ℕ). option_and_then (λ (month : ℕ × List ℕ). option_and_then (λ (b : List ℕ). option_and_then (λ (day : ℕ × List ℕ). dated year month day) (two_at b)) (after_dash month.1)) (two_at a)) (after_dash year.1)) (four_at text) x e in
-    let (a, a_is, e2) = and_then-some (λ (a : List ℕ). option_and_then (λ (month : ℕ × List ℕ). option_and_then (λ (b : List ℕ). option_and_then (λ (day : ℕ × List ℕ). dated year month day) (two_at b)) (after_dash month.1)) (two_at a)) (after_dash year.1) x e1 in
-    let (month, month_is, e3) = and_then-some (λ (month : ℕ × List ℕ). option_and_then (λ (b : List ℕ). option_and_then (λ (day : ℕ × List ℕ). dated year month day) (two_at b)) (after_dash month.1)) (two_at a) x e2 in
-    let (b, b_is, e4) = and_then-some (λ (b : List ℕ). option_and_then (λ (day : ℕ × List ℕ). dated year month day) (two_at b)) (after_dash month.1) x e3 in
-    let (day, day_is, e5) = and_then-some (λ (day : ℕ × List ℕ). dated year month day) (two_at b) x e4 in
-    let t = test-some (is_day year.0 month.0 day.0) (days_from_civil (pos year.0) month.0 day.0, day.1) x e5 in
+    let (year, year_is, e1) = step-some (four_at text) x e in
+    let (a, a_is, e2) = step-some (after_dash year.1) x e1 in
+    let (month, month_is, e3) = step-some (two_at a) x e2 in
+    let (b, b_is, e4) = step-some (after_dash month.1) x e3 in
+    let (day, day_is, e5) = step-some (two_at b) x e4 in
+    let (number, number_is, e6) = step-some (day_number year.0 month.0 day.0) x e5 in
+    let made = same-some e6 in
+    let t = test-some (is_day year.0 month.0 day.0) (days_from_civil (pos year.0) month.0 day.0) number number_is in
     let y = four_found text year year_is in
     let m = two_found a month month_is in
     let d = two_found b day day_is in
-    let tail : day.1 ≡ x.1 = ap (λ (x : ℤ × List ℕ). x.1) t.1 in
+    let tail : day.1 ≡ x.1 = ap (λ (x : ℤ × List ℕ). x.1) made in
     let days : b ≡ two_digits day.0 ++ x.1 = d.1 ∙ ap (λ r. two_digits day.0 ++ r) tail in
     let months : a ≡ two_digits month.0 ++ (45 ∷ (two_digits day.0 ++ x.1)) = m.1 ∙ ap (λ r. two_digits month.0 ++ r) (dash_found month.1 b b_is ∙ ap (λ r. 45 ∷ r) days) in
     record {
@@ -148,7 +151,7 @@ date_found text x e =
       day = day.0;
       is_year = y.0;
       is_date = is_day-found year.0 month.0 day.0 y.0 t.0;
-      is_number = sym (ap (λ (x : ℤ × List ℕ). x.0) t.1);
+      is_number = sym (t.1 ∙ ap (λ (x : ℤ × List ℕ). x.0) made);
       is_text = y.1 ∙ ap (λ r. four_digits year.0 ++ r) (dash_found year.1 a a_is ∙ ap (λ r. 45 ∷ r) months);
     }
 
@@ -166,10 +169,9 @@ date_only year month day rest h civil =
 clock_found : (text : List ℕ) (x : ℕ × List ℕ) → minutes_at text ≡ Some x → (hour minute : ℕ) × IsClock hour minute × (x.0 ≡ hour * 60 + minute) × (text ≡ clock_text hour minute ++ x.1)
 unfolding minutes_at
 clock_found text x e =
-    let clocked = λ (hour minute : ℕ × List ℕ). if nat_lt hour.0 24 && nat_lt minute.0 60 then Some (hour.0 * 60 + minute.0, minute.1) else None in
-    let (hour, hour_is, e1) = and_then-some (λ (hour : ℕ × List ℕ). option_and_then (λ (a : List ℕ). option_and_then (λ (minute : ℕ × List ℕ). clocked hour minute) (two_at a)) (after_colon hour.1)) (two_at text) x e in
-    let (a, a_is, e2) = and_then-some (λ (a : List ℕ). option_and_then (λ (minute : ℕ × List ℕ). clocked hour minute) (two_at a)) (after_colon hour.1) x e1 in
-    let (minute, minute_is, e3) = and_then-some (λ (minute : ℕ × List ℕ). clocked hour minute) (two_at a) x e2 in
+    let (hour, hour_is, e1) = step-some (two_at text) x e in
+    let (a, a_is, e2) = step-some (after_colon hour.1) x e1 in
+    let (minute, minute_is, e3) = step-some (two_at a) x e2 in
     let t = test-some (nat_lt hour.0 24 && nat_lt minute.0 60) (hour.0 * 60 + minute.0, minute.1) x e3 in
     let bounds = and_parts (nat_lt hour.0 24) (nat_lt minute.0 60) t.0 in
     let h = two_found text hour hour_is in
@@ -195,10 +197,9 @@ clock_only hour minute rest h =
 time_found : (text : List ℕ) (x : ℕ × List ℕ) → time_at text ≡ Some x → (hour minute second : ℕ) × IsClock hour minute × (second < 60) × (x.0 ≡ (hour * 60 + minute) * 60 + second) × (text ≡ time_text hour minute second ++ x.1)
 unfolding time_at
 time_found text x e =
-    let timed = λ (minutes second : ℕ × List ℕ). if nat_lt second.0 60 then Some (minutes.0 * 60 + second.0, second.1) else None in
-    let (minutes, minutes_is, e1) = and_then-some (λ (minutes : ℕ × List ℕ). option_and_then (λ (a : List ℕ). option_and_then (λ (second : ℕ × List ℕ). timed minutes second) (two_at a)) (after_colon minutes.1)) (minutes_at text) x e in
-    let (a, a_is, e2) = and_then-some (λ (a : List ℕ). option_and_then (λ (second : ℕ × List ℕ). timed minutes second) (two_at a)) (after_colon minutes.1) x e1 in
-    let (second, second_is, e3) = and_then-some (λ (second : ℕ × List ℕ). timed minutes second) (two_at a) x e2 in
+    let (minutes, minutes_is, e1) = step-some (minutes_at text) x e in
+    let (a, a_is, e2) = step-some (after_colon minutes.1) x e1 in
+    let (second, second_is, e3) = step-some (two_at a) x e2 in
     let t = test-some (nat_lt second.0 60) (minutes.0 * 60 + second.0, second.1) x e3 in
     let (hour, minute, clock, count, clock_is) = clock_found text minutes minutes_is in
     let s = two_found a second second_is in
@@ -263,7 +264,7 @@ fraction_only _ rest (second_fraction ds digits low high) follows =
 
 clock_end : (text : List ℕ) (n : ℕ) → clock_in text ≡ Some n → (hour minute : ℕ) × IsClock hour minute × (n ≡ (hour * 60 + minute) * 60) × (text ≡ clock_text hour minute)
 clock_end text n e =
-    let (a, a_is, e1) = and_then-some (λ (a : ℕ × List ℕ). if is_empty a.1 then Some (a.0 * 60) else None) (minutes_at text) n e in
+    let (a, a_is, e1) = step-some (minutes_at text) n e in
     let t = test-some (is_empty a.1) (a.0 * 60) n e1 in
     let (hour, minute, clock, count, is) = clock_found text a a_is in
     (hour, minute, clock, sym t.1 ∙ ap (λ k. k * 60) count, is ∙ ap (λ r. clock_text hour minute ++ r) (is_empty-nil a.1 t.0))
@@ -328,11 +329,12 @@ offset_follows _ _ (behind_utc hour minute clock) = (refl, refl)
 pub seconds_found : (text : List ℕ) (z : ℤ) → seconds_of text ≡ Some z → SpellsInstant text z
 unfolding seconds_of
 seconds_found text z e =
-    let (date, date_is, e1) = and_then-some (λ (date : ℤ × List ℕ). option_and_then (λ (a : List ℕ). option_and_then (λ (time : ℕ × List ℕ). option_and_then (λ (b : List ℕ). option_map (λ (offset : ℤ). total_seconds date.0 time.0 offset) (offset_in b)) (after_fraction time.1)) (time_at a)) (after_separator date.1)) (date_at text) z e in
-    let (a, a_is, e2) = and_then-some (λ (a : List ℕ). option_and_then (λ (time : ℕ × List ℕ). option_and_then (λ (b : List ℕ). option_map (λ (offset : ℤ). total_seconds date.0 time.0 offset) (offset_in b)) (after_fraction time.1)) (time_at a)) (after_separator date.1) z e1 in
-    let (time, time_is, e3) = and_then-some (λ (time : ℕ × List ℕ). option_and_then (λ (b : List ℕ). option_map (λ (offset : ℤ). total_seconds date.0 time.0 offset) (offset_in b)) (after_fraction time.1)) (time_at a) z e2 in
-    let (b, b_is, e4) = and_then-some (λ (b : List ℕ). option_map (λ (offset : ℤ). total_seconds date.0 time.0 offset) (offset_in b)) (after_fraction time.1) z e3 in
-    let (offset, offset_is, made) = map-some (λ (offset : ℤ). total_seconds date.0 time.0 offset) (offset_in b) z e4 in
+    let (date, date_is, e1) = step-some (date_at text) z e in
+    let (a, a_is, e2) = step-some (after_separator date.1) z e1 in
+    let (time, time_is, e3) = step-some (time_at a) z e2 in
+    let (b, b_is, e4) = step-some (after_fraction time.1) z e3 in
+    let (offset, offset_is, e5) = step-some (offset_in b) z e4 in
+    let made = same-some e5 in
     let d = date_found text date date_is in
     let (separator, separator_is, separated) = separator_found date.1 a a_is in
     let (hour, minute, second, clock, bound, count, timed) = time_found a time time_is in

@@ -1,14 +1,14 @@
 -- A number's text is cut into its parts exactly as RFC 8259's grammar has it.
-use Rattle.std.proofs.Common.{◌≡◌, ℕ, ◌+◌, ◌-◌, ◌*◌, ◌≤◌, Bool, true, false, not, ◌||◌, ◌==◌, if◌then◌else◌, inl, inr, List, [], ◌∷◌, ◌++◌, length, ℤ, pos, ◌-ℤ◌, Option, Some, None, option_and_then, refl, sym, ap, subst, ◌∙◌, append-nil, arith}
+use Rattle.std.proofs.Common.{◌≡◌, ℕ, ◌+◌, ◌-◌, ◌*◌, ◌≤◌, Bool, true, false, not, ◌||◌, ◌==◌, if◌then◌else◌, inl, inr, List, [], ◌∷◌, ◌++◌, length, ℤ, pos, ◌-ℤ◌, Option, Some, None, refl, sym, ap, subst, ◌∙◌, append-nil, length-append, arith}
 use Rattle.std.specs.Char.{is_ascii_digit}
 use Rattle.std.proofs.lemmas.Bool.{cond_both, eqb-true, ne_eqb}
 use Rattle.ocpp_scalars.specs.Digits.{IsDigit, AreDigits, value_after, decimal_value}
 use Rattle.ocpp_scalars.specs.ByCases.Digits.{digits_of, after_digits, is_empty}
-use Rattle.ocpp_scalars.specs.ByCases.NumberText.{Parts, parts_made, sign_at, is_whole, whole_at, digits_at, fraction_at, exponent_sign_at, exponent_in, parts_of}
+use Rattle.ocpp_scalars.specs.ByCases.NumberText.{Parts, sign_at, is_whole, whole_at, digits_at, fraction_at, exponent_sign_at, exponent_in, parts_of, FitIn}
 use Rattle.ocpp_scalars.specs.NumberText.{AreSomeDigits, IsMinus, no_minus, minus_sign, IsWhole, IsFraction, no_fraction, decimal_point, IsE, IsExponent, no_exponent, unsigned_exponent, plus_exponent, minus_exponent, SpellsNumber}
 use Rattle.ocpp_scalars.specs.Number.{with_sign}
 use Rattle.ocpp_scalars.specs.ByCases.Number.{number_of_parts}
-use Rattle.ocpp_scalars.proofs.Cases.{by_test, and_then-some, test-some, test-none, or-true}
+use Rattle.ocpp_scalars.proofs.Cases.{by_test, step-some, same-some, test-some, test-none, or-true}
 use Rattle.ocpp_scalars.proofs.Texts.{AreDigits-digits_of}
 
 pub value_after-append : (n : ℕ) (xs bs : List ℕ) → value_after n (xs ++ bs) ≡ value_after (value_after n xs) bs
@@ -96,7 +96,7 @@ exponent_found [] x e =
 exponent_found (b ∷ bs) x e =
     by_test ((b == 101) || (b == 69))
     (λ held.
-    let (d, is, end) = and_then-some (λ (d : List ℕ × List ℕ). if is_empty d.1 then Some ((exponent_sign_at bs).0, d.0) else None) (digits_at (exponent_sign_at bs).1) x (rw held at e) in
+    let (d, is, end) = step-some (digits_at (exponent_sign_at bs).1) x (rw held at e) in
     let t = test-some (is_empty d.1) ((exponent_sign_at bs).0, d.0) x end in
     let h = digits_found (exponent_sign_at bs).1 d is in
     let all : (exponent_sign_at bs).1 ≡ d.0 = h.1 ∙ ap (λ r. d.0 ++ r) (is_empty-nil d.1 t.0) ∙ append-nil d.0 in
@@ -107,11 +107,11 @@ pub parts_found : (text : List ℕ) (p : Parts) → parts_of text ≡ Some p →
 unfolding parts_of
 parts_found text p e =
     let s = sign_found text in
-    let (w, w_is, e1) = and_then-some (λ (whole : List ℕ × List ℕ). option_and_then (λ (fraction : List ℕ × List ℕ). option_and_then (λ (exponent : Bool × List ℕ). parts_made (sign_at text).0 whole.0 fraction.0 exponent) (exponent_in fraction.1)) (fraction_at whole.1)) (whole_at (sign_at text).1) p e in
-    let (f, f_is, e2) = and_then-some (λ (fraction : List ℕ × List ℕ). option_and_then (λ (exponent : Bool × List ℕ). parts_made (sign_at text).0 w.0 fraction.0 exponent) (exponent_in fraction.1)) (fraction_at w.1) p e1 in
-    let (x, x_is, e3) = and_then-some (λ (exponent : Bool × List ℕ). parts_made (sign_at text).0 w.0 f.0 exponent) (exponent_in f.1) p e2 in
+    let (w, w_is, e1) = step-some (whole_at (sign_at text).1) p e in
+    let (f, f_is, e2) = step-some (fraction_at w.1) p e1 in
+    let (x, x_is, e3) = step-some (exponent_in f.1) p e2 in
     let made : Parts = record { negative = (sign_at text).0; whole = w.0; fraction = f.0; negative_exponent = x.0; exponent = x.1 } in
-    let same : made ≡ p = cc in
+    let same : made ≡ p = same-some e3 in
     let whole = whole_found (sign_at text).1 w w_is in
     let fraction = fraction_found w.1 f f_is in
     subst (λ (p : Parts). SpellsNumber text p.negative (number_of_parts p).digits (number_of_parts p).power) {x = made} same (record {
@@ -128,6 +128,54 @@ parts_found text p e =
       is_exponent = exponent_found f.1 x x_is;
       is_digits = sym (value_after-append 0 w.0 f.0);
       is_power = refl;
+    })
+
+-- the digits that are cut off, and how many there can be
+
+fraction_fits : (ds f : List ℕ) → IsFraction ds f → AreDigits ds × (length ds ≤ length f)
+fraction_fits _ _ no_fraction = (tt, omega arith)
+fraction_fits _ _ (decimal_point ds digits) = (digits.1, omega arith)
+
+exponent_sign_shorter : (text : List ℕ) → length (exponent_sign_at text).1 ≤ length text
+exponent_sign_shorter [] = omega arith
+exponent_sign_shorter (c ∷ cs) =
+    cond_both {A = Bool × List ℕ} (c == 45) (true, cs) (if c == 43 then (false, cs) else (false, c ∷ cs)) (λ s. length s.1 ≤ length (c ∷ cs))
+    (λ held. omega arith)
+    (λ failed. cond_both {A = Bool × List ℕ} (c == 43) (false, cs) (false, c ∷ cs) (λ s. length s.1 ≤ length (c ∷ cs)) (λ held. omega arith) (λ none. omega arith))
+
+exponent_fits : (text : List ℕ) (x : Bool × List ℕ) → exponent_in text ≡ Some x → AreDigits x.1 × (length x.1 ≤ length text)
+exponent_fits [] x e = subst (λ (x : Bool × List ℕ). AreDigits x.1 × (length x.1 ≤ 0)) (same-some e) (tt, omega arith)
+exponent_fits (b ∷ bs) x e =
+    by_test ((b == 101) || (b == 69))
+    (λ held.
+    let (d, is, end) = step-some (digits_at (exponent_sign_at bs).1) x (rw held at e) in
+    let t = test-some (is_empty d.1) ((exponent_sign_at bs).0, d.0) x end in
+    let h = digits_found (exponent_sign_at bs).1 d is in
+    let parted : length (exponent_sign_at bs).1 ≡ length d.0 + length d.1 = ap length h.1 ∙ length-append d.0 d.1 in
+    subst (λ (x : Bool × List ℕ). AreDigits x.1 × (length x.1 ≤ length (b ∷ bs))) t.1 (h.0.1, omega (arith, parted, exponent_sign_shorter bs)))
+    (λ failed. let none : ◌≡◌ {A = Option (Bool × List ℕ)} None (Some x) = rw failed at e in cc)
+
+pub parts_fit : (text : List ℕ) (p : Parts) → parts_of text ≡ Some p → FitIn (length text) p
+unfolding parts_of
+parts_fit text p e =
+    let s = sign_found text in
+    let (w, w_is, e1) = step-some (whole_at (sign_at text).1) p e in
+    let (f, f_is, e2) = step-some (fraction_at w.1) p e1 in
+    let (x, x_is, e3) = step-some (exponent_in f.1) p e2 in
+    let made : Parts = record { negative = (sign_at text).0; whole = w.0; fraction = f.0; negative_exponent = x.0; exponent = x.1 } in
+    let same : made ≡ p = same-some e3 in
+    let whole = whole_found (sign_at text).1 w w_is in
+    let (g, g_is, fraction) = fraction_found w.1 f f_is in
+    let fits = fraction_fits f.0 g g_is in
+    let last = exponent_fits f.1 x x_is in
+    let first : length text ≡ length s.0 + length (sign_at text).1 = ap length s.2 ∙ length-append s.0 (sign_at text).1 in
+    let second : length (sign_at text).1 ≡ length w.0 + length w.1 = ap length whole.1 ∙ length-append w.0 w.1 in
+    let third : length w.1 ≡ length g + length f.1 = ap length fraction ∙ length-append g f.1 in
+    subst (λ (p : Parts). FitIn (length text) p) {x = made} same (record {
+      whole_digits = whole.0.0.1;
+      fraction_digits = fits.0;
+      exponent_digits = last.0;
+      lengths = omega (arith, first, second, third, fits.1, last.1);
     })
 
 -- what the grammar has is cut off again

@@ -7,10 +7,11 @@ use Rattle.ocpp_scalars.specs.declared.number.NumberFault.{NumberFault}
 use Rattle.ocpp_scalars.specs.declared.number.NumberFault.TheVariants.{Form, TooLong, Range}
 use Rattle.ocpp_scalars.specs.declared.number.Number.{Number}
 use Rattle.ocpp_scalars.specs.ByCases.NumberText.{Parts, parts_of, is_number_text}
+use Rattle.ocpp_scalars.specs.Limits.{max_number_bytes, max_tenths, max_whole, max_negative_whole}
 use Rattle.ocpp_scalars.specs.NumberText.{SpellsNumber, IsNumber}
-use Rattle.ocpp_scalars.specs.Number.{IsScaled, with_sign, IsShort, IsTenthsReading, IsWholeReading}
+use Rattle.ocpp_scalars.specs.Number.{IsScaled, SpellsTenths, with_sign, IsShort, IsTenthsReading, IsWholeReading}
 use Rattle.ocpp_scalars.specs.ByCases.Number.{number_of_parts, times_power, at_most, number_in, most_tenths, tenths_of_number, tenths_of, most_whole, whole_of_number, whole_of}
-use Rattle.ocpp_scalars.proofs.Cases.{by_test, test-some}
+use Rattle.ocpp_scalars.proofs.Cases.{by_test, same-some, test-some}
 use Rattle.ocpp_scalars.proofs.NumberGrammar.{parts_found, parts_only}
 use Rattle.ocpp_scalars.proofs.Scaling.{scaled-lowered}
 
@@ -75,10 +76,10 @@ number_text-only text (negative, digits, power, spells) =
     let h = parts_only text negative digits power spells in
     rw h.1 refl
 
--- what a text of at most 32 bytes gives before its bounds are looked at
+-- what a text that is short enough gives before its bounds are looked at
 NumberFacts : List ℕ → Result Number NumberFault → Type 0
 NumberFacts text (Ok n) = IsShort text × SpellsNumber text n.negative n.digits n.power
-NumberFacts text (Err TooLong) = 32 < length text
+NumberFacts text (Err TooLong) = max_number_bytes < length text
 NumberFacts text (Err Form) = IsShort text × (IsNumber text → ⊥)
 NumberFacts text (Err Range) = ⊥
 
@@ -91,28 +92,28 @@ number_of_option text short (Some p) e = (short, parts_found text p e)
 number_in-found : (text : List ℕ) → NumberFacts text (number_in text)
 unfolding number_in NumberFacts
 number_in-found text =
-    by_test (nat_lt 32 (length text))
-    (λ held. rw held (ltb-true 32 (length text) held))
-    (λ failed. rw failed (number_of_option text (ltb-false 32 (length text) failed) (parts_of text) refl))
+    by_test (nat_lt max_number_bytes (length text))
+    (λ held. rw held (ltb-true max_number_bytes (length text) held))
+    (λ failed. rw failed (number_of_option text (ltb-false max_number_bytes (length text) failed) (parts_of text) refl))
 
 number_in-only : (text : List ℕ) (negative : Bool) (digits : ℕ) (power : ℤ) → IsShort text → SpellsNumber text negative digits power → number_in text ≡ Ok (record { negative = negative; digits = digits; power = power })
 unfolding number_in
 number_in-only text negative digits power short spells =
     let (p, is, sign, value, scale) = parts_only text negative digits power spells in
-    let fits : nat_lt 32 (length text) ≡ false = le-ltb 32 (length text) short in
+    let fits : nat_lt max_number_bytes (length text) ≡ false = le-ltb max_number_bytes (length text) short in
     rw (fits, is, sign, value, scale) refl
 
 -- tenths
 
-most_tenths-found : (negative : Bool) (n : ℕ) → n ≤ most_tenths negative → (negative ≡ true → n ≡ 0) × (n ≤ 1_000_000_000)
+most_tenths-found : (negative : Bool) (n : ℕ) → n ≤ most_tenths negative → (negative ≡ true → n ≡ 0) × (n ≤ max_tenths)
 most_tenths-found true n h = (λ _. omega arith, omega arith)
 most_tenths-found false n h = (λ e. cc, h)
 
-most_tenths-only : (negative : Bool) (n : ℕ) → (negative ≡ true → n ≡ 0) → n ≤ 1_000_000_000 → n ≤ most_tenths negative
+most_tenths-only : (negative : Bool) (n : ℕ) → (negative ≡ true → n ≡ 0) → n ≤ max_tenths → n ≤ most_tenths negative
 most_tenths-only true n sign h = let nothing : n ≡ 0 = sign refl in omega arith
 most_tenths-only false n sign h = h
 
-pub tenths_of_spelling : (text : List ℕ) (negative : Bool) (digits : ℕ) (power : ℤ) (n : ℕ) → IsShort text → SpellsNumber text negative digits power → IsScaled (10 * digits) power n → (negative ≡ true → n ≡ 0) → n ≤ 1_000_000_000 → tenths_of text ≡ Ok n
+pub tenths_of_spelling : (text : List ℕ) (negative : Bool) (digits : ℕ) (power : ℤ) (n : ℕ) → IsShort text → SpellsNumber text negative digits power → IsScaled (10 * digits) power n → (negative ≡ true → n ≡ 0) → n ≤ max_tenths → tenths_of text ≡ Ok n
 unfolding tenths_of
 tenths_of_spelling text negative digits power n short spells scale sign bound =
     let value : times_power digits (power +ℤ pos 1) ≡ Some n = scaled-only digits (power +ℤ pos 1) n (tenths-down digits power n scale) in
@@ -167,17 +168,28 @@ pub tenths_reading : (text : List ℕ) (r : Result ℕ NumberFault) → (tenths_
 tenths_reading text r =
     (λ e. subst (λ (r : Result ℕ NumberFault). IsTenthsReading text r) e (tenths_found text), λ h. tenths_once text r (tenths_of text) refl h (tenths_found text))
 
+-- a text spells one number of tenths at most
+pub tenths_alone : (text : List ℕ) (n m : ℕ) → SpellsTenths text n → SpellsTenths text m → m ≡ n
+tenths_alone text n m (negative, digits, power, spells, scale, sign) (negative', digits', power', spells', scale', sign') =
+    let (p, is, _, value, exponent) = parts_only text negative digits power spells in
+    let (p', is', _, value', exponent') = parts_only text negative' digits' power' spells' in
+    let same : p' ≡ p = same-some (sym is' ∙ is) in
+    let same_digits : digits' ≡ digits = sym value' ∙ ap (λ p. (number_of_parts p).digits) same ∙ value in
+    let same_power : power' ≡ power = sym exponent' ∙ ap (λ p. (number_of_parts p).power) same ∙ exponent in
+    let moved : times_power (10 * digits') power' ≡ times_power (10 * digits) power = ap (λ d. times_power (10 * d) power') same_digits ∙ ap (λ z. times_power (10 * digits) z) same_power in
+    same-some (sym (scaled-only (10 * digits') power' m scale') ∙ moved ∙ scaled-only (10 * digits) power n scale)
+
 -- whole numbers
 
-most_whole-found : (negative : Bool) (n : ℕ) → n ≤ most_whole negative → (neg_ℤ (pos 2_147_483_648) ≤ℤ with_sign negative n) × (with_sign negative n ≤ℤ pos 2_147_483_647)
+most_whole-found : (negative : Bool) (n : ℕ) → n ≤ most_whole negative → (neg_ℤ (pos max_negative_whole) ≤ℤ with_sign negative n) × (with_sign negative n ≤ℤ pos max_whole)
 most_whole-found true n h = (omega (arith, ints), omega (arith, ints))
 most_whole-found false n h = (omega (arith, ints), omega (arith, ints))
 
-most_whole-only : (negative : Bool) (n : ℕ) → neg_ℤ (pos 2_147_483_648) ≤ℤ with_sign negative n → with_sign negative n ≤ℤ pos 2_147_483_647 → n ≤ most_whole negative
+most_whole-only : (negative : Bool) (n : ℕ) → neg_ℤ (pos max_negative_whole) ≤ℤ with_sign negative n → with_sign negative n ≤ℤ pos max_whole → n ≤ most_whole negative
 most_whole-only true n low high = omega (arith, ints)
 most_whole-only false n low high = omega (arith, ints)
 
-whole_of_spelling : (text : List ℕ) (negative : Bool) (digits : ℕ) (power : ℤ) (n : ℕ) (z : ℤ) → IsShort text → SpellsNumber text negative digits power → IsScaled digits power n → z ≡ with_sign negative n → neg_ℤ (pos 2_147_483_648) ≤ℤ z → z ≤ℤ pos 2_147_483_647 → whole_of text ≡ Ok z
+whole_of_spelling : (text : List ℕ) (negative : Bool) (digits : ℕ) (power : ℤ) (n : ℕ) (z : ℤ) → IsShort text → SpellsNumber text negative digits power → IsScaled digits power n → z ≡ with_sign negative n → neg_ℤ (pos max_negative_whole) ≤ℤ z → z ≤ℤ pos max_whole → whole_of text ≡ Ok z
 unfolding whole_of
 whole_of_spelling text negative digits power n z short spells scale is low high =
     let value : times_power digits power ≡ Some n = scaled-only digits power n scale in

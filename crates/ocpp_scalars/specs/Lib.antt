@@ -2,7 +2,6 @@ pub mod Ascii
 pub mod ByCases
 pub mod CalendarDay
 pub mod Digits
-pub mod FaultText
 pub mod InstantText
 pub mod Limits
 pub mod Number

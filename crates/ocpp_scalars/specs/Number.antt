@@ -1,4 +1,4 @@
--- What a number's text is worth, in tenths and as a whole number, and what reading it gives.
+-- What a number's text is worth, in tenths and as a whole number, and what reading it returns.
 use Rattle.std.specs.Prelude.{◌≡◌, ℕ, suc, ◌*◌, ◌^◌, ◌≤◌, ◌<◌, Bool, true, false, List, length, ℤ, pos, negsuc, neg_ℤ, ◌≤ℤ◌, Result, Ok, Err}
 use Rattle.ocpp_scalars.specs.declared.number.NumberFault.{NumberFault}
 use Rattle.ocpp_scalars.specs.declared.number.NumberFault.TheVariants.{Form, TooLong, Range}
@@ -15,6 +15,11 @@ abbrev pub SpellsTenths : List ℕ → ℕ → Type 0
 SpellsTenths text tenths =
     (negative : Bool) × (digits : ℕ) × (power : ℤ) × SpellsNumber text negative digits power
     × IsScaled (10 * digits) power tenths × (negative ≡ true → tenths ≡ 0)
+
+-- the text spells these tenths and no others
+abbrev pub SpellsOnlyTenths : List ℕ → ℕ → Type 0
+SpellsOnlyTenths text tenths =
+    SpellsTenths text tenths × ((others : ℕ) → SpellsTenths text others → others ≡ tenths)
 
 -- the number with its sign
 abbrev pub with_sign : Bool → ℕ → ℤ

@@ -28,9 +28,12 @@ IsE e = (e ≡ lower_e) ⊎ (e ≡ upper_e)
 -- `[ exp ]`, where `exp = e [ minus / plus ] 1*DIGIT`: the power of ten, and the text
 pub data IsExponent : ℤ → List ℕ → Type 0 where
   no_exponent : IsExponent (pos 0) []
-  unsigned_exponent : (e : ℕ) (ds : List ℕ) → IsE e → AreSomeDigits ds → IsExponent (pos (decimal_value ds)) (e ∷ ds)
-  plus_exponent : (e : ℕ) (ds : List ℕ) → IsE e → AreSomeDigits ds → IsExponent (pos (decimal_value ds)) (e ∷ (plus ∷ ds))
-  minus_exponent : (e : ℕ) (ds : List ℕ) → IsE e → AreSomeDigits ds → IsExponent (neg_ℤ (pos (decimal_value ds))) (e ∷ (minus ∷ ds))
+  unsigned_exponent :
+      (e : ℕ) (ds : List ℕ) → IsE e → AreSomeDigits ds → IsExponent (pos (decimal_value ds)) (e ∷ ds)
+  plus_exponent :
+      (e : ℕ) (ds : List ℕ) → IsE e → AreSomeDigits ds → IsExponent (pos (decimal_value ds)) (e ∷ (plus ∷ ds))
+  minus_exponent :
+      (e : ℕ) (ds : List ℕ) → IsE e → AreSomeDigits ds → IsExponent (neg_ℤ (pos (decimal_value ds))) (e ∷ (minus ∷ ds))
 
 -- `number = [ minus ] int [ frac ] [ exp ]`: a sign, the digits before and after the point as one whole
 -- number, and the power of ten that they are multiplied by

@@ -1,4 +1,4 @@
--- What a reader returns, where it needs memory.
+-- What a reader returns, where it needs memory: one word for the contracts of all readers above.
 use Rattle.std.specs.Prelude.{◌≡◌, Bool, true, false, ⊤, Result, Ok, Err}
 
 -- a fault is that of the reading, unless it says that memory ran out

@@ -1,3 +1,4 @@
+-- The names of the refusals.
 use Rattle.std.specs.Prelude.{ℕ, List, codes}
 use Rattle.ocpp_scalars.specs.declared.refusal.Refusal.{Refusal}
 use Rattle.ocpp_scalars.specs.declared.refusal.Refusal.TheVariants.{UnknownPoint, UnknownConnector, WrongUnit, LevelTooHigh, TooManyPeriods, PeriodsOutOfOrder, NoRecurrency, BadDuration, PastCalendar, ResultTooLong, OutOfMemory}

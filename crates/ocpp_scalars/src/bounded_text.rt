@@ -24,8 +24,8 @@ impl<const MAX: usize> Model for BoundedText<MAX> {
 }
 
 impl<const MAX: usize> BoundedText<MAX> {
-    /// The bounded text of this text, or the text again where it has more than `MAX` characters. Takes no
-    /// memory.
+    /// The bounded text, or the text again where it has more than `MAX` characters. Allocates
+    /// nothing.
     pub fn try_new(text: String) -> Result<BoundedText<MAX>, String>
         ensures valid { IsOk result ↔ (length (chars (string_bytes text)) ≤ MAX) }
         ensures ok { IfOk result (λ bounded. bounded ≡ string_bytes text) }

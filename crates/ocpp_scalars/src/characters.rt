@@ -1,3 +1,4 @@
+//! Characters, counted.
 ghost use Rattle.std.specs.Prelude.{◌≡◌, length};
 ghost use Rattle.std.specs.Str.{chars};
 

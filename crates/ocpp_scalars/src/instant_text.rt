@@ -1,36 +1,27 @@
+//! Instants, read from their texts.
 ghost use Rattle.std.specs.Prelude.{◌≡◌, ℕ, ◌+◌, ◌*◌, ◌≤◌, ◌<◌, pos, neg_ℤ, ◌+ℤ◌, ◌-ℤ◌, ◌*ℤ◌, ◌≤ℤ◌, Some, None, option_map, IfSome, if◌then◌else◌};
 ghost use Rattle.jiff_core.specs.Calendar.{IsEpochDay, days_from_civil};
-ghost use Rattle.ocpp_scalars.specs.ByCases.InstantText.{digit_at, two_at, four_at, after_dash, after_colon, after_separator, is_day, date_at, minutes_at, time_at, after_fraction, clock_in, offset_in, zulu_in, total_seconds, seconds_of, in_range, instant_of};
+ghost use Rattle.ocpp_scalars.specs.ByCases.Bounds.{IsWithin};
+ghost use Rattle.ocpp_scalars.specs.ByCases.InstantText.{digit_at, two_at, four_at, after_dash, after_colon, after_separator, is_day, day_number, date_at, minutes_at, time_at, after_fraction, clock_in, offset_in, zulu_in, total_seconds, seconds_of, in_range, instant_of};
 
 use crate::instant::{Instant, LAST_SECOND};
 use crate::number_text::split_digits;
 use jiff::civil::Date;
-use std::error::Error;
-use std::fmt;
+use thiserror::Error;
+
+/// The most digits of a fraction of a second: nanoseconds.
+const MAX_FRACTION_DIGITS: usize = 9;
 
 /// Why a text isn't read as an instant.
-#[derive(Clone, Copy, Debug, PartialEq, Eq)]
+#[derive(Clone, Copy, Debug, PartialEq, Eq, Error)]
 pub enum InstantFault {
     /// The text isn't a date and time of day (RFC 3339, section 5.6).
+    #[error("not a date and time")]
     Form,
     /// The moment is before 1970 or after the year 9999.
+    #[error("a date and time out of range")]
     Range,
 }
-
-impl fmt::Display for InstantFault {
-    ghost use Rattle.ocpp_scalars.specs.FaultText.{instant_fault_text};
-
-    ghost output = { λ fault. Some (instant_fault_text fault) };
-
-    fn fmt<W: fmt::Write>(&self, f: &mut fmt::Formatter<W>) -> fmt::Result {
-        f.write_str(match self {
-            InstantFault::Form => "not a date and time",
-            InstantFault::Range => "a date and time out of range",
-        })
-    }
-}
-
-impl Error for InstantFault {}
 
 /// The instant that a text is worth: `YYYY-MM-DD`, `T`, `t` or a space, `hh:mm:ss`, an optional
 /// fraction of 1 to 9 digits, which is dropped, and `Z`, `z`, `+hh:mm`, `-hh:mm` or nothing, which is
@@ -73,8 +64,7 @@ fn seconds(text: &[u8]) -> Option<i64>
 fn total_seconds(date: i64, time: u32, offset: i64) -> i64
     requires date { IsEpochDay date }
     requires time { time < 86_400 }
-    requires low { neg_ℤ (pos 86_400) ≤ℤ offset }
-    requires high { offset ≤ℤ pos 86_400 }
+    requires offset { IsWithin 86_400 offset }
     ensures { result ≡ total_seconds date time offset }
 {
     date * 86_400 + time as i64 - offset
@@ -98,7 +88,7 @@ fn split_date(text: &[u8]) -> Option<(i64, &[u8])>
 fn day_number(year: u16, month: u8, day: u8) -> Option<i64>
     requires { year ≤ 9999 }
     ensures bound { IfSome result IsEpochDay }
-    ensures value { result ≡ (if is_day year month day then Some (days_from_civil (pos year) month day) else None) }
+    ensures value { result ≡ day_number year month day }
 {
     if month > 12 || day > 31 {
         return None;
@@ -148,7 +138,7 @@ fn skip_fraction(text: &[u8]) -> Option<&[u8]>
         return Some(text);
     };
     let (digits, text) = split_digits(text);
-    if digits.len() >= 1 && digits.len() <= 9 {
+    if !digits.is_empty() && digits.len() <= MAX_FRACTION_DIGITS {
         Some(text)
     } else {
         None
@@ -158,8 +148,7 @@ fn skip_fraction(text: &[u8]) -> Option<&[u8]>
 /// The offset from UTC in seconds, to the end of the text.
 fn offset(text: &[u8]) -> Option<i64>
     ensures value { result ≡ offset_in text.now }
-    ensures low { IfSome result (λ z. neg_ℤ (pos 86_400) ≤ℤ z) }
-    ensures high { IfSome result (λ z. z ≤ℤ pos 86_400) }
+    ensures bound { IfSome result (IsWithin 86_400) }
 {
     match text {
         [] => Some(0),
@@ -179,8 +168,7 @@ fn zulu(text: &[u8]) -> Option<i64>
 
 fn ahead_of_utc(text: &[u8]) -> Option<i64>
     ensures value { result ≡ option_map pos (clock_in text.now) }
-    ensures low { IfSome result (λ z. neg_ℤ (pos 86_400) ≤ℤ z) }
-    ensures high { IfSome result (λ z. z ≤ℤ pos 86_400) }
+    ensures bound { IfSome result (IsWithin 86_400) }
 {
     let seconds = clock(text)?;
     Some(seconds as i64)
@@ -188,8 +176,7 @@ fn ahead_of_utc(text: &[u8]) -> Option<i64>
 
 fn behind_utc(text: &[u8]) -> Option<i64>
     ensures value { result ≡ option_map (λ n. neg_ℤ (pos n)) (clock_in text.now) }
-    ensures low { IfSome result (λ z. neg_ℤ (pos 86_400) ≤ℤ z) }
-    ensures high { IfSome result (λ z. z ≤ℤ pos 86_400) }
+    ensures bound { IfSome result (IsWithin 86_400) }
 {
     let seconds = clock(text)?;
     Some(-(seconds as i64))

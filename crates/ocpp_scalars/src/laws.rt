@@ -1,23 +1,43 @@
-ghost use Rattle.std.specs.Prelude.{◌≡◌, ℕ, ℤ, ◌↔◌, List, IsTrue, Result};
+//! Laws of definitions alone. Each function does nothing.
+ghost use Rattle.std.specs.Prelude.{◌≡◌, ℕ, ℤ, ◌≤◌, ◌<◌, ◌^◌, ◌↔◌, List, IsTrue, Result, Ok};
 ghost use Rattle.ocpp_scalars.specs.declared.instant_text.InstantFault.{InstantFault};
 ghost use Rattle.ocpp_scalars.specs.declared.number.NumberFault.{NumberFault};
-ghost use Rattle.ocpp_scalars.specs.InstantText.{IsInstantReading};
-ghost use Rattle.ocpp_scalars.specs.ByCases.InstantText.{instant_of};
-ghost use Rattle.ocpp_scalars.specs.Number.{IsTenthsReading, IsWholeReading};
+ghost use Rattle.ocpp_scalars.specs.declared.id_tag.TheConstants.{MAX_ID_TAG_CHARACTERS};
+ghost use Rattle.ocpp_scalars.specs.Limits.{last_second, max_id_tag_characters, max_tenths};
+ghost use Rattle.ocpp_scalars.specs.InstantText.{IsInstantReading, SpellsOnlyInstant};
+ghost use Rattle.ocpp_scalars.specs.Number.{IsTenthsReading, IsWholeReading, SpellsOnlyTenths};
 ghost use Rattle.ocpp_scalars.specs.NumberText.{IsNumber};
+ghost use Rattle.ocpp_scalars.specs.Writing.{instant_text, tenths_text};
+ghost use Rattle.ocpp_scalars.specs.ByCases.InstantText.{instant_of};
 ghost use Rattle.ocpp_scalars.specs.ByCases.NumberText.{is_number_text};
 ghost use Rattle.ocpp_scalars.specs.ByCases.Number.{tenths_of, whole_of};
 
-/// A law of all texts: what the readers of numbers give is what RFC 8259's grammar has, in both
-/// directions. It does nothing.
+/// What the readers of numbers return is what RFC 8259's grammar has, in both directions. Printed
+/// tenths spell their own value and no other, and are read as it. (`decimal` prints 64 digits.)
 pub fn number_texts()
     ensures form { (text : List ℕ) → IsTrue (is_number_text text) ↔ IsNumber text }
-    ensures tenths { (text : List ℕ) (reading : Result ℕ NumberFault) → (tenths_of text ≡ reading) ↔ IsTenthsReading text reading }
-    ensures whole { (text : List ℕ) (reading : Result ℤ NumberFault) → (whole_of text ≡ reading) ↔ IsWholeReading text reading }
+    ensures tenths { (text : List ℕ) (reading : Result ℕ NumberFault) →
+        (tenths_of text ≡ reading) ↔ IsTenthsReading text reading }
+    ensures whole { (text : List ℕ) (reading : Result ℤ NumberFault) →
+        (whole_of text ≡ reading) ↔ IsWholeReading text reading }
+    ensures printed { (tenths : ℕ) → tenths < 10 ^ 64 →
+        SpellsOnlyTenths (tenths_text tenths) tenths }
+    ensures again { (tenths : ℕ) → tenths ≤ max_tenths →
+        tenths_of (tenths_text tenths) ≡ Ok tenths }
 {}
 
-/// A law of all texts: what the reader of instants gives is what the grammar of dates and times has,
-/// in both directions. It does nothing.
+/// What the reader of instants returns is what the grammar of dates and times has, in both
+/// directions. A printed instant spells itself and no other, and is read as itself.
 pub fn instant_texts()
-    ensures { (text : List ℕ) (reading : Result ℕ InstantFault) → (instant_of text ≡ reading) ↔ IsInstantReading text reading }
+    ensures reading { (text : List ℕ) (reading : Result ℕ InstantFault) →
+        (instant_of text ≡ reading) ↔ IsInstantReading text reading }
+    ensures printed { (instant : ℕ) → instant ≤ last_second →
+        SpellsOnlyInstant (instant_text instant) instant }
+    ensures again { (instant : ℕ) → instant ≤ last_second →
+        instant_of (instant_text instant) ≡ Ok instant }
+{}
+
+/// The bound of an `IdTag` is OCPP's.
+pub fn id_tags()
+    ensures { MAX_ID_TAG_CHARACTERS ≡ max_id_tag_characters }
 {}

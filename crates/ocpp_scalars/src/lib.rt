@@ -19,7 +19,7 @@ pub use characters::character_count;
 pub use id_tag::{IdTag, MAX_ID_TAG_CHARACTERS};
 pub use instant::{Instant, LAST_SECOND};
 pub use instant_text::{InstantFault, read_instant};
-pub use laws::{instant_texts, number_texts};
+pub use laws::{id_tags, instant_texts, number_texts};
 pub use moments::Moments;
 pub use number::{NumberFault, read_tenths, read_whole};
 pub use number_text::is_number_text;

@@ -1,3 +1,4 @@
+//! The clock, as the crates above see it.
 use crate::instant::Instant;
 
 /// A source of the present moment.

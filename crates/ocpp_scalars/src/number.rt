@@ -1,38 +1,38 @@
+//! Numbers, read as tenths and as whole numbers.
 ghost use Rattle.std.specs.Prelude.{Some, ◌≡◌, ◌≢◌, ℕ, ◌+◌, ◌*◌, ◌^◌, ◌≤◌, ◌<◌, length, pos, neg_ℤ, ◌-ℤ◌, ◌≤ℤ◌, IfOk, IfSome, IfNone};
 ghost use Rattle.ocpp_scalars.specs.Digits.{AreDigits, value_after};
+ghost use Rattle.ocpp_scalars.specs.ByCases.Bounds.{IsWithin};
 ghost use Rattle.ocpp_scalars.specs.Number.{with_sign};
 ghost use Rattle.ocpp_scalars.specs.ByCases.Number.{number_in, times_power, at_most, tenths_of, whole_of};
 
 use crate::number_text::number_parts;
-use std::error::Error;
-use std::fmt;
+use thiserror::Error;
+
+/// The most bytes of a number's text.
+const MAX_NUMBER_BYTES: usize = 32;
+
+/// The most tenths that are read.
+const MAX_TENTHS: u32 = 1_000_000_000;
+
+/// The largest whole number that is read.
+const MAX_WHOLE: u32 = 2_147_483_647;
+
+/// The size of the least whole number that is read.
+const MAX_NEGATIVE_WHOLE: u32 = 2_147_483_648;
 
 /// Why a text isn't read as tenths or as a whole number.
-#[derive(Clone, Copy, Debug, PartialEq, Eq)]
+#[derive(Clone, Copy, Debug, PartialEq, Eq, Error)]
 pub enum NumberFault {
     /// The text isn't a number's (RFC 8259, section 6).
+    #[error("not a number")]
     Form,
-    /// The text has more than 32 bytes.
+    /// The text has more bytes than the limit.
+    #[error("a number of more than {MAX_NUMBER_BYTES} bytes")]
     TooLong,
     /// The value is out of bounds, or not a multiple of the unit.
+    #[error("a number out of range")]
     Range,
 }
-
-impl fmt::Display for NumberFault {
-    ghost use Rattle.ocpp_scalars.specs.FaultText.{number_fault_text};
-
-    ghost output = { λ fault. Some (number_fault_text fault) };
-
-    fn fmt<W: fmt::Write>(&self, f: &mut fmt::Formatter<W>) -> fmt::Result {
-        f.write_str(match self {
-            NumberFault::Form => "not a number",
-            NumberFault::TooLong => "a number of more than 32 bytes",
-            NumberFault::Range => "a number out of range",
-        })
-    }
-}
-
-impl Error for NumberFault {}
 
 /// A number's sign, its digits as a whole number, and the power of ten that they are multiplied by.
 #[derive(Clone, Copy)]
@@ -49,7 +49,7 @@ pub fn read_tenths(text: &str) -> Result<u32, NumberFault>
     ensures { result ≡ tenths_of text.now }
 {
     let number = read_number(text)?;
-    let most = if number.negative { 0 } else { 1_000_000_000 };
+    let most = if number.negative { 0 } else { MAX_TENTHS };
     match times_power_at_most(most, number.digits, number.power + 1) {
         Some(tenths) => Ok(tenths),
         None => Err(NumberFault::Range),
@@ -64,9 +64,9 @@ pub fn read_whole(text: &str) -> Result<i32, NumberFault>
 {
     let number = read_number(text)?;
     let most = if number.negative {
-        2_147_483_648
+        MAX_NEGATIVE_WHOLE
     } else {
-        2_147_483_647
+        MAX_WHOLE
     };
     match times_power_at_most(most, number.digits, number.power) {
         Some(value) if number.negative => Ok((-(value as i64)) as i32),
@@ -78,9 +78,10 @@ pub fn read_whole(text: &str) -> Result<i32, NumberFault>
 #[tactic(auto, unfolding(crate::specs::ByCases::Number::number_in))]
 fn read_number(text: &str) -> Result<Number, NumberFault>
     ensures value { result ≡ number_in text.now }
-    ensures bound { IfOk result (λ n. (n.digits < 10 ^ 32) × (neg_ℤ (pos (10 ^ 33)) ≤ℤ n.power) × (n.power ≤ℤ pos (10 ^ 33))) }
+    ensures digits { IfOk result (λ n. n.digits < 10 ^ 32) }
+    ensures power { IfOk result (λ n. IsWithin (10 ^ 33) n.power) }
 {
-    if text.len() > 32 {
+    if text.len() > MAX_NUMBER_BYTES {
         return Err(NumberFault::TooLong);
     }
     let Some(parts) = number_parts(text.as_bytes()) else {
@@ -115,8 +116,7 @@ fn power(negative: bool, exponent: u128, places: usize) -> i128
     requires exponent { exponent < 10 ^ 32 }
     requires places { places ≤ 32 }
     ensures value { result ≡ with_sign negative exponent -ℤ pos places }
-    ensures low { neg_ℤ (pos (10 ^ 33)) ≤ℤ result }
-    ensures high { result ≤ℤ pos (10 ^ 33) }
+    ensures bound { IsWithin (10 ^ 33) result }
 {
     if negative {
         -(exponent as i128) - places as i128
@@ -128,8 +128,7 @@ fn power(negative: bool, exponent: u128, places: usize) -> i128
 /// The digits times the power of ten, where that is whole and at most `most`.
 #[tactic(auto, using(crate::proofs::Scaling::scaling))]
 fn times_power_at_most(most: u32, digits: u128, power: i128) -> Option<u32>
-    requires low { neg_ℤ (pos (10 ^ 34)) ≤ℤ power }
-    requires high { power ≤ℤ pos (10 ^ 34) }
+    requires { IsWithin (10 ^ 34) power }
     ensures { result ≡ at_most most (times_power digits power) }
 {
     if digits == 0 {

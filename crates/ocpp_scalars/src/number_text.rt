@@ -1,7 +1,7 @@
-ghost use Rattle.std.specs.Prelude.{◌≡◌, ℕ, ◌+◌, ◌≤◌, length, option_map, IfSome};
+//! The texts of numbers, cut into their parts.
+ghost use Rattle.std.specs.Prelude.{◌≡◌, IfSome, length, option_map};
 ghost use Rattle.ocpp_scalars.specs.ByCases.Digits.{digits_of, after_digits};
-ghost use Rattle.ocpp_scalars.specs.Digits.{AreDigits};
-ghost use Rattle.ocpp_scalars.specs.ByCases.NumberText.{Parts, sign_at, whole_at, digits_at, fraction_at, exponent_sign_at, exponent_in, parts_of, is_number_text};
+ghost use Rattle.ocpp_scalars.specs.ByCases.NumberText.{FitIn, parts_seen, sign_at, whole_at, digits_at, fraction_at, exponent_sign_at, exponent_in, parts_of, is_number_text};
 
 /// The parts of a number's text (RFC 8259, section 6).
 #[derive(Clone, Copy)]
@@ -29,9 +29,8 @@ pub fn is_number_text(text: &str) -> bool
 /// The parts of a number's text, or `None` where the text is none.
 #[tactic(auto, unfolding(crate::specs::ByCases::NumberText::parts_of))]
 pub(crate) fn number_parts(text: &[u8]) -> Option<NumberParts<'_>>
-    ensures parts { option_map (λ p. record { negative = p.negative; whole = p.whole.now; fraction = p.fraction.now; negative_exponent = p.negative_exponent; exponent = p.exponent.now }) result ≡ parts_of text.now }
-    ensures lengths { IfSome result (λ p. length p.whole.now + length p.fraction.now + length p.exponent.now ≤ length text.now) }
-    ensures digits { IfSome result (λ p. AreDigits p.whole.now × AreDigits p.fraction.now × AreDigits p.exponent.now) }
+    ensures parts { option_map parts_seen result ≡ parts_of text.now }
+    ensures fits { IfSome result (λ p. FitIn (length text.now) (parts_seen p)) }
 {
     let (negative, text) = split_sign(text);
     let (whole, text) = split_whole(text)?;
@@ -47,8 +46,7 @@ pub(crate) fn number_parts(text: &[u8]) -> Option<NumberParts<'_>>
 }
 
 fn split_sign(text: &[u8]) -> (bool, &[u8])
-    ensures value { (result.0, result.1.now) ≡ sign_at text.now }
-    ensures shorter { length result.1.now ≤ length text.now }
+    ensures { (result.0, result.1.now) ≡ sign_at text.now }
 {
     match text {
         [b'-', rest @ ..] => (true, rest),
@@ -57,9 +55,7 @@ fn split_sign(text: &[u8]) -> (bool, &[u8])
 }
 
 fn split_whole(text: &[u8]) -> Option<(&[u8], &[u8])>
-    ensures value { option_map (λ x. (x.0.now, x.1.now)) result ≡ whole_at text.now }
-    ensures lengths { IfSome result (λ x. length x.0.now + length x.1.now ≤ length text.now) }
-    ensures digits { IfSome result (λ x. AreDigits x.0.now) }
+    ensures { option_map (λ x. (x.0.now, x.1.now)) result ≡ whole_at text.now }
 {
     let (digits, rest) = split_digits(text);
     match digits {
@@ -70,9 +66,7 @@ fn split_whole(text: &[u8]) -> Option<(&[u8], &[u8])>
 }
 
 fn split_fraction(text: &[u8]) -> Option<(&[u8], &[u8])>
-    ensures value { option_map (λ x. (x.0.now, x.1.now)) result ≡ fraction_at text.now }
-    ensures lengths { IfSome result (λ x. length x.0.now + length x.1.now ≤ length text.now) }
-    ensures digits { IfSome result (λ x. AreDigits x.0.now) }
+    ensures { option_map (λ x. (x.0.now, x.1.now)) result ≡ fraction_at text.now }
 {
     match text {
         [b'.', rest @ ..] => split_some_digits(rest),
@@ -81,9 +75,7 @@ fn split_fraction(text: &[u8]) -> Option<(&[u8], &[u8])>
 }
 
 fn exponent(text: &[u8]) -> Option<(bool, &[u8])>
-    ensures value { option_map (λ x. (x.0, x.1.now)) result ≡ exponent_in text.now }
-    ensures lengths { IfSome result (λ x. length x.1.now ≤ length text.now) }
-    ensures digits { IfSome result (λ x. AreDigits x.1.now) }
+    ensures { option_map (λ x. (x.0, x.1.now)) result ≡ exponent_in text.now }
 {
     match text {
         [] => Some((false, text)),
@@ -101,8 +93,7 @@ fn exponent(text: &[u8]) -> Option<(bool, &[u8])>
 }
 
 fn split_exponent_sign(text: &[u8]) -> (bool, &[u8])
-    ensures value { (result.0, result.1.now) ≡ exponent_sign_at text.now }
-    ensures shorter { length result.1.now ≤ length text.now }
+    ensures { (result.0, result.1.now) ≡ exponent_sign_at text.now }
 {
     match text {
         [b'-', rest @ ..] => (true, rest),
@@ -112,9 +103,7 @@ fn split_exponent_sign(text: &[u8]) -> (bool, &[u8])
 }
 
 fn split_some_digits(text: &[u8]) -> Option<(&[u8], &[u8])>
-    ensures value { option_map (λ x. (x.0.now, x.1.now)) result ≡ digits_at text.now }
-    ensures lengths { IfSome result (λ x. length x.0.now + length x.1.now ≤ length text.now) }
-    ensures digits { IfSome result (λ x. AreDigits x.0.now) }
+    ensures { option_map (λ x. (x.0.now, x.1.now)) result ≡ digits_at text.now }
 {
     let (digits, rest) = split_digits(text);
     if digits.is_empty() {
@@ -127,10 +116,8 @@ fn split_some_digits(text: &[u8]) -> Option<(&[u8], &[u8])>
 /// The digits that a text begins with, and what follows them.
 #[tactic(auto, using(crate::proofs::Texts::digit_steps))]
 pub(crate) fn split_digits(text: &[u8]) -> (&[u8], &[u8])
-    ensures front { result.0.now ≡ digits_of text.now }
-    ensures back { result.1.now ≡ after_digits text.now }
-    ensures digits { AreDigits result.0.now }
-    ensures lengths { length result.0.now + length result.1.now ≡ length text.now }
+    ensures digits { result.0.now ≡ digits_of text.now }
+    ensures rest { result.1.now ≡ after_digits text.now }
 {
     for (count, byte) in text.iter().enumerate() {
         if !byte.is_ascii_digit() {

@@ -3,11 +3,9 @@ ghost use Rattle.std.specs.Prelude.{◌≡◌, ℕ, ◌+◌, ◌*◌, ◌/◌, �
 ghost use Rattle.jiff_core.specs.Date.{epoch_day};
 ghost use Rattle.ocpp_scalars.specs.CalendarDay.{calendar_day};
 ghost use Rattle.ocpp_scalars.specs.Digits.{two_digits, four_digits};
-ghost use Rattle.ocpp_scalars.specs.Limits.{last_day, last_second, max_tenths};
+ghost use Rattle.ocpp_scalars.specs.Limits.{last_day, last_second};
 ghost use Rattle.ocpp_scalars.specs.Writing.{day_text, time_of_day_text, instant_text, tenths_text};
 ghost use Rattle.ocpp_scalars.specs.InstantText.{clock_text};
-ghost use Rattle.ocpp_scalars.specs.ByCases.InstantText.{instant_of};
-ghost use Rattle.ocpp_scalars.specs.ByCases.Number.{tenths_of};
 
 use crate::instant::Instant;
 use crate::refusal::Refusal;
@@ -17,17 +15,16 @@ use std::alloc::{AllocError, Global};
 /// The text of an instant, `YYYY-MM-DDThh:mm:ssZ`, or `OutOfMemory`.
 pub fn write_instant(alloc: Global, instant: Instant) -> Result<String, Refusal>
     ensures text { IfOk result (λ s. string_bytes s ≡ instant_text instant) }
-    ensures again { IfOk result (λ s. instant_of (string_bytes s) ≡ Ok instant) }
     ensures memory { IsOkUnless result Refusal.OutOfMemory }
 {
     let mut out = String::new(alloc);
-    push_seconds(&mut out, instant.seconds())?;
+    push_instant(&mut out, instant)?;
     Ok(out)
 }
 
 /// Appends the text of an instant, `YYYY-MM-DDThh:mm:ssZ`.
 pub fn push_instant(out: &mut String, instant: Instant) -> Result<(), AllocError>
-    ensures text { OnOk result (string_bytes out.new ≡ string_bytes out.old ++ instant_text instant) }
+    ensures { OnOk result (string_bytes out.new ≡ string_bytes out.old ++ instant_text instant) }
 {
     push_seconds(out, instant.seconds())
 }
@@ -36,7 +33,7 @@ pub fn push_instant(out: &mut String, instant: Instant) -> Result<(), AllocError
 #[tactic(auto, unfolding(crate::specs::Writing::instant_text))]
 fn push_seconds(out: &mut String, seconds: u64) -> Result<(), AllocError>
     requires { seconds ≤ last_second }
-    ensures text { OnOk result (string_bytes out.new ≡ string_bytes out.old ++ instant_text seconds) }
+    ensures { OnOk result (string_bytes out.new ≡ string_bytes out.old ++ instant_text seconds) }
 {
     push_day(out, seconds / 86_400)?;
     out.push('T')?;
@@ -48,7 +45,8 @@ fn push_seconds(out: &mut String, seconds: u64) -> Result<(), AllocError>
 /// Appends the date of the day that comes so many days after 1 January 1970.
 fn push_day(out: &mut String, day: u64) -> Result<(), AllocError>
     requires { day ≤ last_day }
-    ensures text { OnOk result (string_bytes out.new ≡ string_bytes out.old ++ day_text (calendar_day day)) }
+    ensures { OnOk result (
+        string_bytes out.new ≡ string_bytes out.old ++ day_text (calendar_day day)) }
 {
     let (year, month, day) = civil_date(day);
     push_two(out, (year / 100) as u8)?;
@@ -74,7 +72,8 @@ fn civil_date(day: u64) -> (u16, u8, u8)
 /// Appends a time of day, `hh:mm:ss`.
 fn push_time(out: &mut String, seconds: u32) -> Result<(), AllocError>
     requires { seconds < 86_400 }
-    ensures text { OnOk result (string_bytes out.new ≡ string_bytes out.old ++ time_of_day_text seconds) }
+    ensures { OnOk result (
+        string_bytes out.new ≡ string_bytes out.old ++ time_of_day_text seconds) }
 {
     push_two(out, (seconds / 3600) as u8)?;
     out.push(':')?;
@@ -86,7 +85,7 @@ fn push_time(out: &mut String, seconds: u32) -> Result<(), AllocError>
 /// Appends a number below 100 in two digits.
 fn push_two(out: &mut String, number: u8) -> Result<(), AllocError>
     requires { number < 100 }
-    ensures text { OnOk result (string_bytes out.new ≡ string_bytes out.old ++ two_digits number) }
+    ensures { OnOk result (string_bytes out.new ≡ string_bytes out.old ++ two_digits number) }
 {
     out.push((b'0' + number / 10) as char)?;
     out.push((b'0' + number % 10) as char)?;
@@ -96,7 +95,6 @@ fn push_two(out: &mut String, number: u8) -> Result<(), AllocError>
 /// The text of so many tenths: the whole part, a point and one digit, or `OutOfMemory`.
 pub fn write_tenths(alloc: Global, tenths: u32) -> Result<String, Refusal>
     ensures text { IfOk result (λ s. string_bytes s ≡ tenths_text tenths) }
-    ensures again { tenths ≤ max_tenths → IfOk result (λ s. tenths_of (string_bytes s) ≡ Ok tenths) }
     ensures memory { IsOkUnless result Refusal.OutOfMemory }
 {
     let mut out = String::new(alloc);
@@ -107,7 +105,7 @@ pub fn write_tenths(alloc: Global, tenths: u32) -> Result<String, Refusal>
 /// Appends the text of so many tenths.
 #[tactic(auto, unfolding(crate::specs::Writing::tenths_text))]
 pub fn push_tenths(out: &mut String, tenths: u32) -> Result<(), AllocError>
-    ensures text { OnOk result (string_bytes out.new ≡ string_bytes out.old ++ tenths_text tenths) }
+    ensures { OnOk result (string_bytes out.new ≡ string_bytes out.old ++ tenths_text tenths) }
 {
     let whole = tenths / 10;
     let tenth = tenths % 10;

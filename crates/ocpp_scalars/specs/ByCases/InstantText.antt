@@ -1,5 +1,5 @@
 -- What an instant's text is worth, or the fault. By the law `instant_texts` it is what `InstantText` says.
-use Rattle.std.specs.Prelude.{ℕ, ◌+◌, ◌-◌, ◌*◌, Bool, ◌==◌, ◌&&◌, ◌||◌, nat_le, nat_lt, int_le, if◌then◌else◌, List, [], ◌∷◌, length, ℤ, pos, neg_ℤ, ◌+ℤ◌, ◌-ℤ◌, ◌*ℤ◌, unsigned_abs, Option, Some, None, option_map, option_and_then, Result, Ok, Err}
+use Rattle.std.specs.Prelude.{ℕ, ◌+◌, ◌-◌, ◌*◌, Bool, ◌==◌, ◌&&◌, ◌||◌, nat_le, nat_lt, int_le, if◌then◌else◌, List, [], ◌∷◌, length, ℤ, pos, neg_ℤ, ◌+ℤ◌, ◌-ℤ◌, ◌*ℤ◌, unsigned_abs, Option, Some, None, option_map, Result, Ok, Err}
 use Rattle.std.specs.Char.{is_ascii_digit}
 use Rattle.jiff_core.specs.Calendar.{days_from_civil, days_in_month}
 use Rattle.ocpp_scalars.specs.declared.instant_text.InstantFault.{InstantFault}
@@ -7,6 +7,7 @@ use Rattle.ocpp_scalars.specs.declared.instant_text.InstantFault.TheVariants.{Fo
 use Rattle.ocpp_scalars.specs.Ascii.{space, plus, minus, dot, digit_zero, colon, upper_t, upper_z, lower_t, lower_z}
 use Rattle.ocpp_scalars.specs.ByCases.Digits.{digits_of, after_digits, is_empty}
 use Rattle.ocpp_scalars.specs.Limits.{last_second, max_fraction_digits}
+use Rattle.ocpp_scalars.specs.OptionSteps.{◌>>=◌}
 
 -- the value of what a text begins with, and what follows it
 abbrev pub Part : Type 0 → Type 0
@@ -17,12 +18,16 @@ digit_at [] = None
 digit_at (b ∷ bs) = if is_ascii_digit b then Some (b - digit_zero, bs) else None
 
 abbrev pub two_at : List ℕ → Part ℕ
-two_at text =
-    option_and_then (λ a. option_map (λ b. (a.0 * 10 + b.0, b.1)) (digit_at a.1)) (digit_at text)
+two_at text = do
+  (tens, after_tens) ← digit_at text
+  (ones, rest) ← digit_at after_tens
+  Some (tens * 10 + ones, rest)
 
 abbrev pub four_at : List ℕ → Part ℕ
-four_at text =
-    option_and_then (λ a. option_map (λ b. (a.0 * 100 + b.0, b.1)) (two_at a.1)) (two_at text)
+four_at text = do
+  (hundreds, after_hundreds) ← two_at text
+  (ones, rest) ← two_at after_hundreds
+  Some (hundreds * 100 + ones, rest)
 
 -- what follows one of these bytes
 abbrev pub after_byte : (ℕ → Bool) → List ℕ → Option (List ℕ)
@@ -44,37 +49,53 @@ abbrev pub is_day : ℕ → ℕ → ℕ → Bool
 is_day year month day =
     (nat_le 1 month && nat_le month 12) && (nat_le 1 day && nat_le day (days_in_month (pos year) month))
 
+-- the number of the calendar's day, 0 for 1 January 1970
+abbrev pub day_number : ℕ → ℕ → ℕ → Option ℤ
+day_number year month day = if is_day year month day then Some (days_from_civil (pos year) month day) else None
+
 -- `YYYY-MM-DD`, as the number of the day
 unfoldable pub date_at : List ℕ → Part ℤ
-date_at text =
-    option_and_then (λ year. option_and_then (λ a. option_and_then (λ month. option_and_then (λ b. option_and_then (λ day.
-    if is_day year.0 month.0 day.0 then Some (days_from_civil (pos year.0) month.0 day.0, day.1) else None)
-    (two_at b)) (after_dash month.1)) (two_at a)) (after_dash year.1)) (four_at text)
+date_at text = do
+  (year, after_year) ← four_at text
+  month_text ← after_dash after_year
+  (month, after_month) ← two_at month_text
+  day_text ← after_dash after_month
+  (day, rest) ← two_at day_text
+  number ← day_number year month day
+  Some (number, rest)
 
 -- `hh:mm`, in minutes
 unfoldable pub minutes_at : List ℕ → Part ℕ
-minutes_at text =
-    option_and_then (λ hour. option_and_then (λ a. option_and_then (λ minute.
-    if nat_lt hour.0 24 && nat_lt minute.0 60 then Some (hour.0 * 60 + minute.0, minute.1) else None)
-    (two_at a)) (after_colon hour.1)) (two_at text)
+minutes_at text = do
+  (hour, after_hour) ← two_at text
+  minute_text ← after_colon after_hour
+  (minute, rest) ← two_at minute_text
+  if nat_lt hour 24 && nat_lt minute 60 then Some (hour * 60 + minute, rest) else None
 
 -- `hh:mm:ss`, in seconds
 unfoldable pub time_at : List ℕ → Part ℕ
-time_at text =
-    option_and_then (λ minutes. option_and_then (λ a. option_and_then (λ second.
-    if nat_lt second.0 60 then Some (minutes.0 * 60 + second.0, second.1) else None)
-    (two_at a)) (after_colon minutes.1)) (minutes_at text)
+time_at text = do
+  (minutes, after_minutes) ← minutes_at text
+  second_text ← after_colon after_minutes
+  (second, rest) ← two_at second_text
+  if nat_lt second 60 then Some (minutes * 60 + second, rest) else None
 
--- what follows a point with 1 to 9 digits, or no point
+-- what follows so many digits of a fraction
+abbrev pub after_some_digits : ℕ → List ℕ → Option (List ℕ)
+after_some_digits count rest = if nat_le 1 count && nat_le count max_fraction_digits then Some rest else None
+
+-- what follows a point with digits, or no point
 abbrev pub after_fraction : List ℕ → Option (List ℕ)
 after_fraction [] = Some []
 after_fraction (b ∷ bs) =
-    if b == dot then (if nat_le 1 (length (digits_of bs)) && nat_le (length (digits_of bs)) max_fraction_digits then Some (after_digits bs) else None)
+    if b == dot then after_some_digits (length (digits_of bs)) (after_digits bs)
     else Some (b ∷ bs)
 
 -- `hh:mm` to the end of the text, in seconds
 abbrev pub clock_in : List ℕ → Option ℕ
-clock_in text = option_and_then (λ a. if is_empty a.1 then Some (a.0 * 60) else None) (minutes_at text)
+clock_in text = do
+  (minutes, rest) ← minutes_at text
+  if is_empty rest then Some (minutes * 60) else None
 
 abbrev pub zulu_in : List ℕ → Option ℤ
 zulu_in text = if is_empty text then Some (pos 0) else None
@@ -94,9 +115,13 @@ total_seconds date time offset = (date *ℤ pos 86_400 +ℤ pos time) -ℤ offse
 
 -- the seconds since 1970-01-01T00:00:00Z of a whole text
 unfoldable pub seconds_of : List ℕ → Option ℤ
-seconds_of text =
-    option_and_then (λ date. option_and_then (λ a. option_and_then (λ time. option_and_then (λ b. option_map (λ offset. total_seconds date.0 time.0 offset)
-    (offset_in b)) (after_fraction time.1)) (time_at a)) (after_separator date.1)) (date_at text)
+seconds_of text = do
+  (date, after_date) ← date_at text
+  time_text ← after_separator after_date
+  (time, after_time) ← time_at time_text
+  offset_text ← after_fraction after_time
+  offset ← offset_in offset_text
+  Some (total_seconds date time offset)
 
 -- from 1970 to the end of the year 9999
 abbrev pub in_range : ℤ → Result ℕ InstantFault

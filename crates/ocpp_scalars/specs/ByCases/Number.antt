@@ -12,7 +12,11 @@ use Rattle.ocpp_scalars.specs.Number.{with_sign}
 -- the number that parts write: digits, and the power of ten that they are multiplied by
 abbrev pub number_of_parts : Parts → Number
 number_of_parts p =
-    record { negative = p.negative; digits = value_after (decimal_value p.whole) p.fraction; power = with_sign p.negative_exponent (decimal_value p.exponent) -ℤ pos (length p.fraction) }
+    record {
+      negative = p.negative;
+      digits = value_after (decimal_value p.whole) p.fraction;
+      power = with_sign p.negative_exponent (decimal_value p.exponent) -ℤ pos (length p.fraction);
+    }
 
 -- the digits times the power of ten, where that is whole
 unfoldable pub times_power : ℕ → ℤ → Option ℕ
@@ -28,7 +32,8 @@ at_most most (Some n) = if nat_le n most then Some n else None
 -- the number of a text of at most so many bytes
 unfoldable pub number_in : List ℕ → Result Number NumberFault
 number_in text =
-    if nat_lt max_number_bytes (length text) then Err TooLong else ok_or (option_map number_of_parts (parts_of text)) Form
+    if nat_lt max_number_bytes (length text) then Err TooLong
+    else ok_or (option_map number_of_parts (parts_of text)) Form
 
 -- no tenths are below zero
 abbrev pub most_tenths : Bool → ℕ
@@ -36,7 +41,8 @@ most_tenths true = 0
 most_tenths false = max_tenths
 
 abbrev pub tenths_of_number : Result Number NumberFault → Result ℕ NumberFault
-tenths_of_number (Ok n) = ok_or (at_most (most_tenths n.negative) (times_power n.digits (n.power +ℤ pos 1))) Range
+tenths_of_number (Ok n) =
+    ok_or (at_most (most_tenths n.negative) (times_power n.digits (n.power +ℤ pos 1))) Range
 tenths_of_number (Err e) = Err e
 
 -- the tenths that a text is worth, from 0 to 1,000,000,000
@@ -49,7 +55,8 @@ most_whole true = max_negative_whole
 most_whole false = max_whole
 
 abbrev pub whole_of_number : Result Number NumberFault → Result ℤ NumberFault
-whole_of_number (Ok n) = ok_or (option_map (with_sign n.negative) (at_most (most_whole n.negative) (times_power n.digits n.power))) Range
+whole_of_number (Ok n) =
+    ok_or (option_map (with_sign n.negative) (at_most (most_whole n.negative) (times_power n.digits n.power))) Range
 whole_of_number (Err e) = Err e
 
 -- the whole number that a text is worth, from -2,147,483,648 to 2,147,483,647

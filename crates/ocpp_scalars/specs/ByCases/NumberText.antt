@@ -1,7 +1,10 @@
 -- A number's text cut into its parts. By the law `number_texts` it is what `NumberText` says.
-use Rattle.std.specs.Prelude.{ℕ, Bool, true, false, not, ◌||◌, ◌==◌, if◌then◌else◌, List, [], ◌∷◌, Option, Some, None, option_and_then, is_some}
+use Rattle.std.specs.Prelude.{ℕ, ◌+◌, ◌≤◌, length, Bool, true, false, not, ◌||◌, ◌==◌, if◌then◌else◌, List, [], ◌∷◌, Option, Some, None, is_some}
+use Rattle.ocpp_scalars.specs.declared.number_text.NumberParts.{NumberParts}
 use Rattle.ocpp_scalars.specs.Ascii.{plus, minus, dot, digit_zero, upper_e, lower_e}
 use Rattle.ocpp_scalars.specs.ByCases.Digits.{digits_of, after_digits, is_empty}
+use Rattle.ocpp_scalars.specs.Digits.{AreDigits}
+use Rattle.ocpp_scalars.specs.OptionSteps.{◌>>=◌}
 
 -- minus or not, the digits of the whole part and of the fraction, a negative exponent or not and its digits
 pub record Parts : Type 0 where
@@ -10,6 +13,24 @@ pub record Parts : Type 0 where
   pub fraction : List ℕ
   pub negative_exponent : Bool
   pub exponent : List ℕ
+
+-- the parts as the code has them
+abbrev pub parts_seen : NumberParts → Parts
+parts_seen p =
+    record {
+      negative = p.negative;
+      whole = p.whole.now;
+      fraction = p.fraction.now;
+      negative_exponent = p.negative_exponent;
+      exponent = p.exponent.now;
+    }
+
+-- each of the parts has digits alone, and they are no longer than so much
+pub record FitIn (size : ℕ) (p : Parts) : Type 0 where
+  pub whole_digits : AreDigits p.whole
+  pub fraction_digits : AreDigits p.fraction
+  pub exponent_digits : AreDigits p.exponent
+  pub lengths : length p.whole + length p.fraction + length p.exponent ≤ size
 
 -- a sign, and what follows it
 abbrev pub sign_at : List ℕ → Bool × List ℕ
@@ -42,23 +63,32 @@ exponent_sign_at (b ∷ bs) =
     else if b == plus then (false, bs)
     else (false, b ∷ bs)
 
+-- the digits to the end of the text, after an exponent's sign
+abbrev pub exponent_digits : Bool × List ℕ → Option (Bool × List ℕ)
+exponent_digits (negative, text) = do
+  (digits, rest) ← digits_at text
+  if is_empty rest then Some (negative, digits) else None
+
 -- an exponent to the end of the text: negative or not, and its digits, none where there is no exponent
 abbrev pub exponent_in : List ℕ → Option (Bool × List ℕ)
 exponent_in [] = Some (false, [])
 exponent_in (b ∷ bs) =
-    if (b == lower_e) || (b == upper_e) then
-    option_and_then (λ e. if is_empty e.1 then Some ((exponent_sign_at bs).0, e.0) else None) (digits_at (exponent_sign_at bs).1)
+    if (b == lower_e) || (b == upper_e) then exponent_digits (exponent_sign_at bs)
     else None
-
-abbrev pub parts_made : Bool → List ℕ → List ℕ → Bool × List ℕ → Option Parts
-parts_made negative whole fraction exponent =
-    Some (record { negative = negative; whole = whole; fraction = fraction; negative_exponent = exponent.0; exponent = exponent.1 })
 
 -- the parts of a whole text
 unfoldable pub parts_of : List ℕ → Option Parts
-parts_of text =
-    option_and_then (λ whole. option_and_then (λ fraction. option_and_then (λ exponent. parts_made (sign_at text).0 whole.0 fraction.0 exponent)
-    (exponent_in fraction.1)) (fraction_at whole.1)) (whole_at (sign_at text).1)
+parts_of text = do
+  (whole, after_whole) ← whole_at (sign_at text).1
+  (fraction, after_fraction) ← fraction_at after_whole
+  (negative_exponent, exponent) ← exponent_in after_fraction
+  Some (record {
+    negative = (sign_at text).0;
+    whole = whole;
+    fraction = fraction;
+    negative_exponent = negative_exponent;
+    exponent = exponent;
+  })
 
 -- the test for a number's text
 unfoldable pub is_number_text : List ℕ → Bool

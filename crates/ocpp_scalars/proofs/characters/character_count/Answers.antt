@@ -1,3 +1,4 @@
+-- A text is the encoding of its characters.
 use Rattle.std.proofs.Common.{rules}
 use Rattle.std.proofs.lemmas.Str.{chars_from_encodes}
 use Rattle.ocpp_scalars.proofs.characters.character_count.Goals as goal

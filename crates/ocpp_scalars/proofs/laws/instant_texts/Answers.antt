@@ -1,6 +1,6 @@
--- The law stands in `InstantReadings`.
-use Rattle.ocpp_scalars.proofs.InstantReadings.{instant_reading}
+-- The laws stand in `InstantReadings`.
+use Rattle.ocpp_scalars.proofs.InstantReadings.{instant_reading, instant_printed, instant_again}
 use Rattle.ocpp_scalars.proofs.laws.instant_texts.Goals as goal
 
 pub returns : goal.returns
-returns c = instant_reading
+returns c = record { reading = instant_reading; printed = instant_printed; again = instant_again }
