@@ -4,7 +4,9 @@
 //! connector in its `specs/Candidates.antt`.
 #![tactic(auto)]
 
+mod candidates;
 mod changes;
 mod rows;
 
+pub use candidates::Candidates;
 pub use rows::{MAX_ROWS, Rows};

@@ -4,11 +4,14 @@ ghost use Rattle.std.specs.Prelude.{◌≡◌, ◌↔◌, ◌+◌, ◌≤◌, []
 ghost use Rattle.profile.specs.Candidates.{candidates};
 ghost use Rattle.profile.specs.Changes.{installed, cleared, without_transaction_profiles};
 ghost use Rattle.stacking.specs.Limits.{max_rows};
+ghost use Rattle.stacking.specs.Candidates.{AreByFallingLevel};
+ghost use Rattle.stacking.specs.ByCases.Candidates.{candidates_left};
 ghost use Rattle.stacking.specs.Rows.{AreRows, IsRefused};
 
+use crate::candidates::Candidates;
 use crate::changes::{drop_cleared, drop_replaced, drop_transaction_profiles, staying};
 use ocpp_scalars::Refusal;
-use profile::{Criteria, Row};
+use profile::{Criteria, MAX_STACK_LEVEL, Purpose, Row};
 use std::alloc::{AllocError, Global};
 use std::marker::Model;
 
@@ -25,6 +28,8 @@ pub struct Rows {
 impl Model for Rows {
     ghost use Rattle.std.specs.Prelude.{List};
     ghost use Rattle.profile.specs.declared.row.Row.{Row};
+    ghost use Rattle.stacking.specs.Candidates.{AreByFallingLevel};
+    ghost use Rattle.stacking.specs.ByCases.Candidates.{candidates_left};
     ghost use Rattle.stacking.specs.Rows.{AreRows};
 
     ghost Value = { List Row };
@@ -91,6 +96,21 @@ impl Rows {
         let before = self.items.len();
         drop_transaction_profiles(&mut self.items, connector);
         before - self.items.len()
+    }
+
+    /// The rows of a purpose that speak for a connector (chapter 3.13), by strictly falling stack
+    /// level, each once. A TxProfile row is one whether or not a transaction is active.
+    pub fn candidates(&self, purpose: Purpose, connector: u32) -> Candidates<'_>
+        ensures { AreByFallingLevel
+            (candidates purpose self.now connector)
+            (candidates_left result) }
+    {
+        Candidates {
+            rows: self.items.as_slice(),
+            purpose,
+            connector,
+            below: MAX_STACK_LEVEL + 1,
+        }
     }
 
     /// A copy.
