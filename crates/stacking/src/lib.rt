@@ -10,3 +10,6 @@ mod rows;
 
 pub use candidates::Candidates;
 pub use rows::{MAX_ROWS, Rows};
+
+#[cfg(test)]
+mod tests;
