@@ -9,8 +9,8 @@ use ocpp_scalars::{Instant, LAST_SECOND, Refusal};
 /// The longest duration that may be asked: a week, in seconds.
 pub const MAX_DURATION: u32 = 604_800;
 
-/// What GetCompositeSchedule asks (chapter 5.7): the limits of a connector, 0 being the whole point,
-/// from a start on for so many seconds, none of them past the last instant.
+/// What GetCompositeSchedule asks (chapter 5.7): the limits of a connector, 0 being the whole
+/// point, from a start on for so many seconds, none of them past the last instant.
 #[derive(Clone, Copy, Debug, PartialEq, Eq)]
 pub struct Ask {
     pub connector: u32,

@@ -12,8 +12,8 @@ use ocpp_scalars::Instant;
 use profile::{Purpose, Row};
 
 impl View<'_> {
-    /// The limit of a connector at an instant by the prevailing profile of a purpose (chapter 3.13), in
-    /// tenths, or `None` where no profile of that purpose has one.
+    /// The limit of a connector at an instant by the prevailing profile of a purpose (chapter 3.13),
+    /// in tenths, or `None` where no profile of that purpose has one.
     pub(crate) fn prevailing(
         &self,
         purpose: Purpose,

@@ -20,7 +20,7 @@ scaled-zero (negsuc k) = rw (zero-mod, zero-div) refl
 
 pub scaled-raised : (digits zeros value : ℕ) → value ≡ digits * 10 ^ zeros → times_power digits (pos zeros) ≡ Some value
 unfolding times_power
-scaled-raised digits zeros value e = rw (← e) refl
+scaled-raised digits count value e = rw (← e) refl
 
 pub at_most-over : (most value : ℕ) → most < value → at_most most (Some value) ≡ None
 at_most-over most value h = grind arith

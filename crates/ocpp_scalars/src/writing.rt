@@ -24,7 +24,7 @@ pub fn write_instant(alloc: Global, instant: Instant) -> Result<String, Refusal>
 
 /// Appends the text of an instant, `YYYY-MM-DDThh:mm:ssZ`.
 pub fn push_instant(out: &mut String, instant: Instant) -> Result<(), AllocError>
-    ensures { OnOk result (string_bytes out.new ≡ string_bytes out.old ++ instant_text instant) }
+    ensures text { OnOk result (string_bytes out.new ≡ string_bytes out.old ++ instant_text instant) }
 {
     push_seconds(out, instant.seconds())
 }
@@ -105,7 +105,7 @@ pub fn write_tenths(alloc: Global, tenths: u32) -> Result<String, Refusal>
 /// Appends the text of so many tenths.
 #[tactic(auto, unfolding(crate::specs::Writing::tenths_text))]
 pub fn push_tenths(out: &mut String, tenths: u32) -> Result<(), AllocError>
-    ensures { OnOk result (string_bytes out.new ≡ string_bytes out.old ++ tenths_text tenths) }
+    ensures text { OnOk result (string_bytes out.new ≡ string_bytes out.old ++ tenths_text tenths) }
 {
     let whole = tenths / 10;
     let tenth = tenths % 10;

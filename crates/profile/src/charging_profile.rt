@@ -44,8 +44,8 @@ impl Profile {
     ghost use Rattle.profile.specs.ByCases.Same.{HaveSameKeys, HaveSameTimes};
     ghost use Rattle.profile.specs.ChargingProfile.{anchor, offset, is_valid_at, rate_within, rate};
 
-    /// The well-formed profile of these parts. What belongs to another purpose or kind is dropped: a
-    /// transactionId unless it is a TxProfile, a recurrencyKind unless it is Recurring, and the
+    /// The well-formed profile of these parts. What belongs to another purpose or kind is dropped:
+    /// a transactionId unless it is a TxProfile, a recurrencyKind unless it is Recurring, and the
     /// startSchedule of a Relative one. The parts come back with the first cause of a refusal:
     /// `LevelTooHigh`, `TooManyPeriods`, `PeriodsOutOfOrder` or `NoRecurrency`.
     pub fn try_new(parts: ProfileParts) -> Result<Profile, (Refusal, ProfileParts)>
@@ -146,8 +146,8 @@ impl Profile {
         Some(self.kind.offset_after(instant.seconds() - anchor.seconds()))
     }
 
-    /// The limit at an instant, in tenths, counted from a base, or `None` where the profile has none:
-    /// outside its validity, before its anchor, past its duration, or before its first period.
+    /// The limit at an instant, in tenths, counted from a base, or `None` where the profile has
+    /// none: outside its validity, before its anchor, past its duration, or before its first period.
     pub fn rate(&self, base: Instant, instant: Instant) -> Option<u32>
         ensures { result ≡ rate self.now base instant }
     {

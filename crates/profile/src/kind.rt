@@ -47,7 +47,8 @@ pub enum Kind {
 }
 
 impl Kind {
-    /// The kind of a profile of these fields, or `None` where a Recurring one lacks its recurrencyKind.
+    /// The kind of a profile of these fields, or `None` where a Recurring one lacks its
+    /// recurrencyKind.
     pub fn of(kind: ProfileKind, recurrency: Option<Recurrency>) -> Option<Kind>
         ensures { result ≡ kind_of kind recurrency }
     {

@@ -6,7 +6,8 @@ ghost use Rattle.profile.specs.declared.period.Period.{Period};
 use crate::period::Period;
 use std::marker::Model;
 
-/// Periods as they come in, in order, not yet judged (chapter 7, chargingSchedulePeriod): one or more.
+/// Periods as they come in, in order, not yet judged (chapter 7, chargingSchedulePeriod): one or
+/// more.
 #[derive(Debug, Drop)]
 pub struct PeriodList {
     items: Vec<Period>,

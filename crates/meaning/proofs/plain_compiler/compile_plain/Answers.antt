@@ -1,8 +1,7 @@
 -- That the periods so far are the exact ones, and that one too many makes the whole too long.
-use Rattle.std.proofs.Common.{◌≡◌, ℕ, ◌+◌, ◌∙◌, ap, Some, arith}
+use Rattle.std.proofs.Common.{◌≡◌, ℕ, ◌+◌, ◌∙◌, ap, Some, arith, rules}
 use Rattle.std.proofs.lemmas.Result.{err_from_is_err_and}
 use Rattle.meaning.specs.View.{point_state}
-use Rattle.meaning.specs.Limit.{limit}
 use Rattle.meaning.specs.Limit.{limit_asked}
 use Rattle.meaning.specs.ByCases.Exact.{exact_periods}
 use Rattle.meaning.proofs.PlainCompiler.{before_more, periods_added, permitted, exact_answer, is_schedule}
@@ -13,18 +12,18 @@ returns-in_err-add_second c =
     let asked = limit_asked (point_state c.args.view.now) c.args.ask.now.connector c.args.ask.now.start in
     let instant = c.plus-instant.ensures ∙ ap (λ (n : ℕ). c.args.ask.now.start + n) c.from.ensures in
     let here : c.limit_at-limit.result ≡ asked c.loop-second.second =
-    c.limit_at-limit.ensures ∙ ap (λ (t : ℕ). limit (point_state c.args.view.now) c.args.ask.now.connector c.args.ask.now.start t) instant in
+    search (rules, c.limit_at-limit.ensures, instant) in
     let p = err_from_is_err_and c.from_residual.result c.from_residual.ensures.1 in
     rw (p.1, p.2)
     (permitted asked c.args.ask.now.duration c.loop-second.second c.loop-second.periods.items c.loop-second.before c.limit_at-limit.result _
-    c.loop-second.invariant.so_far c.loop-second.invariant.before here c.loop-second-test.true c.in_err-add_second.ensures.refused)
+    c.loop-second.invariant.so_far c.loop-second.invariant.before here (omega arith) c.in_err-add_second.ensures.refused)
 
 pub loop-second-preserved : goal.loop-second-preserved
 loop-second-preserved c =
     let asked = limit_asked (point_state c.args.view.now) c.args.ask.now.connector c.args.ask.now.start in
     let instant = c.plus-instant.ensures ∙ ap (λ (n : ℕ). c.args.ask.now.start + n) c.from.ensures in
     let here : c.limit_at-limit.result ≡ asked c.loop-second.second =
-    c.limit_at-limit.ensures ∙ ap (λ (t : ℕ). limit (point_state c.args.view.now) c.args.ask.now.connector c.args.ask.now.start t) instant in
+    search (rules, c.limit_at-limit.ensures, instant) in
     record {
       so_far = c.in_ok-add_second.ensures.added
           ∙ periods_added asked c.loop-second.second c.loop-second.periods.items c.loop-second.before c.limit_at-limit.result

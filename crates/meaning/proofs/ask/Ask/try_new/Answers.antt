@@ -7,8 +7,8 @@ use Rattle.meaning.proofs.ask.Ask.try_new.Goals.{then-duration-eq0-via-then-dura
 pub returns-then-duration-eq0-clause-made : goal.returns-then-duration-eq0-clause-made
 returns-then-duration-eq0-clause-made c =
     elim c.then-duration-eq0.branch [
-      | then-duration-eq0-via-then-duration-eq0 w ↦ sym (none_refused c.args.connector c.args.start c.args.duration w.if-duration-eq0.true)
-      | then-duration-eq0-via-else-duration-eq0+then-duration-gt-MAX_DURATION w ↦ sym (long_refused c.args.connector c.args.start c.args.duration w.if-duration-gt-MAX_DURATION.true)
+      | then-duration-eq0-via-then-duration-eq0 w ↦ let refused = none_refused c.args.connector c.args.start c.args.duration in grind (arith, refused)
+      | then-duration-eq0-via-else-duration-eq0+then-duration-gt-MAX_DURATION w ↦ let refused = long_refused c.args.connector c.args.start c.args.duration in grind (arith, refused)
     ]
 
 pub returns-then-seconds-from-clause-made : goal.returns-then-seconds-from-clause-made

@@ -1,5 +1,5 @@
 -- That one connector more adds its own limit where it is active.
-use Rattle.std.proofs.Common.{ℕ, ◌+◌, min, ◌∙◌, sym, ap, cond, Bool, filter, is_some, arith}
+use Rattle.std.proofs.Common.{◌≡◌, ℕ, ◌+◌, min, ◌∙◌, sym, ap, cond, Bool, filter, is_some, arith, rules}
 use Rattle.std.specs.List.{range_with_len, sum_by}
 use Rattle.meaning.specs.View.{point_state, active_since}
 use Rattle.meaning.specs.Limit.{own_limit}
@@ -15,7 +15,7 @@ loop-index-preserved c =
     let next = c.loop-index.index + 1 in
     let before : ℕ = sum_by give (filter test (range_with_len 1 c.loop-index.index)) in
     let more = sum_passing_more give test 1 c.loop-index.index next (omega arith) in
-    let active = sym (c.is_some.ensures ∙ ap is_some c.active_since.ensures) in
+    let active : is_some (active_since state next) ≡ c.is_some.result = search rules in
     elim c.if-is_some.branch [
       | then-is_some w ↦
           let here = ap (λ (b : Bool). cond b (before + give next) before) (active ∙ w.if-is_some.true) in
