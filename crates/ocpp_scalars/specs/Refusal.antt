@@ -1,7 +1,7 @@
 -- The names of the refusals.
 use Rattle.std.specs.Prelude.{ℕ, List, codes}
 use Rattle.ocpp_scalars.specs.declared.refusal.Refusal.{Refusal}
-use Rattle.ocpp_scalars.specs.declared.refusal.Refusal.TheVariants.{UnknownPoint, UnknownConnector, WrongUnit, LevelTooHigh, TooManyPeriods, PeriodsOutOfOrder, NoRecurrency, BadDuration, PastCalendar, ResultTooLong, OutOfMemory}
+use Rattle.ocpp_scalars.specs.declared.refusal.Refusal.TheVariants.{UnknownPoint, UnknownConnector, WrongUnit, LevelTooHigh, TooManyPeriods, PeriodsOutOfOrder, NoRecurrency, TooManyProfiles, BadDuration, PastCalendar, ResultTooLong, OutOfMemory}
 
 -- the bytes of a refusal's name, as answers print it
 abbrev pub refusal_name : Refusal → List ℕ
@@ -12,6 +12,7 @@ refusal_name LevelTooHigh = codes "LevelTooHigh"
 refusal_name TooManyPeriods = codes "TooManyPeriods"
 refusal_name PeriodsOutOfOrder = codes "PeriodsOutOfOrder"
 refusal_name NoRecurrency = codes "NoRecurrency"
+refusal_name TooManyProfiles = codes "TooManyProfiles"
 refusal_name BadDuration = codes "BadDuration"
 refusal_name PastCalendar = codes "PastCalendar"
 refusal_name ResultTooLong = codes "ResultTooLong"

@@ -24,6 +24,8 @@ pub enum Refusal {
     PeriodsOutOfOrder,
     /// The kind is Recurring and recurrencyKind is absent.
     NoRecurrency,
+    /// The point would have more profiles than the limit.
+    TooManyProfiles,
     /// The duration asked is 0 or above the limit.
     BadDuration,
     /// The schedule asked would run past the last instant.
@@ -47,6 +49,7 @@ impl Refusal {
             Refusal::TooManyPeriods => "TooManyPeriods",
             Refusal::PeriodsOutOfOrder => "PeriodsOutOfOrder",
             Refusal::NoRecurrency => "NoRecurrency",
+            Refusal::TooManyProfiles => "TooManyProfiles",
             Refusal::BadDuration => "BadDuration",
             Refusal::PastCalendar => "PastCalendar",
             Refusal::ResultTooLong => "ResultTooLong",

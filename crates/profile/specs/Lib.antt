@@ -10,4 +10,5 @@ pub mod ChargingProfile
 pub mod Parts
 pub mod Row
 pub mod Candidates
+pub mod Changes
 pub mod ByCases

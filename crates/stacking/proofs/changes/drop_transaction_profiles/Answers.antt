@@ -1,0 +1,9 @@
+-- That a closure which only tests leaves a filter.
+use Rattle.std.proofs.Common.{not, rules}
+use Rattle.std.proofs.lemmas.Fn.{filter_same}
+use Rattle.profile.specs.declared.row.Row.{Row}
+use Rattle.profile.specs.Changes.{is_tx_profile_at}
+use Rattle.stacking.proofs.changes.drop_transaction_profiles.Goals as goal
+
+pub returns-clause-rows : goal.returns-clause-rows
+returns-clause-rows c = filter_same _ (λ (row : Row). not (is_tx_profile_at c.args.connector row)) _ (λ x b f' k. search rules) _ _ c.retain.ensures.filtered

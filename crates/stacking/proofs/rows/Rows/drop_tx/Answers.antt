@@ -1,0 +1,6 @@
+-- That the rows that stay are rows of a point.
+use Rattle.stacking.proofs.RowLemmas.{rows-filter}
+use Rattle.stacking.proofs.rows.Rows.drop_tx.Goals as goal
+
+pub invariant_of-self : goal.invariant_of-self
+invariant_of-self c = rw c.drop_transaction_profiles.ensures.rows (rows-filter _ _ c.self.invariant)

@@ -1,0 +1,6 @@
+-- The rows so far are equal.
+use Rattle.std.proofs.Common.{◌≡◌, take}
+use Rattle.stacking.proofs.rows.same_rows.Given as goal
+
+abbrev pub invariant-loop-place : goal.invariant-loop-place
+invariant-loop-place l = take l.place l.rows ≡ take l.place l.others

@@ -1,0 +1,81 @@
+//! The rows that speak for a connector, the highest stack level first.
+
+ghost use Rattle.std.specs.Prelude.{◌≡◌};
+ghost use Rattle.std.specs.Iterator.{YieldsFirstRef, item_count};
+ghost use Rattle.std.specs.Option.{option_copied};
+ghost use Rattle.profile.specs.Candidates.{is_replaced_at, is_candidate};
+ghost use Rattle.stacking.specs.ByCases.Candidates.{candidate_at, candidates_left};
+
+use profile::{Purpose, Row};
+
+/// The rows of a purpose that speak for a connector (chapter 3.13), by strictly falling stack level,
+/// each once.
+#[derive(Drop)]
+pub struct Candidates<'a> {
+    pub(crate) rows: &'a [Row],
+    pub(crate) purpose: Purpose,
+    pub(crate) connector: u32,
+    /// Those of this stack level and above were yielded.
+    pub(crate) below: u32,
+}
+
+impl<'a> Iterator for Candidates<'a> {
+    type Item = &'a Row;
+
+    ghost next_gives = { YieldsFirstRef candidates_left };
+
+    ghost remaining = { item_count candidates_left };
+
+    #[tactic(auto, using(crate::proofs::CandidateLemmas::below_next, crate::proofs::CandidateLemmas::below_none))]
+    fn next(&mut self) -> Option<&'a Row> {
+        while self.below > 0 {
+            self.below -= 1;
+            let found = candidate_at(self.rows, self.purpose, self.connector, self.below);
+            if found.is_some() {
+                return found;
+            }
+        }
+        None
+    }
+}
+
+/// The row of a stack level that speaks for a connector.
+fn candidate_at<'a>(
+    rows: &'a [Row],
+    purpose: Purpose,
+    connector: u32,
+    level: u32,
+) -> Option<&'a Row>
+    ensures { option_copied result ≡ candidate_at purpose rows.now connector level }
+{
+    // The level first: whether a row is a candidate may take a look at all rows.
+    rows.iter().find(|row| {
+        row.profile.stack_level == level && is_candidate(rows, purpose, connector, row)
+    })
+}
+
+/// Whether a row speaks for a connector among the profiles of a purpose.
+fn is_candidate(rows: &[Row], purpose: Purpose, connector: u32, row: &Row) -> bool
+    ensures { result ≡ is_candidate purpose rows.now connector row.now }
+{
+    match (purpose, row.profile.purpose) {
+        (Purpose::ChargePointMaxProfile, Purpose::ChargePointMaxProfile) => row.connector == 0,
+        (Purpose::TxDefaultProfile, Purpose::TxDefaultProfile) => {
+            row.connector == connector
+                || (row.connector == 0 && !is_replaced_at(rows, connector, row.profile.stack_level))
+        }
+        (Purpose::TxProfile, Purpose::TxProfile) => row.connector == connector,
+        _ => false,
+    }
+}
+
+/// Whether a connector has a TxDefaultProfile of its own at a stack level.
+fn is_replaced_at(rows: &[Row], connector: u32, level: u32) -> bool
+    ensures { result ≡ is_replaced_at rows.now connector level }
+{
+    rows.iter().any(|row| {
+        matches!(row.profile.purpose, Purpose::TxDefaultProfile)
+            && row.connector == connector
+            && row.profile.stack_level == level
+    })
+}

@@ -1,0 +1,81 @@
+//! Which rows an install, a clear and the end of a transaction remove.
+
+ghost use Rattle.std.specs.Prelude.{◌≡◌, ◌≤◌, length, vec_len, vec_capacity};
+ghost use Rattle.profile.specs.Changes.{is_purpose, has_key_of, is_replaced_by, rows_beside, matches, cleared, is_tx_profile_at, without_transaction_profiles};
+
+use profile::{Criteria, Purpose, Row};
+
+/// How many rows stay beside a new one.
+pub(crate) fn staying(rows: &[Row], new: &Row) -> usize
+    ensures { result ≡ length (rows_beside rows.now new.now) }
+{
+    rows.iter().filter(|row| !is_replaced_by(new, row)).count()
+}
+
+/// Removes the rows whose place a new one takes.
+pub(crate) fn drop_replaced(rows: &mut Vec<Row>, new: &Row)
+    ensures rows { rows.new.items ≡ rows_beside rows.old.items new.now }
+    ensures bound { vec_len rows.new ≤ vec_len rows.old }
+    ensures capacity { vec_capacity rows.new ≡ vec_capacity rows.old }
+{
+    rows.retain(|row| !is_replaced_by(new, row));
+}
+
+/// Removes the rows that match each criterion that is given.
+pub(crate) fn drop_cleared(rows: &mut Vec<Row>, criteria: &Criteria)
+    ensures rows { rows.new.items ≡ cleared rows.old.items criteria.now }
+    ensures bound { vec_len rows.new ≤ vec_len rows.old }
+{
+    rows.retain(|row| !matches(criteria, row));
+}
+
+/// Removes the TxProfile rows of a connector.
+pub(crate) fn drop_transaction_profiles(rows: &mut Vec<Row>, connector: u32)
+    ensures rows { rows.new.items ≡ without_transaction_profiles rows.old.items connector }
+    ensures bound { vec_len rows.new ≤ vec_len rows.old }
+{
+    rows.retain(|row| !is_tx_profile_at(connector, row));
+}
+
+/// Whether a new row takes the place of a row.
+fn is_replaced_by(new: &Row, row: &Row) -> bool
+    ensures { result ≡ is_replaced_by new.now row.now }
+{
+    row.profile.id == new.profile.id || has_key_of(new, row)
+}
+
+fn has_key_of(new: &Row, row: &Row) -> bool
+    ensures { result ≡ has_key_of new.now row.now }
+{
+    row.connector == new.connector
+        && is_purpose(new.profile.purpose, row.profile.purpose)
+        && row.profile.stack_level == new.profile.stack_level
+}
+
+fn is_purpose(purpose: Purpose, other: Purpose) -> bool
+    ensures { result ≡ is_purpose purpose other }
+{
+    purpose == other
+}
+
+/// Whether a row matches each criterion that is given.
+fn matches(criteria: &Criteria, row: &Row) -> bool
+    ensures { result ≡ matches criteria.now row.now }
+{
+    criteria.id.is_none_or(|id| row.profile.id == id)
+        && criteria
+            .connector
+            .is_none_or(|connector| row.connector == connector)
+        && criteria
+            .purpose
+            .is_none_or(|purpose| is_purpose(purpose, row.profile.purpose))
+        && criteria
+            .stack_level
+            .is_none_or(|level| row.profile.stack_level == level)
+}
+
+fn is_tx_profile_at(connector: u32, row: &Row) -> bool
+    ensures { result ≡ is_tx_profile_at connector row.now }
+{
+    is_purpose(Purpose::TxProfile, row.profile.purpose) && row.connector == connector
+}

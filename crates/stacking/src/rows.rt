@@ -1,0 +1,154 @@
+//! The rows of a charge point.
+
+ghost use Rattle.std.specs.Prelude.{◌≡◌, ◌↔◌, ◌+◌, ◌≤◌, [], IsTrue, IfErr, IfOk, OnOk, length, slice_index_or};
+ghost use Rattle.profile.specs.Candidates.{candidates};
+ghost use Rattle.profile.specs.Changes.{installed, cleared, without_transaction_profiles};
+ghost use Rattle.stacking.specs.Limits.{max_rows};
+ghost use Rattle.stacking.specs.Candidates.{AreByFallingLevel};
+ghost use Rattle.stacking.specs.ByCases.Candidates.{candidates_left};
+ghost use Rattle.stacking.specs.Rows.{AreRows, IsRefused};
+
+use crate::candidates::Candidates;
+use crate::changes::{drop_cleared, drop_replaced, drop_transaction_profiles, staying};
+use ocpp_scalars::Refusal;
+use profile::{Criteria, MAX_STACK_LEVEL, Purpose, Row};
+use std::alloc::{AllocError, Global};
+use std::marker::Model;
+
+/// The most rows of a charge point.
+pub const MAX_ROWS: usize = 100;
+
+/// The profiles that a charge point has installed, in the order of their installs: no two of one
+/// chargingProfileId, no two of one connector, purpose and stack level, and at most `MAX_ROWS`.
+#[derive(Debug, Drop)]
+pub struct Rows {
+    items: Vec<Row>,
+}
+
+impl Model for Rows {
+    ghost use Rattle.std.specs.Prelude.{List};
+    ghost use Rattle.profile.specs.declared.row.Row.{Row};
+    ghost use Rattle.stacking.specs.Candidates.{AreByFallingLevel};
+    ghost use Rattle.stacking.specs.ByCases.Candidates.{candidates_left};
+    ghost use Rattle.stacking.specs.Rows.{AreRows};
+
+    ghost Value = { List Row };
+
+    ghost view = { λ r. r.items.items };
+
+    ghost invariant = { λ r. AreRows r.items.items };
+}
+
+impl Rows {
+    /// No rows. Allocates nothing.
+    pub fn new(alloc: Global) -> Rows
+        ensures { result ≡ [] }
+    {
+        Rows {
+            items: Vec::new(alloc),
+        }
+    }
+
+    /// The rows, in the order of their installs.
+    pub fn as_slice(&self) -> &[Row]
+        ensures value { result.now ≡ self.now }
+        ensures rows { AreRows self.now }
+    {
+        self.items.as_slice()
+    }
+
+    /// Installs a row, which takes the place of those with its chargingProfileId and of those with its
+    /// connector, purpose and stack level. On `TooManyProfiles`, and out of memory, nothing changes and
+    /// the row comes back.
+    pub fn install(&mut self, row: Row) -> Result<(), (Refusal, Row)>
+        ensures rows { OnOk result (self.new ≡ installed self.old row) }
+        ensures room { OnOk result (length (installed self.old row) ≤ max_rows) }
+        ensures refused { IfErr result (λ refused. IsRefused self.old row refused self.new) }
+    {
+        if staying(self.items.as_slice(), &row) >= MAX_ROWS {
+            return Err((Refusal::TooManyProfiles, row));
+        }
+        // Memory comes first, so that a refusal leaves all rows.
+        if self.items.reserve(1).is_err() {
+            return Err((Refusal::OutOfMemory, row));
+        }
+        drop_replaced(&mut self.items, &row);
+        self.items.push(row).unwrap();
+        Ok(())
+    }
+
+    /// Removes the rows that match each criterion that is given, and returns how many they were.
+    pub fn clear(&mut self, criteria: &Criteria) -> usize
+        ensures rows { self.new ≡ cleared self.old criteria.now }
+        ensures count { result + length self.new ≡ length self.old }
+    {
+        let before = self.items.len();
+        drop_cleared(&mut self.items, criteria);
+        before - self.items.len()
+    }
+
+    /// Removes the TxProfile rows of a connector, whose transaction has ended, and returns how many they
+    /// were.
+    pub fn drop_tx(&mut self, connector: u32) -> usize
+        ensures rows { self.new ≡ without_transaction_profiles self.old connector }
+        ensures count { result + length self.new ≡ length self.old }
+    {
+        let before = self.items.len();
+        drop_transaction_profiles(&mut self.items, connector);
+        before - self.items.len()
+    }
+
+    /// The rows of a purpose that speak for a connector (chapter 3.13), by strictly falling stack
+    /// level, each once. A TxProfile row is one whether or not a transaction is active.
+    pub fn candidates(&self, purpose: Purpose, connector: u32) -> Candidates<'_>
+        ensures { AreByFallingLevel
+            (candidates purpose self.now connector)
+            (candidates_left result) }
+    {
+        Candidates {
+            rows: self.items.as_slice(),
+            purpose,
+            connector,
+            below: MAX_STACK_LEVEL + 1,
+        }
+    }
+
+    /// A copy.
+    pub fn copy(&self) -> Result<Rows, AllocError>
+        ensures { IfOk result (λ copy. copy ≡ self.now) }
+    {
+        let items = copy_of_rows(*self.items.allocator(), self.items.as_slice())?;
+        Ok(Rows { items })
+    }
+
+    /// Whether two points have equal rows, in the same order and installed at the same moments.
+    pub fn same(&self, other: &Rows) -> bool
+        ensures { IsTrue result ↔ (self.now ≡ other.now) }
+    {
+        same_rows(self.as_slice(), other.as_slice())
+    }
+}
+
+fn copy_of_rows(alloc: Global, rows: &[Row]) -> Result<Vec<Row>, AllocError>
+    ensures { IfOk result (λ copy. copy.items ≡ rows.now) }
+{
+    let mut copies = Vec::with_capacity(alloc, rows.len())?;
+    for row in rows {
+        copies.push(row.copy()?)?;
+    }
+    Ok(copies)
+}
+
+fn same_rows(rows: &[Row], others: &[Row]) -> bool
+    ensures { IsTrue result ↔ (rows.now ≡ others.now) }
+{
+    if rows.len() != others.len() {
+        return false;
+    }
+    for place in 0..rows.len() {
+        if !rows[place].same(&others[place]) {
+            return false;
+        }
+    }
+    true
+}

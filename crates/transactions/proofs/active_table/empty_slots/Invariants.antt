@@ -1,0 +1,6 @@
+-- The slots so far are empty.
+use Rattle.std.proofs.Common.{◌≡◌, None, replicate}
+use Rattle.transactions.proofs.active_table.empty_slots.Given as goal
+
+abbrev pub invariant-loop-slot : goal.invariant-loop-slot
+invariant-loop-slot g l = l.slots.items ≡ replicate l._slot None

@@ -1,0 +1,65 @@
+//! What a charge point tells of a transaction that begins.
+
+ghost use Rattle.std.specs.Prelude.{◌≡◌, ◌↔◌, IsTrue, IfOk};
+ghost use Rattle.std.specs.Str.{str_eq_ignore_ascii_case};
+ghost use Rattle.transactions.specs.Begin.{is_repeat};
+
+use ocpp_scalars::{IdTag, Instant};
+use std::alloc::{AllocError, Global};
+
+/// What a charge point tells of a transaction that begins (chapter 6, StartTransaction.req).
+#[derive(Debug, Drop)]
+pub struct Begin {
+    /// idTag: who starts it.
+    pub id_tag: IdTag,
+    /// meterStart, in Wh.
+    pub meter_start: i32,
+    pub timestamp: Instant,
+}
+
+impl Begin {
+    /// Whether this is what was told before, sent again: an equal idTag, where ASCII letters of
+    /// either case are equal, an equal meterStart and an equal timestamp.
+    pub fn is_repeat_of(&self, earlier: &Begin) -> bool
+        ensures { result ≡ is_repeat self.now earlier.now }
+    {
+        self.has_tag_of(earlier)
+            && self.meter_start == earlier.meter_start
+            && self.timestamp == earlier.timestamp
+    }
+
+    fn has_tag_of(&self, earlier: &Begin) -> bool
+        ensures { result ≡ str_eq_ignore_ascii_case self.now.id_tag earlier.now.id_tag }
+    {
+        self.id_tag
+            .as_str()
+            .eq_ignore_ascii_case(earlier.id_tag.as_str())
+    }
+
+    /// A copy.
+    pub fn copy(&self, alloc: Global) -> Result<Begin, AllocError>
+        ensures { IfOk result (λ copy. copy ≡ self.now) }
+    {
+        Ok(Begin {
+            id_tag: copy_of_tag(alloc, &self.id_tag)?,
+            meter_start: self.meter_start,
+            timestamp: self.timestamp,
+        })
+    }
+
+    /// Whether two are equal, the idTags with their letters' case.
+    pub fn same(&self, other: &Begin) -> bool
+        ensures { IsTrue result ↔ (self.now ≡ other.now) }
+    {
+        self.id_tag.as_str() == other.id_tag.as_str()
+            && self.meter_start == other.meter_start
+            && self.timestamp == other.timestamp
+    }
+}
+
+fn copy_of_tag(alloc: Global, tag: &IdTag) -> Result<IdTag, AllocError>
+    ensures { IfOk result (λ copy. copy ≡ tag.now) }
+{
+    let text = String::from_str(alloc, tag.as_str())?;
+    Ok(IdTag::try_new(text).unwrap())
+}

@@ -1,0 +1,15 @@
+//! The active transactions of a charge point (OCPP 1.6, chapters 4.8 and 4.10): at most one at each
+//! connector, begun by a StartTransaction and ended by the StopTransaction of its number or by the
+//! next start at its connector. What a start and a stop change stands in `specs/ActiveTable.antt`.
+#![tactic(auto)]
+
+mod active_table;
+mod begin;
+mod transaction;
+
+pub use active_table::{ActiveTable, Began};
+pub use begin::Begin;
+pub use transaction::Transaction;
+
+#[cfg(test)]
+mod tests;
