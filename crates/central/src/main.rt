@@ -31,7 +31,9 @@ fn run<R: Env + Files + Input + Print + Eprint + AllocGlobal>(rt: &R) -> u8 {
 }
 
 /// Does the job of the command line, or prints why it has none.
-fn do_job<R: Env + Files + Input + Print + Eprint + AllocGlobal>(rt: &R) -> Result<u8, ProgramFault> {
+fn do_job<R: Env + Files + Input + Print + Eprint + AllocGlobal>(
+    rt: &R,
+) -> Result<u8, ProgramFault> {
     let words = command_words(rt)?;
     match job_of(rt.alloc(), words.as_slice()) {
         Ok(Job::Replay { site }) => Ok(summary_status(replay_file(rt, site)?)),

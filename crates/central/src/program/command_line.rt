@@ -4,7 +4,9 @@ ghost use Rattle.std.specs.Prelude.{◌≡◌, false, codes, Some, IfOk, map, st
 ghost use Rattle.clap.specs.Words.{FailsBy, app_of, rule_of};
 ghost use Rattle.central.specs.CommandLine.{needed_option, required_option, central_app, line_faults, site_named, site_of_job};
 
-use crate::program::help_text::{ABOUT, REPLAY_ABOUT, REPLAY_EXAMPLE, SITE_HELP, STATUSES, VERSION};
+use crate::program::help_text::{
+    ABOUT, REPLAY_ABOUT, REPLAY_EXAMPLE, SITE_HELP, STATUSES, VERSION,
+};
 use clap::{Arg, ArgAction, Command, Error};
 use std::alloc::{AllocError, Global};
 

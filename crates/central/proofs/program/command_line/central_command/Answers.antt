@@ -17,11 +17,11 @@ returns c =
     ∙ ap (λ (a : App). with_rule a (rule_of c.site.result)) plain
     ∙ ap (with_rule (new_app (codes "replay"))) c.site.ensures.rule in
     let central : app_of c.subcommand_required.result
-        ≡ record (new_app (codes "central")) { top = record (new_app (codes "central")).top { has_version = true; subcommand_required = true } } =
+    ≡ record (new_app (codes "central")) { top = record (new_app (codes "central")).top { has_version = true; subcommand_required = true } } =
     rw (c.subcommand_required.ensures, c.after_help-2.ensures, c.about-2.ensures, c.version.ensures)
     (ap (λ (a : App). record a { top = record a.top { has_version = true; subcommand_required = true } }) c.new-2.ensures.app) in
     on_ok _ _ c.subcommand.result (λ x added.
-        added.shape (c.in_ok-replay.ensures.globals ∙ rw (c.after_help.ensures, c.about.ensures, c.new.ensures.local, c.site.ensures.global) refl)
-        ∙ ap (λ (a : App). with_subcommand a (shape_of c.in_ok-replay.replay)) central
-        ∙ ap (λ (a : App). with_subcommand (record (new_app (codes "central")) { top = record (new_app (codes "central")).top { has_version = true; subcommand_required = true } }) a.top) replay)
+    added.shape (c.in_ok-replay.ensures.globals ∙ rw (c.after_help.ensures, c.about.ensures, c.new.ensures.local, c.site.ensures.global) refl)
+    ∙ ap (λ (a : App). with_subcommand a (shape_of c.in_ok-replay.replay)) central
+    ∙ ap (λ (a : App). with_subcommand (record (new_app (codes "central")) { top = record (new_app (codes "central")).top { has_version = true; subcommand_required = true } }) a.top) replay)
     c.subcommand.ensures

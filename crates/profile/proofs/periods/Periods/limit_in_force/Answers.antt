@@ -24,6 +24,6 @@ returns c =
     let point = IsPartitionPoint-from_clause (λ (p : Period). nat_le p.start c.args.offset) periods c.partition_point-begun.result
     c.partition_point-begun.ensures.partitioned (partitioned periods c.args.offset ordered) (λ a r q k. search rules) in
     let found = ap (λ ps. limit_in ps c.args.offset) (sym same)
-        ∙ limit_of_last periods c.partition_point-begun.result (c.partition_point-begun.result - 1) (record { start = 0; limit = 0; number_phases = None }) c.args.offset
-        (omega arith) c.partition_point-begun.ensures.bound ordered point in
+    ∙ limit_of_last periods c.partition_point-begun.result (c.partition_point-begun.result - 1) (record { start = 0; limit = 0; number_phases = None }) c.args.offset
+    (omega arith) c.partition_point-begun.ensures.bound ordered point in
     search (rules, found)
