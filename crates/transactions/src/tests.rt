@@ -52,13 +52,13 @@ fn begins_or_repeats(rt: HostRuntime) -> Result<(), Fail> {
     let alloc = rt.alloc();
     let mut table = ActiveTable::new(alloc, 3)?;
     let starts = [
-        (told(1, "T1", 0, 0), 1, Began::Fresh),
-        (told(1, "t1", 0, 0), 2, Began::Repeat(1)),
-        (told(1, "T1", 1, 0), 3, Began::Fresh),
-        (told(1, "T1", 1, 1), 4, Began::Fresh),
-        (told(1, "T2", 1, 1), 5, Began::Fresh),
-        (told(2, "T2", 1, 1), 6, Began::Fresh),
-        (told(1, "t2", 1, 1), 7, Began::Repeat(5)),
+        (told(1, "A1", 0, 0), 1, Began::Fresh),
+        (told(1, "a1", 0, 0), 2, Began::Repeat(1)),
+        (told(1, "A1", 1, 0), 3, Began::Fresh),
+        (told(1, "A1", 1, 1), 4, Began::Fresh),
+        (told(1, "A2", 1, 1), 5, Began::Fresh),
+        (told(2, "A2", 1, 1), 6, Began::Fresh),
+        (told(1, "a2", 1, 1), 7, Began::Repeat(5)),
         (told(3, "\u{e9}", -5, 3600), 8, Began::Fresh),
         (told(3, "\u{c9}", -5, 3600), 9, Began::Fresh),
         (told(3, "", 0, 0), 10, Began::Fresh),
@@ -85,8 +85,8 @@ fn compares_tags_with_their_case(rt: HostRuntime) -> Result<(), Fail> {
     let mut one = ActiveTable::new(alloc, 1)?;
     let mut other = ActiveTable::new(alloc, 1)?;
     assert!(rt; one.same(&other));
-    start(&rt, alloc, &mut one, told(1, "T1", 0, 0), 1)?;
-    start(&rt, alloc, &mut other, told(1, "t1", 0, 0), 1)?;
+    start(&rt, alloc, &mut one, told(1, "A1", 0, 0), 1)?;
+    start(&rt, alloc, &mut other, told(1, "a1", 0, 0), 1)?;
     assert!(rt; !one.same(&other));
     Ok(())
 }
@@ -95,9 +95,9 @@ fn compares_tags_with_their_case(rt: HostRuntime) -> Result<(), Fail> {
 fn ends_by_number(rt: HostRuntime) -> Result<(), Fail> {
     let alloc = rt.alloc();
     let mut table = ActiveTable::new(alloc, 4)?;
-    start(&rt, alloc, &mut table, told(1, "T1", 0, 0), 1)?;
-    start(&rt, alloc, &mut table, told(2, "T2", 0, 0), 2)?;
-    start(&rt, alloc, &mut table, told(3, "T3", 0, 0), 2)?;
+    start(&rt, alloc, &mut table, told(1, "A1", 0, 0), 1)?;
+    start(&rt, alloc, &mut table, told(2, "A2", 0, 0), 2)?;
+    start(&rt, alloc, &mut table, told(3, "A3", 0, 0), 2)?;
     let stops = [
         (0, None),
         (-1, None),
