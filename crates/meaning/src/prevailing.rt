@@ -3,13 +3,12 @@
 ghost use Rattle.std.specs.Prelude.{◌≡◌, ℕ, [], ◌∷◌};
 ghost use Rattle.std.specs.List.{filter_map};
 ghost use Rattle.profile.specs.Greatest.{greatest};
-ghost use Rattle.profile.specs.Candidates.{is_replaced_at, is_candidate};
 ghost use Rattle.meaning.specs.View.{point_state, active_since};
 ghost use Rattle.meaning.specs.Prevailing.{has_its_transaction, level_and_limit, prevailing};
 
 use crate::view::View;
 use ocpp_scalars::Instant;
-use profile::{Purpose, Row};
+use profile::{Purpose, Row, is_candidate};
 
 impl View<'_> {
     /// The limit of a connector at an instant by the prevailing profile of a purpose (chapter 3.13),
@@ -28,38 +27,11 @@ impl View<'_> {
         }
         let mut best = None;
         for row in self.rows {
-            if self.is_candidate(purpose, connector, row) {
+            if is_candidate(purpose, self.rows, connector, row) {
                 best = higher(best, self.level_and_limit(connector, asked, instant, row));
             }
         }
         best.map(|(_, limit)| limit)
-    }
-
-    /// Whether a row speaks for a connector among the profiles of a purpose.
-    fn is_candidate(&self, purpose: Purpose, connector: usize, row: &Row) -> bool
-        ensures { result ≡ is_candidate purpose self.now.rows.now connector row.now }
-    {
-        match (purpose, row.profile.purpose) {
-            (Purpose::ChargePointMaxProfile, Purpose::ChargePointMaxProfile) => row.connector == 0,
-            (Purpose::TxDefaultProfile, Purpose::TxDefaultProfile) => {
-                row.connector as usize == connector
-                    || (row.connector == 0
-                        && !self.is_replaced_at(connector, row.profile.stack_level))
-            }
-            (Purpose::TxProfile, Purpose::TxProfile) => row.connector as usize == connector,
-            _ => false,
-        }
-    }
-
-    /// Whether a connector has a TxDefaultProfile of its own at a stack level.
-    fn is_replaced_at(&self, connector: usize, level: u32) -> bool
-        ensures { result ≡ is_replaced_at self.now.rows.now connector level }
-    {
-        self.rows.iter().any(|row| {
-            matches!(row.profile.purpose, Purpose::TxDefaultProfile)
-                && row.connector as usize == connector
-                && row.profile.stack_level == level
-        })
     }
 
     /// A row's stack level and its limit for a connector at an instant, where it has one.

@@ -1,19 +1,24 @@
 -- The names of the refusals.
 use Rattle.std.specs.Prelude.{ℕ, List, codes}
 use Rattle.ocpp_scalars.specs.declared.refusal.Refusal.{Refusal}
-use Rattle.ocpp_scalars.specs.declared.refusal.Refusal.TheVariants.{UnknownPoint, UnknownConnector, WrongUnit, LevelTooHigh, TooManyPeriods, PeriodsOutOfOrder, NoRecurrency, TooManyProfiles, BadDuration, PastCalendar, ResultTooLong, OutOfMemory}
+use Rattle.ocpp_scalars.specs.declared.refusal.Refusal.TheVariants.{UnknownPoint, UnknownConnector, MaxNotAtZero, TxAtZero, WrongUnit, LevelTooHigh, TooManyPeriods, PeriodsOutOfOrder, NoRecurrency, NoTransaction, OtherTransaction, TooManyProfiles, BadDuration, PastCalendar, ResultTooLong, TransactionsExhausted, OutOfMemory}
 
 -- the bytes of a refusal's name, as answers print it
 abbrev pub refusal_name : Refusal → List ℕ
 refusal_name UnknownPoint = codes "UnknownPoint"
 refusal_name UnknownConnector = codes "UnknownConnector"
+refusal_name MaxNotAtZero = codes "MaxNotAtZero"
+refusal_name TxAtZero = codes "TxAtZero"
 refusal_name WrongUnit = codes "WrongUnit"
 refusal_name LevelTooHigh = codes "LevelTooHigh"
 refusal_name TooManyPeriods = codes "TooManyPeriods"
 refusal_name PeriodsOutOfOrder = codes "PeriodsOutOfOrder"
 refusal_name NoRecurrency = codes "NoRecurrency"
+refusal_name NoTransaction = codes "NoTransaction"
+refusal_name OtherTransaction = codes "OtherTransaction"
 refusal_name TooManyProfiles = codes "TooManyProfiles"
 refusal_name BadDuration = codes "BadDuration"
 refusal_name PastCalendar = codes "PastCalendar"
 refusal_name ResultTooLong = codes "ResultTooLong"
+refusal_name TransactionsExhausted = codes "TransactionsExhausted"
 refusal_name OutOfMemory = codes "OutOfMemory"

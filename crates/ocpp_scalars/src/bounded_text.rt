@@ -3,6 +3,7 @@ ghost use Rattle.std.specs.Prelude.{◌≡◌, ◌↔◌, ◌≤◌, IfErr, IfOk
 ghost use Rattle.std.specs.Str.{chars};
 
 use crate::characters::character_count;
+use std::alloc::{AllocError, Global};
 use std::marker::Model;
 
 /// A text of 0 to `MAX` characters, counted as Unicode scalar values.
@@ -43,6 +44,15 @@ impl<const MAX: usize> BoundedText<MAX> {
         ensures short { length (chars self.now) ≤ MAX }
     {
         self.text.as_str()
+    }
+
+    /// A copy.
+    pub fn copy(&self, alloc: Global) -> Result<BoundedText<MAX>, AllocError>
+        ensures { IfOk result (λ copy. copy ≡ self.now) }
+    {
+        Ok(BoundedText {
+            text: String::from_str(alloc, self.text.as_str())?,
+        })
     }
 
     /// The text, given back.

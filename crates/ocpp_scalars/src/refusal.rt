@@ -14,6 +14,10 @@ pub enum Refusal {
     UnknownPoint,
     /// The point has no connector of this number.
     UnknownConnector,
+    /// A ChargePointMaxProfile stands at connector 0 alone.
+    MaxNotAtZero,
+    /// A TxProfile stands at a connector above 0.
+    TxAtZero,
     /// The schedule's unit isn't the site's.
     WrongUnit,
     /// The stack level is above the limit.
@@ -24,6 +28,10 @@ pub enum Refusal {
     PeriodsOutOfOrder,
     /// The kind is Recurring and recurrencyKind is absent.
     NoRecurrency,
+    /// No transaction is active at the connector of a TxProfile.
+    NoTransaction,
+    /// The TxProfile is for another transaction than the active one.
+    OtherTransaction,
     /// The point would have more profiles than the limit.
     TooManyProfiles,
     /// The duration asked is 0 or above the limit.
@@ -32,6 +40,8 @@ pub enum Refusal {
     PastCalendar,
     /// The composite schedule has more periods than the limit.
     ResultTooLong,
+    /// Every transaction number was given away.
+    TransactionsExhausted,
     /// Memory ran out.
     OutOfMemory,
 }
@@ -44,15 +54,20 @@ impl Refusal {
         match self {
             Refusal::UnknownPoint => "UnknownPoint",
             Refusal::UnknownConnector => "UnknownConnector",
+            Refusal::MaxNotAtZero => "MaxNotAtZero",
+            Refusal::TxAtZero => "TxAtZero",
             Refusal::WrongUnit => "WrongUnit",
             Refusal::LevelTooHigh => "LevelTooHigh",
             Refusal::TooManyPeriods => "TooManyPeriods",
             Refusal::PeriodsOutOfOrder => "PeriodsOutOfOrder",
             Refusal::NoRecurrency => "NoRecurrency",
+            Refusal::NoTransaction => "NoTransaction",
+            Refusal::OtherTransaction => "OtherTransaction",
             Refusal::TooManyProfiles => "TooManyProfiles",
             Refusal::BadDuration => "BadDuration",
             Refusal::PastCalendar => "PastCalendar",
             Refusal::ResultTooLong => "ResultTooLong",
+            Refusal::TransactionsExhausted => "TransactionsExhausted",
             Refusal::OutOfMemory => "OutOfMemory",
         }
     }

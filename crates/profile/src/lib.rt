@@ -3,6 +3,7 @@
 //! every crate above cites stand in `specs/`: anchor, offset, rate, base and candidates.
 #![tactic(auto)]
 
+mod candidates;
 mod charging_profile;
 mod criteria;
 mod greatest;
@@ -17,6 +18,7 @@ mod row;
 mod schedule;
 mod unit;
 
+pub use candidates::is_candidate;
 pub use charging_profile::{MAX_STACK_LEVEL, Profile};
 pub use criteria::Criteria;
 pub use greatest::greatest_is_greatest;

@@ -3,10 +3,10 @@
 ghost use Rattle.std.specs.Prelude.{◌≡◌};
 ghost use Rattle.std.specs.Iterator.{YieldsFirstRef, item_count};
 ghost use Rattle.std.specs.Option.{option_copied};
-ghost use Rattle.profile.specs.Candidates.{is_replaced_at, is_candidate};
+ghost use Rattle.profile.specs.Candidates.{is_candidate};
 ghost use Rattle.stacking.specs.ByCases.Candidates.{candidate_at, candidates_left};
 
-use profile::{Purpose, Row};
+use profile::{Purpose, Row, is_candidate};
 
 /// The rows of a purpose that speak for a connector (chapter 3.13), by strictly falling stack level,
 /// each once.
@@ -50,32 +50,6 @@ fn candidate_at<'a>(
 {
     // The level first: whether a row is a candidate may take a look at all rows.
     rows.iter().find(|row| {
-        row.profile.stack_level == level && is_candidate(rows, purpose, connector, row)
-    })
-}
-
-/// Whether a row speaks for a connector among the profiles of a purpose.
-fn is_candidate(rows: &[Row], purpose: Purpose, connector: u32, row: &Row) -> bool
-    ensures { result ≡ is_candidate purpose rows.now connector row.now }
-{
-    match (purpose, row.profile.purpose) {
-        (Purpose::ChargePointMaxProfile, Purpose::ChargePointMaxProfile) => row.connector == 0,
-        (Purpose::TxDefaultProfile, Purpose::TxDefaultProfile) => {
-            row.connector == connector
-                || (row.connector == 0 && !is_replaced_at(rows, connector, row.profile.stack_level))
-        }
-        (Purpose::TxProfile, Purpose::TxProfile) => row.connector == connector,
-        _ => false,
-    }
-}
-
-/// Whether a connector has a TxDefaultProfile of its own at a stack level.
-fn is_replaced_at(rows: &[Row], connector: u32, level: u32) -> bool
-    ensures { result ≡ is_replaced_at rows.now connector level }
-{
-    rows.iter().any(|row| {
-        matches!(row.profile.purpose, Purpose::TxDefaultProfile)
-            && row.connector == connector
-            && row.profile.stack_level == level
+        row.profile.stack_level == level && is_candidate(purpose, rows, connector as usize, row)
     })
 }

@@ -41,7 +41,7 @@ impl Begin {
         ensures { IfOk result (λ copy. copy ≡ self.now) }
     {
         Ok(Begin {
-            id_tag: copy_of_tag(alloc, &self.id_tag)?,
+            id_tag: self.id_tag.copy(alloc)?,
             meter_start: self.meter_start,
             timestamp: self.timestamp,
         })
@@ -55,11 +55,4 @@ impl Begin {
             && self.meter_start == other.meter_start
             && self.timestamp == other.timestamp
     }
-}
-
-fn copy_of_tag(alloc: Global, tag: &IdTag) -> Result<IdTag, AllocError>
-    ensures { IfOk result (λ copy. copy ≡ tag.now) }
-{
-    let text = String::from_str(alloc, tag.as_str())?;
-    Ok(IdTag::try_new(text).unwrap())
 }

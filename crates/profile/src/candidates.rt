@@ -1,0 +1,33 @@
+//! Which rows of a point speak for a connector.
+
+ghost use Rattle.std.specs.Prelude.{◌≡◌};
+ghost use Rattle.profile.specs.Candidates.{is_candidate, is_replaced_at};
+
+use crate::purpose::Purpose;
+use crate::row::Row;
+
+/// Whether a row speaks for a connector among the profiles of a purpose (chapter 3.13).
+pub fn is_candidate(purpose: Purpose, rows: &[Row], connector: usize, row: &Row) -> bool
+    ensures { result ≡ is_candidate purpose rows.now connector row.now }
+{
+    match (purpose, row.profile.purpose) {
+        (Purpose::ChargePointMaxProfile, Purpose::ChargePointMaxProfile) => row.connector == 0,
+        (Purpose::TxDefaultProfile, Purpose::TxDefaultProfile) => {
+            row.connector as usize == connector
+                || (row.connector == 0 && !is_replaced_at(rows, connector, row.profile.stack_level))
+        }
+        (Purpose::TxProfile, Purpose::TxProfile) => row.connector as usize == connector,
+        _ => false,
+    }
+}
+
+/// Whether a connector has a TxDefaultProfile of its own at a stack level.
+fn is_replaced_at(rows: &[Row], connector: usize, level: u32) -> bool
+    ensures { result ≡ is_replaced_at rows.now connector level }
+{
+    rows.iter().any(|row| {
+        matches!(row.profile.purpose, Purpose::TxDefaultProfile)
+            && row.connector as usize == connector
+            && row.profile.stack_level == level
+    })
+}
