@@ -53,28 +53,72 @@ def fault_cases(folder):
             file.write(content)
         return ["replay", "--site", path]
 
-    point = b'{"id":"CP1","ceiling":63.0,"connectors":[32.0]}'
     good = site("good", SITE)
-    for name, content in (
-        ("TooLarge", b" " * 16_777_217),
-        ("NotUtf8", b'{"unit":"\xff"}'),
-        ("NotJson", b'{"unit":"A","points":[}'),
-        ("NotAnObject", b"[]"),
-        ("BadUnit", b'{"unit":"kW","points":[]}'),
-        ("BadPoints", b'{"unit":"A","points":[]}'),
-        ("BadId", b'{"unit":"A","points":[{"id":"C P","ceiling":1,"connectors":[1]}]}'),
-        ("BadCeiling", b'{"unit":"A","points":[{"id":"CP1","ceiling":-1,"connectors":[1]}]}'),
-        ("BadConnectors", b'{"unit":"A","points":[{"id":"CP1","ceiling":1,"connectors":[]}]}'),
-    ):
-        yield name, site(name, content), b"x\n", b"", f"central: site: {name}\n".encode(), 1
+    for number, (name, content) in enumerate(site_texts()):
+        arguments = site(f"site-{number}", content)
+        if name is None:
+            yield f"site file {number}", arguments, b"x\n", b"! 1 BadLine\n", b"", 2
+        else:
+            yield f"site file {number}", arguments, b"x\n", b"", f"central: site: {name}\n".encode(), 1
     site("blank", b"[]")
     yield "a site file whose name ends in a blank", site("blank ", SITE), b"x\n", b"! 1 BadLine\n", b"", 2
     yield "a site file whose name begins with a blank", site(" blank", SITE), b"x\n", b"! 1 BadLine\n", b"", 2
     yield "a site file whose name has no blank", site("blank", b"[]"), b"x\n", b"", b"central: site: NotAnObject\n", 1
-    yield "two points", site("two", b'{"unit":"A","points":[' + point + b"," + point + b"]}"), b"", b"", b"central: site: BadPoints\n", 1
     yield "no site file", ["replay", "--site", os.path.join(folder, "none")], b"", b"", b"central: device: read\n", 3
     yield "a folder as site file", ["replay", "--site", folder], b"", b"", b"central: device: read\n", 3
     yield from limit_cases(good)
+
+
+def site_texts():
+    """Texts of site files, each with its first fault, or None."""
+
+    def point(id="CP1", ceiling="63.0", connectors="32.0"):
+        return f'{{"id":"{id}","ceiling":{ceiling},"connectors":[{connectors}]}}'
+
+    def points(*entries):
+        return f'{{"unit":"A","points":[{",".join(entries)}]}}'.encode()
+
+    many = [point(f"CP{number}") for number in range(1_001)]
+    spaces = b" " * (16_777_216 - len(points(point())))
+    return (
+        (None, SITE),
+        (None, b'{"more":[1],"points":[{"x":0,"connectors":[0],"ceiling":0,"id":"a.B_9-~"}],"unit":"W"}'),
+        (None, points(point("CP1"), point("cp1"), point("CP2", "0.1", "1,2.5"))),
+        (None, points(*many[:1_000])),
+        ("BadPoints", points(*many)),
+        (None, points(point(connectors=",".join(["1"] * 64)))),
+        ("BadConnectors", points(point(connectors=",".join(["1"] * 65)))),
+        (None, points(point("a" * 48))),
+        ("BadId", points(point("a" * 49))),
+        (None, points(point()) + spaces),
+        ("TooLarge", points(point()) + spaces + b" "),
+        ("TooLarge", b"\xff" * 16_777_217),
+        ("NotUtf8", b'{"unit":"\xff"}'),
+        ("NotJson", b'{"unit":"A","points":[}'),
+        ("NotAnObject", b"[]"),
+        ("BadUnit", b'{"unit":"kW","points":[]}'),
+        ("BadUnit", b'{"unit":"a","points":[]}'),
+        ("BadUnit", b'{"unit":null}'),
+        ("BadPoints", b'{"unit":"A","points":[]}'),
+        ("BadPoints", b'{"unit":"A"}'),
+        ("BadPoints", b'{"unit":"A","points":{}}'),
+        ("BadPoints", points(point(), point("CP2"), "3")),
+        ("BadCeiling", points(point(), point("CP2", "-1"), "3")),
+        ("BadId", points(point("C P"))),
+        ("BadId", points(point(""))),
+        ("BadId", points(point("gr\u00f6\u00dfer"))),
+        ("BadId", b'{"unit":"A","points":[{"ceiling":1,"connectors":[1]}]}'),
+        ("SameId", points(point(), point())),
+        ("SameId", points(point(), point("CP2"), point("CP1", "-1", ""))),
+        ("BadId", points(point(), point("C P", "-1"), point())),
+        ("BadCeiling", points(point(ceiling="-1"))),
+        ("BadCeiling", points(point(ceiling="8.15", connectors=""))),
+        ("BadCeiling", points(point(ceiling='"1"'))),
+        ("BadConnectors", points(point(connectors=""))),
+        ("BadConnectors", points(point(connectors="1,null"))),
+        ("BadConnectors", points(point(connectors="100000000.1"))),
+        ("BadConnectors", points(point(connectors="1,-1"), point())),
+    )
 
 
 def limit_cases(good):
@@ -177,7 +221,7 @@ def memory_problems(program, folder):
     library = os.path.join(folder, "refuse_allocation.so")
     source = os.path.join(TOP, "tests", "refuse_allocation.c")
     subprocess.run(["cc", "-O2", "-shared", "-fPIC", "-o", library, source, "-ldl"], check=True)
-    for name, least in (("first-schedule", 20), ("point-messages", 60)):
+    for name, least in (("first-schedule", 20), ("point-messages", 60), ("ordinary-day", 200)):
         refused, problems = refusals(program, library, os.path.join(TOP, "examples", name))
         if refused < least:
             problems.append(f"only {refused} allocations were refused")

@@ -8,6 +8,7 @@ use action::{answer, Answer};
 use instant::{read_instant, Instant};
 use profile::Profile;
 use serde_json::Value;
+use std::collections::HashMap;
 use std::io::{self, BufWriter, Read, Write};
 
 const LONGEST_SCRIPT: usize = 16_777_216;
@@ -20,20 +21,41 @@ pub enum Side {
     Point,
 }
 
-/// The site of the benchmark has one point; the point keeps one profile.
-#[derive(Default)]
-pub struct Site {
-    pub installed: Option<Profile>,
+/// A profile with the connector that it stands at.
+pub struct Row {
+    pub connector: i32,
+    pub profile: Profile,
+}
+
+/// A charge point: how many connectors it has, and its profiles in the order of their installs.
+pub struct Point {
+    pub connectors: usize,
+    pub rows: Vec<Row>,
+}
+
+/// The points of the site by their identities; all limits are in amperes.
+pub type Site = HashMap<String, Point>;
+
+/// The points of a site file, which is taken to be right.
+fn read_site(path: &str) -> Option<Site> {
+    let file: Value = serde_json::from_slice(&std::fs::read(path).ok()?).ok()?;
+    let mut site = Site::new();
+    for point in file["points"].as_array()? {
+        let connectors = point["connectors"].as_array()?.len();
+        site.insert(point["id"].as_str()?.to_string(), Point { connectors, rows: Vec::new() });
+    }
+    Some(site)
 }
 
 fn main() -> io::Result<()> {
+    let path = std::env::args().nth(1).unwrap_or_default();
+    let mut site = read_site(&path).ok_or_else(|| io::Error::other("no site file"))?;
     let mut script = Vec::new();
     io::stdin().lock().take(LONGEST_SCRIPT as u64 + 1).read_to_end(&mut script)?;
     if script.len() > LONGEST_SCRIPT {
         return Err(io::Error::other("ScriptTooLong"));
     }
     let mut output = BufWriter::new(io::stdout().lock());
-    let mut site = Site::default();
     for (index, line) in script.split(|byte| *byte == b'\n').enumerate() {
         let line = line.strip_suffix(b"\r").unwrap_or(line);
         if line.is_empty() {
@@ -45,7 +67,7 @@ fn main() -> io::Result<()> {
             Err(name) => writeln!(output, "! {} {name}", index + 1)?,
         }
     }
-    std::hint::black_box(&site); // what was installed counts as used
+    std::hint::black_box(site.len()); // what was installed counts as used
     output.flush()
 }
 
@@ -66,14 +88,14 @@ fn play(site: &mut Site, line: &[u8]) -> Result<Option<String>, &'static str> {
         _ => return Err("BadLine"),
     };
     let now = read_instant(moment).ok_or("BadInstant")?;
-    if side == Side::Point && point != "CP1" {
+    if side == Side::Point && !site.contains_key(point) {
         return Err("UnknownPoint");
     }
-    Ok(take_frame(site, side, now, frame))
+    Ok(take_frame(site.get_mut(point), side, now, frame))
 }
 
 /// The answer to a text; what isn't a CALL has none.
-fn take_frame(site: &mut Site, side: Side, now: Instant, text: &str) -> Option<String> {
+fn take_frame(at: Option<&mut Point>, side: Side, now: Instant, text: &str) -> Option<String> {
     let frame: Value = serde_json::from_str(text).ok()?;
     let parts = frame.as_array()?;
     if parts.first()?.as_i64()? != 2 {
@@ -90,7 +112,7 @@ fn take_frame(site: &mut Site, side: Side, now: Instant, text: &str) -> Option<S
         (Some(action), None | Some(Value::Null)) => (action, &nothing),
         _ => return Some(format!(r#"[4,{id},"FormationViolation","",{{}}]"#)),
     };
-    Some(match answer(site, side, now, action, payload) {
+    Some(match answer(at, side, now, action, payload) {
         Answer::Result(payload) => format!("[3,{id},{payload}]"),
         Answer::Fault(fault) => format!(r#"[4,{id},"{}","{}",{{}}]"#, fault.code, fault.field),
     })

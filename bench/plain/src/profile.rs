@@ -61,7 +61,7 @@ fn number(object: &Object, field: &'static str, scale: f64, least: f64, most: f6
     ok.then_some(Some(whole)).ok_or_else(|| value(field))
 }
 
-fn whole(object: &Object, field: &'static str) -> Result<Option<i32>, Fault> {
+pub fn whole(object: &Object, field: &'static str) -> Result<Option<i32>, Fault> {
     Ok(number(object, field, 1.0, f64::from(i32::MIN), f64::from(i32::MAX))?.map(|value| value as i32))
 }
 
@@ -116,13 +116,16 @@ fn read_periods(schedule: &Object) -> Result<Vec<Period>, Fault> {
     Ok(periods)
 }
 
+pub fn purpose(object: &Object, field: &'static str) -> Result<Option<&'static str>, Fault> {
+    name(object, field, &["ChargePointMaxProfile", "TxDefaultProfile", "TxProfile"])
+}
+
 pub fn read_profile(profile: &Object) -> Result<Profile, Fault> {
-    const PURPOSES: [&str; 3] = ["ChargePointMaxProfile", "TxDefaultProfile", "TxProfile"];
     const KINDS: [&str; 3] = ["Absolute", "Recurring", "Relative"];
     let id = needed(whole(profile, "chargingProfileId")?, "chargingProfileId")?;
     let transaction = whole(profile, "transactionId")?;
     let level = needed(count(profile, "stackLevel")?, "stackLevel")?;
-    let purpose = needed(name(profile, "chargingProfilePurpose", &PURPOSES)?, "chargingProfilePurpose")?;
+    let purpose = needed(self::purpose(profile, "chargingProfilePurpose")?, "chargingProfilePurpose")?;
     let kind = needed(name(profile, "chargingProfileKind", &KINDS)?, "chargingProfileKind")?;
     let recurrency = name(profile, "recurrencyKind", &["Daily", "Weekly"])?;
     let valid_from = instant(profile, "validFrom")?;
