@@ -6,6 +6,12 @@ pub struct Instant(i64);
 
 const LAST: i64 = 253_402_300_799;
 
+impl Instant {
+    pub fn seconds(self) -> i64 {
+        self.0
+    }
+}
+
 /// `YYYY-MM-DD`, `T`, `t` or a space, `hh:mm:ss`, a fraction or none, an offset or none.
 pub fn read_instant(text: &str) -> Option<Instant> {
     let bytes = text.as_bytes();

@@ -3,6 +3,7 @@
 mod action;
 mod instant;
 mod profile;
+mod schedule;
 
 use action::{answer, Answer};
 use instant::{read_instant, Instant};
@@ -21,28 +22,39 @@ pub enum Side {
     Point,
 }
 
-/// A profile with the connector that it stands at.
+/// A profile with the connector that it stands at and the second of its install.
 pub struct Row {
     pub connector: i32,
+    pub moment: i64,
     pub profile: Profile,
 }
 
-/// A charge point: how many connectors it has, and its profiles in the order of their installs.
+/// A charge point: ceilings in tenths, for each connector the start of its transaction, and the profiles in the order of
+/// their installs.
 pub struct Point {
-    pub connectors: usize,
+    pub ceiling: u64,
+    pub ceilings: Vec<u64>,
+    pub started: Vec<Option<i64>>,
     pub rows: Vec<Row>,
 }
 
-/// The points of the site by their identities; all limits are in amperes.
-pub type Site = HashMap<String, Point>;
+/// The points of the site by their identities, and how many transactions began; all limits are in amperes.
+#[derive(Default)]
+pub struct Site {
+    pub points: HashMap<String, Point>,
+    pub transactions: u64,
+}
 
 /// The points of a site file, which is taken to be right.
 fn read_site(path: &str) -> Option<Site> {
+    let tenths = |value: &Value| Some((value.as_f64()? * 10.0).round() as u64);
     let file: Value = serde_json::from_slice(&std::fs::read(path).ok()?).ok()?;
-    let mut site = Site::new();
+    let mut site = Site::default();
     for point in file["points"].as_array()? {
-        let connectors = point["connectors"].as_array()?.len();
-        site.insert(point["id"].as_str()?.to_string(), Point { connectors, rows: Vec::new() });
+        let ceilings: Vec<u64> = point["connectors"].as_array()?.iter().map(tenths).collect::<Option<_>>()?;
+        let started = vec![None; ceilings.len()];
+        let entry = Point { ceiling: tenths(&point["ceiling"])?, ceilings, started, rows: Vec::new() };
+        site.points.insert(point["id"].as_str()?.to_string(), entry);
     }
     Some(site)
 }
@@ -67,7 +79,7 @@ fn main() -> io::Result<()> {
             Err(name) => writeln!(output, "! {} {name}", index + 1)?,
         }
     }
-    std::hint::black_box(site.len()); // what was installed counts as used
+    std::hint::black_box(site.points.len()); // what was installed counts as used
     output.flush()
 }
 
@@ -88,14 +100,14 @@ fn play(site: &mut Site, line: &[u8]) -> Result<Option<String>, &'static str> {
         _ => return Err("BadLine"),
     };
     let now = read_instant(moment).ok_or("BadInstant")?;
-    if side == Side::Point && !site.contains_key(point) {
+    if side == Side::Point && !site.points.contains_key(point) {
         return Err("UnknownPoint");
     }
-    Ok(take_frame(site.get_mut(point), side, now, frame))
+    Ok(take_frame(site, point, side, now, frame))
 }
 
 /// The answer to a text; what isn't a CALL has none.
-fn take_frame(at: Option<&mut Point>, side: Side, now: Instant, text: &str) -> Option<String> {
+fn take_frame(site: &mut Site, point: &str, side: Side, now: Instant, text: &str) -> Option<String> {
     let frame: Value = serde_json::from_str(text).ok()?;
     let parts = frame.as_array()?;
     if parts.first()?.as_i64()? != 2 {
@@ -112,7 +124,7 @@ fn take_frame(at: Option<&mut Point>, side: Side, now: Instant, text: &str) -> O
         (Some(action), None | Some(Value::Null)) => (action, &nothing),
         _ => return Some(format!(r#"[4,{id},"FormationViolation","",{{}}]"#)),
     };
-    Some(match answer(at, side, now, action, payload) {
+    Some(match answer(site, point, side, now, action, payload) {
         Answer::Result(payload) => format!("[3,{id},{payload}]"),
         Answer::Fault(fault) => format!(r#"[4,{id},"{}","{}",{{}}]"#, fault.code, fault.field),
     })

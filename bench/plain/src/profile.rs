@@ -47,7 +47,7 @@ fn present<'a>(object: &'a Object, field: &str) -> Option<&'a Value> {
     object.get(field).filter(|value| !value.is_null())
 }
 
-fn needed<T>(read: Option<T>, field: &'static str) -> Result<T, Fault> {
+pub fn needed<T>(read: Option<T>, field: &'static str) -> Result<T, Fault> {
     read.ok_or_else(|| absent(field))
 }
 
@@ -73,14 +73,14 @@ fn tenths(object: &Object, field: &'static str) -> Result<Option<u32>, Fault> {
     Ok(number(object, field, 10.0, 0.0, 1e9)?.map(|value| value as u32))
 }
 
-fn text<'a>(object: &'a Object, field: &'static str) -> Result<Option<&'a str>, Fault> {
+pub fn text<'a>(object: &'a Object, field: &'static str) -> Result<Option<&'a str>, Fault> {
     let Some(found) = present(object, field) else {
         return Ok(None);
     };
     found.as_str().map(Some).ok_or_else(|| kind(field))
 }
 
-fn name(object: &Object, field: &'static str, names: &[&'static str]) -> Result<Option<&'static str>, Fault> {
+pub fn name(object: &Object, field: &'static str, names: &[&'static str]) -> Result<Option<&'static str>, Fault> {
     let Some(found) = text(object, field)? else {
         return Ok(None);
     };
@@ -92,6 +92,11 @@ fn instant(object: &Object, field: &'static str) -> Result<Option<Instant>, Faul
         return Ok(None);
     };
     read_instant(found).map(Some).ok_or_else(|| value(field))
+}
+
+/// The timestamp of a StartTransaction.
+pub fn started_at(object: &Object) -> Result<Instant, Fault> {
+    needed(instant(object, "timestamp")?, "timestamp")
 }
 
 pub fn object<'a>(object: &'a Object, field: &'static str) -> Result<&'a Object, Fault> {
