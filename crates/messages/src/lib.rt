@@ -14,8 +14,6 @@ mod profile_fields;
 mod response;
 mod response_text;
 mod side;
-#[cfg(test)]
-mod tests;
 
 pub use action::{Action, ScheduleRequest, StartTransaction, read_action, read_fields};
 pub use action_kind::ActionKind;

@@ -25,6 +25,3 @@ pub use number::{NumberFault, read_tenths, read_whole};
 pub use number_text::is_number_text;
 pub use refusal::Refusal;
 pub use writing::{push_instant, push_tenths, write_instant, write_tenths};
-
-#[cfg(test)]
-mod tests;

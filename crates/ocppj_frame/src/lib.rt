@@ -11,8 +11,6 @@ mod mark;
 mod message;
 mod message_id;
 mod payload;
-#[cfg(test)]
-mod tests;
 mod tree;
 mod write;
 

@@ -1,13 +1,13 @@
 //! What no replayed script shows: which frames get no answer and why, texts of their largest size,
 //! fields by kind, and written frames. `tests/replay` at the top of the repository has the texts of
 //! JSON conformance suites.
-use crate::{
-    Field, Frame, FrameFault, instant_field, list_field, object_field, push_call_head, push_error,
-    push_frame_end, push_result_head, read_frame, read_tree, tenths_field, text_field, whole_field,
-    write_call, write_error, write_result,
+use ocppj_frame::{
+    Field, Frame, FrameFault, Node, instant_field, list_field, object_field, push_call_head,
+    push_error, push_frame_end, push_result_head, read_frame, read_tree, tenths_field, text_field,
+    whole_field, write_call, write_error, write_result,
 };
-use ocpp_scalars::Instant;
 use std::alloc::{AllocError, Global};
+use std::process::Abort;
 use std::test::Fail;
 
 fn outcome(alloc: Global, text: &str) -> &'static str {
@@ -196,6 +196,36 @@ fn a_call_has_its_parts(rt: HostRuntime) -> Result<(), Fail> {
     Ok(())
 }
 
+// On each line a kind, the name of a field, and what is there.
+const FIELDS: &str = "\
+whole whole Value
+whole half WrongValue
+whole time WrongKind
+whole nothing Absent
+whole hole Absent
+tenths half Value
+instant time Value
+instant half WrongKind
+object list WrongKind";
+
+fn word<T>(field: &Field<T>) -> &'static str {
+    match field {
+        Field::Absent => "Absent",
+        Field::WrongKind => "WrongKind",
+        Field::WrongValue => "WrongValue",
+        Field::Value(_) => "Value",
+    }
+}
+
+fn word_of(node: Node<'_>, kind: &str, name: &str) -> &'static str {
+    match kind {
+        "whole" => word(&whole_field(node, name)),
+        "tenths" => word(&tenths_field(node, name)),
+        "instant" => word(&instant_field(node, name)),
+        _ => word(&object_field(node, name)),
+    }
+}
+
 #[test]
 fn fields_are_read_by_kind(rt: HostRuntime) -> Result<(), Fail> {
     let text =
@@ -204,49 +234,72 @@ fn fields_are_read_by_kind(rt: HostRuntime) -> Result<(), Fail> {
         return Err(Fail::new("no tree"));
     };
     let root = payload.root();
-    assert_eq!(rt; whole_field(root, "whole"), Field::Value(160));
-    assert_eq!(rt; whole_field(root, "half"), Field::WrongValue);
-    assert_eq!(rt; whole_field(root, "time"), Field::WrongKind);
-    assert_eq!(rt; whole_field(root, "nothing"), Field::Absent);
-    assert_eq!(rt; whole_field(root, "hole"), Field::Absent);
-    assert_eq!(rt; tenths_field(root, "half"), Field::Value(5));
-    let ten_seconds = Instant::try_new(10).ok_or("no instant")?;
-    assert_eq!(rt; instant_field(root, "time"), Field::Value(ten_seconds));
-    assert_eq!(rt; instant_field(root, "half"), Field::WrongKind);
-    assert!(rt; matches!(object_field(root, "list"), Field::WrongKind));
-    let Field::Value(entries) = list_field(root, "list") else {
+    for line in FIELDS.lines() {
+        let (kind, rest) = line.split_once(' ').ok_or("no kind")?;
+        let (name, wanted) = rest.split_once(' ').ok_or("no name")?;
+        assert_eq!(rt; word_of(root, kind, name), wanted, "{line}");
+    }
+    assert!(rt; whole_field(root, "whole") == Field::Value(160));
+    assert!(rt; tenths_field(root, "half") == Field::Value(5));
+    assert!(rt; seconds_in(root, "time") == Some(10));
+    Ok(())
+}
+
+fn seconds_in(node: Node<'_>, name: &str) -> Option<u64> {
+    match instant_field(node, name) {
+        Field::Value(instant) => Some(instant.seconds()),
+        _ => None,
+    }
+}
+
+#[test]
+fn lists_have_their_entries(rt: HostRuntime) -> Result<(), Fail> {
+    let Ok(payload) = read_tree(rt.alloc(), "{\"list\":[{},1]}") else {
+        return Err(Fail::new("no tree"));
+    };
+    let Field::Value(entries) = list_field(payload.root(), "list") else {
         return Err(Fail::new("no list"));
     };
-    assert_eq!(rt; entries.len(), 2);
+    assert!(rt; entries.len() == 2);
     let mut objects = 0u8;
     for node in entries.iter() {
         if node.is_object() {
             objects = objects.wrapping_add(1);
         }
     }
-    assert_eq!(rt; objects, 1);
+    assert!(rt; objects == 1);
     Ok(())
+}
+
+fn assert_text(rt: &impl Abort, found: &String, wanted: &str) {
+    assert_eq!(rt; found.as_str(), wanted);
 }
 
 #[test]
 fn frames_are_written_without_blanks(rt: HostRuntime) -> Result<(), Fail> {
     let alloc = rt.alloc();
     let call = write_call(alloc, "7", "Re\"set", "{\"a\":1}")?;
-    assert_eq!(rt; call.as_str(), r#"[2,"7","Re\"set",{"a":1}]"#);
+    assert_text(&rt, &call, r#"[2,"7","Re\"set",{"a":1}]"#);
     let result = write_result(alloc, "é/", "{}")?;
-    assert_eq!(rt; result.as_str(), r#"[3,"é/",{}]"#);
+    assert_text(&rt, &result, r#"[3,"é/",{}]"#);
     let error = write_error(alloc, "a\"\u{1}\n", "GenericError", "")?;
-    assert_eq!(rt; error.as_str(), r#"[4,"a\"\u0001\n","GenericError","",{}]"#);
+    assert_text(&rt, &error, r#"[4,"a\"\u0001\n","GenericError","",{}]"#);
     let error = write_error(alloc, "", "a\tb", "c\\d")?;
-    assert_eq!(rt; error.as_str(), r#"[4,"","a\tb","c\\d",{}]"#);
-    let mut out = String::from_str(alloc, "> ")?;
+    assert_text(&rt, &error, r#"[4,"","a\tb","c\\d",{}]"#);
+    Ok(())
+}
+
+#[test]
+fn frames_are_appended(rt: HostRuntime) -> Result<(), AllocError> {
+    let mut out = String::from_str(rt.alloc(), "> ")?;
     push_call_head(&mut out, "1", "Reset")?;
     push_frame_end(&mut out)?;
     push_result_head(&mut out, "\u{1}")?;
     push_error(&mut out, "2", "é", "")?;
-    assert_eq!(rt;
-        out.as_str(),
-        r#"> [2,"1","Reset",][3,"\u0001",[4,"2","é","",{}]"#
+    assert_text(
+        &rt,
+        &out,
+        r#"> [2,"1","Reset",][3,"\u0001",[4,"2","é","",{}]"#,
     );
     Ok(())
 }

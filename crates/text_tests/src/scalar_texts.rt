@@ -1,6 +1,9 @@
 //! What no contract can say: values from outside, and that memory suffices.
 
-use super::*;
+use ocpp_scalars::{
+    IdTag, Instant, InstantFault, NumberFault, is_number_text, read_instant, read_tenths,
+    read_whole, write_instant, write_tenths,
+};
 use std::test::Fail;
 
 // On each line a text, and the second that it is worth or the fault.
