@@ -1,1 +1,3 @@
 pub mod PointLemmas
+pub mod CeilingsRead
+pub mod SiteLemmas

@@ -5,9 +5,11 @@
 mod admission;
 mod fault;
 mod point;
+mod reading;
 mod site;
 
 pub use admission::admit;
 pub use fault::SiteFault;
 pub use point::SitePoint;
+pub use reading::{MAX_SITE_BYTES, read_site};
 pub use site::Site;
