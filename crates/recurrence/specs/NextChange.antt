@@ -17,8 +17,8 @@ abbrev pub IsNextPlace : Profile → ℕ → ℕ → Option ℕ → Type 0
 IsNextPlace profile base instant None = (k : ℕ) → instant < k → k ≤ last_second → ¬ (IsPlace profile base k)
 IsNextPlace profile base instant (Some next) = IsNearestPlace profile base instant next
 
--- The profile has one rate from an instant up to, and without, the next one that is given, or else up to
--- the last one: what it has a limit at every second of, or none at every second.
+-- The rate of a profile, or that it has none, is the same at every second from an instant on: up to the
+-- next one, which is left out, or up to the last one where there is no next.
 abbrev pub HasOneRateUntil : Profile → ℕ → ℕ → Option ℕ → Type 0
 HasOneRateUntil profile base instant None =
     (k : ℕ) → instant ≤ k → k ≤ last_second → rate profile base k ≡ rate profile base instant

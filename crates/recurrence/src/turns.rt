@@ -1,13 +1,12 @@
 //! The next turn of a schedule: where it begins, enters a period or ends.
 
-ghost use Rattle.std.specs.Prelude.{◌≡◌, ℕ, ◌+◌, ◌<◌, ◌≤◌, ◌==◌, ◌%◌, ◌^◌, Option, Some, IfSome};
-ghost use Rattle.std.specs.List.{list_any};
+ghost use Rattle.std.specs.Prelude.{◌≡◌, ℕ, ◌+◌, ◌<◌, ◌≤◌, ◌==◌, ◌%◌, ◌^◌, Option, Some, IfSome, IsTrue};
 ghost use Rattle.ocpp_scalars.specs.Limits.{last_second};
-ghost use Rattle.profile.specs.declared.period.Period.{Period};
 ghost use Rattle.profile.specs.Kind.{offset_after};
 ghost use Rattle.profile.specs.Limits.{week};
+ghost use Rattle.profile.specs.Periods.{are_in_order};
 ghost use Rattle.profile.specs.Places.{is_at, is_turn};
-ghost use Rattle.recurrence.specs.Next.{IsNext};
+ghost use Rattle.recurrence.specs.Next.{IsNext, is_start};
 
 use crate::next::{later, sooner};
 use profile::{Kind, Period, Schedule};
@@ -60,14 +59,16 @@ fn next_end(duration: Option<u32>, offset: u64) -> Option<u64>
     later(u64::from(duration?), offset)
 }
 
-/// The least start of a period after an offset.
+/// The first start of a period after an offset.
 fn next_start(periods: &[Period], offset: u64) -> Option<u64>
-    ensures next { IsNext (λ (k : ℕ). list_any (λ (period : Period). k == period.start) periods.now) offset result }
+    requires ordered { IsTrue (are_in_order periods.now) }
+    ensures next { IsNext (is_start periods.now) offset result }
     ensures small { IfSome result (λ next. next < 2 ^ 32) }
 {
-    let mut next = None;
-    for period in periods {
-        next = sooner(next, later(u64::from(period.start), offset));
+    // They are in order, so those that start up to the offset stand first.
+    let begun = periods.partition_point(|period| u64::from(period.start) <= offset);
+    if begun == periods.len() {
+        return None;
     }
-    next
+    Some(u64::from(periods[begun].start))
 }
