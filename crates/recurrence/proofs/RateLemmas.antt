@@ -1,5 +1,5 @@
 -- That the rate of a profile stays from second to second where there is quiet place.
-use Rattle.std.proofs.Common.{◌≡◌, ℕ, zero, suc, ◌+◌, ◌-◌, ◌%◌, ◌<◌, ◌≤◌, ◌==◌, nat_le, nat_lt, true, false, ◌||◌, List, [], ◌∷◌, filter, Option, Some, None, option_map, option_and_then, ⊎_elim, refl, sym, ap, ◌∙◌, mod-lt, mod-eq_of_lt, arith}
+use Rattle.std.proofs.Common.{◌≡◌, ℕ, zero, suc, ◌+◌, ◌-◌, ◌%◌, ◌<◌, ◌≤◌, ◌==◌, nat_le, nat_lt, Bool, true, false, ◌||◌, List, [], ◌∷◌, filter, Option, Some, None, option_map, option_and_then, ⊎_elim, refl, sym, ap, ◌∙◌, mod-lt, mod-eq_of_lt, arith}
 use Rattle.std.specs.List.{list_any}
 use Rattle.std.proofs.Math.Nat.{suc-mod, mod_self}
 use Rattle.std.proofs.lemmas.Bool.{or_parts, cases_lt, cases_order}
@@ -14,6 +14,7 @@ use Rattle.profile.specs.Kind.{offset_after}
 use Rattle.profile.specs.Greatest.{greatest}
 use Rattle.profile.specs.ChargingProfile.{anchor, offset, is_before, is_from, is_valid_at, rate_within, rate}
 use Rattle.profile.specs.Places.{is_at, is_turn, is_turn_at, is_place}
+use Rattle.recurrence.specs.NextChange.{IsNextPlace, HasOneRateUntil}
 
 is_before_next : (bound : Option ℕ) (n : ℕ) → is_at (suc n) bound ≡ false → is_before (suc n) bound ≡ is_before n bound
 is_before_next None n quiet = refl
@@ -112,7 +113,7 @@ turn_next profile base n quiet = ⊎_elim at (⊎_elim before after) (cases_orde
         ap (rate_within profile) more ∙ rate_within_next profile (offset_after profile.kind m) (ap (is_turn profile.schedule) (sym more) ∙ still) in
         ap (option_and_then (rate_within profile)) a ∙ (same ∙ ap (option_and_then (rate_within profile)) (sym b))
 
-pub rate_next : (profile : Profile) (base n : ℕ) → is_place profile base (suc n) ≡ false → rate profile base (suc n) ≡ rate profile base n
+rate_next : (profile : Profile) (base n : ℕ) → is_place profile base (suc n) ≡ false → rate profile base (suc n) ≡ rate profile base n
 rate_next profile base n quiet =
     let from = is_at (suc n) profile.valid_from in
     let to = is_at (suc n) profile.valid_to in
@@ -125,7 +126,7 @@ rate_next profile base n quiet =
     rw (valid, turn_next profile base n inner.1) refl
 
 -- along seconds of which none after the first is a place
-pub rate_stays : (profile : Profile) (base n more : ℕ) → ((k : ℕ) → n < k → k ≤ n + more → is_place profile base k ≡ false)
+rate_stays : (profile : Profile) (base n more : ℕ) → ((k : ℕ) → n < k → k ≤ n + more → is_place profile base k ≡ false)
     → rate profile base (n + more) ≡ rate profile base n
 rate_stays profile base n zero quiet = let e : n + 0 ≡ n = omega arith in ap (rate profile base) e
 rate_stays profile base n (suc more) quiet =
@@ -135,8 +136,19 @@ rate_stays profile base n (suc more) quiet =
     ∙ (rate_next profile base (n + more) (ap (is_place profile base) (sym e) ∙ last)
     ∙ rate_stays profile base n more (λ k later early. quiet k later (omega arith)))
 
-pub rate_until : (profile : Profile) (base n end : ℕ) → n ≤ end → ((k : ℕ) → n < k → k ≤ end → is_place profile base k ≡ false)
+rate_until : (profile : Profile) (base n end : ℕ) → n ≤ end → ((k : ℕ) → n < k → k ≤ end → is_place profile base k ≡ false)
     → rate profile base end ≡ rate profile base n
 rate_until profile base n end from quiet =
     let e : n + (end - n) ≡ end = omega arith in
     ap (rate profile base) (sym e) ∙ rate_stays profile base n (end - n) (λ k later early. quiet k later (omega arith))
+
+fails : (test : Bool) → ¬ (test ≡ true) → test ≡ false
+fails true not = absurd (not refl)
+fails false not = refl
+
+-- up to the nearest place there is one rate
+pub one_rate : (profile : Profile) (base instant : ℕ) (next : Option ℕ) → IsNextPlace profile base instant next → HasOneRateUntil profile base instant next
+one_rate profile base instant None is = λ k from end.
+    rate_until profile base instant k from (λ j later early. fails (is_place profile base j) (is j later (omega arith)))
+one_rate profile base instant (Some next) is = λ k from before.
+    rate_until profile base instant k from (λ j later early. fails (is_place profile base j) (is.nearest j later (omega arith)))

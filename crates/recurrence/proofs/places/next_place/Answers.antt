@@ -1,5 +1,5 @@
 -- That the soonest of the three is the next place.
-use Rattle.std.proofs.Common.{◌≡◌, ℕ, Option, ap, sym, subst, ◌∙◌}
+use Rattle.std.proofs.Common.{rules, ◌≡◌, ℕ, Option, ap, sym, subst, ◌∙◌}
 use Rattle.profile.specs.ChargingProfile.{offset}
 use Rattle.profile.specs.Places.{is_at, is_turn_at, is_place}
 use Rattle.recurrence.specs.Next.{IsNext, sooner}
@@ -14,8 +14,11 @@ returns c =
     let from = c.next_bound-from.result in
     let to = c.next_bound-to.result in
     let turn = c.next_turn-turn.result in
+    let is_from : IsNext (λ (k : ℕ). is_at k profile.valid_from) instant from = search rules in
+    let is_to : IsNext (λ (k : ℕ). is_at k profile.valid_to) instant to = search rules in
+    let is_turn : IsNext (λ (k : ℕ). is_turn_at profile.schedule (offset profile base k)) instant turn = search rules in
     let later = next_or (λ (k : ℕ). is_at k profile.valid_to) (λ (k : ℕ). is_turn_at profile.schedule (offset profile base k)) instant to turn
-    c.next_bound-to.ensures c.next_turn-turn.ensures in
-    let next = next_or (λ (k : ℕ). is_at k profile.valid_from) _ instant from (sooner to turn) c.next_bound-from.ensures later in
+    is_to is_turn in
+    let next = next_or (λ (k : ℕ). is_at k profile.valid_from) _ instant from (sooner to turn) is_from later in
     let same : c.sooner-2.result ≡ sooner from (sooner to turn) = c.sooner-2.ensures ∙ ap (sooner from) c.sooner.ensures in
     subst (λ (r : Option ℕ). IsNext (is_place profile base) instant r) (sym same) next
