@@ -1,0 +1,3 @@
+pub mod NextLemmas
+pub mod StartLemmas
+pub mod RateLemmas
