@@ -7,6 +7,7 @@ pub mod Kind
 pub mod Unit
 pub mod Names
 pub mod ChargingProfile
+pub mod Places
 pub mod Parts
 pub mod Row
 pub mod Candidates

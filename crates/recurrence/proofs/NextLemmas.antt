@@ -1,0 +1,83 @@
+-- The next number that passes one of two tests, or a test that comes again and again.
+use Rattle.std.proofs.Common.{◌≡◌, ℕ, ◌+◌, ◌-◌, ◌*◌, ◌/◌, ◌%◌, ◌<◌, ◌≤◌, min, Bool, true, false, ◌||◌, Option, Some, None, ⊎_elim, refl, sym, ap, ◌∙◌, mod-lt, arith}
+use Rattle.std.proofs.Math.Nat.{div-add-mod}
+use Rattle.std.proofs.lemmas.Nat.{mod-mul-add}
+use Rattle.std.proofs.lemmas.Bool.{cases_lt}
+use Rattle.recurrence.specs.Next.{IsFirstAfter, IsNext, sooner}
+
+-- of two tests
+pub next_or : (p q : ℕ → Bool) (n : ℕ) (a b : Option ℕ) → IsNext p n a → IsNext q n b → IsNext (λ k. p k || q k) n (sooner a b)
+next_or p q n None None no_a no_b = λ k later. rw (no_a k later, no_b k later) refl
+next_or p q n None (Some b) no_a is_b = record {
+  later = is_b.later;
+  passes = rw (no_a b is_b.later, is_b.passes) refl;
+  fails_between = λ k later early. rw (no_a k later, is_b.fails_between k later early) refl;
+}
+next_or p q n (Some a) None is_a no_b = record {
+  later = is_a.later;
+  passes = rw is_a.passes refl;
+  fails_between = λ k later early. rw (is_a.fails_between k later early, no_b k later) refl;
+}
+next_or p q n (Some a) (Some b) is_a is_b = ⊎_elim first second (cases_lt b a)
+  where
+    second : a ≤ b → IsFirstAfter (λ k. p k || q k) n (min a b)
+    second before =
+        let same : min a b ≡ a = omega arith in
+        rw same (record {
+          later = is_a.later;
+          passes = rw is_a.passes refl;
+          fails_between = λ k later early. rw (is_a.fails_between k later early, is_b.fails_between k later (omega arith)) refl;
+        })
+
+    first : b < a → IsFirstAfter (λ k. p k || q k) n (min a b)
+    first before =
+        let same : min a b ≡ b = omega arith in
+        rw same (record {
+          later = is_b.later;
+          passes = rw (is_a.fails_between b is_b.later before, is_b.passes) refl;
+          fails_between = λ k later early. rw (is_a.fails_between k later (omega arith), is_b.fails_between k later early) refl;
+        })
+
+-- a test that never passes later changes nothing
+pub next_beside : (p q : ℕ → Bool) (n : ℕ) (r : Option ℕ) → ((k : ℕ) → n < k → p k ≡ false) → IsNext q n r → IsNext (λ k. p k || q k) n r
+next_beside p q n None never fails = next_or p q n None None never fails
+next_beside p q n (Some r) never is = next_or p q n None (Some r) never is
+
+-- in one occurrence the remainders count on from its beginning
+begun : (n length : ℕ) → n - n % length ≡ (n / length) * length
+begun n length = let e = div-add-mod n length in omega (arith, e)
+
+within : (n length m : ℕ) → m < length → (n - n % length + m) % length ≡ m
+within n length m inside = rw (begun n length) (mod-mul-add (n / length) length m inside)
+
+within_at : (n length k : ℕ) → n < k → k < n - n % length + length → n % length ≤ n → k % length ≡ k - (n - n % length)
+within_at n length k later inside low =
+    let m = k - (n - n % length) in
+    let e : n - n % length + m ≡ k = omega arith in
+    let inner : m < length = omega arith in
+    ap (λ j. j % length) (sym e) ∙ within n length m inner
+
+-- a turn in the occurrence that runs
+pub again_within : (p : ℕ → Bool) (n length turn : ℕ) → turn < length → n % length ≤ n → IsFirstAfter p (n % length) turn
+    → IsFirstAfter (λ k. p (k % length)) n (n - n % length + turn)
+again_within p n length turn inside low is =
+    let after = is.later in
+    record {
+      later = omega arith;
+      passes = ap p (within n length turn inside) ∙ is.passes;
+      fails_between = λ k later early.
+          ap p (within_at n length k later (omega arith) low) ∙ is.fails_between (k - (n - n % length)) (omega arith) (omega arith);
+    }
+
+-- or else where the next one begins
+pub again_after : (p : ℕ → Bool) (n length : ℕ) → 0 < length → n % length ≤ n → p 0 ≡ true → ((k : ℕ) → n % length < k → k < length → p k ≡ false)
+    → IsFirstAfter (λ k. p (k % length)) n (n - n % length + length)
+again_after p n length some low begins fails =
+    let below : n % length < length = mod-lt n some in
+    let sum : n - n % length + length ≡ (n / length + 1) * length + 0 = let e = begun n length in omega (arith, e) in
+    record {
+      later = omega arith;
+      passes = ap p (ap (λ j. j % length) sum ∙ mod-mul-add (n / length + 1) length 0 some) ∙ begins;
+      fails_between = λ k later early.
+          ap p (within_at n length k later early low) ∙ fails (k - (n - n % length)) (omega arith) (omega arith);
+    }

@@ -1,0 +1,13 @@
+//! How the limit of one profile runs through time (OCPP 1.6, chapters 3.13 and 7): what it is at an
+//! instant, and when it can change next. For all kinds of profile, and without memory. The places
+//! where it can change stand in profile's `specs/Places.antt`.
+#![tactic(auto)]
+
+mod next;
+mod places;
+mod turns;
+
+pub use places::{next_change, rate_at};
+
+#[cfg(test)]
+mod tests;

@@ -1,0 +1,62 @@
+//! The limit of a profile at an instant, and the next instant at which it can change.
+
+ghost use Rattle.std.specs.Prelude.{◌≡◌, ℕ};
+ghost use Rattle.profile.specs.ChargingProfile.{offset, rate};
+ghost use Rattle.profile.specs.Places.{is_at, is_turn_at, is_place};
+ghost use Rattle.recurrence.specs.Next.{IsNext};
+ghost use Rattle.recurrence.specs.NextChange.{IsNextPlace, HasOneRateUntil};
+
+use crate::next::{later, sooner};
+use crate::turns::next_turn_after;
+use ocpp_scalars::Instant;
+use profile::Profile;
+
+/// The limit of a profile at an instant, in tenths of A or W, counted from a base, or `None` where it
+/// has none (chapters 3.13 and 7).
+pub fn rate_at(profile: &Profile, base: Instant, instant: Instant) -> Option<u32>
+    ensures { result ≡ rate profile.now base instant }
+{
+    profile.rate(base, instant)
+}
+
+/// The nearest later instant at which the limit of a profile can change: its validFrom or validTo, or
+/// where its schedule begins, enters a period or ends (chapters 3.13 and 7). `None` where no such
+/// instant is left up to the last one. From `instant` up to there the limit is the same.
+pub fn next_change(profile: &Profile, base: Instant, instant: Instant) -> Option<Instant>
+    ensures place { IsNextPlace profile.now base instant result }
+    ensures rate { HasOneRateUntil profile.now base instant result }
+{
+    let place = next_place(profile, base, instant)?;
+    Instant::try_new(place)
+}
+
+/// The next place, in seconds, which may lie past the last instant.
+fn next_place(profile: &Profile, base: Instant, instant: Instant) -> Option<u64>
+    ensures { IsNext (is_place profile.now base) instant result }
+{
+    let from = next_bound(profile.valid_from, instant);
+    let to = next_bound(profile.valid_to, instant);
+    let turn = next_turn(profile, base, instant);
+    sooner(from, sooner(to, turn))
+}
+
+/// A bound of the validity, where it is later than an instant.
+fn next_bound(bound: Option<Instant>, instant: Instant) -> Option<u64>
+    ensures { IsNext (λ (k : ℕ). is_at k bound) instant result }
+{
+    later(bound?.seconds(), instant.seconds())
+}
+
+/// The next second at which the schedule of a profile turns: at the latest at its anchor, where that
+/// is still to come.
+fn next_turn(profile: &Profile, base: Instant, instant: Instant) -> Option<u64>
+    ensures { IsNext (λ (k : ℕ). is_turn_at profile.now.schedule (offset profile.now base k)) instant result }
+{
+    let anchor = profile.anchor(base).seconds();
+    let second = instant.seconds();
+    if second < anchor {
+        return Some(anchor);
+    }
+    let next = next_turn_after(profile.kind, &profile.schedule, second - anchor)?;
+    Some(anchor + next)
+}
