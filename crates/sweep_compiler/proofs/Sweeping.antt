@@ -1,5 +1,5 @@
 -- What a sweep has met by a second: its periods and its turns.
-use Rattle.std.proofs.Common.{◌≡◌, ℕ, ◌+◌, ◌-◌, ◌<◌, ◌≤◌, zero, suc, Bool, true, false, [], ◌∷◌, ◌++◌, length, cond, Option, Some, refl, ap, sym, ◌∙◌, arith}
+use Rattle.std.proofs.Common.{◌≡◌, ℕ, ◌+◌, ◌-◌, ◌<◌, ◌≤◌, zero, suc, Bool, true, false, List, [], ◌∷◌, ◌++◌, length, cond, Option, Some, refl, ap, sym, ◌∙◌, arith}
 use Rattle.std.specs.List.{range_with_len, count_by}
 use Rattle.std.proofs.lemmas.List.{append-nil}
 use Rattle.std.proofs.lemmas.List.FromFn.{length-range_with_len}
@@ -9,8 +9,9 @@ use Rattle.meaning.specs.declared.composite.CompositePeriod.{CompositePeriod}
 use Rattle.meaning.specs.ByCases.Exact.{begins_period, period_from, exact_periods}
 use Rattle.meaning.specs.ByCases.PlainCompiler.{differs, period_added}
 use Rattle.meaning.proofs.Ranges.{range_more}
+use Rattle.sweep_compiler.specs.Places.{places_within}
 use Rattle.meaning.proofs.ExactTheory.{periods_more}
-use Rattle.meaning.proofs.PlainCompiler.{limit_before}
+use Rattle.meaning.proofs.PlainCompiler.{limit_before, periods_added}
 
 -- ---- periods
 
@@ -33,13 +34,21 @@ stay_by limit n (suc more) h =
     ∙ (ap (exact_periods limit) same ∙ before))))
 
 -- no period begins up to a second to which the limit stays
-pub periods_stay : (limit : ℕ → ℕ) (n m : ℕ) → n < m → ((later : ℕ) → n ≤ later → later < m → limit later ≡ limit n)
+periods_stay : (limit : ℕ → ℕ) (n m : ℕ) → n < m → ((later : ℕ) → n ≤ later → later < m → limit later ≡ limit n)
     → exact_periods limit m ≡ exact_periods limit (n + 1)
 periods_stay limit n m below h =
     let e : suc n + (m - suc n) ≡ m = omega arith in
     let one : suc n ≡ n + 1 = omega arith in
     ap (exact_periods limit) (sym e)
     ∙ (stay_by limit n (m - suc n) (λ later from until. h later from (omega arith)) ∙ ap (exact_periods limit) one)
+
+-- the periods up to a later second, to which the limit stays as it is at one that was added
+pub periods_upto : (limit : ℕ → ℕ) (n m : ℕ) (periods after : List CompositePeriod) (before : Option ℕ) (value : ℕ)
+    → periods ≡ exact_periods limit n → before ≡ limit_before limit n → value ≡ limit n
+    → after ≡ periods ++ period_added before (record { start = n; limit = value })
+    → n < m → ((later : ℕ) → n ≤ later → later < m → limit later ≡ limit n) → after ≡ exact_periods limit m
+periods_upto limit n m periods after before value h k e added below stays =
+    added ∙ (periods_added limit n periods before value h k e ∙ sym (periods_stay limit n m below stays))
 
 pub before_stays : (limit : ℕ → ℕ) (n m : ℕ) → n < m → ((later : ℕ) → n ≤ later → later < m → limit later ≡ limit n)
     → Some (limit n) ≡ limit_before limit m
@@ -77,18 +86,31 @@ count_upto place n m h =
     rw e at (count_grow place n (m - n))
 
 -- the turn at a place is one more before each later second
-pub spent_next : (place : ℕ → Bool) (n m : ℕ) → n < m → (0 < n → place n ≡ true) → spent place n + 1 ≤ spent place m
+spent_next : (place : ℕ → Bool) (n m : ℕ) → n < m → (0 < n → place n ≡ true) → spent place n + 1 ≤ spent place m
 spent_next place n zero below here = absurd (omega arith)
 spent_next place zero (suc m) below here = omega arith
 spent_next place (suc n) (suc m) below here =
-    let e : n + 1 ≡ suc n = omega arith in
     let more : count_by place (range_with_len 1 (n + 1)) ≡ count_by place (range_with_len 1 n) + 1 = count_more place n ∙ ap (λ (b : Bool). count_by place (range_with_len 1 n) + cond b 1 0) (here (omega arith)) in
     let grown : count_by place (range_with_len 1 (n + 1)) ≤ count_by place (range_with_len 1 m) = count_upto place (n + 1) m (omega arith) in
     omega (arith, more, grown)
 
-pub spent_all : (place : ℕ → Bool) (end : ℕ) → 0 < end → spent place end ≡ 1 + count_by place (range_with_len 1 (end - 1))
+pub spent_upto : (place : ℕ → Bool) (n m turns start after : ℕ) → n < m → (0 < n → place n ≡ true)
+    → turns ≤ start + spent place n → after ≡ turns + 1 → after ≤ start + spent place m
+spent_upto place n m turns start after below here so_far turn =
+    let next = spent_next place n m below here in
+    omega (arith, next, so_far, turn)
+
+spent_all : (place : ℕ → Bool) (end : ℕ) → 0 < end → spent place end ≡ 1 + places_within place end
 spent_all place zero h = absurd (omega arith)
 spent_all place (suc end) h = let e : suc end - 1 ≡ end = omega arith in rw e refl
+
+-- no more turns than one, and one for each place
+pub spent_whole : (place : ℕ → Bool) (n end turns start after : ℕ) → n < end → (0 < n → place n ≡ true)
+    → turns ≤ start + spent place n → after ≡ turns + 1 → after ≤ start + (1 + places_within place end)
+spent_whole place n end turns start after below here so_far turn =
+    let next = spent_next place n end below here in
+    let all = spent_all place end (omega arith) in
+    omega (arith, next, so_far, turn, all)
 
 -- no more turns than seconds
 pub spent_few : (place : ℕ → Bool) (n : ℕ) → spent place n ≤ n

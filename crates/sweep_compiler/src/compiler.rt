@@ -14,9 +14,9 @@ use ocpp_scalars::Refusal;
 use point_book::PointBook;
 use std::alloc::Global;
 
-/// The exact schedule of an ask (chapter 5.7), and how often its limit was evaluated for it: once for
-/// the start, and at most once for each place after it, however long the ask is. `ResultTooLong`
-/// where the schedule has more than `MAX_COMPOSITE_PERIODS` periods, and `OutOfMemory`.
+/// The exact schedule of an ask (chapter 5.7). Its limit is evaluated once for the start, and at most
+/// once for each place after it, however long the ask is. The refusals are `ResultTooLong`, where
+/// the schedule has more than `MAX_COMPOSITE_PERIODS` periods, and `OutOfMemory`.
 pub fn compile(
     alloc: Global,
     book: &PointBook,
@@ -30,9 +30,10 @@ pub fn compile(
     ensures bound { turns.new ≤ turns.old + (1 + places book.now ask.now) }
     ensures each { IfOk result (λ schedule. turns.old + length schedule.periods ≤ turns.new) }
 {
-    let curve = LimitCurve {
+    let mut curve = LimitCurve {
         view: book.view(),
         ask: *ask,
+        second: 0,
     };
-    sweep_along(alloc, &curve, ask.duration, turns)
+    sweep_along(alloc, &mut curve, ask.duration, turns)
 }

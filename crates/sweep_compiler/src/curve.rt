@@ -1,11 +1,12 @@
 //! What a sweep goes along.
 
-ghost use Rattle.std.specs.Prelude.{◌≡◌, ℕ, ◌+◌, ◌<◌, ◌^◌, Bool};
+ghost use Rattle.std.specs.Prelude.{◌≡◌, ℕ, ◌+◌, ◌<◌, ◌^◌, Bool, IfSome};
 ghost use Rattle.sweep_compiler.specs.ByCases.Curve.{LeadsOn};
 
 use crate::turns::Turns;
 
-/// A limit over the seconds of a schedule, which changes only at places.
+/// A limit over the seconds of a schedule, which changes only at places, and the second at which a
+/// sweep along it stands.
 pub(crate) trait Curve {
     /// The limit at a second.
     ghost limits: { Self → ℕ → ℕ };
@@ -16,16 +17,24 @@ pub(crate) trait Curve {
     /// How many seconds there are.
     ghost end: { Self → ℕ };
 
-    /// The limit at a second, in tenths, which is one turn.
-    fn limit(&self, turns: &mut Turns, second: u32) -> u32
-        requires within { second < end self.now }
+    /// The second at which the sweep stands.
+    ghost here: { Self → ℕ };
+
+    /// The limit here, in tenths, which is one turn.
+    fn limit(&self, turns: &mut Turns) -> u32
+        requires within { here self.now < end self.now }
         requires room { turns.old + 1 < 2 ^ 64 }
-        ensures limit { result ≡ limits self.now second }
+        ensures limit { result ≡ limits self.now (here self.now) }
         ensures turn { turns.new ≡ turns.old + 1 };
 
-    /// A later place, up to which the limit stays as it is at a second, or `None` where it stays so
-    /// to the end.
-    fn next(&self, second: u32) -> Option<u32>
-        requires within { second < end self.now }
-        ensures { LeadsOn (limits self.now) (is_place self.now) (end self.now) second result };
+    /// Goes on to a later place, up to which the limit stays as it is here, and returns that, or
+    /// `None` where it stays so to the end.
+    fn go_on(&mut self) -> Option<u32>
+        requires within { here self.old < end self.old }
+        ensures leads { LeadsOn (limits self.old) (is_place self.old) (end self.old) (here self.old)
+            result }
+        ensures here { IfSome result (λ next. here self.new ≡ next) }
+        ensures same_limits { limits self.new ≡ limits self.old }
+        ensures same_places { is_place self.new ≡ is_place self.old }
+        ensures same_end { end self.new ≡ end self.old };
 }

@@ -6,6 +6,7 @@
 mod compiler;
 mod curve;
 mod limit_curve;
+mod place_finder;
 mod sweep;
 mod turns;
 

@@ -50,7 +50,8 @@ impl Turns {
     pub(crate) fn limit_at(&mut self, view: &View<'_>, moment: Moment) -> u32
         requires has_connector { moment.connector ≤ length view.now.ceilings.now }
         requires room { self.old + 1 < 2 ^ 64 }
-        ensures limit { result ≡ limit (point_state view.now) moment.connector moment.asked moment.instant }
+        ensures limit { result ≡ limit (point_state view.now) moment.connector moment.asked
+            moment.instant }
         ensures turn { self.new ≡ self.old + 1 }
     {
         self.count += 1;

@@ -6,14 +6,14 @@ use Rattle.meaning.specs.Limit.{own_limit}
 use Rattle.meaning.proofs.Ranges.{range_more}
 use Rattle.sweep_compiler.specs.Places.{is_place_at}
 use Rattle.sweep_compiler.proofs.NextChanges.{IsNextOfSum, sum_more, sum_skip}
-use Rattle.sweep_compiler.proofs.limit_curve.LimitCurve.next_of_active.Goals as goal
-use Rattle.sweep_compiler.proofs.limit_curve.LimitCurve.next_of_active.Goals.{then-is_some, else-is_some}
+use Rattle.sweep_compiler.proofs.place_finder.PlaceFinder.next_of_active.Goals as goal
+use Rattle.sweep_compiler.proofs.place_finder.PlaceFinder.next_of_active.Goals.{then-is_some, else-is_some}
 
 pub loop-index-preserved : goal.loop-index-preserved
 loop-index-preserved c =
     let state = point_state c.args.self.now.view in
-    let place = λ (k : ℕ) (connector : ℕ). is_place_at state connector c.args.self.now.ask.start k in
-    let give = λ (k : ℕ) (connector : ℕ). own_limit state connector c.args.self.now.ask.start k in
+    let place = λ (k : ℕ) (connector : ℕ). is_place_at state connector c.args.self.now.asked k in
+    let give = λ (k : ℕ) (connector : ℕ). own_limit state connector c.args.self.now.asked k in
     let test = λ (connector : ℕ). is_some (active_since state connector) in
     let connector = c.loop-index.index + 1 in
     let before = range_with_len 1 c.loop-index.index in
@@ -34,8 +34,8 @@ loop-index-preserved c =
 pub returns : goal.returns
 returns c =
     let state = point_state c.args.self.now.view in
-    let place = λ (k : ℕ) (connector : ℕ). is_place_at state connector c.args.self.now.ask.start k in
-    let give = λ (k : ℕ) (connector : ℕ). own_limit state connector c.args.self.now.ask.start k in
+    let place = λ (k : ℕ) (connector : ℕ). is_place_at state connector c.args.self.now.asked k in
+    let give = λ (k : ℕ) (connector : ℕ). own_limit state connector c.args.self.now.asked k in
     let test = λ (connector : ℕ). is_some (active_since state connector) in
     let end : c.loop-index.index ≡ length c.args.self.now.view.ceilings.now = omega arith in
     subst (λ (n : ℕ). IsNextOfSum place give (filter test (range_with_len 1 n)) c.args.instant c.loop-index.soonest) end c.loop-index.invariant

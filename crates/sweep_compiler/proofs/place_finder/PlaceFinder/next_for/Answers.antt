@@ -7,14 +7,14 @@ use Rattle.meaning.specs.View.{point_state}
 use Rattle.meaning.specs.Prevailing.{level_and_limit}
 use Rattle.sweep_compiler.specs.Places.{is_place_of}
 use Rattle.sweep_compiler.proofs.NextChanges.{IsNextOfGiven, given_more, given_skip}
-use Rattle.sweep_compiler.proofs.limit_curve.LimitCurve.next_for.Goals as goal
-use Rattle.sweep_compiler.proofs.limit_curve.LimitCurve.next_for.Goals.{then-is_candidate, else-is_candidate}
+use Rattle.sweep_compiler.proofs.place_finder.PlaceFinder.next_for.Goals as goal
+use Rattle.sweep_compiler.proofs.place_finder.PlaceFinder.next_for.Goals.{then-is_candidate, else-is_candidate}
 
 pub loop-row-preserved : goal.loop-row-preserved
 loop-row-preserved c =
     let state = point_state c.args.self.now.view in
-    let place = is_place_of state c.args.connector c.args.self.now.ask.start in
-    let give = level_and_limit state c.args.connector c.args.self.now.ask.start in
+    let place = is_place_of state c.args.connector c.args.self.now.asked in
+    let give = level_and_limit state c.args.connector c.args.self.now.asked in
     let test = is_candidate c.args.purpose c.args.self.now.view.rows.now c.args.connector in
     let rows = c.args.self.now.view.rows.now in
     let more : take (c.loop-row.row-index + 1) rows ≡ take c.loop-row.row-index rows ++ c.row-item.result ∷ [] =
