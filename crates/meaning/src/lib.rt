@@ -16,6 +16,7 @@ mod view;
 pub use ask::{Ask, MAX_DURATION};
 pub use composite::{Composite, CompositePeriod, MAX_COMPOSITE_PERIODS};
 pub use limit::limit_at;
-pub use plain_compiler::compile_plain;
+pub use plain_compiler::{add_second, compile_plain};
+pub use prevailing::has_its_transaction;
 pub use schedule_laws::{exact_schedule_exists, exact_schedules, one_schedule};
 pub use view::View;

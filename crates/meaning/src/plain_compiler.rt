@@ -36,8 +36,9 @@ pub fn compile_plain(alloc: Global, view: &View<'_>, ask: &Ask) -> Result<Compos
     Ok(Composite::new(ask.duration, periods))
 }
 
-/// Adds the period of one second more, unless its limit is that of the second before.
-fn add_second(
+/// Adds the period of one second more, unless its limit is that of the second before. The refusals
+/// are `ResultTooLong`, past `MAX_COMPOSITE_PERIODS`, and `OutOfMemory`; then nothing is added.
+pub fn add_second(
     periods: &mut Vec<CompositePeriod>,
     before: Option<u32>,
     period: CompositePeriod,

@@ -51,7 +51,7 @@ impl View<'_> {
 }
 
 /// Whether a profile of a purpose has the transaction that it needs.
-fn has_its_transaction(purpose: Purpose, started: Option<Instant>) -> bool
+pub fn has_its_transaction(purpose: Purpose, started: Option<Instant>) -> bool
     ensures { result ≡ has_its_transaction purpose started }
 {
     match purpose {

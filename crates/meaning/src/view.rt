@@ -22,7 +22,7 @@ impl View<'_> {
     ghost use Rattle.meaning.specs.View.{point_state, active_since};
 
     /// The start of the active transaction at a connector; connector 0 never has one.
-    pub(crate) fn active_since(&self, connector: usize) -> Option<Instant>
+    pub fn active_since(&self, connector: usize) -> Option<Instant>
         ensures { result ≡ active_since (point_state self.now) connector }
     {
         if connector == 0 {

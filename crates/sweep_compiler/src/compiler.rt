@@ -1,0 +1,39 @@
+//! The compiler of composite schedules.
+
+ghost use Rattle.std.specs.Prelude.{◌≡◌, ℕ, ◌+◌, ◌<◌, ◌≤◌, ◌^◌, length, IfOk};
+ghost use Rattle.meaning.specs.Limit.{limit_asked};
+ghost use Rattle.meaning.specs.Compiled.{IsCompiled};
+ghost use Rattle.point_book.specs.Book.{state_of};
+ghost use Rattle.sweep_compiler.specs.Places.{places};
+
+use crate::limit_curve::LimitCurve;
+use crate::sweep::sweep_along;
+use crate::turns::Turns;
+use meaning::{Ask, Composite};
+use ocpp_scalars::Refusal;
+use point_book::PointBook;
+use std::alloc::Global;
+
+/// The exact schedule of an ask (chapter 5.7). Its limit is evaluated once for the start, and at most
+/// once for each place after it, however long the ask is. The refusals are `ResultTooLong`, where
+/// the schedule has more than `MAX_COMPOSITE_PERIODS` periods, and `OutOfMemory`.
+pub fn compile(
+    alloc: Global,
+    book: &PointBook,
+    ask: &Ask,
+    turns: &mut Turns,
+) -> Result<Composite, Refusal>
+    requires has_connector { ask.now.connector ≤ length book.now.ceilings }
+    requires fresh { turns.old < 2 ^ 63 }
+    ensures compiled { IsCompiled (limit_asked (state_of book.now) ask.now.connector ask.now.start)
+        ask.now.duration result }
+    ensures bound { turns.new ≤ turns.old + (1 + places book.now ask.now) }
+    ensures each { IfOk result (λ schedule. turns.old + length schedule.periods ≤ turns.new) }
+{
+    let mut curve = LimitCurve {
+        view: book.view(),
+        ask: *ask,
+        second: 0,
+    };
+    sweep_along(alloc, &mut curve, ask.duration, turns)
+}
