@@ -43,7 +43,8 @@ point-read site tree point h =
     let size = few-or faults.BadConnectors max_connectors list.0 few.0 few.1 in
     let found : PointEntry = record { id = unused.0; ceiling = ceiling.0; ceilings = ceilings.0 } in
     let same : found ≡ point = cc (ceilings.2) in
-    let at : PointOf site object.0 found = (record {
+    let at : PointOf site object.0 found = (
+      record {
         object = ap is_object (sym fields.1) ∙ fields.0;
         id = id.0 ∙ ap Value new.1;
         allowed = subst IsPointId new.1 id.1;
@@ -53,7 +54,9 @@ point-read site tree point h =
         some = size.0;
         few = size.1;
         ceilings = subst (λ (trees : List Tree). AllZip IsCeiling trees ceilings.0) (sym size.2) (ceilings-are few.0 ceilings.0 few.2);
-      }, new-place site found (ap (λ (i : List ℕ). is_some (place_of site i)) (sym new.1) ∙ new.0)) in
+      },
+      new-place site found (ap (λ (i : List ℕ). is_some (place_of site i)) (sym new.1) ∙ new.0),
+    ) in
     subst (λ (t : Tree). PointOf site t point) (sym fields.1) (subst (λ (p : PointEntry). PointOf site object.0 p) same at)
 
 point-found : (site : SiteState) (tree : Tree) (point : PointEntry) → PointOf site tree point → point_of site tree ≡ Ok point
@@ -157,10 +160,10 @@ file-found bytes site h =
     let points = points-found h.list (of_points site.unit []) site.points h.each (new-first site.points h.apart) in
     let list = goes_on (few_or faults.BadPoints max_points h.list) _ h.list (Ok site) (few-is faults.BadPoints max_points h.list h.some h.few) points in
     let read : site_of_tree h.tree ≡ Ok site =
-        goes_on (object_or faults.NotAnObject h.tree) _ h.tree (Ok site) (ap (object_if faults.NotAnObject h.tree) h.object)
-        (goes_on (or_fault faults.BadUnit (text_field_of (codes "unit") h.tree)) _ h.name (Ok site) (ap (or_fault faults.BadUnit) h.unit_name)
-        (goes_on (some_or faults.BadUnit (unit_named h.name)) _ site.unit (Ok site) (ap (some_or faults.BadUnit) h.unit)
-        (goes_on (or_fault faults.BadPoints (list_field_of (codes "points") h.tree)) _ h.list (Ok site) (ap (or_fault faults.BadPoints) h.points) list))) in
+    goes_on (object_or faults.NotAnObject h.tree) _ h.tree (Ok site) (ap (object_if faults.NotAnObject h.tree) h.object)
+    (goes_on (or_fault faults.BadUnit (text_field_of (codes "unit") h.tree)) _ h.name (Ok site) (ap (or_fault faults.BadUnit) h.unit_name)
+    (goes_on (some_or faults.BadUnit (unit_named h.name)) _ site.unit (Ok site) (ap (some_or faults.BadUnit) h.unit)
+    (goes_on (or_fault faults.BadPoints (list_field_of (codes "points") h.tree)) _ h.list (Ok site) (ap (or_fault faults.BadPoints) h.points) list))) in
     site_of-text bytes h.short h.utf8 ∙ (ap site_by h.json ∙ read)
 
 pub site-files : (bytes : List ℕ) (site : SiteState) → (site_of bytes ≡ Ok site) ↔ IsSiteFile bytes site
