@@ -11,16 +11,16 @@ use crate::turns::next_turn_after;
 use ocpp_scalars::Instant;
 use profile::Profile;
 
-/// The limit of a profile at an instant, in tenths of A or W, counted from a base, or `None` where it
-/// has none (chapters 3.13 and 7).
+/// The limit of a profile at an instant, in tenths of A or W, counted from a base, or `None` where
+/// it has none (chapters 3.13 and 7).
 pub fn rate_at(profile: &Profile, base: Instant, instant: Instant) -> Option<u32>
     ensures { result ≡ rate profile.now base instant }
 {
     profile.rate(base, instant)
 }
 
-/// The nearest later instant at which the limit of a profile can change: its validFrom or validTo, or
-/// where its schedule begins, enters a period or ends (chapters 3.13 and 7). `None` where no such
+/// The nearest later instant at which the limit of a profile can change: its validFrom or validTo,
+/// or where its schedule begins, enters a period or ends (chapters 3.13 and 7). `None` where no such
 /// instant is left up to the last one. From `instant` up to there the limit is the same.
 pub fn next_change(profile: &Profile, base: Instant, instant: Instant) -> Option<Instant>
     ensures place { IsNextPlace profile.now base instant result }
@@ -47,10 +47,12 @@ fn next_bound(bound: Option<Instant>, instant: Instant) -> Option<u64>
     later(bound?.seconds(), instant.seconds())
 }
 
-/// The next second at which the schedule of a profile turns: at the latest at its anchor, where that
-/// is still to come.
+/// The next second at which the schedule of a profile turns: its anchor, where that is still to
+/// come.
 fn next_turn(profile: &Profile, base: Instant, instant: Instant) -> Option<u64>
-    ensures { IsNext (λ (k : ℕ). is_turn_at profile.now.schedule (offset profile.now base k)) instant result }
+    ensures { IsNext
+        (λ (k : ℕ). is_turn_at profile.now.schedule (offset profile.now base k))
+        instant result }
 {
     let anchor = profile.anchor(base).seconds();
     let second = instant.seconds();
