@@ -1,0 +1,13 @@
+//! The site of a central system, as its file describes it: its rate unit and its charge points, each with
+//! its ceilings, and which profiles may stand where (OCPP 1.6, chapters 3.13 and 5.16).
+#![tactic(auto)]
+
+mod admission;
+mod fault;
+mod point;
+mod site;
+
+pub use admission::admit;
+pub use fault::SiteFault;
+pub use point::SitePoint;
+pub use site::Site;
