@@ -1,0 +1,53 @@
+-- What a charge point has, and what is always so.
+use Rattle.std.specs.Prelude.{ℕ, ◌<◌, ◌≤◌, ◌^◌, ◌≡◌, ℤ, true, List, [], length, replicate, Option, None, option_map, IsSome}
+use Rattle.std.specs.List.{AllByRecursion}
+use Rattle.profile.specs.declared.row.Row.{Row}
+use Rattle.profile.specs.Purpose.{is_tx}
+use Rattle.transactions.specs.declared.transaction.Transaction.{Transaction}
+use Rattle.transactions.specs.ActiveTable.{active_at, starts}
+use Rattle.meaning.specs.View.{PointState}
+
+pub record Book : Type 0 where
+  -- the point's ceiling, in tenths
+  pub ceiling : ℕ
+  -- the ceilings of connectors 1, 2, ..
+  pub ceilings : List ℕ
+  -- the installed profiles, in the order of their installs
+  pub rows : List Row
+  -- the slots of connectors 1, 2, .., each with the active transaction where there is one
+  pub transactions : List (Option Transaction)
+
+-- a point with nothing installed and no active transaction
+abbrev pub empty_book : ℕ → List ℕ → Book
+empty_book ceiling ceilings = record {
+  ceiling = ceiling;
+  ceilings = ceilings;
+  rows = [];
+  transactions = replicate (length ceilings) None;
+}
+
+-- what limits are read from
+abbrev pub state_of : Book → PointState
+state_of book = record {
+  ceiling = book.ceiling;
+  ceilings = book.ceilings;
+  starts = starts book.transactions;
+  rows = book.rows;
+}
+
+-- the transactionId of the active transaction at a connector
+abbrev pub active_on : List (Option Transaction) → ℕ → Option ℤ
+active_on slots connector = option_map (λ (active : Transaction). active.id) (active_at slots connector)
+
+-- A profile stands at connector 0 or at one that the point has, and a TxProfile where a transaction is
+-- active (OCPP 1.6, 3.13 and 5.16).
+pub record MayStand (slots : List (Option Transaction)) (row : Row) : Type 0 where
+  pub has_connector : row.connector ≤ length slots
+  pub in_transaction : is_tx row.profile.purpose ≡ true → IsSome (active_on slots row.connector)
+
+-- what a book always is: it has a slot for each connector, as many as connectors have numbers, and each
+-- profile may stand where it does
+pub record IsBook (book : Book) : Type 0 where
+  pub few : length book.ceilings < 2 ^ 32
+  pub slots : length book.transactions ≡ length book.ceilings
+  pub rows : AllByRecursion (MayStand book.transactions) book.rows

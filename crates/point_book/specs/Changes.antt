@@ -1,0 +1,94 @@
+-- What an install, a clear, a start and a stop change of a charge point's book, and why an install is
+-- refused. `record book { .. }` is the book with these fields changed and all else as it was.
+use Rattle.std.specs.Prelude.{ℕ, ◌≡◌, nat_le, ℤ, Bool, false, not, is_none, List, length, Option, Some, None, if◌then◌else◌}
+use Rattle.std.specs.Ordering.{int_eq}
+use Rattle.ocpp_scalars.specs.declared.refusal.Refusal.{Refusal}
+use Rattle.ocpp_scalars.specs.declared.refusal.Refusal.TheVariants.{NoTransaction, OtherTransaction, TooManyProfiles, OutOfMemory}
+use Rattle.profile.specs.declared.charging_profile.Profile.{Profile}
+use Rattle.profile.specs.declared.criteria.Criteria.{Criteria}
+use Rattle.profile.specs.declared.row.Row.{Row}
+use Rattle.profile.specs.Purpose.{is_tx}
+use Rattle.profile.specs.Changes.{installed, cleared, without_transaction_profiles}
+use Rattle.stacking.specs.Limits.{max_rows}
+use Rattle.transactions.specs.declared.begin.Begin.{Begin}
+use Rattle.transactions.specs.declared.active_table.Began.{Began}
+use Rattle.transactions.specs.declared.active_table.Began.TheVariants.{Fresh, Repeat}
+use Rattle.transactions.specs.ActiveTable.{began, started, connector_of, stopped}
+use Rattle.point_book.specs.Book.{Book, active_on}
+
+-- ---- SetChargingProfile (OCPP 1.6, 5.16)
+
+-- whether a transactionId is present, and isn't the active transaction's
+abbrev pub names_another : Option ℤ → Option ℤ → Bool
+names_another None active = false
+names_another (Some asked) None = false
+names_another (Some asked) (Some active) = not (int_eq asked active)
+
+-- a TxProfile is for the transaction that is active at its connector: there has to be one, and a
+-- transactionId has to name it
+abbrev pub transaction_refusal : Option ℤ → Profile → Option Refusal
+transaction_refusal active profile =
+    if not (is_tx profile.purpose) then None
+    else if is_none active then Some NoTransaction
+    else if names_another profile.transaction active then Some OtherTransaction
+    else None
+
+-- no more profiles than the limit stand after an install
+abbrev pub room_refusal : List Row → Row → Option Refusal
+room_refusal rows row = if nat_le (length (installed rows row)) max_rows then None else Some TooManyProfiles
+
+abbrev pub first_cause : Option Refusal → Option Refusal → Option Refusal
+first_cause None next = next
+first_cause (Some cause) next = Some cause
+
+-- why a profile isn't installed, the first cause in this order
+abbrev pub install_refusal : Book → Row → Option Refusal
+install_refusal book row =
+    first_cause
+    (transaction_refusal (active_on book.transactions row.connector) row.profile)
+    (room_refusal book.rows row)
+
+-- the first cause, or else that memory ran out
+abbrev pub IsCause : Option Refusal → Refusal → Type 0
+IsCause None refusal = refusal ≡ OutOfMemory
+IsCause (Some cause) refusal = refusal ≡ cause
+
+-- nothing has changed, and the row came back
+pub record IsRefused (old : Book) (row : Row) (refused : Refusal × Row) (new : Book) : Type 0 where
+  pub cause : IsCause (install_refusal old row) refused.0
+  pub unchanged : new ≡ old
+  pub back : refused.1 ≡ row
+
+abbrev pub book_installed : Book → Row → Book
+book_installed book row = record book { rows = installed book.rows row }
+
+-- ---- ClearChargingProfile (OCPP 1.6, 5.5)
+
+abbrev pub book_cleared : Book → Criteria → Book
+book_cleared book criteria = record book { rows = cleared book.rows criteria }
+
+-- ---- StartTransaction (OCPP 1.6, 4.8)
+
+-- a new transaction ends the one before it at its connector, and so that one's TxProfiles (3.13)
+abbrev pub rows_after_start : Began → List Row → ℕ → List Row
+rows_after_start Fresh rows connector = without_transaction_profiles rows connector
+rows_after_start (Repeat id) rows connector = rows
+
+abbrev pub book_started : Book → ℕ → Begin → ℤ → Book
+book_started book connector begin id = record book {
+  rows = rows_after_start (began book.transactions connector begin) book.rows connector;
+  transactions = started book.transactions connector begin id;
+}
+
+-- ---- StopTransaction (OCPP 1.6, 4.10)
+
+-- the end of a transaction is the end of its TxProfiles (3.13)
+abbrev pub rows_after_stop : Option ℕ → List Row → List Row
+rows_after_stop None rows = rows
+rows_after_stop (Some connector) rows = without_transaction_profiles rows connector
+
+abbrev pub book_stopped : Book → ℤ → Book
+book_stopped book id = record book {
+  rows = rows_after_stop (connector_of book.transactions id) book.rows;
+  transactions = stopped book.transactions id;
+}

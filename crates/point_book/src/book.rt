@@ -1,0 +1,173 @@
+//! The book of a charge point.
+
+ghost use Rattle.std.specs.Prelude.{◌≡◌, ◌↔◌, ◌+◌, ◌<◌, ◌≤◌, None, IsTrue, IfErr, IfOk, OnOk, length};
+ghost use Rattle.meaning.specs.View.{point_state};
+ghost use Rattle.stacking.specs.Rows.{AreRows};
+ghost use Rattle.transactions.specs.ActiveTable.{began, connector_of};
+ghost use Rattle.point_book.specs.Book.{IsBook, empty_book, state_of};
+ghost use Rattle.point_book.specs.Changes.{install_refusal, IsRefused, book_installed, book_cleared, book_started, book_stopped};
+
+use crate::refusal::transaction_refusal;
+use meaning::View;
+use ocpp_scalars::Refusal;
+use profile::{Criteria, Row};
+use stacking::Rows;
+use std::alloc::{AllocError, Global};
+use std::marker::Model;
+use transactions::{ActiveTable, Began, Begin};
+
+/// What the central system keeps of a charge point: its ceilings, its profiles and its active
+/// transactions. Every profile stands at connector 0 or at one that the point has, and every
+/// TxProfile at one with an active transaction.
+#[derive(Debug, Drop)]
+pub struct PointBook {
+    /// The point's ceiling, in tenths of A or W.
+    ceiling: u32,
+    /// The ceilings of connectors 1, 2, .., in tenths.
+    ceilings: Vec<u32>,
+    rows: Rows,
+    transactions: ActiveTable,
+}
+
+impl Model for PointBook {
+    ghost use Rattle.point_book.specs.Book.{Book, IsBook};
+
+    ghost Value = { Book };
+
+    ghost view = { λ b. record {
+      ceiling = b.ceiling;
+      ceilings = b.ceilings.items;
+      rows = b.rows;
+      transactions = b.transactions;
+    } };
+
+    ghost invariant = { λ b. IsBook (record {
+      ceiling = b.ceiling;
+      ceilings = b.ceilings.items;
+      rows = b.rows;
+      transactions = b.transactions;
+    }) };
+}
+
+impl PointBook {
+    /// The book of a point with these ceilings, in tenths, and with neither profiles nor
+    /// transactions. More connectors than fit a `u32` are answered as out of memory.
+    pub fn try_new(alloc: Global, ceiling: u32, ceilings: Vec<u32>) -> Result<PointBook, AllocError>
+        ensures { IfOk result (λ book. book ≡ empty_book ceiling ceilings.items) }
+    {
+        let connectors = u32::try_from(ceilings.len()).ok().ok_or(AllocError)?;
+        let transactions = ActiveTable::new(alloc, connectors)?;
+        Ok(PointBook {
+            ceiling,
+            ceilings,
+            rows: Rows::new(alloc),
+            transactions,
+        })
+    }
+
+    /// What the point has now, as limits are read from it.
+    pub fn view(&self) -> View<'_>
+        ensures state { point_state result ≡ state_of self.now }
+        ensures connectors { length result.ceilings.now ≡ length self.now.ceilings }
+        ensures book { IsBook self.now }
+        ensures rows { AreRows self.now.rows }
+    {
+        View {
+            ceiling: self.ceiling,
+            ceilings: self.ceilings.as_slice(),
+            starts: self.transactions.starts(),
+            rows: self.rows.as_slice(),
+        }
+    }
+
+    /// How many connectors the point has: they are numbered from 1.
+    pub fn connectors(&self) -> u32
+        ensures { result ≡ length self.now.ceilings }
+    {
+        self.ceilings.len() as u32
+    }
+
+    /// Installs a row, which takes the place of those with its chargingProfileId and of those with
+    /// its connector, purpose and stack level (chapter 5.16). On a refusal nothing changes and the
+    /// row comes back: the first cause of `NoTransaction`, `OtherTransaction` and
+    /// `TooManyProfiles`, or else `OutOfMemory`.
+    pub fn install(&mut self, row: Row) -> Result<(), (Refusal, Row)>
+        requires { row.connector ≤ length self.old.ceilings }
+        ensures allowed { OnOk result (install_refusal self.old row ≡ None) }
+        ensures book { OnOk result (self.new ≡ book_installed self.old row) }
+        ensures refused { IfErr result (λ refused. IsRefused self.old row refused self.new) }
+    {
+        let active = self.transactions.active_on(row.connector);
+        if let Some(refusal) = transaction_refusal(active, &row.profile) {
+            return Err((refusal, row));
+        }
+        match self.rows.install(row) {
+            Ok(()) => Ok(()),
+            Err(refused) => Err(refused),
+        }
+    }
+
+    /// Removes the profiles that match each criterion that is given (chapter 5.5), and returns how
+    /// many they were.
+    pub fn clear(&mut self, criteria: &Criteria) -> usize
+        ensures book { self.new ≡ book_cleared self.old criteria.now }
+        ensures count { result + length self.new.rows ≡ length self.old.rows }
+    {
+        self.rows.clear(criteria)
+    }
+
+    /// Begins a transaction at a connector (chapter 4.8), in place of the one that is active there
+    /// and without that one's TxProfiles, or says that its start was told before, and then changes
+    /// nothing. Allocates nothing.
+    pub fn start(&mut self, connector: u32, begin: Begin, next: i32) -> Began
+        requires above { 0 < connector }
+        requires has { connector ≤ length self.old.ceilings }
+        ensures answer { result ≡ began self.old.transactions connector begin }
+        ensures book { self.new ≡ book_started self.old connector begin next }
+    {
+        let began = self.transactions.start(connector, begin, next);
+        if let Began::Fresh = began {
+            self.rows.drop_tx(connector);
+        }
+        began
+    }
+
+    /// Ends the transaction of this number (chapter 4.10), removes the TxProfiles of its connector
+    /// and returns that, or `None` where no active one has the number, and then nothing changes.
+    /// Allocates nothing.
+    pub fn stop(&mut self, id: i32) -> Option<u32>
+        ensures connector { result ≡ connector_of self.old.transactions id }
+        ensures book { self.new ≡ book_stopped self.old id }
+    {
+        let connector = self.transactions.stop(id)?;
+        self.rows.drop_tx(connector);
+        Some(connector)
+    }
+
+    /// Whether two books are equal: in their ceilings, their profiles, in the same order and
+    /// installed at the same moments, and their transactions, the idTags with their letters' case.
+    pub fn same(&self, other: &PointBook) -> bool
+        ensures { IsTrue result ↔ (self.now ≡ other.now) }
+    {
+        self.ceiling == other.ceiling
+            && self.ceilings.as_slice() == other.ceilings.as_slice()
+            && self.rows.same(&other.rows)
+            && self.transactions.same(&other.transactions)
+    }
+
+    /// A copy.
+    pub fn copy(&self) -> Result<PointBook, AllocError>
+        ensures { IfOk result (λ copy. copy ≡ self.now) }
+    {
+        let alloc = *self.ceilings.allocator();
+        let ceilings = Vec::from_slice(alloc, self.ceilings.as_slice())?;
+        let rows = self.rows.copy()?;
+        let transactions = self.transactions.copy()?;
+        Ok(PointBook {
+            ceiling: self.ceiling,
+            ceilings,
+            rows,
+            transactions,
+        })
+    }
+}

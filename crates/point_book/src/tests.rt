@@ -1,0 +1,1 @@
+//! Books from outside, and that memory suffices.
