@@ -8,29 +8,28 @@ use Rattle.std.proofs.lemmas.List.{take-append-le, take_all, nil_from_length}
 use Rattle.std.proofs.Math.Seq.{take-append-add, take-length}
 use mir.Val.{bool_byte}
 use Rattle.replay.specs.Lines.{script_lines}
-use Rattle.replay.specs.Site.{SiteState}
 use Rattle.replay.specs.Play.{PlayedLine, line_played}
 use Rattle.replay.specs.Run.{Played, with_line, played_more}
 use Rattle.replay.specs.Output.{AppendsPrefix}
 
 -- what is printed is kept
-pub output_grows : (site : SiteState) (before : Played) (lines : List (List ℕ)) → (more : List ℕ) × ((fold (played_more site) before lines).output ≡ before.output ++ more)
-output_grows site before [] = ([], sym (append-nil before.output))
-output_grows site before (line ∷ lines) =
-    let next = output_grows site (played_more site before line) lines in
-    let printed = (line_played site before.state before.number line).printed in
+pub output_grows : (before : Played) (lines : List (List ℕ)) → (more : List ℕ) × ((fold played_more before lines).output ≡ before.output ++ more)
+output_grows before [] = ([], sym (append-nil before.output))
+output_grows before (line ∷ lines) =
+    let next = output_grows (played_more before line) lines in
+    let printed = (line_played before.state before.number line).printed in
     (printed ++ next.0, next.1 ∙ append_assoc before.output printed next.0)
 
 -- the next line was played
-pub next_line : (site : SiteState) (before all : Played) (rest line others : List ℕ) → script_lines rest ≡ line ∷ script_lines others
-    → fold (played_more site) before (script_lines rest) ≡ all
-    → fold (played_more site) (played_more site before line) (script_lines others) ≡ all
-next_line site before all rest line others first whole = ap (fold (played_more site) before) (sym first) ∙ whole
+pub next_line : (before all : Played) (rest line others : List ℕ) → script_lines rest ≡ line ∷ script_lines others
+    → fold played_more before (script_lines rest) ≡ all
+    → fold played_more (played_more before line) (script_lines others) ≡ all
+next_line before all rest line others first whole = ap (fold played_more before) (sym first) ∙ whole
 
 -- no line is left
-pub no_line : (site : SiteState) (before all : Played) (rest : List ℕ) → length rest ≡ 0 → fold (played_more site) before (script_lines rest) ≡ all → before ≡ all
-no_line site before all rest none whole =
-    ap (λ r. fold (played_more site) before (script_lines r)) (sym (nil_from_length rest none)) ∙ whole
+pub no_line : (before all : Played) (rest : List ℕ) → length rest ≡ 0 → fold played_more before (script_lines rest) ≡ all → before ≡ all
+no_line before all rest none whole =
+    ap (λ r. fold played_more before (script_lines r)) (sym (nil_from_length rest none)) ∙ whole
 
 -- a test as a number counts its fault
 pub one_fault : (n : ℕ) (b fault : Bool) → n ≡ bool_byte b → b ≡ fault → n ≡ cond fault 1 0
