@@ -1,8 +1,8 @@
 -- The output of a script, line after line.
-use Rattle.std.proofs.Common.{◌≡◌, ℕ, ◌+◌, ◌≤◌, List, [], ◌∷◌, ◌++◌, Option, Bool, true, false, cond, length, take, append_assoc, append-nil, refl, sym, ap, ◌∙◌, subst, arith, inl, inr}
+use Rattle.std.proofs.Common.{◌≡◌, ℕ, ◌+◌, ◌≤◌, List, [], ◌∷◌, ◌++◌, Option, Some, None, IfSome, Bool, true, false, cond, length, take, append_assoc, append-nil, refl, sym, ap, ◌∙◌, subst, arith, inl, inr}
 use Rattle.std.specs.List.{fold}
 use Rattle.std.specs.Io.KnownBytes.{Appends}
-use Rattle.std.proofs.KnownBytes.{Appends-trans}
+use Rattle.std.proofs.KnownBytes.{Appends-nil, Appends-trans}
 use Rattle.std.proofs.lemmas.Bool.{cases_lt}
 use Rattle.std.proofs.lemmas.List.{take-append-le, take_all, nil_from_length}
 use Rattle.std.proofs.Math.Seq.{take-append-add, take-length}
@@ -62,3 +62,8 @@ prefix_after a b c done text more all before prefix whole =
 -- the whole text is a prefix of it
 pub prefix_whole : (a b : Option (List ℕ)) (text : List ℕ) → Appends a b text → AppendsPrefix a b text
 prefix_whole a b text whole = (length text, subst (Appends a b) (sym (take-length text)) whole)
+
+-- where nothing was written, a prefix of any output was
+pub nothing_written : (given a : Option (List ℕ)) (output : List ℕ → List ℕ) → IfSome given (λ script. AppendsPrefix a a (output script))
+nothing_written None a output = tt
+nothing_written (Some script) a output = (0, Appends-nil a)

@@ -1,12 +1,13 @@
 -- What a line prints comes after what the lines before it printed.
-use Rattle.std.proofs.Common.{◌≡◌, [], ◌++◌, ap, sym, ◌∙◌, subst, eqb-true, arith, lit≤, rules}
+use Rattle.std.proofs.Common.{◌≡◌, ◌≤◌, [], ◌++◌, cond, ap, sym, ◌∙◌, subst, eqb-true, arith, lit≤, rules}
 use Rattle.std.specs.List.{fold}
 use Rattle.std.specs.Io.KnownBytes.{Appends}
+use Rattle.std.proofs.KnownBytes.{Appends-trans}
 use Rattle.replay.specs.Lines.{script_lines}
 use Rattle.replay.specs.CentralSystem.{SystemState}
 use Rattle.replay.specs.Play.{line_played}
 use Rattle.replay.specs.Run.{Played, played, played_more}
-use Rattle.replay.proofs.OutputLemmas.{output_grows, next_line, no_line, prefix_after, prefix_whole}
+use Rattle.replay.proofs.OutputLemmas.{output_grows, next_line, no_line, one_fault, bool_le, prefix_after, prefix_whole}
 use Rattle.replay.proofs.script.run.write_lines.Goals as goal
 
 pub loop-rest-init : goal.loop-rest-init
@@ -19,6 +20,22 @@ loop-rest-init g c = record {
   );
   few = (lit≤ tt, omega arith);
 }
+
+pub loop-rest-preserved : goal.loop-rest-preserved
+loop-rest-preserved g c =
+    let before = c.loop-rest.invariant.played in
+    let line = c.split_line.result.0.now in
+    let others = c.split_line.result.1.now in
+    let was = line_played c.loop-rest.system c.loop-rest.number line in
+    let sofar : Played = record { number = c.loop-rest.number; faults = c.loop-rest.script_faults; output = before.0; state = c.loop-rest.system } in
+    let next = next_line sofar (played c.args.site c.args.script.now) c.loop-rest.rest.now line others c.split_line.ensures.lines before.2 in
+    let faults : c.from-script_faults.result ≡ cond was.is_fault 1 0 =
+    one_fault c.from-script_faults.result c.in-Ok.is_fault was.is_fault c.from-script_faults.ensures c.in-Ok.ensures.fault in
+    let one : c.from-script_faults.result ≤ 1 = bool_le c.from-script_faults.result c.in-Ok.is_fault c.from-script_faults.ensures in
+    record {
+      played = (before.0 ++ was.printed, Appends-trans _ _ _ _ _ before.1 c.in-Ok.ensures.whole, rw (faults, c.in-Ok.ensures.after) next);
+      few = (omega (arith, one, c.loop-rest.invariant.few), omega (arith, c.loop-rest.invariant.few, c.split_line.ensures.shorter));
+    }
 
 pub returns-in-Err-clause-prefix : goal.returns-in-Err-clause-prefix
 returns-in-Err-clause-prefix g c =
