@@ -1,10 +1,10 @@
 -- Why the program stops where its site isn't read.
 use Rattle.std.specs.Prelude.{⊤, ◌≡◌, ℕ, List, Err}
-use Rattle.replay.specs.declared.site.fault.SiteFault.{SiteFault}
-use Rattle.replay.specs.declared.site.fault.SiteFault.TheVariants as site_fault
+use Rattle.site_rules.specs.declared.fault.SiteFault.{SiteFault}
+use Rattle.site_rules.specs.declared.fault.SiteFault.TheVariants as site_fault
 use Rattle.central.specs.declared.program.program_fault.ProgramFault.{ProgramFault}
 use Rattle.central.specs.declared.program.program_fault.ProgramFault.TheVariants.{Site, SiteFile, OutOfMemory}
-use Rattle.replay.specs.SiteReading.{site_of}
+use Rattle.site_rules.specs.ByCases.SiteReading.{site_of}
 
 -- want of memory is no fault of the site file
 abbrev pub site_stop : SiteFault → ProgramFault

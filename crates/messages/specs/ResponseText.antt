@@ -1,6 +1,6 @@
 -- What answers look like, byte for byte: keys in this order, no blanks, limits with one decimal.
-use Rattle.std.specs.Prelude.{Bool, true, false, if◌then◌else◌, ℕ, List, [], ◌∷◌, ◌++◌, codes}
-use Rattle.std.specs.Fmt.{decimal}
+use Rattle.std.specs.Prelude.{Bool, true, false, if◌then◌else◌, ℕ, ℤ, List, [], ◌∷◌, ◌++◌, codes}
+use Rattle.std.specs.Fmt.{decimal, signed_decimal}
 use Rattle.ocpp_scalars.specs.declared.refusal.Refusal.{Refusal}
 use Rattle.ocpp_scalars.specs.Refusal.{refusal_name}
 use Rattle.ocpp_scalars.specs.Writing.{instant_text}
@@ -40,10 +40,10 @@ heartbeat_text now = current_time_text now ++ codes "}"
 abbrev pub authorize_text : List ℕ
 authorize_text = codes "{\"idTagInfo\":{\"status\":\"Accepted\"}}"
 
--- StartTransaction.conf
-abbrev pub start_transaction_text : ℕ → List ℕ
+-- StartTransaction.conf, with the number of the transaction
+abbrev pub start_transaction_text : ℤ → List ℕ
 start_transaction_text transaction =
-    codes "{\"idTagInfo\":{\"status\":\"Accepted\"},\"transactionId\":" ++ decimal transaction ++ codes "}"
+    codes "{\"idTagInfo\":{\"status\":\"Accepted\"},\"transactionId\":" ++ signed_decimal transaction ++ codes "}"
 
 -- DataTransfer.conf
 abbrev pub unknown_vendor_text : List ℕ

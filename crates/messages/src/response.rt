@@ -23,7 +23,7 @@ pub enum Response {
     /// Authorize.conf: every idTag is accepted.
     Authorize,
     /// StartTransaction.conf: accepted, with the transaction's number.
-    StartTransaction { transaction: u64 },
+    StartTransaction { transaction: i32 },
     /// The .conf of StopTransaction, StatusNotification, MeterValues, FirmwareStatusNotification
     /// and DiagnosticsStatusNotification: an object without fields.
     Empty,

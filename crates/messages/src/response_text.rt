@@ -139,7 +139,7 @@ fn push_current_time(out: &mut String, current_time: Instant) -> Result<(), Allo
 }
 
 /// Appends StartTransaction's answer.
-fn push_start_transaction(out: &mut String, id: &str, transaction: u64) -> Result<(), AllocError>
+fn push_start_transaction(out: &mut String, id: &str, transaction: i32) -> Result<(), AllocError>
     ensures { OnOk result (string_bytes out.new
         ≡ string_bytes out.old ++ call_result_text id.now (start_transaction_text transaction)) }
 {
@@ -149,7 +149,7 @@ fn push_start_transaction(out: &mut String, id: &str, transaction: u64) -> Resul
 }
 
 /// Appends StartTransaction.conf (chapter 6).
-fn push_transaction(out: &mut String, transaction: u64) -> Result<(), AllocError>
+fn push_transaction(out: &mut String, transaction: i32) -> Result<(), AllocError>
     ensures { OnOk result
         (string_bytes out.new ≡ string_bytes out.old ++ start_transaction_text transaction) }
 {

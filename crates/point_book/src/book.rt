@@ -132,6 +132,14 @@ impl PointBook {
         began
     }
 
+    /// What a start at a connector would be: a new transaction, or the active one's start, told again.
+    /// Changes nothing.
+    pub fn began(&self, connector: u32, begin: &Begin) -> Began
+        ensures { result ≡ began self.now.transactions connector begin.now }
+    {
+        self.transactions.began(connector, begin)
+    }
+
     /// Ends the transaction of this number (chapter 4.10), removes the TxProfiles of its connector
     /// and returns that, or `None` where no active one has the number, and then nothing changes.
     /// Allocates nothing.

@@ -1,7 +1,6 @@
-pub mod CeilingsRead
+pub mod BookLemmas
 pub mod FormLemmas
 pub mod LineLemmas
 pub mod OutputLemmas
 pub mod ScriptLemmas
-pub mod SiteLemmas
 pub mod WriteLemmas

@@ -1,36 +1,35 @@
 -- The output of a script, line after line.
-use Rattle.std.proofs.Common.{◌≡◌, ℕ, ◌+◌, ◌≤◌, List, [], ◌∷◌, ◌++◌, Option, Bool, true, false, cond, length, take, append_assoc, append-nil, refl, sym, ap, ◌∙◌, subst, arith, inl, inr}
+use Rattle.std.proofs.Common.{◌≡◌, ℕ, ◌+◌, ◌≤◌, List, [], ◌∷◌, ◌++◌, Option, Some, None, IfSome, Bool, true, false, cond, length, take, append_assoc, append-nil, refl, sym, ap, ◌∙◌, subst, arith, inl, inr}
 use Rattle.std.specs.List.{fold}
 use Rattle.std.specs.Io.KnownBytes.{Appends}
-use Rattle.std.proofs.KnownBytes.{Appends-trans}
+use Rattle.std.proofs.KnownBytes.{Appends-nil, Appends-trans}
 use Rattle.std.proofs.lemmas.Bool.{cases_lt}
 use Rattle.std.proofs.lemmas.List.{take-append-le, take_all, nil_from_length}
 use Rattle.std.proofs.Math.Seq.{take-append-add, take-length}
 use mir.Val.{bool_byte}
 use Rattle.replay.specs.Lines.{script_lines}
-use Rattle.replay.specs.Site.{SiteState}
 use Rattle.replay.specs.Play.{PlayedLine, line_played}
 use Rattle.replay.specs.Run.{Played, with_line, played_more}
 use Rattle.replay.specs.Output.{AppendsPrefix}
 
 -- what is printed is kept
-pub output_grows : (site : SiteState) (before : Played) (lines : List (List ℕ)) → (more : List ℕ) × ((fold (played_more site) before lines).output ≡ before.output ++ more)
-output_grows site before [] = ([], sym (append-nil before.output))
-output_grows site before (line ∷ lines) =
-    let next = output_grows site (played_more site before line) lines in
-    let printed = (line_played site before.state before.number line).printed in
+pub output_grows : (before : Played) (lines : List (List ℕ)) → (more : List ℕ) × ((fold played_more before lines).output ≡ before.output ++ more)
+output_grows before [] = ([], sym (append-nil before.output))
+output_grows before (line ∷ lines) =
+    let next = output_grows (played_more before line) lines in
+    let printed = (line_played before.state before.number line).printed in
     (printed ++ next.0, next.1 ∙ append_assoc before.output printed next.0)
 
 -- the next line was played
-pub next_line : (site : SiteState) (before all : Played) (rest line others : List ℕ) → script_lines rest ≡ line ∷ script_lines others
-    → fold (played_more site) before (script_lines rest) ≡ all
-    → fold (played_more site) (played_more site before line) (script_lines others) ≡ all
-next_line site before all rest line others first whole = ap (fold (played_more site) before) (sym first) ∙ whole
+pub next_line : (before all : Played) (rest line others : List ℕ) → script_lines rest ≡ line ∷ script_lines others
+    → fold played_more before (script_lines rest) ≡ all
+    → fold played_more (played_more before line) (script_lines others) ≡ all
+next_line before all rest line others first whole = ap (fold played_more before) (sym first) ∙ whole
 
 -- no line is left
-pub no_line : (site : SiteState) (before all : Played) (rest : List ℕ) → length rest ≡ 0 → fold (played_more site) before (script_lines rest) ≡ all → before ≡ all
-no_line site before all rest none whole =
-    ap (λ r. fold (played_more site) before (script_lines r)) (sym (nil_from_length rest none)) ∙ whole
+pub no_line : (before all : Played) (rest : List ℕ) → length rest ≡ 0 → fold played_more before (script_lines rest) ≡ all → before ≡ all
+no_line before all rest none whole =
+    ap (λ r. fold played_more before (script_lines r)) (sym (nil_from_length rest none)) ∙ whole
 
 -- a test as a number counts its fault
 pub one_fault : (n : ℕ) (b fault : Bool) → n ≡ bool_byte b → b ≡ fault → n ≡ cond fault 1 0
@@ -63,3 +62,8 @@ prefix_after a b c done text more all before prefix whole =
 -- the whole text is a prefix of it
 pub prefix_whole : (a b : Option (List ℕ)) (text : List ℕ) → Appends a b text → AppendsPrefix a b text
 prefix_whole a b text whole = (length text, subst (Appends a b) (sym (take-length text)) whole)
+
+-- where nothing was written, a prefix of any output was
+pub nothing_written : (given a : Option (List ℕ)) (output : List ℕ → List ℕ) → IfSome given (λ script. AppendsPrefix a a (output script))
+nothing_written None a output = tt
+nothing_written (Some script) a output = (0, Appends-nil a)

@@ -1,11 +1,8 @@
 pub mod Limits
-pub mod ByCases
-pub mod Site
-pub mod SiteReading
-pub mod SiteRules
 pub mod Ask
 pub mod SentText
 pub mod CentralSystem
+pub mod ByCases
 pub mod Step
 pub mod Supported
 pub mod Todo

@@ -1,10 +1,11 @@
 -- What a line of a script says, or its first fault.
-use Rattle.std.specs.Prelude.{ℕ, Bool, false, not, nat_lt, if◌then◌else◌, List, length, codes, Option, Some, None, Result, Ok, Err}
-use Rattle.std.specs.Str.{bytes_eq, is_utf8}
+use Rattle.std.specs.Prelude.{ℕ, Bool, false, not, is_none, nat_lt, if◌then◌else◌, List, length, codes, Option, Some, None, Result, Ok, Err}
+use Rattle.std.specs.Str.{is_utf8}
 use Rattle.ocpp_scalars.specs.ByCases.InstantText.{instant_of}
 use Rattle.ocpp_scalars.specs.declared.instant_text.InstantFault.{InstantFault}
 use Rattle.messages.specs.declared.side.Side.{Side}
 use Rattle.messages.specs.declared.side.Side.TheVariants.{Operator, Point}
+use Rattle.site_rules.specs.Site.{SiteState, place_of}
 use Rattle.replay.specs.declared.script.line.ScriptLine.{ScriptLine}
 use Rattle.replay.specs.declared.script.line.ScriptLine.TheVariants.{Text}
 use Rattle.replay.specs.declared.script.line.LineFault.{LineFault}
@@ -14,29 +15,29 @@ use Rattle.replay.specs.SentText.{sent}
 use Rattle.replay.specs.Form.{Form, sent_text}
 use Rattle.replay.specs.ByCases.Form.{form_of}
 
--- a point's own text names the site's point; whether an operator's does is the central system's to say
-abbrev pub is_stranger : List ℕ → Side → List ℕ → Bool
-is_stranger site_point Operator point = false
-is_stranger site_point Point point = not (bytes_eq point site_point)
+-- a point's own text names a point of the site; whether an operator's does is the central system's to say
+abbrev pub is_stranger : SiteState → Side → List ℕ → Bool
+is_stranger site Operator point = false
+is_stranger site Point point = is_none (place_of site point)
 
-abbrev pub text_said : List ℕ → Side → List ℕ → List ℕ → Result ℕ InstantFault → Result ScriptLine LineFault
-text_said site_point sender point frame (Err fault) = Err BadInstant
-text_said site_point sender point frame (Ok moment) =
-    if is_stranger site_point sender point then Err UnknownPoint
+abbrev pub text_said : SiteState → Side → List ℕ → List ℕ → Result ℕ InstantFault → Result ScriptLine LineFault
+text_said site sender point frame (Err fault) = Err BadInstant
+text_said site sender point frame (Ok moment) =
+    if is_stranger site sender point then Err UnknownPoint
     else Ok (Text (sent moment sender point frame))
 
 -- what a line says by its form
-abbrev pub line_of_form : List ℕ → Option Form → Result ScriptLine LineFault
-line_of_form site_point None = Err BadLine
-line_of_form site_point (Some (sent_text instant sender point frame)) =
-    text_said site_point sender point frame (instant_of instant)
+abbrev pub line_of_form : SiteState → Option Form → Result ScriptLine LineFault
+line_of_form site None = Err BadLine
+line_of_form site (Some (sent_text instant sender point frame)) =
+    text_said site sender point frame (instant_of instant)
 
--- what a line says on the site of a point
-unfoldable pub line_of : List ℕ → List ℕ → Result ScriptLine LineFault
-line_of site_point line =
+-- what a line says on a site
+unfoldable pub line_of : SiteState → List ℕ → Result ScriptLine LineFault
+line_of site line =
     if nat_lt max_line_bytes (length line) then Err TooLong
     else if not (is_utf8 line) then Err BadText
-    else line_of_form site_point (form_of line)
+    else line_of_form site (form_of line)
 
 -- a fault as the output names it
 abbrev pub fault_name : LineFault → List ℕ

@@ -9,7 +9,7 @@ use Rattle.replay.specs.declared.script.line.ScriptLine.TheVariants.{Text}
 use Rattle.replay.specs.declared.script.play.Printed.{Printed}
 use Rattle.replay.specs.declared.session.todo.Todo.{Todo}
 use Rattle.replay.specs.declared.session.todo.Todo.TheVariants as todo
-use Rattle.replay.specs.Site.{SiteState}
+use Rattle.messages.specs.declared.action_kind.ActionKind.{ActionKind}
 use Rattle.replay.specs.SentText.{Sent}
 use Rattle.replay.specs.CentralSystem.{SystemState}
 use Rattle.replay.specs.Step.{Stepped, stepped}
@@ -24,18 +24,19 @@ pub record Handled : Type 0 where
   pub answer : Option (List ℕ)
   pub after : SystemState
 
-abbrev pub step_handled : List ℕ → Unit → Stepped → Handled
-step_handled id unit step =
-    record { answer = Some (response_text id (response_of unit step.reply)); after = step.after }
+abbrev pub step_handled : List ℕ → Unit → ActionKind → Stepped → Handled
+step_handled id unit kind step =
+    record { answer = Some (response_text id (response_of unit kind step.reply)); after = step.after }
 
-abbrev pub todo_handled : SiteState → List ℕ → SystemState → Todo → Handled
-todo_handled site point old todo.Nothing = record { answer = None; after = old }
-todo_handled site point old (todo.Answer id response) =
+abbrev pub todo_handled : List ℕ → SystemState → Todo → Handled
+todo_handled point old todo.Nothing = record { answer = None; after = old }
+todo_handled point old (todo.Answer id response) =
     record { answer = Some (response_text id response); after = old }
-todo_handled site point old (todo.Step id step) = step_handled id site.unit (stepped site point old step)
+todo_handled point old (todo.Step id kind step) =
+    step_handled id old.site.unit kind (stepped old point step)
 
-abbrev pub handled : SiteState → SystemState → Sent → Handled
-handled site old text = todo_handled site text.point old (todo_of text)
+abbrev pub handled : SystemState → Sent → Handled
+handled old text = todo_handled text.point old (todo_of text)
 
 -- ---- lines
 
@@ -57,16 +58,16 @@ pub record PlayedLine : Type 0 where
 abbrev pub answer_played : Handled → PlayedLine
 answer_played text = record { printed = answer_line text.answer; is_fault = false; after = text.after }
 
-abbrev pub said_played : SiteState → SystemState → ℕ → Result ScriptLine LineFault → PlayedLine
-said_played site old number (Ok (Text text)) = answer_played (handled site old text)
-said_played site old number (Err fault) =
+abbrev pub said_played : SystemState → ℕ → Result ScriptLine LineFault → PlayedLine
+said_played old number (Ok (Text text)) = answer_played (handled old text)
+said_played old number (Err fault) =
     record { printed = fault_line number fault; is_fault = true; after = old }
 
 -- an empty line prints nothing
-abbrev pub line_played : SiteState → SystemState → ℕ → List ℕ → PlayedLine
-line_played site old number line =
+abbrev pub line_played : SystemState → ℕ → List ℕ → PlayedLine
+line_played old number line =
     if length line == 0 then record { printed = []; is_fault = false; after = old }
-    else said_played site old number (line_of site.point line)
+    else said_played old number (line_of old.site line)
 
 -- a line was played so
 abbrev pub IsPlayed : PlayedLine → Printed → SystemState → Type 0

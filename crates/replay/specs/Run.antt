@@ -6,7 +6,7 @@ use Rattle.replay.specs.declared.script.input.InputFault.TheVariants as input
 use Rattle.replay.specs.declared.script.run.ReplayFault.{ReplayFault}
 use Rattle.replay.specs.declared.script.run.ReplayFault.TheVariants.{Read, ScriptTooLong, Write, OutOfMemory}
 use Rattle.replay.specs.Lines.{script_lines}
-use Rattle.replay.specs.Site.{SiteState}
+use Rattle.site_rules.specs.Site.{SiteState}
 use Rattle.replay.specs.CentralSystem.{SystemState, first_state}
 use Rattle.replay.specs.Play.{PlayedLine, line_played}
 
@@ -21,8 +21,8 @@ pub record Played : Type 0 where
   -- what the central system knows
   pub state : SystemState
 
-abbrev pub first_played : Played
-first_played = record { number = 1; faults = 0; output = []; state = first_state }
+abbrev pub first_played : SiteState → Played
+first_played site = record { number = 1; faults = 0; output = []; state = first_state site }
 
 abbrev pub with_line : Played → PlayedLine → Played
 with_line before line = record {
@@ -33,12 +33,12 @@ with_line before line = record {
 }
 
 -- one line more
-abbrev pub played_more : SiteState → Played → List ℕ → Played
-played_more site before line = with_line before (line_played site before.state before.number line)
+abbrev pub played_more : Played → List ℕ → Played
+played_more before line = with_line before (line_played before.state before.number line)
 
--- the whole script
+-- the whole script on a site
 unfoldable pub played : SiteState → List ℕ → Played
-played site script = fold (played_more site) first_played (script_lines script)
+played site script = fold played_more (first_played site) (script_lines script)
 
 -- what a script prints
 abbrev pub output_of : SiteState → List ℕ → List ℕ

@@ -1,9 +1,8 @@
 -- Which profiles are supported so far, and the answer to a CALL of what isn't.
-use Rattle.std.specs.Prelude.{ℕ, ◌==◌, Bool, true, false, ◌&&◌}
+use Rattle.std.specs.Prelude.{Bool, true, false, not}
 use Rattle.profile.specs.declared.kind.Kind.{Kind}
 use Rattle.profile.specs.declared.kind.Kind.TheVariants.{Absolute, Recurring, Relative}
 use Rattle.profile.specs.declared.charging_profile.Profile.{Profile}
-use Rattle.profile.specs.Purpose.{is_tx_default}
 use Rattle.messages.specs.declared.response.Response.{Response}
 use Rattle.messages.specs.declared.response.Response.TheVariants.{Error}
 use Rattle.messages.specs.declared.call_fault.CallFault.TheVariants.{NotImplemented}
@@ -12,13 +11,11 @@ use Rattle.messages.specs.declared.call_fault.CallFault.TheVariants.{NotImplemen
 abbrev pub not_supported : Response
 not_supported = Error NotImplemented
 
-abbrev pub is_absolute : Kind → Bool
-is_absolute Absolute = true
-is_absolute (Recurring recurrency) = false
-is_absolute Relative = false
+abbrev pub is_recurring : Kind → Bool
+is_recurring Absolute = false
+is_recurring (Recurring recurrency) = true
+is_recurring Relative = false
 
--- an Absolute TxDefaultProfile of stack level 0 at connector 0
-abbrev pub is_supported : ℕ → Profile → Bool
-is_supported connector profile =
-    is_absolute profile.kind && is_tx_default profile.purpose
-    && (connector == 0) && (profile.stack_level == 0)
+-- every profile but a Recurring one
+abbrev pub is_supported : Profile → Bool
+is_supported profile = not (is_recurring profile.kind)

@@ -8,9 +8,11 @@ use Rattle.ocppj_frame.specs.Message.{Message, call}
 use Rattle.ocppj_frame.specs.ByCases.Message.{message_of_text}
 use Rattle.profile.specs.declared.charging_profile.Profile.{Profile}
 use Rattle.profile.specs.Parts.{profile_of_parts}
+use Rattle.transactions.specs.declared.begin.Begin.{Begin}
 use Rattle.messages.specs.declared.side.Side.{Side}
 use Rattle.messages.specs.declared.side.Side.TheVariants.{Operator, Point}
 use Rattle.messages.specs.declared.action.Action.{Action}
+use Rattle.messages.specs.declared.action.StartTransaction.{StartTransaction}
 use Rattle.messages.specs.declared.action.Action.TheVariants as actions
 use Rattle.messages.specs.declared.call_fault.CallFault.{CallFault}
 use Rattle.messages.specs.declared.call_fault.CallFault.TheVariants.{FormationViolation}
@@ -22,7 +24,7 @@ use Rattle.messages.specs.Action.{action_of_kind}
 use Rattle.replay.specs.declared.session.todo.Todo.{Todo}
 use Rattle.replay.specs.declared.session.todo.Todo.TheVariants as todo
 use Rattle.replay.specs.declared.system.step.Step.{Step}
-use Rattle.replay.specs.declared.system.step.Step.TheVariants.{Install, Compose}
+use Rattle.replay.specs.declared.system.step.Step.TheVariants.{Install, Clear, Start, Stop, Compose}
 use Rattle.replay.specs.SentText.{Sent}
 use Rattle.replay.specs.Supported.{is_supported, not_supported}
 
@@ -30,7 +32,7 @@ use Rattle.replay.specs.Supported.{is_supported, not_supported}
 
 abbrev pub step_of_profile : ℕ → ℕ → Profile → Result Step Response
 step_of_profile moment connector profile =
-    if is_supported connector profile
+    if is_supported profile
     then Ok (Install (record { connector = connector; moment = moment; profile = profile }))
     else Err not_supported
 
@@ -39,16 +41,21 @@ abbrev pub step_of_made : ℕ → ℕ → Result Profile Refusal → Result Step
 step_of_made moment connector (Ok profile) = step_of_profile moment connector profile
 step_of_made moment connector (Err refusal) = Err (Rejected refusal)
 
+-- how the transaction began: as the CALL tells
+abbrev pub begin_of : StartTransaction → Begin
+begin_of start =
+    record { id_tag = start.id_tag; meter_start = start.meter_start; timestamp = start.timestamp }
+
 abbrev pub step_of : ℕ → Action → Result Step Response
 step_of moment (actions.SetChargingProfile connector parts) =
     step_of_made moment connector (profile_of_parts parts)
-step_of moment (actions.ClearChargingProfile criteria) = Err not_supported
+step_of moment (actions.ClearChargingProfile criteria) = Ok (Clear criteria)
 step_of moment (actions.GetCompositeSchedule request) = Ok (Compose moment request)
 step_of moment actions.BootNotification = Err (BootNotification moment)
 step_of moment actions.Heartbeat = Err (Heartbeat moment)
 step_of moment actions.Authorize = Err Authorize
-step_of moment (actions.StartTransaction start) = Err not_supported
-step_of moment (actions.StopTransaction transaction) = Err not_supported
+step_of moment (actions.StartTransaction start) = Ok (Start start.connector (begin_of start))
+step_of moment (actions.StopTransaction transaction) = Ok (Stop transaction)
 step_of moment actions.StatusNotification = Err Empty
 step_of moment actions.MeterValues = Err Empty
 step_of moment actions.FirmwareStatusNotification = Err Empty
@@ -69,27 +76,30 @@ side_eq Operator Point = false
 side_eq Point Operator = false
 side_eq Point Point = true
 
--- an action that isn't its sender's, or is nobody's, isn't supported, whatever its fields are
-abbrev pub step_of_kind : Sent → Option ActionKind → Tree → Result Step Response
-step_of_kind text None payload = Err not_supported
-step_of_kind text (Some kind) payload =
-    if side_eq (side_of_kind kind) text.sender
-    then step_of_reading text.moment (action_of_kind kind payload)
-    else Err not_supported
+-- the step or the answer to the CALL of this id
+abbrev pub todo_with : List ℕ → ActionKind → Result Step Response → Todo
+todo_with id kind (Ok step) = todo.Step id kind step
+todo_with id kind (Err response) = todo.Answer id response
 
-abbrev pub step_of_call : Sent → List ℕ → Tree → Result Step Response
-step_of_call text name payload = step_of_kind text (action_named name) payload
+-- an action that isn't its sender's, or is nobody's, isn't supported, whatever its fields are
+abbrev pub kind_of_sender : Side → Option ActionKind → Option ActionKind
+kind_of_sender sender None = None
+kind_of_sender sender (Some kind) = if side_eq (side_of_kind kind) sender then Some kind else None
+
+abbrev pub todo_of_kind : ℕ → List ℕ → Option ActionKind → Tree → Todo
+todo_of_kind moment id None payload = todo.Answer id not_supported
+todo_of_kind moment id (Some kind) payload =
+    todo_with id kind (step_of_reading moment (action_of_kind kind payload))
+
+abbrev pub todo_of_call : Sent → List ℕ → List ℕ → Tree → Todo
+todo_of_call text id name payload =
+    todo_of_kind text.moment id (kind_of_sender text.sender (action_named name)) payload
 
 -- ---- texts
 
--- the step or the answer, with the id of its CALL
-abbrev pub todo_with : List ℕ → Result Step Response → Todo
-todo_with id (Ok step) = todo.Step id step
-todo_with id (Err response) = todo.Answer id response
-
 -- only a CALL is answered, a malformed one too where it has an id
 abbrev pub todo_of_message : Sent → Result Message FrameFault → Todo
-todo_of_message text (Ok (call id name payload)) = todo_with id (step_of_call text name payload)
+todo_of_message text (Ok (call id name payload)) = todo_of_call text id name payload
 todo_of_message text (Err (Formation id)) = todo.Answer id (Error FormationViolation)
 todo_of_message text _ = todo.Nothing
 

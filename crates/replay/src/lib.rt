@@ -4,13 +4,9 @@
 
 mod script;
 mod session;
-mod site;
 mod system;
 #[cfg(test)]
 mod tests;
 
 pub use script::input::{InputFault, read_all};
 pub use script::run::{MAX_SCRIPT_BYTES, ReplayFault, Summary, replay};
-pub use site::fault::SiteFault;
-pub use site::reading::{MAX_SITE_BYTES, read_site};
-pub use site::site::Site;

@@ -1,9 +1,7 @@
 //! Readers and writers that fail, each at any call.
 
 use crate::script::run::{ReplayFault, Summary, replay};
-use crate::site::fault::SiteFault;
-use crate::site::reading::read_site;
-use crate::site::site::Site;
+use site_rules::{Site, SiteFault, read_site};
 use std::alloc::Global;
 use std::io::{self, ErrorKind, Read, Write};
 use std::test::Fail;

@@ -70,6 +70,13 @@ impl ActiveTable {
         began
     }
 
+    /// What a start at a connector would be. Changes nothing.
+    pub fn began(&self, connector: u32, begin: &Begin) -> Began
+        ensures { result ≡ began self.now connector begin.now }
+    {
+        what_began(self.slots.as_slice(), connector, begin)
+    }
+
     /// Ends the transaction of this number, and returns its connector, or `None` where no active one
     /// has it. Allocates nothing.
     pub fn stop(&mut self, id: i32) -> Option<u32>

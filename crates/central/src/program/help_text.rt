@@ -6,7 +6,7 @@ pub const VERSION: &str = "0.1.0\nproved with rattle-kit-13b logic dac8208d650f1
 /// What the program does.
 pub const ABOUT: &str =
     "A central system for smart charging by OCPP 1.6: it installs charging profiles, composes
-the schedules that they mean, and answers operators and a charge point.";
+the schedules that they mean, and answers operators and charge points.";
 
 /// The program's exit statuses.
 pub const STATUSES: &str = "Exit statuses:

@@ -3,7 +3,8 @@
 ghost use Rattle.std.specs.Prelude.{◌≡◌};
 ghost use Rattle.central.specs.ExitStatus.{fault_status, summary_status};
 
-use replay::{ReplayFault, SiteFault, Summary};
+use replay::{ReplayFault, Summary};
+use site_rules::SiteFault;
 
 /// Why the program stops, in the words of its one line on standard error.
 #[derive(Debug, Drop, thiserror::Error)]

@@ -1,11 +1,12 @@
 //! The site file, opened and read.
 
 ghost use Rattle.std.specs.Prelude.{◌≡◌, ℕ, List, Ok, IfOk, IfErr};
-ghost use Rattle.replay.specs.SiteReading.{site_of};
+ghost use Rattle.site_rules.specs.ByCases.SiteReading.{site_of};
 ghost use Rattle.central.specs.SiteStop.{IsSiteStop};
 
 use crate::program::program_fault::ProgramFault;
-use replay::{InputFault, MAX_SITE_BYTES, Site, SiteFault, read_all, read_site};
+use replay::{InputFault, read_all};
+use site_rules::{MAX_SITE_BYTES, Site, SiteFault, read_site};
 use std::alloc::AllocGlobal;
 use std::fs;
 use std::io::ErrorKind;

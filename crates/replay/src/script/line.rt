@@ -8,6 +8,7 @@ ghost use Rattle.replay.specs.Line.{is_stranger, line_of_form, line_of, fault_na
 use crate::session::sent_text::SentText;
 use messages::Side;
 use ocpp_scalars::read_instant;
+use site_rules::Site;
 use std::fmt;
 
 /// The longest line of a script, in bytes.
@@ -58,10 +59,10 @@ pub enum ScriptLine<'a> {
     Text(SentText<'a>),
 }
 
-/// Reads a line of a script on the site of a point.
+/// Reads a line of a script on a site.
 #[tactic(auto, unfolding(crate::specs::Line::line_of))]
-pub fn read_line<'a>(line: &'a [u8], site_point: &str) -> Result<ScriptLine<'a>, LineFault>
-    ensures value { result ≡ line_of site_point.now line.entry.now }
+pub fn read_line<'a>(line: &'a [u8], site: &Site) -> Result<ScriptLine<'a>, LineFault>
+    ensures value { result ≡ line_of site.now line.entry.now }
     ensures form { (form : Form)
         → ((form_of line.entry.now ≡ Some form) ↔ IsOfForm line.entry.now form) }
 {
@@ -69,14 +70,14 @@ pub fn read_line<'a>(line: &'a [u8], site_point: &str) -> Result<ScriptLine<'a>,
         return Err(LineFault::TooLong);
     }
     match std::str::from_utf8(line) {
-        Ok(text) => read_text(text, site_point),
+        Ok(text) => read_text(text, site),
         Err(_) => Err(LineFault::BadText),
     }
 }
 
 /// Reads a line that is short enough and UTF-8.
-fn read_text<'a>(text: &'a str, site_point: &str) -> Result<ScriptLine<'a>, LineFault>
-    ensures { result ≡ line_of_form site_point.now (form_of text.entry.now) }
+fn read_text<'a>(text: &'a str, site: &Site) -> Result<ScriptLine<'a>, LineFault>
+    ensures { result ≡ line_of_form site.now (form_of text.entry.now) }
 {
     let Some((instant, sender, point, frame)) = split_words(text) else {
         return Err(LineFault::BadLine);
@@ -84,20 +85,20 @@ fn read_text<'a>(text: &'a str, site_point: &str) -> Result<ScriptLine<'a>, Line
     let Ok(moment) = read_instant(instant) else {
         return Err(LineFault::BadInstant);
     };
-    if is_stranger(site_point, sender, point) {
+    if is_stranger(site, sender, point) {
         return Err(LineFault::UnknownPoint);
     }
     let text = SentText::new(moment, sender, point, frame);
     Ok(ScriptLine::Text(text))
 }
 
-/// Whether a point's own text names another point than the site's.
-fn is_stranger(site_point: &str, sender: Side, point: &str) -> bool
-    ensures { result ≡ is_stranger site_point.now sender point.now }
+/// Whether a point's own text names a point that the site lacks.
+fn is_stranger(site: &Site, sender: Side, point: &str) -> bool
+    ensures { result ≡ is_stranger site.now sender point.now }
 {
     match sender {
         Side::Operator => false,
-        Side::Point => point != site_point,
+        Side::Point => site.place_of(point).is_none(),
     }
 }
 

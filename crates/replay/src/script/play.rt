@@ -8,7 +8,6 @@ use crate::script::line::{ScriptLine, read_line};
 use crate::session::answer::response_of;
 use crate::session::sent_text::SentText;
 use crate::session::todo::{Todo, todo_of};
-use crate::site::site::Site;
 use crate::system::central_system::CentralSystem;
 use messages::{Response, push_response};
 use std::alloc::{AllocError, Global};
@@ -25,15 +24,14 @@ pub struct Printed {
 /// Plays the line of this number. After an error the line wasn't played, or only its answer is missing.
 pub fn play_line(
     alloc: Global,
-    site: &Site,
     system: &mut CentralSystem,
     number: u64,
     line: &[u8],
 ) -> Result<Printed, AllocError>
     ensures played { IfOk result
-        (λ printed. IsPlayed (line_played site.now system.old number line.now) printed system.new) }
+        (λ printed. IsPlayed (line_played system.old number line.now) printed system.new) }
     ensures kept { OnErr result
-        (IsOneOf system.old (line_played site.now system.old number line.now).after system.new) }
+        (IsOneOf system.old (line_played system.old number line.now).after system.new) }
 {
     if line.is_empty() {
         return Ok(Printed {
@@ -41,9 +39,9 @@ pub fn play_line(
             is_fault: false,
         });
     }
-    match read_line(line, site.point()) {
+    match read_line(line, system.site()) {
         Ok(ScriptLine::Text(text)) => Ok(Printed {
-            text: answer_line(alloc, site, system, &text)?,
+            text: answer_line(alloc, system, &text)?,
             is_fault: false,
         }),
         Err(fault) => Ok(Printed {
@@ -56,21 +54,21 @@ pub fn play_line(
 /// The line with the answer to a text, if it has one.
 fn answer_line(
     alloc: Global,
-    site: &Site,
     system: &mut CentralSystem,
     text: &SentText<'_>,
 ) -> Result<String, AllocError>
-    ensures played { IfOk result (λ line. answer_played (handled site.now system.old text.now)
+    ensures played { IfOk result (λ line. answer_played (handled system.old text.now)
         ≡ record { printed = string_bytes line; is_fault = false; after = system.new }) }
     ensures kept { OnErr result
-        (IsOneOf system.old (handled site.now system.old text.now).after system.new) }
+        (IsOneOf system.old (handled system.old text.now).after system.new) }
 {
     match todo_of(alloc, text)? {
         Todo::Nothing => Ok(String::new(alloc)),
         Todo::Answer { id, response } => response_line(alloc, id.as_str(), &response),
-        Todo::Step { id, step } => {
-            let reply = system.step(site, text.point(), step)?;
-            response_line(alloc, id.as_str(), &response_of(site.unit(), reply))
+        Todo::Step { id, kind, step } => {
+            let unit = system.site().unit();
+            let reply = system.step(text.point(), step)?;
+            response_line(alloc, id.as_str(), &response_of(unit, kind, reply))
         }
     }
 }

@@ -12,8 +12,8 @@ use crate::script::input::{InputFault, read_all};
 use crate::script::lines::split_line;
 use crate::script::output::{WriteFault, flush_all, write_text};
 use crate::script::play::play_line;
-use crate::site::site::Site;
 use crate::system::central_system::CentralSystem;
+use site_rules::Site;
 use std::alloc::{AllocError, Global};
 use std::io::{Read, Write};
 
@@ -103,7 +103,7 @@ pub fn replay<R: Read, W: Write>(
         → GaveMoreThan (R.remaining reader.old) (R.remaining reader.new) max_script_bytes }
 {
     let script = read_script(alloc, reader)?;
-    write_output(alloc, writer, script.as_slice(), &site)
+    write_output(alloc, writer, script.as_slice(), site)
 }
 
 /// The whole script.
@@ -126,15 +126,15 @@ fn write_output<W: Write>(
     alloc: Global,
     writer: &mut W,
     script: &[u8],
-    site: &Site,
+    site: Site,
 ) -> Result<Summary, ReplayFault>
     requires { length script.now ≤ max_script_bytes }
     ensures whole { OnOk result
-        (Appends (W.contents writer.old) (W.contents writer.new) (output_of site.now script.now)) }
+        (Appends (W.contents writer.old) (W.contents writer.new) (output_of site script.now)) }
     ensures faults { IfOk result
-        (λ summary. summary.script_faults ≡ fault_count site.now script.now) }
+        (λ summary. summary.script_faults ≡ fault_count site script.now) }
     ensures prefix { AppendsPrefix (W.contents writer.old) (W.contents writer.new)
-        (output_of site.now script.now) }
+        (output_of site script.now) }
     ensures late { IfErr result IsWriting }
 {
     let summary = write_lines(alloc, writer, script, site)?;
@@ -147,24 +147,24 @@ fn write_lines<W: Write>(
     alloc: Global,
     writer: &mut W,
     script: &[u8],
-    site: &Site,
+    site: Site,
 ) -> Result<Summary, ReplayFault>
     requires { length script.now ≤ max_script_bytes }
     ensures whole { OnOk result
-        (Appends (W.contents writer.old) (W.contents writer.new) (output_of site.now script.now)) }
+        (Appends (W.contents writer.old) (W.contents writer.new) (output_of site script.now)) }
     ensures faults { IfOk result
-        (λ summary. summary.script_faults ≡ fault_count site.now script.now) }
+        (λ summary. summary.script_faults ≡ fault_count site script.now) }
     ensures prefix { AppendsPrefix (W.contents writer.old) (W.contents writer.new)
-        (output_of site.now script.now) }
+        (output_of site script.now) }
     ensures late { IfErr result IsWriting }
 {
-    let mut system = CentralSystem::new(alloc);
+    let mut system = CentralSystem::new(alloc, site)?;
     let mut rest = script;
     let mut number = 1;
     let mut script_faults = 0;
     while !rest.is_empty() {
         let (line, others) = split_line(rest);
-        match write_line(alloc, writer, site, &mut system, number, line) {
+        match write_line(alloc, writer, &mut system, number, line) {
             Ok(is_fault) => script_faults += u64::from(is_fault),
             Err(fault) => return Err(fault),
         }
@@ -178,26 +178,25 @@ fn write_lines<W: Write>(
 fn write_line<W: Write>(
     alloc: Global,
     writer: &mut W,
-    site: &Site,
     system: &mut CentralSystem,
     number: u64,
     line: &[u8],
 ) -> Result<bool, ReplayFault>
     ensures whole { OnOk result
         (Appends (W.contents writer.old) (W.contents writer.new)
-        (line_played site.now system.old number line.now).printed) }
+        (line_played system.old number line.now).printed) }
     ensures fault { IfOk result
-        (λ is_fault. is_fault ≡ (line_played site.now system.old number line.now).is_fault) }
+        (λ is_fault. is_fault ≡ (line_played system.old number line.now).is_fault) }
     ensures after { OnOk result
-        (system.new ≡ (line_played site.now system.old number line.now).after) }
+        (system.new ≡ (line_played system.old number line.now).after) }
     ensures prefix { AppendsPrefix (W.contents writer.old) (W.contents writer.new)
-        (line_played site.now system.old number line.now).printed }
+        (line_played system.old number line.now).printed }
     ensures part { IsErrOf result ReplayFault.Write
         → AppendsProperPrefix (W.contents writer.old) (W.contents writer.new)
-        (line_played site.now system.old number line.now).printed }
+        (line_played system.old number line.now).printed }
     ensures late { IfErr result IsWriting }
 {
-    let printed = play_line(alloc, site, system, number, line)?;
+    let printed = play_line(alloc, system, number, line)?;
     write_text(writer, printed.text.as_str())?;
     Ok(printed.is_fault)
 }

@@ -5,16 +5,18 @@ ghost use Rattle.ocppj_frame.specs.Frame.{message_in};
 ghost use Rattle.ocppj_frame.specs.Payload.{tree_at};
 ghost use Rattle.profile.specs.Parts.{profile_of_parts};
 ghost use Rattle.messages.specs.Action.{action_of_kind};
-ghost use Rattle.replay.specs.Todo.{side_eq, step_of, step_of_profile, step_of_made, step_of_call, step_of_reading, todo_with, todo_of_message, todo_of};
+ghost use Rattle.messages.specs.ActionKind.{action_named};
+ghost use Rattle.replay.specs.Todo.{begin_of, side_eq, step_of, step_of_profile, step_of_made, step_of_reading, kind_of_sender, todo_of_message, todo_of, todo_with};
 
 use crate::session::sent_text::SentText;
 use crate::session::supported::{NOT_SUPPORTED, is_supported};
 use crate::system::step::Step;
-use messages::{Action, ActionKind, CallFault, Response, Side, read_fields};
+use messages::{Action, ActionKind, CallFault, Response, Side, StartTransaction, read_fields};
 use ocpp_scalars::{Instant, Refusal};
 use ocppj_frame::{Frame, FrameFault, MessageId, Node, read_frame};
 use profile::{Profile, ProfileParts, Row};
 use std::alloc::{AllocError, Global};
+use transactions::Begin;
 
 /// What a text asks for.
 #[derive(Drop)]
@@ -23,8 +25,12 @@ pub enum Todo {
     Nothing,
     /// The CALL of this id is answered without a step.
     Answer { id: MessageId, response: Response },
-    /// The CALL of this id asks for a step.
-    Step { id: MessageId, step: Step },
+    /// The CALL of this id, of an action of this kind, asks for a step.
+    Step {
+        id: MessageId,
+        kind: ActionKind,
+        step: Step,
+    },
 }
 
 /// What a text asks for.
@@ -53,38 +59,38 @@ fn todo_of_message(alloc: Global, text: &SentText<'_>, frame: Frame) -> Result<T
             action,
             payload,
         } => {
-            let asked = step_of_call(alloc, text, action.as_str(), payload.root())?;
-            Ok(todo_with(id, asked))
+            let Some(kind) = kind_of_sender(text.sender(), action.as_str()) else {
+                return Ok(Todo::Answer {
+                    id,
+                    response: NOT_SUPPORTED,
+                });
+            };
+            let asked = step_of_fields(alloc, text.moment(), kind, payload.root())?;
+            Ok(todo_with(id, kind, asked))
         }
         Frame::Reply { .. } | Frame::Fault { .. } | Frame::Other => Ok(Todo::Nothing),
     }
 }
 
-/// The step or the answer, with the id of its CALL.
-fn todo_with(id: MessageId, asked: Result<Step, Response>) -> Todo
-    ensures { result ≡ todo_with id asked }
+/// The step or the answer to the CALL of this id.
+fn todo_with(id: MessageId, kind: ActionKind, asked: Result<Step, Response>) -> Todo
+    ensures { result ≡ todo_with id kind asked }
 {
     match asked {
-        Ok(step) => Todo::Step { id, step },
+        Ok(step) => Todo::Step { id, kind, step },
         Err(response) => Todo::Answer { id, response },
     }
 }
 
-/// The step that the CALL of an action of this name asks for, or the answer where it asks for none.
-fn step_of_call(
-    alloc: Global,
-    text: &SentText<'_>,
-    name: &str,
-    payload: Node<'_>,
-) -> Result<Result<Step, Response>, AllocError>
-    ensures { IfOk result
-        (λ asked. asked ≡ step_of_call text.now name.now (tree_at payload.entry)) }
+/// The action of this name, where it is its sender's.
+fn kind_of_sender(sender: Side, name: &str) -> Option<ActionKind>
+    ensures { result ≡ kind_of_sender sender (action_named name.now) }
 {
-    match ActionKind::named(name) {
-        Some(kind) if is_same_side(kind.side(), text.sender()) => {
-            step_of_fields(alloc, text.moment(), kind, payload)
-        }
-        _ => Ok(Err(NOT_SUPPORTED)),
+    let kind = ActionKind::named(name)?;
+    if is_same_side(kind.side(), sender) {
+        Some(kind)
+    } else {
+        None
     }
 }
 
@@ -122,10 +128,13 @@ fn step_of(moment: Instant, action: Action) -> Result<Step, Response>
         Action::SetChargingProfile { connector, profile } => {
             step_of_parts(moment, connector, profile)
         }
+        Action::ClearChargingProfile(criteria) => Ok(Step::Clear(criteria)),
         Action::GetCompositeSchedule(request) => Ok(Step::Compose {
             start: moment,
             request,
         }),
+        Action::StartTransaction(start) => Ok(step_of_start(start)),
+        Action::StopTransaction(transaction) => Ok(Step::Stop(transaction)),
         Action::BootNotification => Err(Response::BootNotification {
             current_time: moment,
         }),
@@ -138,10 +147,21 @@ fn step_of(moment: Instant, action: Action) -> Result<Step, Response>
         | Action::FirmwareStatusNotification
         | Action::DiagnosticsStatusNotification => Err(Response::Empty),
         Action::DataTransfer => Err(Response::UnknownVendorId),
-        Action::ClearChargingProfile(_)
-        | Action::StartTransaction(_)
-        | Action::StopTransaction(_)
-        | Action::NotACall => Err(NOT_SUPPORTED),
+        Action::NotACall => Err(NOT_SUPPORTED),
+    }
+}
+
+/// The start that these fields make.
+fn step_of_start(start: StartTransaction) -> Step
+    ensures { result ≡ Step.Start start.connector (begin_of start) }
+{
+    Step::Start {
+        connector: start.connector,
+        begin: Begin {
+            id_tag: start.id_tag,
+            meter_start: start.meter_start,
+            timestamp: start.timestamp,
+        },
     }
 }
 
@@ -159,7 +179,7 @@ fn step_of_parts(moment: Instant, connector: u32, parts: ProfileParts) -> Result
 fn step_of_profile(moment: Instant, connector: u32, profile: Profile) -> Result<Step, Response>
     ensures { result ≡ step_of_profile moment connector profile }
 {
-    if !is_supported(connector, &profile) {
+    if !is_supported(&profile) {
         return Err(NOT_SUPPORTED);
     }
     Ok(Step::Install(Row {

@@ -1,5 +1,7 @@
--- What was missing: the pieces make one text.
+-- What was missing: the pieces make one text, and the number is a whole number of 32 bits.
 use Rattle.std.proofs.Common.{codes}
+use Rattle.std.proofs.lemmas.Int.{to_z-of_z}
+use mir.Syntax.{w32}
 use Rattle.messages.proofs.TextPieces.{three_pieces}
 use Rattle.messages.proofs.response_text.push_transaction.Goals as goal
 
@@ -7,4 +9,6 @@ pub returns : goal.returns
 returns c =
     three_pieces _ (codes "{\"idTagInfo\":{\"status\":\"Accepted\"},\"transactionId\":") _ (codes "}")
     _ _ _
-    c.in_ok-push_str.ensures.bytes c.in_ok-write.ensures.bytes c.in_ok-push_str-2.ensures.bytes
+    c.in_ok-push_str.ensures.bytes
+    (rw (to_z-of_z w32 c.args.transaction c.ranges.transaction) at c.in_ok-write.ensures.bytes)
+    c.in_ok-push_str-2.ensures.bytes

@@ -1,9 +1,9 @@
 -- A file with more bytes than the limit is a site file that is too large.
 use Rattle.std.proofs.Common.{◌≡◌, ℕ, ◌<◌, List, length, Err, refl}
 use Rattle.std.proofs.lemmas.Bool.{lt-ltb}
-use Rattle.replay.specs.Limits.{max_site_bytes}
-use Rattle.replay.specs.SiteReading.{site_of}
-use Rattle.replay.specs.declared.site.fault.SiteFault.TheVariants.{TooLarge}
+use Rattle.site_rules.specs.Limits.{max_site_bytes}
+use Rattle.site_rules.specs.ByCases.SiteReading.{site_of}
+use Rattle.site_rules.specs.declared.fault.SiteFault.TheVariants.{TooLarge}
 use Rattle.central.proofs.program.site_file.read_site_file.Goals as goal
 
 site_of-too_large : (bytes : List ℕ) → max_site_bytes < length bytes → site_of bytes ≡ Err TooLarge
