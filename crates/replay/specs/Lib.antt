@@ -4,7 +4,6 @@ pub mod SentText
 pub mod CentralSystem
 pub mod ByCases
 pub mod Step
-pub mod Supported
 pub mod Todo
 pub mod Answer
 pub mod Form

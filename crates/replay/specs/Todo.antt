@@ -15,7 +15,7 @@ use Rattle.messages.specs.declared.action.Action.{Action}
 use Rattle.messages.specs.declared.action.StartTransaction.{StartTransaction}
 use Rattle.messages.specs.declared.action.Action.TheVariants as actions
 use Rattle.messages.specs.declared.call_fault.CallFault.{CallFault}
-use Rattle.messages.specs.declared.call_fault.CallFault.TheVariants.{FormationViolation}
+use Rattle.messages.specs.declared.call_fault.CallFault.TheVariants.{FormationViolation, NotImplemented}
 use Rattle.messages.specs.declared.response.Response.{Response}
 use Rattle.messages.specs.declared.response.Response.TheVariants.{Rejected, BootNotification, Heartbeat, Authorize, Empty, UnknownVendorId, Error}
 use Rattle.messages.specs.declared.action_kind.ActionKind.{ActionKind}
@@ -26,19 +26,17 @@ use Rattle.replay.specs.declared.session.todo.Todo.TheVariants as todo
 use Rattle.replay.specs.declared.system.step.Step.{Step}
 use Rattle.replay.specs.declared.system.step.Step.TheVariants.{Install, Clear, Start, Stop, Compose}
 use Rattle.replay.specs.SentText.{Sent}
-use Rattle.replay.specs.Supported.{is_supported, not_supported}
 
 -- ---- actions: a step, or the answer where there is none
 
-abbrev pub step_of_profile : ℕ → ℕ → Profile → Result Step Response
-step_of_profile moment connector profile =
-    if is_supported profile
-    then Ok (Install (record { connector = connector; moment = moment; profile = profile }))
-    else Err not_supported
+-- the answer to an action that isn't known, or isn't its sender's
+abbrev pub not_implemented : Response
+not_implemented = Error NotImplemented
 
 -- the profile that the fields make, or why they make none
 abbrev pub step_of_made : ℕ → ℕ → Result Profile Refusal → Result Step Response
-step_of_made moment connector (Ok profile) = step_of_profile moment connector profile
+step_of_made moment connector (Ok profile) =
+    Ok (Install (record { connector = connector; moment = moment; profile = profile }))
 step_of_made moment connector (Err refusal) = Err (Rejected refusal)
 
 -- how the transaction began: as the CALL tells
@@ -61,7 +59,7 @@ step_of moment actions.MeterValues = Err Empty
 step_of moment actions.FirmwareStatusNotification = Err Empty
 step_of moment actions.DiagnosticsStatusNotification = Err Empty
 step_of moment actions.DataTransfer = Err UnknownVendorId
-step_of moment actions.NotACall = Err not_supported
+step_of moment actions.NotACall = Err not_implemented
 
 -- ---- CALLs
 
@@ -81,13 +79,13 @@ abbrev pub todo_with : List ℕ → ActionKind → Result Step Response → Todo
 todo_with id kind (Ok step) = todo.Step id kind step
 todo_with id kind (Err response) = todo.Answer id response
 
--- an action that isn't its sender's, or is nobody's, isn't supported, whatever its fields are
+-- an action that isn't its sender's, or is nobody's, isn't implemented, whatever its fields are
 abbrev pub kind_of_sender : Side → Option ActionKind → Option ActionKind
 kind_of_sender sender None = None
 kind_of_sender sender (Some kind) = if side_eq (side_of_kind kind) sender then Some kind else None
 
 abbrev pub todo_of_kind : ℕ → List ℕ → Option ActionKind → Tree → Todo
-todo_of_kind moment id None payload = todo.Answer id not_supported
+todo_of_kind moment id None payload = todo.Answer id not_implemented
 todo_of_kind moment id (Some kind) payload =
     todo_with id kind (step_of_reading moment (action_of_kind kind payload))
 

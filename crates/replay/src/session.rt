@@ -3,5 +3,4 @@
 
 pub mod answer;
 pub mod sent_text;
-pub mod supported;
 pub mod todo;

@@ -6,10 +6,9 @@ ghost use Rattle.ocppj_frame.specs.Payload.{tree_at};
 ghost use Rattle.profile.specs.Parts.{profile_of_parts};
 ghost use Rattle.messages.specs.Action.{action_of_kind};
 ghost use Rattle.messages.specs.ActionKind.{action_named};
-ghost use Rattle.replay.specs.Todo.{begin_of, side_eq, step_of, step_of_profile, step_of_made, step_of_reading, kind_of_sender, todo_of_message, todo_of, todo_with};
+ghost use Rattle.replay.specs.Todo.{begin_of, side_eq, step_of, step_of_made, step_of_reading, kind_of_sender, todo_of_message, todo_of, todo_with};
 
 use crate::session::sent_text::SentText;
-use crate::session::supported::{NOT_SUPPORTED, is_supported};
 use crate::system::step::Step;
 use messages::{Action, ActionKind, CallFault, Response, Side, StartTransaction, read_fields};
 use ocpp_scalars::{Instant, Refusal};
@@ -17,6 +16,9 @@ use ocppj_frame::{Frame, FrameFault, MessageId, Node, read_frame};
 use profile::{Profile, ProfileParts, Row};
 use std::alloc::{AllocError, Global};
 use transactions::Begin;
+
+/// The answer to a CALL of an action that isn't known, or isn't its sender's.
+const NOT_IMPLEMENTED: Response = Response::Error(CallFault::NotImplemented);
 
 /// What a text asks for.
 #[derive(Drop)]
@@ -62,7 +64,7 @@ fn todo_of_message(alloc: Global, text: &SentText<'_>, frame: Frame) -> Result<T
             let Some(kind) = kind_of_sender(text.sender(), action.as_str()) else {
                 return Ok(Todo::Answer {
                     id,
-                    response: NOT_SUPPORTED,
+                    response: NOT_IMPLEMENTED,
                 });
             };
             let asked = step_of_fields(alloc, text.moment(), kind, payload.root())?;
@@ -147,7 +149,7 @@ fn step_of(moment: Instant, action: Action) -> Result<Step, Response>
         | Action::FirmwareStatusNotification
         | Action::DiagnosticsStatusNotification => Err(Response::Empty),
         Action::DataTransfer => Err(Response::UnknownVendorId),
-        Action::NotACall => Err(NOT_SUPPORTED),
+        Action::NotACall => Err(NOT_IMPLEMENTED),
     }
 }
 
@@ -170,21 +172,11 @@ fn step_of_parts(moment: Instant, connector: u32, parts: ProfileParts) -> Result
     ensures { result ≡ step_of_made moment connector (profile_of_parts parts) }
 {
     match Profile::try_new(parts) {
-        Ok(profile) => step_of_profile(moment, connector, profile),
+        Ok(profile) => Ok(Step::Install(Row {
+            connector,
+            moment,
+            profile,
+        })),
         Err((refusal, _)) => Err(Response::Rejected(refusal)),
     }
-}
-
-/// The install of a profile, if it is supported.
-fn step_of_profile(moment: Instant, connector: u32, profile: Profile) -> Result<Step, Response>
-    ensures { result ≡ step_of_profile moment connector profile }
-{
-    if !is_supported(&profile) {
-        return Err(NOT_SUPPORTED);
-    }
-    Ok(Step::Install(Row {
-        connector,
-        moment,
-        profile,
-    }))
 }

@@ -8,7 +8,7 @@ ghost use Rattle.replay.specs.Step.{composed_reply};
 use crate::system::ask::ask_at;
 use crate::system::books::{book_at, clear_at, first_books, install_at, start_at, stop_at};
 use crate::system::step::{Reply, Step};
-use meaning::{Ask, compile_plain, exact_schedules};
+use meaning::{Ask, exact_schedules};
 use messages::ScheduleRequest;
 use ocpp_scalars::{Instant, Refusal};
 use point_book::PointBook;
@@ -16,6 +16,7 @@ use profile::{Criteria, Row};
 use site_rules::{Site, admit};
 use std::alloc::{AllocError, Global};
 use std::marker::Model;
+use sweep_compiler::{Turns, compile};
 use transactions::{Began, Begin};
 
 /// The highest number of a transaction.
@@ -198,7 +199,7 @@ fn compose_ask(alloc: Global, book: &PointBook, ask: &Ask) -> Result<Reply, Allo
     ensures { IfOk result (λ reply. reply ≡ composed_reply (state_of book.now) ask.now) }
 {
     exact_schedules();
-    match compile_plain(alloc, &book.view(), ask) {
+    match compile(alloc, book, ask, &mut Turns::new()) {
         Ok(schedule) => Ok(Reply::Composed {
             connector: ask.connector,
             start: ask.start,
