@@ -1,3 +1,4 @@
 pub mod Sweeping
 pub mod NextChanges
 pub mod Limits
+pub mod WorkedExamples

@@ -12,3 +12,6 @@ mod turns;
 
 pub use compiler::compile;
 pub use turns::Turns;
+
+#[cfg(test)]
+mod tests;
