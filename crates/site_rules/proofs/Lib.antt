@@ -1,1 +1,6 @@
 pub mod PointLemmas
+pub mod CeilingsRead
+pub mod SiteLemmas
+pub mod ApartLemmas
+pub mod ReadingSteps
+pub mod SiteFiles

@@ -1,3 +1,5 @@
 pub mod Limits
 pub mod Site
 pub mod Admission
+pub mod SiteFile
+pub mod ByCases

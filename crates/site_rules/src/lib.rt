@@ -5,9 +5,16 @@
 mod admission;
 mod fault;
 mod point;
+mod reading;
 mod site;
+mod site_laws;
 
 pub use admission::admit;
 pub use fault::SiteFault;
 pub use point::SitePoint;
+pub use reading::{MAX_SITE_BYTES, read_site};
 pub use site::Site;
+pub use site_laws::site_files;
+
+#[cfg(test)]
+mod tests;

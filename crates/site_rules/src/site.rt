@@ -3,11 +3,10 @@
 ghost use Rattle.std.specs.Prelude.{◌≡◌, ◌↔◌, ◌<◌, ◌++◌, [], ◌∷◌, None, length, option_map, slice_get, string_bytes, IsSome, IfSome, OnOk, OnErr};
 ghost use Rattle.site_rules.specs.Site.{place_of, point_entry, kept_entry, IsPlaceOf};
 
-use crate::fault::SiteFault;
 use crate::point::{PointLimits, SitePoint};
 use indexmap::IndexMap;
 use profile::Unit;
-use std::alloc::Global;
+use std::alloc::{AllocError, Global};
 use std::marker::Model;
 
 /// A site as its file describes it: its rate unit and its charge points, no two of one identity, in the
@@ -39,7 +38,7 @@ impl Site {
     }
 
     /// Adds a point of a new identity, after the others.
-    pub(crate) fn add(&mut self, id: String, limits: PointLimits) -> Result<(), SiteFault>
+    pub(crate) fn add(&mut self, id: String, limits: PointLimits) -> Result<(), AllocError>
         requires { place_of self.old (string_bytes id) ≡ None }
         ensures unit { self.new.unit ≡ self.old.unit }
         ensures points { OnOk result

@@ -1,0 +1,206 @@
+//! Site files with their faults, limits at their edges, and where profiles may stand.
+
+use crate::admission::admit;
+use crate::fault::SiteFault;
+use crate::reading::{MAX_SITE_BYTES, read_site};
+use ocpp_scalars::Refusal;
+use profile::{
+    Period, PeriodList, Profile, ProfileKind, ProfileParts, Purpose, ScheduleParts, Unit,
+};
+use std::alloc::Global;
+use std::test::Fail;
+
+/// What a well-formed point has beside its identity, for which `@` stands in the texts below.
+const LIMITS: &str = r#""ceiling":16.1,"connectors":[32.0,0.1]"#;
+
+/// Site files, each after its fault.
+const FAULTS: &str = r#"NotJson {
+NotAnObject []
+NotAnObject null
+BadUnit {}
+BadUnit {"unit":null,"points":[]}
+BadUnit {"unit":"kW","points":[]}
+BadUnit {"unit":"a","points":[]}
+BadUnit {"unit":1,"points":[]}
+BadPoints {"unit":"W"}
+BadPoints {"unit":"W","points":null}
+BadPoints {"unit":"W","points":{"id":"1",@}}
+BadPoints {"unit":"A","points":[]}
+BadPoints {"unit":"A","points":[7]}
+BadPoints {"unit":"A","points":[null]}
+BadPoints {"unit":"A","points":[{"id":"1",@},{"id":"2",@},7]}
+BadCeiling {"unit":"A","points":[{"id":"1",@},{"id":"2"},7]}
+BadId {"unit":"A","points":[{@}]}
+BadId {"unit":"A","points":[{"id":null,@}]}
+BadId {"unit":"A","points":[{"id":1,@}]}
+BadId {"unit":"A","points":[{"id":"",@}]}
+BadId {"unit":"A","points":[{"id":"1 1",@}]}
+BadId {"unit":"A","points":[{"id":"1/1",@}]}
+BadId {"unit":"A","points":[{"id":"1",@},{"id":"1 "}]}
+SameId {"unit":"A","points":[{"id":"1",@},{"id":"1",@}]}
+SameId {"unit":"A","points":[{"id":"1",@},{"id":"2",@},{"id":"1",@}]}
+SameId {"unit":"A","points":[{"id":"1",@},{"id":"1","ceiling":-1}]}
+BadCeiling {"unit":"A","points":[{"id":"1","ceiling":-1},{"id":"1",@}]}
+BadCeiling {"unit":"A","points":[{"id":"1"}]}
+BadCeiling {"unit":"A","points":[{"id":"1","ceiling":null}]}
+BadCeiling {"unit":"A","points":[{"id":"1","ceiling":"1"}]}
+BadCeiling {"unit":"A","points":[{"id":"1","ceiling":0.05}]}
+BadConnectors {"unit":"A","points":[{"id":"1","ceiling":1}]}
+BadConnectors {"unit":"A","points":[{"id":"1","ceiling":1,"connectors":null}]}
+BadConnectors {"unit":"A","points":[{"id":"1","ceiling":1,"connectors":1}]}
+BadConnectors {"unit":"A","points":[{"id":"1","ceiling":1,"connectors":[]}]}
+BadConnectors {"unit":"A","points":[{"id":"1","ceiling":1,"connectors":["1"]}]}
+BadConnectors {"unit":"A","points":[{"id":"1","ceiling":1,"connectors":[1,-1]}]}
+BadConnectors {"unit":"A","points":[{"id":"1",@,"connectors":[]}]}"#;
+
+/// A site file whose identities are `b`, `B`, `a` and one of each kind of character.
+const SITE: &str =
+    r#"{"unit":"A","model":[],"points":[{"id":"b",@},{"id":"B",@,"model":1},{"id":"a",@},{"id":"AZaz09._-~",@}]}"#;
+
+fn fault_of(alloc: Global, text: &[u8]) -> Option<SiteFault> {
+    read_site(alloc, text).err()
+}
+
+#[test]
+fn names_the_first_fault(rt: HostRuntime) -> Result<(), Fail> {
+    let alloc = rt.alloc();
+    for line in FAULTS.lines() {
+        let (name, text) = line.split_once(' ').ok_or("no blank")?;
+        let text = text.replace(alloc, "@", LIMITS)?;
+        let fault = fault_of(alloc, text.as_bytes()).ok_or("no fault")?;
+        assert_eq!(rt; format!(in alloc; "{fault}")?.as_str(), name, "of {text}");
+    }
+    Ok(())
+}
+
+#[test]
+fn keeps_the_points_in_order(rt: HostRuntime) -> Result<(), Fail> {
+    let alloc = rt.alloc();
+    let site = read_site(alloc, SITE.replace(alloc, "@", LIMITS)?.as_bytes())?;
+    assert_eq!(rt; site.unit(), Unit::A);
+    assert_eq!(rt; site.len(), 4);
+    for (place, id) in ["b", "B", "a", "AZaz09._-~"].iter().enumerate() {
+        assert_eq!(rt; site.place_of(id), Some(place));
+        let point = site.point(place).ok_or("no point")?;
+        assert_eq!(rt; point.id, *id);
+        assert_eq!(rt; point.ceiling, 161);
+        assert!(rt; point.ceilings == [320, 1].as_slice());
+    }
+    assert!(rt; site.point(4).is_none());
+    assert!(rt; site.place_of("A").is_none());
+    Ok(())
+}
+
+/// A text of so many points, each with so many connectors and an identity of so many characters.
+fn text_of_size(
+    alloc: Global,
+    points: usize,
+    connectors: usize,
+    width: usize,
+) -> Result<String, Fail> {
+    let mut text = String::from_str(alloc, r#"{"unit":"W","points":["#)?;
+    for place in 0..points {
+        if place > 0 {
+            text.push(',')?;
+        }
+        text.push_str(&format!(in alloc; r#"{{"id":"{place:0>width$}","ceiling":1,"#)?)?;
+        text.push_str(r#""connectors":[1"#)?;
+        for _ in 1..connectors {
+            text.push_str(",1")?;
+        }
+        text.push_str("]}")?;
+    }
+    text.push_str("]}")?;
+    Ok(text)
+}
+
+#[test]
+fn keeps_its_limits(rt: HostRuntime) -> Result<(), Fail> {
+    let alloc = rt.alloc();
+    let sizes = [
+        (1_000, 1, 3, None),
+        (1_001, 1, 4, Some(SiteFault::BadPoints)),
+        (2, 64, 1, None),
+        (2, 65, 1, Some(SiteFault::BadConnectors)),
+        (2, 1, 48, None),
+        (2, 1, 49, Some(SiteFault::BadId)),
+    ];
+    for (points, connectors, width, fault) in sizes {
+        let text = text_of_size(alloc, points, connectors, width)?;
+        assert_eq!(rt; fault_of(alloc, text.as_bytes()), fault);
+    }
+    Ok(())
+}
+
+#[test]
+fn reads_a_file_of_16_mebibytes(rt: HostRuntime) -> Result<(), Fail> {
+    let alloc = rt.alloc();
+    let mut text = SITE.replace(alloc, "@", LIMITS)?.into_bytes();
+    text.resize(MAX_SITE_BYTES, b' ')?;
+    assert_eq!(rt; fault_of(alloc, text.as_slice()), None);
+    // How many bytes there are is looked at before whether they are a text.
+    text.push(0xff)?;
+    assert_eq!(rt; fault_of(alloc, text.as_slice()), Some(SiteFault::TooLarge));
+    assert_eq!(rt; fault_of(alloc, b"{\xff}"), Some(SiteFault::NotUtf8));
+    Ok(())
+}
+
+const MAX: Purpose = Purpose::ChargePointMaxProfile;
+
+const DEFAULT: Purpose = Purpose::TxDefaultProfile;
+
+const TX: Purpose = Purpose::TxProfile;
+
+fn profile(alloc: Global, purpose: Purpose, unit: Unit) -> Result<Profile, Fail> {
+    let mut periods = Vec::new(alloc);
+    periods.push(Period {
+        start: 0,
+        limit: 160,
+        number_phases: None,
+    })?;
+    let parts = ProfileParts {
+        id: 1,
+        transaction: None,
+        stack_level: 0,
+        purpose,
+        kind: ProfileKind::Absolute,
+        recurrency: None,
+        valid_from: None,
+        valid_to: None,
+        schedule: ScheduleParts {
+            duration: None,
+            start: None,
+            unit,
+            periods: PeriodList::try_new(periods).ok().ok_or("no period")?,
+            min_charging_rate: None,
+        },
+    };
+    match Profile::try_new(parts) {
+        Ok(profile) => Ok(profile),
+        Err((refusal, _)) => Err(refusal)?,
+    }
+}
+
+#[test]
+fn admits_by_five_rules(rt: HostRuntime) -> Result<(), Fail> {
+    let alloc = rt.alloc();
+    let site = read_site(alloc, SITE.replace(alloc, "@", LIMITS)?.as_bytes())?;
+    let asks = [
+        ("c", 3, MAX, Unit::W, Some(Refusal::UnknownPoint)),
+        ("A", 0, DEFAULT, Unit::A, Some(Refusal::UnknownPoint)),
+        ("a", 3, MAX, Unit::W, Some(Refusal::UnknownConnector)),
+        ("a", 2, MAX, Unit::W, Some(Refusal::MaxNotAtZero)),
+        ("a", 0, TX, Unit::W, Some(Refusal::TxAtZero)),
+        ("a", 0, MAX, Unit::W, Some(Refusal::WrongUnit)),
+        ("a", 2, TX, Unit::W, Some(Refusal::WrongUnit)),
+        ("a", 0, MAX, Unit::A, None),
+        ("b", 0, DEFAULT, Unit::A, None),
+        ("B", 2, TX, Unit::A, None),
+    ];
+    for (point, connector, purpose, unit, refusal) in asks {
+        let profile = profile(alloc, purpose, unit)?;
+        let admitted = admit(&site, point, connector, &profile);
+        assert_eq!(rt; admitted.err(), refusal, "at {connector} of {point}");
+    }
+    Ok(())
+}
