@@ -5,16 +5,15 @@ use Rattle.std.proofs.lemmas.List.{length-set, length-replicate}
 use Rattle.std.proofs.lemmas.Bool.{eqb-false}
 use Rattle.ocpp_scalars.specs.declared.refusal.Refusal.TheVariants.{NoTransaction}
 use Rattle.profile.specs.declared.row.Row.{Row}
-use Rattle.profile.specs.declared.criteria.Criteria.{Criteria}
 use Rattle.profile.specs.Purpose.{is_tx}
 use Rattle.profile.specs.Changes.{rows_beside, is_tx_profile_at}
 use Rattle.transactions.specs.declared.begin.Begin.{Begin}
 use Rattle.transactions.specs.declared.transaction.Transaction.{Transaction}
 use Rattle.transactions.specs.declared.active_table.Began.{Began}
 use Rattle.transactions.specs.declared.active_table.Began.TheVariants.{Fresh, Repeat}
-use Rattle.transactions.specs.ActiveTable.{began, placed, emptied, has_id}
+use Rattle.transactions.specs.ActiveTable.{began, placed, started, emptied, has_id}
 use Rattle.point_book.specs.Book.{Book, IsBook, MayStand, active_on, empty_book}
-use Rattle.point_book.specs.Changes.{transaction_refusal, rows_after_start, rows_after_stop, book_installed, book_cleared, book_started, book_stopped}
+use Rattle.point_book.specs.Changes.{transaction_refusal, rows_after_stop, book_installed, book_stopped}
 
 -- ---- lists
 
@@ -113,23 +112,26 @@ book-installed book row is has allowed = record {
       });
 }
 
-pub book-cleared : (book : Book) (criteria : Criteria) → IsBook book → IsBook (book_cleared book criteria)
-book-cleared book criteria is = record {
+-- whichever profiles go, those that stay may stand where they do
+pub book-filtered : (book : Book) (test : Row → Bool) → IsBook book → IsBook (record book { rows = filter test book.rows })
+book-filtered book test is = record {
   few = is.few;
   slots = is.slots;
-  rows = all-filtered _ _ _ (λ (r : Row) here stays. here) book.rows is.rows;
+  rows = all-filtered _ _ test (λ (r : Row) here stays. here) book.rows is.rows;
 }
 
-pub book-started : (book : Book) (connector : ℕ) (begin : Begin) (id : ℤ) → IsBook book → IsBook (book_started book connector begin id)
-book-started book connector begin id is = go (began book.transactions connector begin)
+-- also where a transaction begins
+pub book-started : (book : Book) (test : Row → Bool) (connector : ℕ) (begin : Begin) (id : ℤ) → IsBook book
+    → IsBook (record book { rows = filter test book.rows; transactions = started book.transactions connector begin id })
+book-started book test connector begin id is = go (began book.transactions connector begin)
   where
-    go : (b : Began) → IsBook (record book { rows = rows_after_start b book.rows connector; transactions = placed b book.transactions connector (record { id = id; begin = begin }) })
+    go : (b : Began) → IsBook (record book { rows = filter test book.rows; transactions = placed b book.transactions connector (record { id = id; begin = begin }) })
     go Fresh = record {
       few = is.few;
       slots = length-set book.transactions (connector - 1) _ ∙ is.slots;
-      rows = all-filtered _ _ _ (λ (r : Row) here stays. row-started book.transactions (connector - 1) _ r here) book.rows is.rows;
+      rows = all-filtered _ _ test (λ (r : Row) here stays. row-started book.transactions (connector - 1) _ r here) book.rows is.rows;
     }
-    go (Repeat other) = record { few = is.few; slots = is.slots; rows = is.rows }
+    go (Repeat other) = book-filtered book test is
 
 pub book-stopped : (book : Book) (id : ℤ) → IsBook book → IsBook (book_stopped book id)
 book-stopped book id is = go (position (has_id id) book.transactions)

@@ -1,6 +1,6 @@
 -- That the profiles that stay are those of a book.
-use Rattle.point_book.proofs.BookLemmas.{book-cleared}
+use Rattle.point_book.proofs.BookLemmas.{book-filtered}
 use Rattle.point_book.proofs.book.PointBook.clear.Goals as goal
 
 pub invariant_of-self : goal.invariant_of-self
-invariant_of-self c = rw c.clear.ensures.rows (book-cleared _ _ c.self.invariant)
+invariant_of-self c = rw c.clear.ensures.rows (book-filtered _ _ c.self.invariant)
