@@ -1,5 +1,5 @@
 -- What is composed is the exact schedule of the ask, or that it is too long, by the law of exact schedules.
-use Rattle.std.proofs.Common.{subst, sym, ap, Ok, Err}
+use Rattle.std.proofs.Common.{subst, sym, ap}
 use Rattle.meaning.specs.View.{PointState}
 use Rattle.meaning.specs.Limit.{limit_asked}
 use Rattle.meaning.specs.Compiled.{IsExactAnswer, IsTooLong}
