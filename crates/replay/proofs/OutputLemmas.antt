@@ -1,5 +1,5 @@
 -- The output of a script, line after line.
-use Rattle.std.proofs.Common.{◌≡◌, ℕ, ◌+◌, ◌≤◌, List, [], ◌∷◌, ◌++◌, Option, Some, None, IfSome, Bool, true, false, cond, length, take, append_assoc, append-nil, refl, sym, ap, ◌∙◌, subst, arith, inl, inr}
+use Rattle.std.proofs.Common.{◌≡◌, ℕ, ◌+◌, ◌≤◌, List, [], ◌∷◌, ◌++◌, Option, Some, None, IfSome, Bool, true, false, cond, length, take, append_assoc, append-nil, sym, ap, ◌∙◌, subst, arith, inl, inr}
 use Rattle.std.specs.List.{fold}
 use Rattle.std.specs.Io.KnownBytes.{Appends}
 use Rattle.std.proofs.KnownBytes.{Appends-nil, Appends-trans}
@@ -8,8 +8,8 @@ use Rattle.std.proofs.lemmas.List.{take-append-le, take_all, nil_from_length}
 use Rattle.std.proofs.Math.Seq.{take-append-add, take-length}
 use mir.Val.{bool_byte}
 use Rattle.replay.specs.Lines.{script_lines}
-use Rattle.replay.specs.Play.{PlayedLine, line_played}
-use Rattle.replay.specs.Run.{Played, with_line, played_more}
+use Rattle.replay.specs.Play.{line_played}
+use Rattle.replay.specs.Run.{Played, played_more}
 use Rattle.replay.specs.Output.{AppendsPrefix}
 
 -- what is printed is kept

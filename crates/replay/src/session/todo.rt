@@ -26,7 +26,10 @@ pub enum Todo {
     /// The text isn't answered.
     Nothing,
     /// The CALL of this id is answered without a step.
-    Answer { id: MessageId, response: Response },
+    Answer {
+        id: MessageId,
+        response: Response,
+    },
     /// The CALL of this id, of an action of this kind, asks for a step.
     Step {
         id: MessageId,

@@ -39,15 +39,15 @@ impl Model for CentralSystem {
     ghost Value = { SystemState };
 
     ghost view = { λ s. record {
-        site = s.site;
-        books = s.books.items;
-        last_transaction = s.last_transaction;
+      site = s.site;
+      books = s.books.items;
+      last_transaction = s.last_transaction;
     } };
 
     ghost invariant = { λ s. IsSystem (record {
-        site = s.site;
-        books = s.books.items;
-        last_transaction = s.last_transaction;
+      site = s.site;
+      books = s.books.items;
+      last_transaction = s.last_transaction;
     }) };
 }
 

@@ -14,7 +14,10 @@ pub enum Step {
     /// To remove the profiles that match each criterion that is given (chapter 5.5).
     Clear(Criteria),
     /// To begin a transaction at a connector (chapter 4.8).
-    Start { connector: u32, begin: Begin },
+    Start {
+        connector: u32,
+        begin: Begin,
+    },
     /// To end the transaction of this number (chapter 4.10).
     Stop(i32),
     /// To compose a schedule (chapter 5.7) from a start on.

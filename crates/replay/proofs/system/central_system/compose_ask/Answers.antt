@@ -1,5 +1,5 @@
 -- What is composed is the exact schedule of the ask, or that it is too long, by the law of exact schedules.
-use Rattle.std.proofs.Common.{sym, ap, Ok, Err}
+use Rattle.std.proofs.Common.{sym, ap}
 use Rattle.meaning.specs.Limit.{limit_asked}
 use Rattle.point_book.specs.Book.{state_of}
 use Rattle.replay.specs.Step.{schedule_reply}
