@@ -7,6 +7,7 @@ use Rattle.std.proofs.lemmas.Bool.Decides.{nat_tests}
 use Rattle.std.proofs.lemmas.Slice.Eq.{bytes_eq-Decides}
 use Rattle.site_rules.specs.Site.{PointEntry, SiteState, place_of}
 use Rattle.site_rules.specs.SiteFile.{AreApart}
+use Rattle.site_rules.specs.SiteFaults.{IsUnused}
 
 some_if : {X : Type 0} (b : Bool) (x : X) → is_some (cond b (Some x) None) ≡ b
 some_if true x = refl
@@ -33,7 +34,7 @@ module _ {X : Type 0} (t : X → Bool) where
 
 -- no point of these has the identity of the point
 abbrev pub IsNew : List PointEntry → PointEntry → Type 0
-IsNew earlier point = AllByRecursion (λ (other : PointEntry). point.id ≢ other.id) earlier
+IsNew earlier point = IsUnused earlier point.id
 
 differ : (id other : List ℕ) → bytes_eq id other ≡ false → id ≢ other
 differ id other h e = true≢false (sym ((bytes_eq-Decides id other).1 e) ∙ h)
@@ -55,12 +56,12 @@ test-new : (id : List ℕ) (points : List PointEntry) → AllByRecursion (λ (p 
 test-new id [] h = refl
 test-new id (p ∷ ps) h = rw (not_same id p.id h.0) (test-new id ps h.1)
 
--- the place of an identity is none exactly where the identity is new
-pub new-place : (site : SiteState) (point : PointEntry) → is_some (place_of site point.id) ≡ false → IsNew site.points point
-new-place site point h = new-test point.id site.points (sym (some-position _ site.points) ∙ h)
+-- the place of an identity is none exactly where the identity is unused
+pub unused-place : (site : SiteState) (id : List ℕ) → is_some (place_of site id) ≡ false → IsUnused site.points id
+unused-place site id h = new-test id site.points (sym (some-position _ site.points) ∙ h)
 
-pub place-new : (site : SiteState) (point : PointEntry) → IsNew site.points point → is_some (place_of site point.id) ≡ false
-place-new site point h = some-position _ site.points ∙ test-new point.id site.points h
+pub place-unused : (site : SiteState) (id : List ℕ) → IsUnused site.points id → is_some (place_of site id) ≡ false
+place-unused site id h = some-position _ site.points ∙ test-new id site.points h
 
 -- each point is new after those before it
 abbrev pub AreNewAfter : List PointEntry → List PointEntry → Type 0

@@ -4,3 +4,5 @@ pub mod SiteLemmas
 pub mod ApartLemmas
 pub mod ReadingSteps
 pub mod SiteFiles
+pub mod ReadingFaults
+pub mod SiteFaults

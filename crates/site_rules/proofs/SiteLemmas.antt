@@ -1,8 +1,8 @@
 -- What a site file says, by its first fault.
-use Rattle.std.proofs.Common.{◌≡◌, ℕ, ◌≤◌, List, length, true, false, not, cond, nat_lt, Err, refl}
+use Rattle.std.proofs.Common.{◌≡◌, ℕ, ◌<◌, ◌≤◌, List, length, true, false, not, cond, nat_lt, Err, refl}
 use Rattle.std.specs.Str.{IsUtf8, is_utf8}
 use Rattle.std.proofs.lemmas.Str.{IsUtf8-from_is_utf8, is_utf8-from_IsUtf8}
-use Rattle.std.proofs.lemmas.Bool.{le-ltb}
+use Rattle.std.proofs.lemmas.Bool.{le-ltb, lt-ltb}
 use Rattle.ocppj_frame.specs.Read.{tree_of_text}
 use Rattle.site_rules.specs.Limits.{max_site_bytes}
 use Rattle.site_rules.specs.ByCases.SiteReading.{site_of, site_by}
@@ -19,3 +19,7 @@ site_of-not_text bytes short other =
       | true ↦ λ here. absurd (other (IsUtf8-from_is_utf8 bytes here))
       | false ↦ λ here. rw (le-ltb max_site_bytes (length bytes) short) refl
     ] refl
+
+pub site_of-too_large : (bytes : List ℕ) → max_site_bytes < length bytes → site_of bytes ≡ Err TooLarge
+unfolding site_of
+site_of-too_large bytes long = rw (lt-ltb max_site_bytes (length bytes) long) refl

@@ -2,4 +2,5 @@ pub mod Limits
 pub mod Site
 pub mod Admission
 pub mod SiteFile
+pub mod SiteFaults
 pub mod ByCases

@@ -8,6 +8,7 @@ use Rattle.ocppj_frame.specs.declared.field.Field.TheVariants.{Value}
 use Rattle.ocppj_frame.specs.Field.{text_field_of, tenths_field_of, list_field_of}
 use Rattle.ocppj_frame.specs.Tree.{Tree, number, is_object}
 use Rattle.ocppj_frame.specs.Read.{tree_of_text}
+use Rattle.profile.specs.declared.unit.Unit.{Unit}
 use Rattle.profile.specs.Names.{unit_named}
 use Rattle.site_rules.specs.Limits.{max_site_bytes, max_points, max_connectors, max_point_id_characters}
 use Rattle.site_rules.specs.Site.{PointEntry, SiteState}
@@ -31,30 +32,53 @@ pub record IsPointId (id : List ℕ) : Type 0 where
   pub short : length id ≤ max_point_id_characters
   pub bytes : AllByRecursion (λ b. is_id_byte b ≡ true) id
 
+-- the field `id` of a point
+pub record HasId (tree : Tree) (id : List ℕ) : Type 0 where
+  pub text : text_field_of (codes "id") tree ≡ Value id
+  pub allowed : IsPointId id
+
 -- a connector's ceiling: a number of tenths
 pub record IsCeiling (tree : Tree) (tenths : ℕ) : Type 0 where
   pub text : List ℕ
   pub is_number : tree ≡ number text
   pub worth : tenths_of text ≡ Ok tenths
 
+-- the field `ceiling` of a point
+abbrev pub HasCeiling : Tree → ℕ → Type 0
+HasCeiling tree tenths = tenths_field_of (codes "ceiling") tree ≡ Value tenths
+
+-- the field `connectors` of a point: the ceilings of its connectors 1, 2, ..
+pub record HasConnectors (tree : Tree) (ceilings : List ℕ) : Type 0 where
+  pub list : List Tree
+  pub entries : list_field_of (codes "connectors") tree ≡ Value list
+  pub some : 1 ≤ length list
+  pub few : length list ≤ max_connectors
+  pub each : AllZip IsCeiling list ceilings
+
 -- an object of the list `points`, and the point that it describes
 pub record IsPoint (tree : Tree) (point : PointEntry) : Type 0 where
   pub object : is_object tree ≡ true
-  pub id : text_field_of (codes "id") tree ≡ Value point.id
-  pub allowed : IsPointId point.id
-  pub ceiling : tenths_field_of (codes "ceiling") tree ≡ Value point.ceiling
-  -- its connectors 1, 2, ..
-  pub list : List Tree
-  pub connectors : list_field_of (codes "connectors") tree ≡ Value list
-  pub some : 1 ≤ length list
-  pub few : length list ≤ max_connectors
-  pub ceilings : AllZip IsCeiling list point.ceilings
+  pub id : HasId tree point.id
+  pub ceiling : HasCeiling tree point.ceiling
+  pub connectors : HasConnectors tree point.ceilings
 
 -- no two points have one identity
 abbrev pub AreApart : List PointEntry → Type 0
 AreApart [] = ⊤
 AreApart (point ∷ later) =
     AllByRecursion (λ (other : PointEntry). other.id ≢ point.id) later × AreApart later
+
+-- the field `unit` of a site
+pub record HasUnit (tree : Tree) (unit : Unit) : Type 0 where
+  pub name : List ℕ
+  pub text : text_field_of (codes "unit") tree ≡ Value name
+  pub names : unit_named name ≡ Some unit
+
+-- the field `points` of a site
+pub record HasPoints (tree : Tree) (list : List Tree) : Type 0 where
+  pub entries : list_field_of (codes "points") tree ≡ Value list
+  pub some : 1 ≤ length list
+  pub few : length list ≤ max_points
 
 -- A text of UTF-8, whose tree is an object that names the unit and lists the points, in their order. Other
 -- fields are ignored, and a field that is null counts as absent.
@@ -64,12 +88,8 @@ pub record IsSiteFile (bytes : List ℕ) (site : SiteState) : Type 0 where
   pub tree : Tree
   pub json : tree_of_text bytes ≡ Some tree
   pub object : is_object tree ≡ true
-  pub name : List ℕ
-  pub unit_name : text_field_of (codes "unit") tree ≡ Value name
-  pub unit : unit_named name ≡ Some site.unit
+  pub unit : HasUnit tree site.unit
   pub list : List Tree
-  pub points : list_field_of (codes "points") tree ≡ Value list
-  pub some : 1 ≤ length list
-  pub few : length list ≤ max_points
+  pub points : HasPoints tree list
   pub each : AllZip IsPoint list site.points
   pub apart : AreApart site.points

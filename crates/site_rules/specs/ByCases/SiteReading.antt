@@ -1,5 +1,5 @@
 -- What a site file says, or its first fault, in the order in which they are checked. By the law `site_files`
--- it says what `SiteFile` has.
+-- the site is that of `SiteFile`, and the fault that of `SiteFaults`.
 use Rattle.std.specs.Prelude.{ℕ, nat_le, nat_lt, Bool, true, false, not, ◌&&◌, List, [], ◌∷◌, ◌++◌, length, codes, Option, Some, None, is_some, Result, Ok, Err, if◌then◌else◌}
 use Rattle.std.specs.List.{list_all}
 use Rattle.std.specs.Str.{is_utf8}
