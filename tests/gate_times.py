@@ -12,6 +12,7 @@ import sys
 import threading
 import time
 
+CRATES = os.listdir(os.path.join(os.path.dirname(os.path.dirname(os.path.abspath(__file__))), "crates"))
 TICKS = os.sysconf("SC_CLK_TCK")
 PARTS = ("proof", "tests", "edits", "other")
 
@@ -53,7 +54,9 @@ def place_of(process):
     crate = words[words.index("--crate-name") + 1]
     if is_edit(process):
         return crate, "edits"
-    return (crate.removesuffix("_tests"), "tests") if "--test" in words or crate.endswith("_tests") else (crate, "proof")
+    if crate not in CRATES:  # a crate with its tests is named after it
+        return crate.removesuffix("_tests"), "tests"
+    return crate, "tests" if "--test" in words else "proof"
 
 
 class Watch(threading.Thread):
