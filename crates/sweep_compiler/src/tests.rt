@@ -16,7 +16,7 @@ use transactions::Begin;
 /// 2025-01-01T00:00:00Z.
 const MIDNIGHT: u64 = 1_735_689_600;
 
-/// What tells one row from another here; start counts from midnight.
+/// What tells one row from another here; instants count from midnight.
 #[derive(Clone, Copy)]
 struct RowTold {
     id: i32,
@@ -24,8 +24,10 @@ struct RowTold {
     purpose: Purpose,
     level: u32,
     kind: ProfileKind,
+    recurrency: Recurrency,
     start: Option<u32>,
     duration: Option<u32>,
+    valid_to: Option<u32>,
 }
 
 /// A TxDefaultProfile of the whole point, of a kind and from a start on.
@@ -36,8 +38,10 @@ fn told(id: i32, level: u32, kind: ProfileKind, start: u32) -> RowTold {
         purpose: Purpose::TxDefaultProfile,
         level,
         kind,
+        recurrency: Recurrency::Daily,
         start: Some(start),
         duration: None,
+        valid_to: None,
     }
 }
 
@@ -72,23 +76,26 @@ fn most_periods(alloc: Global) -> Option<PeriodList> {
     PeriodList::try_new(items).ok()
 }
 
-fn profile(told: RowTold, periods: PeriodList) -> Option<Profile> {
-    let start = match told.start {
+fn instant_if(second: Option<u32>) -> Option<Instant> {
+    match second {
         Some(second) => instant(second),
         None => None,
-    };
+    }
+}
+
+fn profile(told: RowTold, periods: PeriodList) -> Option<Profile> {
     let parts = ProfileParts {
         id: told.id,
         transaction: None,
         stack_level: told.level,
         purpose: told.purpose,
         kind: told.kind,
-        recurrency: Some(Recurrency::Daily),
+        recurrency: Some(told.recurrency),
         valid_from: None,
-        valid_to: None,
+        valid_to: instant_if(told.valid_to),
         schedule: ScheduleParts {
             duration: told.duration,
-            start,
+            start: instant_if(told.start),
             unit: Unit::A,
             periods,
             min_charging_rate: None,
@@ -276,19 +283,30 @@ fn answers_as_the_plain_compiler(rt: HostRuntime) -> Result<(), Fail> {
         kind: ProfileKind::Relative,
         ..from_base
     };
+    let weekly = RowTold {
+        recurrency: Recurrency::Weekly,
+        duration: Some(900),
+        ..told(6, 3, ProfileKind::Recurring, 300)
+    };
+    let valid = RowTold {
+        valid_to: Some(1_000),
+        ..told(7, 4, ProfileKind::Absolute, 500)
+    };
     let limits = [
         (shared, 130),
         (own, 110),
         (from_base, 90),
         (most, 100),
         (transaction, 70),
+        (weekly, 150),
+        (valid, 170),
     ];
     for (told, limit) in limits {
         let periods = period_list(alloc, &[(0, limit), (700, limit / 2)]);
         assert!(rt; install(&mut book, told, periods).is_some());
     }
     for connector in 0..3 {
-        for start in [0, 250, 3_599] {
+        for start in [0, 250, 3_599, 604_000] {
             let ask = asked(connector, start, 7_200);
             assert_eq!(rt; is_plain(alloc, &book, ask), Some(true));
         }
