@@ -34,16 +34,34 @@ pub enum Refusal {
     OtherTransaction,
     /// The point would have more profiles than the limit.
     TooManyProfiles,
+    /// The calls that wait for the point, or are in flight to it, are as many as the limit.
+    OutboxFull,
     /// The duration asked is 0 or above the limit.
     BadDuration,
     /// The schedule asked would run past the last instant.
     PastCalendar,
+    /// The requests for schedules that are kept are as many as the limit.
+    TooManyOpen,
     /// The composite schedule has more periods than the limit.
     ResultTooLong,
+    /// The version, request, link or call number that comes next is above the limit.
+    VersionsExhausted,
     /// Every transaction number was given away.
     TransactionsExhausted,
+    /// The caller has seen a newer version than the one found.
+    Behind { seen: u64, found: u64 },
+    /// The central system is stopped.
+    Stopped,
     /// Memory ran out.
     OutOfMemory,
+    /// No request of this number is kept.
+    UnknownRequest,
+    /// The request has its answer.
+    AlreadyAnswered,
+    /// The link isn't the point's present one.
+    Superseded,
+    /// No call of this number is in flight to the point.
+    NothingInFlight,
 }
 
 impl Refusal {
@@ -64,11 +82,20 @@ impl Refusal {
             Refusal::NoTransaction => "NoTransaction",
             Refusal::OtherTransaction => "OtherTransaction",
             Refusal::TooManyProfiles => "TooManyProfiles",
+            Refusal::OutboxFull => "OutboxFull",
             Refusal::BadDuration => "BadDuration",
             Refusal::PastCalendar => "PastCalendar",
+            Refusal::TooManyOpen => "TooManyOpen",
             Refusal::ResultTooLong => "ResultTooLong",
+            Refusal::VersionsExhausted => "VersionsExhausted",
             Refusal::TransactionsExhausted => "TransactionsExhausted",
+            Refusal::Behind { .. } => "Behind",
+            Refusal::Stopped => "Stopped",
             Refusal::OutOfMemory => "OutOfMemory",
+            Refusal::UnknownRequest => "UnknownRequest",
+            Refusal::AlreadyAnswered => "AlreadyAnswered",
+            Refusal::Superseded => "Superseded",
+            Refusal::NothingInFlight => "NothingInFlight",
         }
     }
 }
