@@ -5,3 +5,5 @@ pub mod Ask
 pub mod Requests
 pub mod Step
 pub mod Run
+pub mod History
+pub mod Headline

@@ -5,6 +5,7 @@
 #![tactic(auto)]
 
 mod ask;
+mod headline;
 mod machine;
 mod numbers;
 mod outcome;
@@ -14,6 +15,9 @@ mod request;
 mod shared_book;
 mod step;
 
+pub use headline::{
+    answered_schedules_are_right, answers_are_right, answers_follow_one_take, runs_are_legal,
+};
 pub use machine::Machine;
 pub use numbers::{MAX_NUMBER, Numbers};
 pub use outcome::{Outcome, Refused, RunFault};

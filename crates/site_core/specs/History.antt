@@ -1,0 +1,54 @@
+-- Histories: what was done and what was replied, one event after another.
+use Rattle.std.specs.Prelude.{ℕ, ◌≡◌, ◌==◌, Bool, false, List, [], ◌∷◌}
+use Rattle.std.specs.List.{count_by}
+use Rattle.meaning.specs.declared.ask.Ask.{Ask}
+use Rattle.point_book.specs.Book.{Book}
+use Rattle.site_core.specs.declared.step.Step.{Step}
+use Rattle.site_core.specs.declared.step.Step.TheVariants as steps
+use Rattle.site_core.specs.declared.step.Take.{Take}
+use Rattle.site_core.specs.declared.reply.Reply.{Reply}
+use Rattle.site_core.specs.declared.reply.Reply.TheVariants.{Taken, Answered}
+use Rattle.site_core.specs.declared.outcome.Outcome.{Outcome}
+use Rattle.site_core.specs.declared.outcome.Outcome.TheVariants.{Done, Refused}
+use Rattle.site_core.specs.State.{MachineState, ScheduleAnswer}
+use Rattle.site_core.specs.Step.{Steps}
+
+-- a step that was made, and what it replied
+pub record Event : Type 0 where
+  pub step : Step
+  pub reply : Reply
+
+-- A history is legal where each event is a step from the state that the one before led to, the first from the
+-- old state, and the last leads to the new one.
+abbrev pub Legal : MachineState → List Event → MachineState → Type 0
+Legal old [] new = new ≡ old
+Legal old (event ∷ later) new =
+    (middle : MachineState) × Steps old event.step event.reply middle × Legal middle later new
+
+-- The history of a run: its steps that were made, with their replies. A refused step is no event. A step
+-- that is answered without a change (Unknown, Repeated, NoSuch, NotYet, a second Finish) is one.
+abbrev pub history_of : List Step → List Outcome → List Event
+history_of (step ∷ steps) (Done reply ∷ outcomes) =
+    record { step = step; reply = reply } ∷ history_of steps outcomes
+history_of (step ∷ steps) (Refused refused ∷ outcomes) = history_of steps outcomes
+history_of _ _ = []
+
+-- the Take that began a request: its number, what its point had, and what is asked
+abbrev pub taken_event : Take → ℕ → Book → Ask → Event
+taken_event take number book ask = record { step = steps.Take take; reply = Taken number book ask }
+
+-- the Answer of a number that handed out an answer, with what it is for
+abbrev pub answered_event : ℕ → Book → Ask → ScheduleAnswer → Event
+answered_event number book ask answer =
+    record { step = steps.Answer number; reply = Answered book ask answer }
+
+abbrev pub reply_takes : ℕ → Reply → Bool
+reply_takes number (Taken taken book ask) = taken == number
+reply_takes number other = false
+
+abbrev pub is_take_of : ℕ → Event → Bool
+is_take_of number event = reply_takes number event.reply
+
+-- how many of these events are Takes of this number
+abbrev pub takes_of : ℕ → List Event → ℕ
+takes_of number events = count_by (is_take_of number) events

@@ -1,0 +1,48 @@
+//! The headline of this repository, as laws: public functions with empty bodies, whose clauses range over
+//! all runs.
+
+ghost use Rattle.std.specs.Prelude.{◌≡◌, ℕ, List, ◌∷◌, ◌++◌};
+ghost use Rattle.meaning.specs.declared.ask.Ask.{Ask};
+ghost use Rattle.site_rules.specs.Site.{SiteState};
+ghost use Rattle.point_book.specs.Book.{Book};
+ghost use Rattle.site_core.specs.declared.numbers.Numbers.{Numbers};
+ghost use Rattle.site_core.specs.declared.step.Step.{Step};
+ghost use Rattle.site_core.specs.declared.outcome.Outcome.{Outcome};
+ghost use Rattle.site_core.specs.State.{MachineState, ScheduleAnswer, opening_at};
+ghost use Rattle.site_core.specs.Run.{Runs};
+ghost use Rattle.site_core.specs.History.{Event, Legal, history_of, answered_event, takes_of};
+ghost use Rattle.site_core.specs.Headline.{IsRightAfter, AnswersAreRight};
+
+/// The law that the steps that a run made are a legal history.
+pub fn runs_are_legal()
+    ensures { (old new : MachineState) (steps : List Step) (outcomes : List Outcome)
+        → Runs old steps outcomes new → Legal old (history_of steps outcomes) new }
+{}
+
+/// The law that in every legal history from an opening state each Answer that hands out an answer follows
+/// exactly one Take of its number.
+pub fn answers_follow_one_take()
+    ensures { (site : SiteState) (numbers : Numbers) (earlier later : List Event) (number : ℕ)
+        (book : Book) (ask : Ask) (answer : ScheduleAnswer) (new : MachineState)
+        → Legal (opening_at site numbers)
+        (earlier ++ answered_event number book ask answer ∷ later) new
+        → takes_of number earlier ≡ 1 }
+{}
+
+/// The law that in every legal history from an opening state each answer that is handed out is right for
+/// what the point of that one Take had when the Take was made, and for its ask.
+pub fn answers_are_right()
+    ensures { (site : SiteState) (numbers : Numbers) (earlier later : List Event) (number : ℕ)
+        (book : Book) (ask : Ask) (answer : ScheduleAnswer) (new : MachineState)
+        → Legal (opening_at site numbers)
+        (earlier ++ answered_event number book ask answer ∷ later) new
+        → IsRightAfter (opening_at site numbers) earlier number book ask answer }
+{}
+
+/// The headline: the law that in every run from an opening state, whatever steps it is of and in whatever
+/// order, each schedule that is handed out is right for what its point had when it was asked.
+pub fn answered_schedules_are_right()
+    ensures { (site : SiteState) (numbers : Numbers) (steps : List Step) (outcomes : List Outcome)
+        (state : MachineState) → Runs (opening_at site numbers) steps outcomes state
+        → AnswersAreRight (opening_at site numbers) steps outcomes }
+{}
