@@ -1,1 +1,2 @@
 pub mod OutboxLemmas
+pub mod ObeyLemmas

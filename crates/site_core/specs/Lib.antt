@@ -1,1 +1,3 @@
 pub mod Outbox
+pub mod OutboxOrder
+pub mod Obey
