@@ -8,7 +8,7 @@ use Rattle.profile.specs.declared.criteria.Criteria.{Criteria}
 use Rattle.profile.specs.Purpose.{is_tx}
 use Rattle.profile.specs.Changes.{installed, cleared, without_transaction_profiles, has_key_of, is_replaced_by, rows_beside, matches, is_tx_profile_at}
 use Rattle.site_core.specs.Outbox.{every_profile}
-use Rattle.site_core.specs.OutboxOrder.{GoesOn, AreInSendingOrder}
+use Rattle.site_core.specs.OutboxOrder.{GoesOn}
 use Rattle.site_core.specs.Obey.{Change, Install, Clear, End, Obeying, at_moment, calls_of, lasting, last_number, numbers_of, obeyed, obeyed_call, obeyed_number, rows_after_call, StaysInStep}
 
 -- ---- filters
@@ -100,6 +100,7 @@ lasting_end rows connector = lasting_within (λ row. not (is_tx_profile_at conne
     by : (a b : Bool) → not a ≡ true → not (a && b) ≡ true
     by false b is = refl
     by true b is = cc
+
     stays : (row : Row) → lasts row ≡ true → not (is_tx_profile_at connector row) ≡ true
     stays row is = by (is_tx row.profile.purpose) (row.connector == connector) is
 
@@ -147,8 +148,10 @@ replaces_itself row = go (lasts row) refl
     by : (a b : Bool) → a ≡ true → not (a || b) ≡ false
     by true b is = refl
     by false b is = cc
+
     replaced : stays_beside row (at_moment 0 row) ≡ false
     replaced = by (int_eq row.profile.id row.profile.id) (has_key_of row (at_moment 0 row)) ((Decides-int_eq row.profile.id row.profile.id).1 refl)
+
     go : (b : Bool) → lasts row ≡ b → filter (stays_beside row) (lasting (row ∷ [])) ≡ []
     go true is = ap (filter (stays_beside row)) (lasting_kept row [] is) ∙ filter_gone (stays_beside row) (at_moment 0 row) [] replaced
     go false is = ap (filter (stays_beside row)) (lasting_gone row [] is)
@@ -160,8 +163,8 @@ on_lasting_again (Some (Install row)) rows =
     let stay = filter (stays_beside row) rows in
     let new = lasting (row ∷ []) in
     ap (λ (rs : List Row). rs ++ new)
-        (filter-append (stays_beside row) stay new ∙ ap (λ (rs : List Row). filter (stays_beside row) stay ++ rs) (replaces_itself row)
-        ∙ append-nil (filter (stays_beside row) stay) ∙ filter_again (stays_beside row) rows)
+    (filter-append (stays_beside row) stay new ∙ ap (λ (rs : List Row). filter (stays_beside row) stay ++ rs) (replaces_itself row)
+    ∙ append-nil (filter (stays_beside row) stay) ∙ filter_again (stays_beside row) rows)
 on_lasting_again (Some (Clear criteria)) rows = filter_again (fails_some criteria) rows
 on_lasting_again (Some (End connector)) rows = refl
 
@@ -220,10 +223,10 @@ obeyed_all : (later : List Obeying) (before : ℕ) (changes : List Change) (rows
 obeyed_all [] before changes rows goes same = same
 obeyed_all (call ∷ later) before changes rows goes same =
     obeyed_all later call.number changes (obeyed_number call.moment call.number changes rows) goes.1
-        (obeyed_one call.moment before call.number changes rows goes.0 same)
+    (obeyed_one call.moment before call.number changes rows goes.0 same)
 
 pub stays_in_step : StaysInStep
 stays_in_step changes first later rows order =
     obeyed_all later first.number changes (obeyed_number first.moment first.number changes rows) order.1
-        (subst (λ (n : ℕ). lasting (obeyed_number first.moment n changes rows) ≡ lasting (rows_after_call n changes []))
-            (sym order.0) (cleared_all rows))
+    (subst (λ (n : ℕ). lasting (obeyed_number first.moment n changes rows) ≡ lasting (rows_after_call n changes []))
+    (sym order.0) (cleared_all rows))
