@@ -1,4 +1,5 @@
 pub mod Limits
+pub mod Outbox
 pub mod State
 pub mod Right
 pub mod Ask
@@ -7,3 +8,5 @@ pub mod Step
 pub mod Run
 pub mod History
 pub mod Headline
+pub mod OutboxOrder
+pub mod Obey

@@ -7,6 +7,7 @@ use Rattle.site_rules.specs.Site.{PointEntry, SiteState}
 use Rattle.point_book.specs.Book.{Book, empty_book}
 use Rattle.site_core.specs.declared.numbers.Numbers.{Numbers}
 use Rattle.site_core.specs.Limits.{max_number, max_transaction, max_requests}
+use Rattle.site_core.specs.Outbox.{OutboxState, opening_outbox, IsOutbox}
 
 -- the answer to a request for a composite schedule: that schedule, or why there is none
 abbrev pub ScheduleAnswer : Type 0
@@ -31,14 +32,20 @@ pub record MachineState : Type 0 where
   pub numbers : Numbers
   -- what each point has, in the order of the site file
   pub books : List Book
+  -- the link and the calls to each point, in the same order
+  pub outboxes : List OutboxState
   -- the requests that are kept, in the order of their numbers
   pub requests : List Kept
-  -- no step but compiling, answering and finishing is made any more
+  -- once it is, no step but compiling, answering and finishing is made any more
   pub is_stopped : Bool
 
 -- a point with nothing installed and no active transaction
 abbrev pub opening_book : PointEntry → Book
 opening_book point = empty_book point.ceiling point.ceilings
+
+-- a point without a link, to which call 0 is to be sent
+abbrev pub opening_outbox_of : PointEntry → OutboxState
+opening_outbox_of point = opening_outbox
 
 -- before the first step, with these numbers drawn last
 abbrev pub opening_at : SiteState → Numbers → MachineState
@@ -46,6 +53,7 @@ opening_at site numbers = record {
   site = site;
   numbers = numbers;
   books = map opening_book site.points;
+  outboxes = map opening_outbox_of site.points;
   requests = [];
   is_stopped = false;
 }
@@ -63,6 +71,13 @@ book_in books place = slice_index_or books place (empty_book 0 [])
 
 abbrev pub book_at : MachineState → ℕ → Book
 book_at state place = book_in state.books place
+
+-- the calls to the point at a place; where there is none, the opening ones
+abbrev pub outbox_in : List OutboxState → ℕ → OutboxState
+outbox_in outboxes place = slice_index_or outboxes place opening_outbox
+
+abbrev pub outbox_at : MachineState → ℕ → OutboxState
+outbox_at state place = outbox_in state.outboxes place
 
 -- ---- what is always so
 
@@ -86,5 +101,6 @@ pub record AreNumbers (numbers : Numbers) : Type 0 where
 
 pub record IsMachine (state : MachineState) : Type 0 where
   pub books : AreBooksOf state.site state.books
+  pub outboxes : length state.outboxes ≡ length state.site.points
   pub numbers : AreNumbers state.numbers
   pub few : length state.requests ≤ max_requests

@@ -1,9 +1,9 @@
 -- One step of the central system: what it replies and what it changes, or the first cause why it is refused.
 -- All that a step doesn't name stays as it was, and a refused step changes nothing.
-use Rattle.std.specs.Prelude.{ℕ, ℤ, pos, ◌≡◌, ◌+◌, nat_lt, nat_le, ◌==◌, ◌||◌, Bool, true, List, [], ◌∷◌, ◌++◌, length, Option, Some, None, is_some, Result, Ok, Err, slice_set, if◌then◌else◌}
+use Rattle.std.specs.Prelude.{ℕ, ℤ, pos, ◌≡◌, ◌+◌, nat_lt, nat_le, ◌==◌, ◌||◌, Bool, true, false, List, [], ◌∷◌, ◌++◌, length, Option, Some, None, is_some, Result, Ok, Err, slice_set, if◌then◌else◌}
 use Rattle.std.specs.List.{list_any}
 use Rattle.ocpp_scalars.specs.declared.refusal.Refusal.{Refusal}
-use Rattle.ocpp_scalars.specs.declared.refusal.Refusal.TheVariants.{UnknownPoint, UnknownConnector, TooManyOpen, VersionsExhausted, TransactionsExhausted, Behind, OutOfMemory, UnknownRequest, AlreadyAnswered}
+use Rattle.ocpp_scalars.specs.declared.refusal.Refusal.TheVariants.{UnknownPoint, UnknownConnector, OutboxFull, TooManyOpen, VersionsExhausted, TransactionsExhausted, Behind, OutOfMemory, UnknownRequest, AlreadyAnswered, Superseded, NothingInFlight}
 use Rattle.ocpp_scalars.specs.declared.refusal.Refusal.TheVariants as refusals
 use Rattle.profile.specs.declared.row.Row.{Row}
 use Rattle.profile.specs.declared.criteria.Criteria.{Criteria}
@@ -21,10 +21,14 @@ use Rattle.site_core.specs.declared.step.Step.{Step}
 use Rattle.site_core.specs.declared.step.Step.TheVariants as steps
 use Rattle.site_core.specs.declared.step.Take.{Take}
 use Rattle.site_core.specs.declared.reply.Reply.{Reply}
-use Rattle.site_core.specs.declared.reply.Reply.TheVariants.{Accepted, Unknown, Started, Repeated, Ended, NoSuch, Taken, Compiled, Answered, NotYet, Finished}
+use Rattle.site_core.specs.declared.reply.Reply.TheVariants.{Accepted, Unknown, Started, Repeated, Ended, NoSuch, Taken, Compiled, Answered, NotYet, Finished, Attached, Sent, Nothing, Confirmed, LinkLost}
 use Rattle.site_core.specs.declared.outcome.Refused.{Refused}
 use Rattle.site_core.specs.Limits.{max_number, max_transaction, max_requests}
-use Rattle.site_core.specs.State.{MachineState, Kept, ScheduleAnswer, book_at}
+use Rattle.site_core.specs.declared.call.Call.{Call}
+use Rattle.site_core.specs.declared.call.CallBody.{CallBody}
+use Rattle.site_core.specs.declared.call.CallBody.TheVariants as bodies
+use Rattle.site_core.specs.State.{MachineState, Kept, ScheduleAnswer, book_at, outbox_at}
+use Rattle.site_core.specs.Outbox.{OutboxState, is_full, is_exhausted, attached, lost, added, sendable, sent, is_number_in_flight, confirmed}
 use Rattle.site_core.specs.Requests.{request_of, answered, without, all_stopped}
 use Rattle.site_core.specs.Ask.{ask_at}
 use Rattle.site_core.specs.Right.{IsCompiledFor}
@@ -66,16 +70,31 @@ changed old place book = record old {
   numbers = record old.numbers { version = old.numbers.version + 1 };
 }
 
+-- An install and a clear are calls to the point too: each is added to those that wait, if there is room.
+abbrev pub with_outbox : MachineState → ℕ → OutboxState → MachineState
+with_outbox old place outbox = record old { outboxes = slice_set old.outboxes place outbox }
+
+abbrev pub refusal_to_call : MachineState → ℕ → Option Refusal
+refusal_to_call old place =
+    if is_full (outbox_at old place) then Some OutboxFull
+    else if is_exhausted (outbox_at old place) then Some VersionsExhausted
+    else version_refusal old
+
+abbrev pub changed_by_call : MachineState → ℕ → Book → CallBody → MachineState
+changed_by_call old place book body =
+    with_outbox (changed old place book) place (added (outbox_at old place) body)
+
 -- Install (OCPP 1.6, 5.16): by the rules of the site, and then by the point's book
 abbrev pub refusal_to_install : MachineState → List ℕ → Row → ℕ → Option Refusal
 refusal_to_install old point row place =
     first_cause (admission_refusal old.site point row.connector row.profile)
-    (first_cause (install_refusal (book_at old place) row) (version_refusal old))
+    (first_cause (install_refusal (book_at old place) row) (refusal_to_call old place))
 
 abbrev pub installs : MachineState → List ℕ → Row → ℕ → Result Made Refusal
-installs old point row place =
-    unless (refusal_to_install old point row place)
-    (record { reply = Accepted; after = changed old place (book_installed (book_at old place) row) })
+installs old point row place = unless (refusal_to_install old point row place) (record {
+  reply = Accepted;
+  after = changed_by_call old place (book_installed (book_at old place) row) (bodies.Set row.connector row.profile);
+})
 
 -- Clear (OCPP 1.6, 5.5): where no profile matches, that is the answer, and nothing changes
 abbrev pub clears : MachineState → Criteria → ℕ → Result Made Refusal
@@ -188,6 +207,57 @@ finishes old =
       after = record old { requests = all_stopped old.requests; is_stopped = true };
     }
 
+-- ---- links and calls (OCPP-J 1.6, 3 and 4)
+
+-- Attach: the point has a new link, and none before it any more
+abbrev pub refusal_to_attach : MachineState → Option Refusal
+refusal_to_attach old = if old.numbers.link == max_number then Some VersionsExhausted else None
+
+abbrev pub with_link : MachineState → ℕ → MachineState
+with_link old place = record (with_outbox old place (attached (outbox_at old place) (old.numbers.link + 1))) {
+  numbers = record old.numbers { link = old.numbers.link + 1 };
+}
+
+abbrev pub attaches : MachineState → ℕ → Result Made Refusal
+attaches old place = unless (refusal_to_attach old)
+    (record { reply = Attached (old.numbers.link + 1); after = with_link old place })
+
+-- what is made over a link, while it is the present one of its point and the central system isn't stopped
+abbrev pub is_present : ℕ → Option ℕ → Bool
+is_present link None = false
+is_present link (Some present) = link == present
+
+abbrev pub at_linked_place : MachineState → ℕ → Option ℕ → (ℕ → Result Made Refusal) → Result Made Refusal
+at_linked_place old link None made_at = Err Superseded
+at_linked_place old link (Some place) made_at =
+    if is_present link (outbox_at old place).link then made_at place else Err Superseded
+
+abbrev pub at_link : MachineState → List ℕ → ℕ → (ℕ → Result Made Refusal) → Result Made Refusal
+at_link old point link made_at =
+    if old.is_stopped then Err refusals.Stopped
+    else at_linked_place old link (place_of old.site point) made_at
+
+-- Send: the first call goes out, unless one is in flight
+abbrev pub sends_call : MachineState → ℕ → Option Call → Result Made Refusal
+sends_call old place None = Ok (unchanged old Nothing)
+sends_call old place (Some call) =
+    Ok (record { reply = Sent call; after = with_outbox old place (sent (outbox_at old place)) })
+
+abbrev pub sends : MachineState → ℕ → Result Made Refusal
+sends old place = sends_call old place (sendable (outbox_at old place))
+
+-- Confirm: the call in flight has this number, and is done with
+abbrev pub confirms : MachineState → ℕ → ℕ → Result Made Refusal
+confirms old number place =
+    if is_number_in_flight (outbox_at old place) number
+    then Ok (record { reply = Confirmed; after = with_outbox old place (confirmed (outbox_at old place) number) })
+    else Err NothingInFlight
+
+-- Lost: the point has no link any more, and a call in flight waits again
+abbrev pub loses : MachineState → ℕ → Result Made Refusal
+loses old place =
+    Ok (record { reply = LinkLost; after = with_outbox old place (lost (outbox_at old place)) })
+
 -- ---- all steps
 
 -- What a step does. The answer is the compiler's, and only a Compile looks at it.
@@ -200,6 +270,10 @@ stepped answer old (steps.Take take) = at_point old take.point (takes old take)
 stepped answer old (steps.Compile number) = compiles old number answer
 stepped answer old (steps.Answer number) = answers old number
 stepped answer old steps.Finish = Ok (finishes old)
+stepped answer old (steps.Attach point) = at_point old point (attaches old)
+stepped answer old (steps.Send point link) = at_link old point link (sends old)
+stepped answer old (steps.Confirm point link number) = at_link old point link (confirms old number)
+stepped answer old (steps.Lost point link) = at_link old point link (loses old)
 
 -- an answer that no step but a Compile is given
 abbrev pub no_answer : ScheduleAnswer

@@ -1,13 +1,17 @@
 //! The central system as one machine: the state of a site between two steps, and its steps. Operators
-//! install and clear charging profiles, points start and stop transactions, and requests for composite
-//! schedules are taken, compiled and answered, in any order. What a step does stands in
-//! `specs/Step.antt`, what holds after any run in `specs/Headline.antt`.
+//! install and clear charging profiles, points start and stop transactions, requests for composite
+//! schedules are taken, compiled and answered, and calls are sent to the points, in any order. What a step
+//! does stands in `specs/Step.antt`, what holds after any run in `specs/Headline.antt`.
 #![tactic(auto)]
 
 mod ask;
+mod call;
 mod headline;
 mod machine;
 mod numbers;
+mod obey_laws;
+mod outbox;
+mod outbox_laws;
 mod outcome;
 mod point_id;
 mod reply;
@@ -15,11 +19,15 @@ mod request;
 mod shared_book;
 mod step;
 
+pub use call::{Call, CallBody};
 pub use headline::{
     answered_schedules_are_right, answers_are_right, answers_follow_one_take, runs_are_legal,
 };
 pub use machine::Machine;
 pub use numbers::{MAX_NUMBER, Numbers};
+pub use obey_laws::obeying_point_stays_in_step;
+pub use outbox::{Outbox, PreparedCall};
+pub use outbox_laws::calls_are_sent_in_order;
 pub use outcome::{Outcome, Refused, RunFault};
 pub use point_id::PointId;
 pub use reply::Reply;

@@ -7,6 +7,7 @@ ghost use Rattle.site_core.specs.Step.{Steps, IsRefused, first_refusal, NeedsNoM
 ghost use Rattle.site_core.specs.Run.{Runs};
 
 use crate::numbers::Numbers;
+use crate::outbox::Outbox;
 use crate::outcome::{Outcome, Refused, RunFault};
 use crate::reply::Reply;
 use crate::request::Request;
@@ -25,6 +26,8 @@ pub struct Machine {
     numbers: Numbers,
     /// Each at the place of its point.
     books: Vec<SharedBook>,
+    /// Each at the place of its point.
+    outboxes: Vec<Outbox>,
     /// In the order of their numbers.
     requests: Vec<Request>,
     is_stopped: bool,
@@ -39,6 +42,7 @@ impl Model for Machine {
       site = m.site;
       numbers = m.numbers;
       books = m.books.items;
+      outboxes = m.outboxes.items;
       requests = m.requests.items;
       is_stopped = m.is_stopped;
     } };
@@ -47,6 +51,7 @@ impl Model for Machine {
       site = m.site;
       numbers = m.numbers;
       books = m.books.items;
+      outboxes = m.outboxes.items;
       requests = m.requests.items;
       is_stopped = m.is_stopped;
     }) };
@@ -76,6 +81,7 @@ impl Machine {
             site,
             numbers,
             books: Vec::new(alloc),
+            outboxes: Vec::new(alloc),
             requests: Vec::new(alloc),
             is_stopped: false,
         })

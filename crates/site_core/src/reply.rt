@@ -1,5 +1,6 @@
 //! What the steps of the central system reply.
 
+use crate::call::Call;
 use crate::shared_book::SharedBook;
 use meaning::{Ask, Composite};
 use ocpp_scalars::Refusal;
@@ -37,4 +38,14 @@ pub enum Reply {
     NotYet,
     /// The central system is stopped.
     Finished,
+    /// The point has the link of this number now.
+    Attached(u64),
+    /// The call that goes out to the point.
+    Sent(Call),
+    /// No call is to be sent: none waits, or one is in flight.
+    Nothing,
+    /// The call in flight was answered, and is done with.
+    Confirmed,
+    /// The point has no link now. A call that was in flight waits again.
+    LinkLost,
 }

@@ -37,6 +37,24 @@ pub enum Step {
     Answer(u64),
     /// To stop: requests without an answer are answered `Stopped`.
     Finish,
+    /// To give a point a new link, over which its calls are sent from now on.
+    Attach(PointId),
+    /// To send the first call that waits for a point over its link.
+    Send {
+        point: PointId,
+        link: u64,
+    },
+    /// To take note that a point has answered the call of this number.
+    Confirm {
+        point: PointId,
+        link: u64,
+        call: u64,
+    },
+    /// To take note that a link to a point is lost.
+    Lost {
+        point: PointId,
+        link: u64,
+    },
 }
 
 /// A request for the composite schedule of a connector, 0 being the whole point.

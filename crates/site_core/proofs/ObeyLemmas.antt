@@ -1,0 +1,232 @@
+-- That an obeying point stays in step: a call acts on the lasting rows alone, and again it changes nothing.
+use Rattle.std.proofs.Common.{◌≡◌, ℕ, ◌+◌, zero, suc, Bool, true, false, not, ◌⊎◌, inl, inr, refl, sym, ◌∙◌, ap, List, [], ◌∷◌, ◌++◌, filter, map, Option, None, Some, slice_get, subst, ◌&&◌, ◌||◌, ◌==◌, append-nil, arith}
+use Rattle.std.specs.Ordering.{int_eq}
+use Rattle.std.proofs.lemmas.Bool.Decides.{Decides-int_eq}
+use Rattle.std.proofs.lemmas.List.Elements.{filter-append}
+use Rattle.profile.specs.declared.row.Row.{Row}
+use Rattle.profile.specs.declared.criteria.Criteria.{Criteria}
+use Rattle.profile.specs.Purpose.{is_tx}
+use Rattle.profile.specs.Changes.{installed, cleared, without_transaction_profiles, has_key_of, is_replaced_by, rows_beside, matches, is_tx_profile_at}
+use Rattle.site_core.specs.Outbox.{every_profile}
+use Rattle.site_core.specs.OutboxOrder.{GoesOn}
+use Rattle.site_core.specs.Obey.{Change, Install, Clear, End, Obeying, at_moment, calls_of, lasting, last_number, numbers_of, obeyed, obeyed_call, obeyed_number, rows_after_call, StaysInStep}
+
+-- ---- filters
+
+filter_kept : {X : Type 0} (test : X → Bool) (x : X) (xs : List X) → test x ≡ true → filter test (x ∷ xs) ≡ x ∷ filter test xs
+filter_kept test x xs is = rw is refl
+
+filter_gone : {X : Type 0} (test : X → Bool) (x : X) (xs : List X) → test x ≡ false → filter test (x ∷ xs) ≡ filter test xs
+filter_gone test x xs is = rw is refl
+
+filter_again : {X : Type 0} (test : X → Bool) (xs : List X) → filter test (filter test xs) ≡ filter test xs
+filter_again test [] = refl
+filter_again {X = X} test (x ∷ xs) = go (test x) refl (filter_again test xs)
+  where
+    go : (b : Bool) → test x ≡ b → filter test (filter test xs) ≡ filter test xs → filter test (filter test (x ∷ xs)) ≡ filter test (x ∷ xs)
+    go true is rest = ap (filter test) (filter_kept test x xs is) ∙ filter_kept test x (filter test xs) is
+        ∙ ap (λ (ys : List X). x ∷ ys) rest ∙ sym (filter_kept test x xs is)
+    go false is rest = ap (filter test) (filter_gone test x xs is) ∙ rest ∙ sym (filter_gone test x xs is)
+
+filter_none : {X : Type 0} (xs : List X) → filter (λ _. false) xs ≡ []
+filter_none [] = refl
+filter_none (x ∷ xs) = filter_none xs
+
+-- ---- lasting rows
+
+abbrev lasts : Row → Bool
+lasts row = not (is_tx row.profile.purpose)
+
+lasting_kept : (row : Row) (rows : List Row) → lasts row ≡ true → lasting (row ∷ rows) ≡ at_moment 0 row ∷ lasting rows
+lasting_kept row rows is = ap (map (at_moment 0)) (filter_kept lasts row rows is)
+
+lasting_gone : (row : Row) (rows : List Row) → lasts row ≡ false → lasting (row ∷ rows) ≡ lasting rows
+lasting_gone row rows is = ap (map (at_moment 0)) (filter_gone lasts row rows is)
+
+lasting_append : (rows others : List Row) → lasting (rows ++ others) ≡ lasting rows ++ lasting others
+lasting_append [] others = refl
+lasting_append (row ∷ rows) others = go (lasts row) refl (lasting_append rows others)
+  where
+    go : (b : Bool) → lasts row ≡ b → lasting (rows ++ others) ≡ lasting rows ++ lasting others → lasting ((row ∷ rows) ++ others) ≡ lasting (row ∷ rows) ++ lasting others
+    go true is rest = lasting_kept row (rows ++ others) is ∙ ap (λ (rs : List Row). at_moment 0 row ∷ rs) rest
+        ∙ ap (λ (rs : List Row). rs ++ lasting others) (sym (lasting_kept row rows is))
+    go false is rest = lasting_gone row (rows ++ others) is ∙ rest
+        ∙ ap (λ (rs : List Row). rs ++ lasting others) (sym (lasting_gone row rows is))
+
+-- a test that reads no moment acts on the lasting rows alone
+lasting_filter : (test : Row → Bool) → ((row : Row) → test (at_moment 0 row) ≡ test row) → (rows : List Row)
+    → lasting (filter test rows) ≡ filter test (lasting rows)
+lasting_filter test same [] = refl
+lasting_filter test same (row ∷ rows) = go (test row) refl (lasts row) refl (lasting_filter test same rows)
+  where
+    go : (a : Bool) → test row ≡ a → (b : Bool) → lasts row ≡ b → lasting (filter test rows) ≡ filter test (lasting rows)
+        → lasting (filter test (row ∷ rows)) ≡ filter test (lasting (row ∷ rows))
+    go true passes true stays rest =
+        ap lasting (filter_kept test row rows passes) ∙ lasting_kept row (filter test rows) stays
+        ∙ ap (λ (rs : List Row). at_moment 0 row ∷ rs) rest
+        ∙ sym (filter_kept test (at_moment 0 row) (lasting rows) (same row ∙ passes))
+        ∙ ap (filter test) (sym (lasting_kept row rows stays))
+    go true passes false goes rest =
+        ap lasting (filter_kept test row rows passes) ∙ lasting_gone row (filter test rows) goes ∙ rest
+        ∙ ap (filter test) (sym (lasting_gone row rows goes))
+    go false fails true stays rest =
+        ap lasting (filter_gone test row rows fails) ∙ rest
+        ∙ sym (filter_gone test (at_moment 0 row) (lasting rows) (same row ∙ fails))
+        ∙ ap (filter test) (sym (lasting_kept row rows stays))
+    go false fails false goes rest =
+        ap lasting (filter_gone test row rows fails) ∙ rest ∙ ap (filter test) (sym (lasting_gone row rows goes))
+
+-- one that all lasting rows pass leaves them
+lasting_within : (test : Row → Bool) → ((row : Row) → lasts row ≡ true → test row ≡ true) → (rows : List Row)
+    → lasting (filter test rows) ≡ lasting rows
+lasting_within test each [] = refl
+lasting_within test each (row ∷ rows) = go (test row) refl (lasts row) refl (lasting_within test each rows)
+  where
+    go : (a : Bool) → test row ≡ a → (b : Bool) → lasts row ≡ b → lasting (filter test rows) ≡ lasting rows
+        → lasting (filter test (row ∷ rows)) ≡ lasting (row ∷ rows)
+    go true passes true stays rest =
+        ap lasting (filter_kept test row rows passes) ∙ lasting_kept row (filter test rows) stays
+        ∙ ap (λ (rs : List Row). at_moment 0 row ∷ rs) rest ∙ sym (lasting_kept row rows stays)
+    go true passes false goes rest =
+        ap lasting (filter_kept test row rows passes) ∙ lasting_gone row (filter test rows) goes ∙ rest
+        ∙ sym (lasting_gone row rows goes)
+    go false fails true stays rest = let passes = each row stays in cc
+    go false fails false goes rest =
+        ap lasting (filter_gone test row rows fails) ∙ rest ∙ sym (lasting_gone row rows goes)
+
+lasting_end : (rows : List Row) (connector : ℕ) → lasting (without_transaction_profiles rows connector) ≡ lasting rows
+lasting_end rows connector = lasting_within (λ row. not (is_tx_profile_at connector row)) stays rows
+  where
+    by : (a b : Bool) → not a ≡ true → not (a && b) ≡ true
+    by false b is = refl
+    by true b is = cc
+
+    stays : (row : Row) → lasts row ≡ true → not (is_tx_profile_at connector row) ≡ true
+    stays row is = by (is_tx row.profile.purpose) (row.connector == connector) is
+
+lasting_moment : (row : Row) (moment : ℕ) → lasting (at_moment moment row ∷ []) ≡ lasting (row ∷ [])
+lasting_moment row moment = go (lasts row) refl
+  where
+    go : (b : Bool) → lasts row ≡ b → lasting (at_moment moment row ∷ []) ≡ lasting (row ∷ [])
+    go true is = lasting_kept (at_moment moment row) [] is ∙ sym (lasting_kept row [] is)
+    go false is = lasting_gone (at_moment moment row) [] is ∙ sym (lasting_gone row [] is)
+
+-- ---- a call on lasting rows
+
+abbrev stays_beside : Row → Row → Bool
+stays_beside new row = not (is_replaced_by new row)
+
+abbrev fails_some : Criteria → Row → Bool
+fails_some criteria row = not (matches criteria row)
+
+abbrev on_lasting : Option Change → List Row → List Row
+on_lasting None rows = rows
+on_lasting (Some (Install row)) rows = filter (stays_beside row) rows ++ lasting (row ∷ [])
+on_lasting (Some (Clear criteria)) rows = filter (fails_some criteria) rows
+on_lasting (Some (End connector)) rows = rows
+
+lasting_installed : (rows : List Row) (row : Row) → lasting (installed rows row) ≡ on_lasting (Some (Install row)) (lasting rows)
+lasting_installed rows row =
+    lasting_append (rows_beside rows row) (row ∷ [])
+    ∙ ap (λ (rs : List Row). rs ++ lasting (row ∷ [])) (lasting_filter (stays_beside row) (λ _. refl) rows)
+
+lasting_cleared : (rows : List Row) (criteria : Criteria) → lasting (cleared rows criteria) ≡ on_lasting (Some (Clear criteria)) (lasting rows)
+lasting_cleared rows criteria = lasting_filter (fails_some criteria) (λ _. refl) rows
+
+lasting_obeyed : (moment : ℕ) (call : Option Change) (rows : List Row) → lasting (obeyed_call moment call rows) ≡ on_lasting call (lasting rows)
+lasting_obeyed moment None rows = refl
+lasting_obeyed moment (Some (Install row)) rows =
+    lasting_installed rows (at_moment moment row)
+    ∙ ap (λ (rs : List Row). filter (stays_beside row) (lasting rows) ++ rs) (lasting_moment row moment)
+lasting_obeyed moment (Some (Clear criteria)) rows = lasting_cleared rows criteria
+lasting_obeyed moment (Some (End connector)) rows = refl
+
+-- what an install adds it would also replace
+replaces_itself : (row : Row) → filter (stays_beside row) (lasting (row ∷ [])) ≡ []
+replaces_itself row = go (lasts row) refl
+  where
+    by : (a b : Bool) → a ≡ true → not (a || b) ≡ false
+    by true b is = refl
+    by false b is = cc
+
+    replaced : stays_beside row (at_moment 0 row) ≡ false
+    replaced = by (int_eq row.profile.id row.profile.id) (has_key_of row (at_moment 0 row)) ((Decides-int_eq row.profile.id row.profile.id).1 refl)
+
+    go : (b : Bool) → lasts row ≡ b → filter (stays_beside row) (lasting (row ∷ [])) ≡ []
+    go true is = ap (filter (stays_beside row)) (lasting_kept row [] is) ∙ filter_gone (stays_beside row) (at_moment 0 row) [] replaced
+    go false is = ap (filter (stays_beside row)) (lasting_gone row [] is)
+
+-- a call that comes again changes nothing
+on_lasting_again : (call : Option Change) (rows : List Row) → on_lasting call (on_lasting call rows) ≡ on_lasting call rows
+on_lasting_again None rows = refl
+on_lasting_again (Some (Install row)) rows =
+    let stay = filter (stays_beside row) rows in
+    let new = lasting (row ∷ []) in
+    ap (λ (rs : List Row). rs ++ new)
+    (filter-append (stays_beside row) stay new ∙ ap (λ (rs : List Row). filter (stays_beside row) stay ++ rs) (replaces_itself row)
+    ∙ append-nil (filter (stays_beside row) stay) ∙ filter_again (stays_beside row) rows)
+on_lasting_again (Some (Clear criteria)) rows = filter_again (fails_some criteria) rows
+on_lasting_again (Some (End connector)) rows = refl
+
+-- ---- the central system
+
+-- after its next call the central system has what that call makes of the lasting rows
+next_call : (changes : List Change) (before : ℕ) (rows : List Row)
+    → lasting (rows_after_call (suc before) changes rows)
+    ≡ on_lasting (slice_get (calls_of changes) before) (lasting (rows_after_call before changes rows))
+next_call [] zero rows = refl
+next_call [] (suc before) rows = refl
+next_call (Install row ∷ later) zero rows = lasting_installed rows row
+next_call (Install row ∷ later) (suc before) rows = next_call later before (installed rows row)
+next_call (Clear criteria ∷ later) zero rows = lasting_cleared rows criteria
+next_call (Clear criteria ∷ later) (suc before) rows = next_call later before (cleared rows criteria)
+next_call (End connector ∷ later) zero rows =
+    next_call later zero (without_transaction_profiles rows connector)
+    ∙ ap (on_lasting (slice_get (calls_of later) zero)) (lasting_end rows connector)
+next_call (End connector ∷ later) (suc before) rows = next_call later (suc before) (without_transaction_profiles rows connector)
+
+-- ---- the point
+
+-- call 0 leaves nothing
+cleared_all : (rows : List Row) → lasting (cleared rows every_profile) ≡ []
+cleared_all rows = ap lasting (filter_none rows)
+
+-- the same call again
+obeyed_again : (moment number : ℕ) (changes : List Change) (rows : List Row) → lasting rows ≡ lasting (rows_after_call number changes [])
+    → lasting (obeyed_number moment number changes rows) ≡ lasting (rows_after_call number changes [])
+obeyed_again moment zero changes rows same = cleared_all rows
+obeyed_again moment (suc before) changes rows same =
+    let call = slice_get (calls_of changes) before in
+    lasting_obeyed moment call rows ∙ ap (on_lasting call) (same ∙ next_call changes before [])
+    ∙ on_lasting_again call (lasting (rows_after_call before changes [])) ∙ sym (next_call changes before [])
+
+-- the next call
+obeyed_next : (moment before : ℕ) (changes : List Change) (rows : List Row) → lasting rows ≡ lasting (rows_after_call before changes [])
+    → lasting (obeyed_number moment (suc before) changes rows) ≡ lasting (rows_after_call (suc before) changes [])
+obeyed_next moment before changes rows same =
+    let call = slice_get (calls_of changes) before in
+    lasting_obeyed moment call rows ∙ ap (on_lasting call) same ∙ sym (next_call changes before [])
+
+obeyed_one : (moment before number : ℕ) (changes : List Change) (rows : List Row) → (number ≡ before) ⊎ (number ≡ before + 1)
+    → lasting rows ≡ lasting (rows_after_call before changes [])
+    → lasting (obeyed_number moment number changes rows) ≡ lasting (rows_after_call number changes [])
+obeyed_one moment before number changes rows (inl e) same =
+    obeyed_again moment number changes rows (same ∙ ap (λ (n : ℕ). lasting (rows_after_call n changes [])) (sym e))
+obeyed_one moment before number changes rows (inr e) same =
+    let next : suc before ≡ number = omega arith in
+    let P : ℕ → Type 0 = λ n. lasting (obeyed_number moment n changes rows) ≡ lasting (rows_after_call n changes []) in
+    subst P next (obeyed_next moment before changes rows same)
+
+obeyed_all : (later : List Obeying) (before : ℕ) (changes : List Change) (rows : List Row)
+    → GoesOn before (numbers_of later) → lasting rows ≡ lasting (rows_after_call before changes [])
+    → lasting (obeyed later changes rows) ≡ lasting (rows_after_call (last_number before later) changes [])
+obeyed_all [] before changes rows goes same = same
+obeyed_all (call ∷ later) before changes rows goes same =
+    obeyed_all later call.number changes (obeyed_number call.moment call.number changes rows) goes.1
+    (obeyed_one call.moment before call.number changes rows goes.0 same)
+
+pub stays_in_step : StaysInStep
+stays_in_step changes first later rows order =
+    obeyed_all later first.number changes (obeyed_number first.moment first.number changes rows) order.1
+    (subst (λ (n : ℕ). lasting (obeyed_number first.moment n changes rows) ≡ lasting (rows_after_call n changes []))
+    (sym order.0) (cleared_all rows))

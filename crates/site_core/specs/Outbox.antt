@@ -1,0 +1,123 @@
+-- What the central system keeps of its calls to a charge point, and what changes it. A call is sent again
+-- until it is confirmed, and the next one only then. `record old { .. }` is the outbox with these fields
+-- changed and all else as it was.
+use Rattle.std.specs.Prelude.{ℕ, ◌+◌, ◌-◌, ◌<◌, ◌≤◌, ◌≡◌, nat_lt, ◌==◌, Bool, true, false, ◌&&◌, List, [], ◌∷◌, ◌++◌, length, drop, map, Option, None, Some, IsSome, if◌then◌else◌}
+use Rattle.std.specs.List.{range_with_len}
+use Rattle.profile.specs.declared.criteria.Criteria.{Criteria}
+use Rattle.site_core.specs.declared.call.Call.{Call}
+use Rattle.site_core.specs.declared.call.CallBody.{CallBody}
+use Rattle.site_core.specs.declared.call.CallBody.TheVariants.{Clear}
+
+-- The limits are this system's choice; the standard has none.
+
+-- the most calls of a point that aren't confirmed, the one in flight among them
+abbrev pub max_calls : ℕ
+max_calls = 256
+
+-- the highest number of a call
+abbrev pub last_call_number : ℕ
+last_call_number = 1000000000000
+
+pub record OutboxState : Type 0 where
+  -- the number of the connection to the point, where there is one
+  pub link : Option ℕ
+  -- the calls that aren't confirmed, in the order of their numbers
+  pub calls : List Call
+  -- the number of the next call
+  pub next : ℕ
+  -- whether the first call was sent over this link, and isn't confirmed
+  pub is_in_flight : Bool
+
+-- ---- the opening
+
+-- ClearChargingProfile without a criterion clears every profile (OCPP 1.6, 5.5)
+abbrev pub every_profile : Criteria
+every_profile = record { id = None; connector = None; purpose = None; stack_level = None }
+
+abbrev pub clear_all : CallBody
+clear_all = Clear every_profile
+
+-- bodies as calls, numbered from here on
+abbrev pub numbered : ℕ → List CallBody → List Call
+numbered number [] = []
+numbered number (body ∷ later) = record { number = number; body = body } ∷ numbered (number + 1) later
+
+-- Call 0 clears what the point has from before: the central system starts with no profile of it.
+abbrev pub opening_outbox : OutboxState
+opening_outbox = record { link = None; calls = numbered 0 (clear_all ∷ []); next = 1; is_in_flight = false }
+
+-- ---- links
+
+-- a call in flight over an older link waits again, in first place
+abbrev pub attached : OutboxState → ℕ → OutboxState
+attached old link = record old { link = Some link; is_in_flight = false }
+
+abbrev pub lost : OutboxState → OutboxState
+lost old = record old { link = None; is_in_flight = false }
+
+-- ---- calls
+
+abbrev pub is_full : OutboxState → Bool
+is_full outbox = length outbox.calls == max_calls
+
+-- whether the last number was drawn
+abbrev pub is_exhausted : OutboxState → Bool
+is_exhausted outbox = nat_lt last_call_number outbox.next
+
+-- a new call is the last one
+abbrev pub added : OutboxState → CallBody → OutboxState
+added old body = record old {
+  calls = old.calls ++ record { number = old.next; body = body } ∷ [];
+  next = old.next + 1;
+}
+
+abbrev pub first_call : List Call → Option Call
+first_call [] = None
+first_call (call ∷ later) = Some call
+
+-- what is to be sent: the first call, where there is a link and no call is in flight
+abbrev pub sendable_by : Option ℕ → Bool → List Call → Option Call
+sendable_by None is_in_flight calls = None
+sendable_by (Some link) true calls = None
+sendable_by (Some link) false calls = first_call calls
+
+abbrev pub sendable : OutboxState → Option Call
+sendable outbox = sendable_by outbox.link outbox.is_in_flight outbox.calls
+
+abbrev pub sent_by : Option Call → OutboxState → OutboxState
+sent_by None old = old
+sent_by (Some call) old = record old { is_in_flight = true }
+
+-- after a sending, what was sent is in flight
+abbrev pub sent : OutboxState → OutboxState
+sent old = sent_by (sendable old) old
+
+-- ---- confirmations
+
+abbrev pub is_number_of_first : List Call → ℕ → Bool
+is_number_of_first [] number = false
+is_number_of_first (call ∷ later) number = call.number == number
+
+-- whether the call in flight has this number
+abbrev pub is_number_in_flight : OutboxState → ℕ → Bool
+is_number_in_flight outbox number = outbox.is_in_flight && is_number_of_first outbox.calls number
+
+-- The call in flight goes, whatever the point answered to it. Another number confirms nothing.
+abbrev pub confirmed : OutboxState → ℕ → OutboxState
+confirmed old number =
+    if is_number_in_flight old number then record old { calls = drop 1 old.calls; is_in_flight = false } else old
+
+-- ---- what is always so
+
+-- the numbers of the calls go up by one and end before the next call's
+abbrev pub AreConsecutive : OutboxState → Type 0
+AreConsecutive outbox =
+    map (λ (call : Call). call.number) outbox.calls
+    ≡ range_with_len (outbox.next - length outbox.calls) (length outbox.calls)
+
+pub record IsOutbox (outbox : OutboxState) : Type 0 where
+  pub numbers : AreConsecutive outbox
+  pub drawn : length outbox.calls ≤ outbox.next
+  pub last : outbox.next ≤ last_call_number + 1
+  pub few : length outbox.calls ≤ max_calls
+  pub in_flight : outbox.is_in_flight ≡ true → IsSome outbox.link × (0 < length outbox.calls)

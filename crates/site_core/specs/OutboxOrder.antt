@@ -1,0 +1,86 @@
+-- In which order the calls of a point are sent, whatever sendings, replies and links are lost.
+use Rattle.std.specs.Prelude.{ℕ, ◌+◌, ◌≡◌, ◌⊎◌, List, [], ◌∷◌, ◌++◌, Option, None, Some, take, if◌then◌else◌}
+use Rattle.site_core.specs.declared.call.Call.{Call}
+use Rattle.site_core.specs.declared.call.CallBody.{CallBody}
+use Rattle.site_core.specs.Outbox.{OutboxState, opening_outbox, attached, lost, added, sendable, sent, is_number_in_flight, confirmed, numbered, clear_all}
+
+-- ---- numbers
+
+-- each number equals the one before it or is one more
+abbrev pub GoesOn : ℕ → List ℕ → Type 0
+GoesOn before [] = Unit {0}
+GoesOn before (number ∷ later) = ((number ≡ before) ⊎ (number ≡ before + 1)) × GoesOn number later
+
+-- The order of sending: call 0 is the first, and a call may be sent again before the next one. So no call
+-- is left out, and no older one comes after a newer one.
+abbrev pub AreInSendingOrder : List ℕ → Type 0
+AreInSendingOrder [] = Unit {0}
+AreInSendingOrder (number ∷ later) = (number ≡ 0) × GoesOn number later
+
+-- ---- what comes to an outbox
+
+pub data Traffic : Type 0 where
+  Attach : (link : ℕ) → Traffic
+  Lose : Traffic
+  Add : (body : CallBody) → Traffic
+  Send : Traffic
+  Confirm : (number : ℕ) → Traffic
+
+abbrev pub after : OutboxState → Traffic → OutboxState
+after old (Attach link) = attached old link
+after old Lose = lost old
+after old (Add body) = added old body
+after old Send = sent old
+after old (Confirm number) = confirmed old number
+
+abbrev pub after_all : OutboxState → List Traffic → OutboxState
+after_all old [] = old
+after_all old (event ∷ later) = after_all (after old event) later
+
+-- ---- what an outbox does with it
+
+abbrev pub number_of : Option Call → List ℕ
+number_of None = []
+number_of (Some call) = call.number ∷ []
+
+abbrev pub sent_at : OutboxState → Traffic → List ℕ
+sent_at old Send = number_of (sendable old)
+sent_at old other = []
+
+-- the numbers of the calls that are sent, in the order of their sendings
+abbrev pub numbers_sent : OutboxState → List Traffic → List ℕ
+numbers_sent old [] = []
+numbers_sent old (event ∷ later) = sent_at old event ++ numbers_sent (after old event) later
+
+abbrev pub confirmed_at : OutboxState → Traffic → List Call
+confirmed_at old (Confirm number) = if is_number_in_flight old number then take 1 old.calls else []
+confirmed_at old other = []
+
+-- the calls that are confirmed, in the order of their confirmations
+abbrev pub calls_confirmed : OutboxState → List Traffic → List Call
+calls_confirmed old [] = []
+calls_confirmed old (event ∷ later) = confirmed_at old event ++ calls_confirmed (after old event) later
+
+abbrev pub added_at : Traffic → List CallBody
+added_at (Add body) = body ∷ []
+added_at other = []
+
+abbrev pub bodies_added : List Traffic → List CallBody
+bodies_added [] = []
+bodies_added (event ∷ later) = added_at event ++ bodies_added later
+
+-- every call so far: call 0 clears all, and call k is the k-th that was added
+abbrev pub calls_so_far : List Traffic → List Call
+calls_so_far traffic = numbered 0 (clear_all ∷ bodies_added traffic)
+
+-- ---- the laws
+
+-- calls are sent in order
+abbrev pub AreSentInOrder : Type 0
+AreSentInOrder = (traffic : List Traffic) → AreInSendingOrder (numbers_sent opening_outbox traffic)
+
+-- the calls of an outbox are all calls without the confirmed ones, and those were confirmed in order
+abbrev pub AreLeftUnlessConfirmed : Type 0
+AreLeftUnlessConfirmed =
+    (traffic : List Traffic)
+    → calls_confirmed opening_outbox traffic ++ (after_all opening_outbox traffic).calls ≡ calls_so_far traffic

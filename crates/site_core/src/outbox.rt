@@ -1,0 +1,221 @@
+//! What the central system keeps of its calls to a charge point.
+
+ghost use Rattle.std.specs.Prelude.{◌≡◌, ◌+◌, ◌-◌, ◌<◌, ◌≤◌, ◌^◌, ◌++◌, IfErr, IfOk, OnErr, OnOk, length};
+ghost use Rattle.site_core.specs.Outbox.{IsOutbox, added, attached, confirmed, is_exhausted, is_full, is_number_in_flight, last_call_number, lost, max_calls, opening_outbox, sendable, sent};
+
+use crate::call::{Call, CallBody};
+use profile::Criteria;
+use std::alloc::{AllocError, Global};
+use std::collections::LinkedList;
+use std::marker::Model;
+
+/// The most calls of a point that aren't confirmed, the one in flight among them.
+const MAX_CALLS: usize = 256;
+
+/// The highest number of a call.
+const LAST_CALL_NUMBER: u64 = 1_000_000_000_000;
+
+/// ClearChargingProfile without a criterion (chapter 5.5).
+const EVERY_PROFILE: Criteria = Criteria {
+    id: None,
+    connector: None,
+    purpose: None,
+    stack_level: None,
+};
+
+/// A call that has its memory, so that no outbox lacks any when it is added.
+#[derive(Debug, Drop)]
+pub struct PreparedCall {
+    /// One body, in the place that it has in an outbox from then on.
+    bodies: LinkedList<CallBody>,
+}
+
+// Clauses see the call's body.
+impl Model for PreparedCall {
+    ghost use Rattle.std.specs.Prelude.{◌≡◌, length, slice_index_or};
+    ghost use Rattle.site_core.specs.declared.call.CallBody.{CallBody};
+    ghost use Rattle.site_core.specs.Outbox.{clear_all};
+
+    ghost Value = { CallBody };
+
+    ghost view = { λ p. slice_index_or p.bodies 0 clear_all };
+
+    ghost invariant = { λ p. length p.bodies ≡ 1 };
+}
+
+impl PreparedCall {
+    /// A call of this body, which comes back where memory runs out.
+    pub fn new(alloc: Global, body: CallBody) -> Result<PreparedCall, (AllocError, CallBody)>
+        ensures call { IfOk result (λ call. call ≡ body) }
+        ensures back { IfErr result (λ refused. refused.1 ≡ body) }
+    {
+        let mut bodies = LinkedList::new(alloc);
+        match bodies.push_back(body) {
+            Ok(()) => Ok(PreparedCall { bodies }),
+            Err(refused) => Err((AllocError, refused.value)),
+        }
+    }
+}
+
+/// What the central system keeps of its calls to a charge point: the point's present link, and the
+/// calls that aren't confirmed, of which the first is in flight or waits. Call 0 clears all
+/// profiles.
+#[derive(Debug, Drop)]
+pub struct Outbox {
+    /// The number of the point's present link.
+    link: Option<u64>,
+    /// The calls that aren't confirmed, the last of them with the number before the next one. A
+    /// linked list, since a call brings its place along and the first one leaves at once.
+    bodies: LinkedList<CallBody>,
+    /// The number of the next call.
+    next: u64,
+    /// Whether the first call was sent over the present link.
+    is_in_flight: bool,
+}
+
+impl Model for Outbox {
+    ghost use Rattle.std.specs.Prelude.{◌+◌, ◌-◌, ◌<◌, ◌≤◌, ◌≡◌, true, IsSome, length};
+    ghost use Rattle.site_core.specs.Outbox.{OutboxState, numbered, max_calls, last_call_number};
+
+    ghost Value = { OutboxState };
+
+    ghost view = { λ o. record {
+      link = o.link;
+      calls = numbered (o.next - length o.bodies) o.bodies;
+      next = o.next;
+      is_in_flight = o.is_in_flight;
+    } };
+
+    ghost invariant = { λ o. (length o.bodies ≤ o.next)
+        × (o.next ≤ last_call_number + 1)
+        × (length o.bodies ≤ max_calls)
+        × (o.is_in_flight ≡ true → IsSome o.link × (0 < length o.bodies)) };
+}
+
+impl Outbox {
+    /// The outbox of a point that has never been linked: call 0 waits in it.
+    pub fn new(alloc: Global) -> Result<Outbox, AllocError>
+        ensures { IfOk result (λ outbox. outbox ≡ opening_outbox) }
+    {
+        let mut bodies = LinkedList::new(alloc);
+        bodies.push_back(CallBody::Clear(EVERY_PROFILE))?;
+        Ok(Outbox {
+            link: None,
+            bodies,
+            next: 1,
+            is_in_flight: false,
+        })
+    }
+
+    /// How many calls aren't confirmed, the one in flight among them.
+    pub fn len(&self) -> usize
+        ensures value { result ≡ length self.now.calls }
+        ensures outbox { IsOutbox self.now }
+    {
+        self.bodies.len()
+    }
+
+    /// Whether as many calls as may be aren't confirmed.
+    pub fn is_full(&self) -> bool
+        ensures { result ≡ is_full self.now }
+    {
+        self.bodies.len() == MAX_CALLS
+    }
+
+    /// Whether the last call number was drawn.
+    pub fn is_exhausted(&self) -> bool
+        ensures { result ≡ is_exhausted self.now }
+    {
+        LAST_CALL_NUMBER < self.next
+    }
+
+    /// The point's present link.
+    pub fn link(&self) -> Option<u64>
+        ensures { result ≡ self.now.link }
+    {
+        self.link
+    }
+
+    /// Takes a link as the point's present one. A call in flight over the one before waits again.
+    pub fn attach(&mut self, link: u64)
+        ensures { self.new ≡ attached self.old link }
+    {
+        self.link = Some(link);
+        self.is_in_flight = false;
+    }
+
+    /// The present link is lost. A call in flight waits again.
+    pub fn lose(&mut self)
+        ensures { self.new ≡ lost self.old }
+    {
+        self.link = None;
+        self.is_in_flight = false;
+    }
+
+    /// Adds a call, which gets the next number. Allocates nothing.
+    pub fn add(&mut self, call: PreparedCall)
+        requires room { length self.old.calls < max_calls }
+        requires number { self.old.next ≤ last_call_number }
+        ensures { self.new ≡ added self.old call }
+    {
+        join(&mut self.bodies, call.bodies);
+        self.next += 1;
+    }
+
+    /// A copy of the first call, which is in flight from then on: `None` where there is no link,
+    /// where a call is in flight, and where none waits. Out of memory nothing changes.
+    pub fn send(&mut self) -> Result<Option<Call>, AllocError>
+        ensures call { IfOk result (λ call. call ≡ sendable self.old) }
+        ensures outbox { OnOk result (self.new ≡ sent self.old) }
+        ensures kept { OnErr result (self.new ≡ self.old) }
+    {
+        if self.link.is_none() || self.is_in_flight {
+            return Ok(None);
+        }
+        let number = self.first_number();
+        let Some(body) = self.bodies.front() else {
+            return Ok(None);
+        };
+        let body = body.copy()?;
+        self.is_in_flight = true;
+        Ok(Some(Call { number, body }))
+    }
+
+    /// Removes the call in flight where it has this number, and says whether it has.
+    pub fn confirm(&mut self, number: u64) -> bool
+        ensures answer { result ≡ is_number_in_flight self.old number }
+        ensures outbox { self.new ≡ confirmed self.old number }
+    {
+        if !self.is_number_in_flight(number) {
+            return false;
+        }
+        drop(self.bodies.pop_front());
+        self.is_in_flight = false;
+        true
+    }
+
+    /// Whether the call in flight has this number.
+    fn is_number_in_flight(&self, number: u64) -> bool
+        ensures { result ≡ is_number_in_flight self.now number }
+    {
+        if !self.is_in_flight {
+            return false;
+        }
+        self.first_number() == number
+    }
+
+    /// The number of the first call, or the next one's where there is none.
+    fn first_number(&self) -> u64
+        ensures { result ≡ self.now.next - length self.now.calls }
+    {
+        self.next - self.bodies.len() as u64
+    }
+}
+
+/// Moves bodies behind others. Allocates nothing.
+fn join(bodies: &mut LinkedList<CallBody>, mut more: LinkedList<CallBody>)
+    requires { length bodies.old + length more < 2 ^ 63 }
+    ensures { bodies.new ≡ bodies.old ++ more }
+{
+    bodies.append(&mut more).unwrap();
+}
