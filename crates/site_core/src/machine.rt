@@ -1,9 +1,10 @@
 //! The machine: the state of the central system, and its one step.
 
-ghost use Rattle.std.specs.Prelude.{◌≡◌, ◌<◌, ◌≤◌, Some, IfSome, IfNone, IfOk, IfErr, MatchResult, Option, option_map, length};
+ghost use Rattle.std.specs.Prelude.{◌≡◌, ◌<◌, ◌≤◌, Some, IfSome, IfNone, IfOk, IfErr, MatchResult, Ok, Err, length};
 ghost use Rattle.ocpp_scalars.specs.declared.refusal.Refusal.{Refusal};
 ghost use Rattle.site_rules.specs.Site.{place_of};
 ghost use Rattle.transactions.specs.declared.active_table.Began.{Began};
+ghost use Rattle.site_core.specs.declared.reply.Reply.{Reply};
 ghost use Rattle.site_core.specs.State.{AreNumbers, opening, opening_at, book_at};
 ghost use Rattle.site_core.specs.Step.{Steps, IsRefused, first_refusal, NeedsNoMemory, at_point, version_refusal, refusal_to_install, installs, clears, refusal_to_start, starts_as, starts, stops, refusal_to_take, takes, Compiles, no_answer, compiles, answers, finishes, cause_of};
 ghost use Rattle.site_core.specs.Run.{Runs};
@@ -19,6 +20,7 @@ use crate::request::{MAX_REQUESTS, Request};
 use crate::requests::{compile_request, hand_out, stop_all};
 use crate::shared_book::SharedBook;
 use crate::step::{Step, Take};
+use meaning::Ask;
 use ocpp_scalars::Refusal;
 use profile::{Criteria, Row};
 use site_rules::{Site, admit};
@@ -121,11 +123,45 @@ impl Machine {
         ensures certain { NeedsNoMemory step → IfErr result
             (λ refused. first_refusal self.old step ≡ Some refused.refusal) }
     {
-        let _ = Vec::<u8>::new(self.alloc);
-        Err(Refused {
-            refusal: ocpp_scalars::Refusal::OutOfMemory,
-            step,
-        })
+        match step {
+            Step::Install { point, row } => match self.install(&point, row) {
+                Ok(reply) => Ok(reply),
+                Err((refusal, row)) => Err(Refused {
+                    refusal,
+                    step: Step::Install { point, row },
+                }),
+            },
+            Step::Clear { point, criteria } => {
+                let made = self.clear(&point, &criteria);
+                with_step(made, Step::Clear { point, criteria })
+            }
+            Step::Start {
+                point,
+                connector,
+                begin,
+            } => match self.start(&point, connector, begin) {
+                Ok(reply) => Ok(reply),
+                Err((refusal, begin)) => Err(Refused {
+                    refusal,
+                    step: Step::Start {
+                        point,
+                        connector,
+                        begin,
+                    },
+                }),
+            },
+            Step::Stop { point, transaction } => {
+                let made = self.stop(&point, transaction);
+                with_step(made, Step::Stop { point, transaction })
+            }
+            Step::Take(take) => {
+                let made = self.take(&take);
+                with_step(made, Step::Take(take))
+            }
+            Step::Compile(number) => with_step(self.compile(number), Step::Compile(number)),
+            Step::Answer(number) => with_step(self.answer(number), Step::Answer(number)),
+            Step::Finish => Ok(self.finish()),
+        }
     }
 
     /// Makes steps one after another, each made or refused. Out of memory for the outcomes no step was
@@ -139,6 +175,73 @@ impl Machine {
     }
 
     // ---- points
+
+    /// Installs a row at a point. On a refusal the row comes back.
+    fn install(&mut self, point: &PointId, row: Row) -> Result<Reply, (Refusal, Row)>
+        ensures made { IfOk result (λ reply.
+            IsMade (at_point self.old point.now (installs self.old point.now row)) reply self.new) }
+        ensures refused { IfErr result (λ refused. IsNotMade self.old
+            (at_point self.old point.now (installs self.old point.now row)) refused.0 self.new) }
+        ensures back { IfErr result (λ refused. refused.1 ≡ row) }
+    {
+        match self.place_at(point) {
+            Ok(place) => self.install_at(point, place, row),
+            Err(refusal) => Err((refusal, row)),
+        }
+    }
+
+    /// Removes the profiles of a point that match each criterion that is given.
+    fn clear(&mut self, point: &PointId, criteria: &Criteria) -> Result<Reply, Refusal>
+        ensures made { IfOk result (λ reply.
+            IsMade (at_point self.old point.now (clears self.old criteria.now)) reply self.new) }
+        ensures refused { IfErr result (λ refusal. IsNotMade self.old
+            (at_point self.old point.now (clears self.old criteria.now)) refusal self.new) }
+    {
+        let place = self.place_at(point)?;
+        self.clear_at(place, criteria)
+    }
+
+    /// Begins a transaction at a connector of a point, or answers a start that is told again. On a refusal
+    /// what began comes back.
+    fn start(
+        &mut self,
+        point: &PointId,
+        connector: u32,
+        begin: Begin,
+    ) -> Result<Reply, (Refusal, Begin)>
+        ensures made { IfOk result (λ reply. IsMade
+            (at_point self.old point.now (starts self.old connector begin)) reply self.new) }
+        ensures refused { IfErr result (λ refused. IsNotMade self.old
+            (at_point self.old point.now (starts self.old connector begin)) refused.0 self.new) }
+        ensures back { IfErr result (λ refused. refused.1 ≡ begin) }
+    {
+        match self.place_at(point) {
+            Ok(place) => self.start_at(place, connector, begin),
+            Err(refusal) => Err((refusal, begin)),
+        }
+    }
+
+    /// Ends the transaction of this number, where it is active at a point.
+    fn stop(&mut self, point: &PointId, number: i32) -> Result<Reply, Refusal>
+        ensures made { IfOk result (λ reply.
+            IsMade (at_point self.old point.now (stops self.old number)) reply self.new) }
+        ensures refused { IfErr result (λ refusal. IsNotMade self.old
+            (at_point self.old point.now (stops self.old number)) refusal self.new) }
+    {
+        let place = self.place_at(point)?;
+        self.stop_at(place, number)
+    }
+
+    /// Keeps a request for a schedule of a point.
+    fn take(&mut self, take: &Take) -> Result<Reply, Refusal>
+        ensures made { IfOk result (λ reply.
+            IsMade (at_point self.old take.now.point (takes self.old take.now)) reply self.new) }
+        ensures refused { IfErr result (λ refusal. IsNotMade self.old
+            (at_point self.old take.now.point (takes self.old take.now)) refusal self.new) }
+    {
+        let place = self.place_at(&take.point)?;
+        self.take_at(place, take)
+    }
 
     /// The place of the point of an identity, while the central system isn't stopped. The refusals are
     /// `Stopped` and `UnknownPoint`.
@@ -303,8 +406,9 @@ impl Machine {
     /// Ends the transaction of this number, where it is active at the point at a place.
     fn stop_at(&mut self, place: usize, number: i32) -> Result<Reply, Refusal>
         requires { place < length self.old.books }
-        ensures { MatchResult result
-            (λ reply. IsMade (stops self.old number place) reply self.new)
+        ensures made { IfOk result
+            (λ reply. IsMade (stops self.old number place) reply self.new) }
+        ensures refused { IfErr result
             (λ refusal. IsNotMade self.old (stops self.old number place) refusal self.new) }
     {
         if book_at(&self.books, place).book().connector_of(number).is_none() {
@@ -346,14 +450,15 @@ impl Machine {
             (λ reply. IsMade (takes self.old take.now place) reply self.new)
             (λ refusal. IsNotMade self.old (takes self.old take.now place) refusal self.new) }
     {
-        let book = book_at(&self.books, place);
-        let ask = ask_at(self.site.unit(), book.book(), take)?;
+        let ask = ask_at(self.site.unit(), book_at(&self.books, place).book(), take)?;
         if let Some(refusal) = self.refusal_to_take(take) {
             return Err(refusal);
         }
+        let book = book_at(&self.books, place);
         let kept = book.share()?;
         let told = book.share()?;
         let number = self.numbers.request + 1;
+        let reply = taken(number, told, &ask);
         self.requests.push(Request {
             number,
             place,
@@ -362,11 +467,7 @@ impl Machine {
             answer: None,
         })?;
         self.numbers.request = number;
-        Ok(Reply::Taken {
-            number,
-            book: told,
-            ask,
-        })
+        Ok(reply)
     }
 
     /// Compiles the schedule of the request of a number.
@@ -397,5 +498,26 @@ impl Machine {
             self.is_stopped = true;
         }
         Reply::Finished
+    }
+}
+
+/// What was made, or the refusal with the step.
+fn with_step(made: Result<Reply, Refusal>, step: Step) -> Result<Reply, Refused>
+    ensures { MatchResult result (λ reply. made ≡ Ok reply)
+        (λ refused. (made ≡ Err refused.refusal) × (refused.step ≡ step)) }
+{
+    match made {
+        Ok(reply) => Ok(reply),
+        Err(refusal) => Err(Refused { refusal, step }),
+    }
+}
+
+fn taken(number: u64, book: SharedBook, ask: &Ask) -> Reply
+    ensures { result ≡ Reply.Taken number book ask.now }
+{
+    Reply::Taken {
+        number,
+        book,
+        ask: *ask,
     }
 }

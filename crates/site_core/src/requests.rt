@@ -1,6 +1,6 @@
 //! The kept requests: finding one by its number, compiling it, and handing out its answer.
 
-ghost use Rattle.std.specs.Prelude.{◌≡◌, ◌==◌, Some, Ok, Err, true, is_some, MatchResult, option_map};
+ghost use Rattle.std.specs.Prelude.{◌≡◌, ◌≤◌, ◌==◌, length, Some, Ok, Err, true, is_some, MatchResult, option_map};
 ghost use Rattle.site_core.specs.declared.reply.Reply.{Reply};
 ghost use Rattle.std.specs.List.{position};
 ghost use Rattle.site_core.specs.State.{Kept};
@@ -29,10 +29,11 @@ pub(crate) fn compile_request(
     requests: &mut Vec<Request>,
     number: u64,
 ) -> Result<(), Refusal>
-    ensures { MatchResult result (λ _. IsCompiledIn number requests.old.items requests.new.items)
+    ensures made { MatchResult result (λ _. IsCompiledIn number requests.old.items requests.new.items)
         (λ refusal.
             (refusal_to_compile (request_of number requests.old.items) ≡ Some refusal)
             × (requests.new.items ≡ requests.old.items)) }
+    ensures many { length requests.new.items ≡ length requests.old.items }
 {
     let Some(place) = place_of(requests, number) else {
         return Err(Refusal::UnknownRequest);
@@ -49,11 +50,12 @@ pub(crate) fn compile_request(
 /// Hands out the answer to the request of a number, which is no longer kept then, or says that it isn't
 /// compiled yet. The refusal is `UnknownRequest`.
 pub(crate) fn hand_out(requests: &mut Vec<Request>, number: u64) -> Result<Reply, Refusal>
-    ensures { MatchResult result
+    ensures made { MatchResult result
         (λ reply. handed_out number requests.old.items ≡ Ok (reply, requests.new.items))
         (λ refusal.
             (handed_out number requests.old.items ≡ Err refusal)
             × (requests.new.items ≡ requests.old.items)) }
+    ensures many { length requests.new.items ≤ length requests.old.items }
 {
     let Some(place) = place_of(requests, number) else {
         return Err(Refusal::UnknownRequest);

@@ -6,17 +6,17 @@ use Rattle.site_core.specs.ByCases.Requests.{handed_kept}
 use Rattle.site_core.proofs.RequestLemmas.{has_number, none_of, handed, handed_not_yet}
 use Rattle.site_core.proofs.requests.hand_out.Goals as goal
 
-pub returns-in_default : goal.returns-in_default
-returns-in_default c =
+pub returns-in_default-clause-made : goal.returns-in_default-clause-made
+returns-in_default-clause-made c =
     let none : None ≡ position (has_number c.args.number) c.args.requests.now.items = rw c.deref.ensures.value at c.in_default.ensures in
     (ap (λ (found : Option Kept). handed_kept found c.args.requests.now.items) (none_of c.args.number c.args.requests.now.items none), refl)
 
-pub returns-then-not-is_answered : goal.returns-then-not-is_answered
-returns-then-not-is_answered c =
+pub returns-then-not-is_answered-clause-made : goal.returns-then-not-is_answered-clause-made
+returns-then-not-is_answered-clause-made c =
     let found : Some c.in-Some.place ≡ position (has_number c.args.number) c.args.requests.now.items = rw c.deref.ensures.value at c.in-Some.ensures in
     handed_not_yet c.args.number c.args.requests.now.items c.in-Some.place c.index.result.now found c.index.ensures (sym c.if-not-is_answered.ensures)
 
-pub returns : goal.returns
-returns c =
+pub returns-clause-made : goal.returns-clause-made
+returns-clause-made c =
     let found : Some c.in-Some.place ≡ position (has_number c.args.number) c.args.requests.now.items = rw c.deref.ensures.value at c.in-Some.ensures in
     rw c.remove-request.ensures.items (handed c.args.number c.args.requests.now.items c.in-Some.place c.remove-request.result c.reply_of.result found c.remove-request.ensures.value c.reply_of.ensures)
