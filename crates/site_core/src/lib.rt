@@ -7,6 +7,7 @@
 mod ask;
 mod call;
 mod headline;
+mod books;
 mod machine;
 mod numbers;
 mod obey_laws;
@@ -16,6 +17,7 @@ mod outcome;
 mod point_id;
 mod reply;
 mod request;
+mod requests;
 mod shared_book;
 mod step;
 
@@ -31,5 +33,6 @@ pub use outbox_laws::calls_are_sent_in_order;
 pub use outcome::{Outcome, Refused, RunFault};
 pub use point_id::PointId;
 pub use reply::Reply;
+pub use request::MAX_REQUESTS;
 pub use shared_book::SharedBook;
 pub use step::{Step, Take};

@@ -1,21 +1,38 @@
 //! The machine: the state of the central system, and its one step.
 
-ghost use Rattle.std.specs.Prelude.{◌≡◌, ◌<◌, ◌≤◌, Some, IfSome, IfOk, IfErr, MatchResult, length};
+ghost use Rattle.std.specs.Prelude.{◌≡◌, ◌<◌, ◌≤◌, Some, IfSome, IfNone, IfOk, IfErr, MatchResult, Ok, Err, length};
+ghost use Rattle.ocpp_scalars.specs.declared.refusal.Refusal.{Refusal};
 ghost use Rattle.site_rules.specs.Site.{place_of};
-ghost use Rattle.site_core.specs.State.{AreNumbers, opening, opening_at};
-ghost use Rattle.site_core.specs.Step.{Steps, IsRefused, first_refusal, NeedsNoMemory};
+ghost use Rattle.transactions.specs.declared.active_table.Began.{Began};
+ghost use Rattle.site_core.specs.declared.reply.Reply.{Reply};
+ghost use Rattle.site_core.specs.State.{AreNumbers, opening, opening_at, book_at, outbox_at};
+ghost use Rattle.site_core.specs.Step.{Steps, IsRefused, first_refusal, NeedsNoMemory, at_point, version_refusal, refusal_to_call, refusal_to_install, installs, clears, refusal_to_start, starts_as, starts, stops, refusal_to_take, takes, Compiles, no_answer, compiles, answers, finishes, attaches, at_link, sends, confirms, loses, cause_of};
 ghost use Rattle.site_core.specs.Run.{Runs};
+ghost use Rattle.site_core.specs.ByCases.Made.{IsMade, IsNotMade, place_in, linked_place_in};
+ghost use Rattle.site_core.specs.Outbox.{max_calls, last_call_number};
+ghost use Rattle.messages.specs.declared.call.CallBody.{CallBody};
 
-use crate::numbers::Numbers;
-use crate::outbox::Outbox;
+use crate::ask::ask_at;
+use crate::books::{Starting, book_at, clear_at, install_at, opening_books, start_at, stop_at};
+use crate::numbers::{MAX_NUMBER, MAX_TRANSACTION, Numbers};
+use crate::outbox::{Outbox, PreparedCall};
+use crate::outboxes::{
+    add_at, attach_at, confirm_at, lose_at, opening_outboxes, outbox_at, send_at,
+};
 use crate::outcome::{Outcome, Refused, RunFault};
+use crate::point_id::PointId;
 use crate::reply::Reply;
-use crate::request::Request;
+use crate::request::{MAX_REQUESTS, Request};
+use crate::requests::{compile_request, hand_out, stop_all};
 use crate::shared_book::SharedBook;
-use crate::step::Step;
-use site_rules::Site;
+use crate::step::{Step, Take};
+use messages::CallBody;
+use ocpp_scalars::Refusal;
+use profile::{Criteria, Row};
+use site_rules::{Site, admit};
 use std::alloc::{AllocError, Global};
 use std::marker::Model;
+use transactions::{Began, Begin};
 
 /// The central system of a site: what each of its points has, the requests for schedules that are kept,
 /// and the numbers that were drawn last.
@@ -76,12 +93,14 @@ impl Machine {
         requires { AreNumbers numbers }
         ensures { IfOk result (λ machine. machine ≡ opening_at site numbers) }
     {
+        let books = opening_books(alloc, &site)?;
+        let outboxes = opening_outboxes(alloc, &site)?;
         Ok(Machine {
             alloc,
             site,
             numbers,
-            books: Vec::new(alloc),
-            outboxes: Vec::new(alloc),
+            books,
+            outboxes,
             requests: Vec::new(alloc),
             is_stopped: false,
         })
@@ -116,11 +135,61 @@ impl Machine {
         ensures certain { NeedsNoMemory step → IfErr result
             (λ refused. first_refusal self.old step ≡ Some refused.refusal) }
     {
-        let _ = Vec::<u8>::new(self.alloc);
-        Err(Refused {
-            refusal: ocpp_scalars::Refusal::OutOfMemory,
-            step,
-        })
+        match step {
+            Step::Install { point, row } => match self.install(&point, row) {
+                Ok(reply) => Ok(reply),
+                Err((refusal, row)) => Err(Refused {
+                    refusal,
+                    step: Step::Install { point, row },
+                }),
+            },
+            Step::Clear { point, criteria } => {
+                let made = self.clear(&point, &criteria);
+                with_step(made, Step::Clear { point, criteria })
+            }
+            Step::Start {
+                point,
+                connector,
+                begin,
+            } => match self.start(&point, connector, begin) {
+                Ok(reply) => Ok(reply),
+                Err((refusal, begin)) => Err(Refused {
+                    refusal,
+                    step: Step::Start {
+                        point,
+                        connector,
+                        begin,
+                    },
+                }),
+            },
+            Step::Stop { point, transaction } => {
+                let made = self.stop(&point, transaction);
+                with_step(made, Step::Stop { point, transaction })
+            }
+            Step::Take(take) => {
+                let made = self.take(&take);
+                with_step(made, Step::Take(take))
+            }
+            Step::Compile(number) => with_step(self.compile(number), Step::Compile(number)),
+            Step::Answer(number) => with_step(self.answer(number), Step::Answer(number)),
+            Step::Finish => Ok(self.finish()),
+            Step::Attach(point) => {
+                let made = self.attach(&point);
+                with_step(made, Step::Attach(point))
+            }
+            Step::Send { point, link } => {
+                let made = self.send(&point, link);
+                with_step(made, Step::Send { point, link })
+            }
+            Step::Confirm { point, link, call } => {
+                let made = self.confirm(&point, link, call);
+                with_step(made, Step::Confirm { point, link, call })
+            }
+            Step::Lost { point, link } => {
+                let made = self.lose(&point, link);
+                with_step(made, Step::Lost { point, link })
+            }
+        }
     }
 
     /// Makes steps one after another, each made or refused. Out of memory for the outcomes no step was
@@ -131,5 +200,471 @@ impl Machine {
             (λ fault. (self.new ≡ self.old) × (fault.steps ≡ steps)) }
     {
         Err(RunFault { steps })
+    }
+
+    // ---- points
+
+    /// Installs a row at a point. On a refusal the row comes back.
+    fn install(&mut self, point: &PointId, row: Row) -> Result<Reply, (Refusal, Row)>
+        ensures made { IfOk result (λ reply.
+            IsMade (at_point self.old point.now (installs self.old point.now row)) reply self.new) }
+        ensures refused { IfErr result (λ refused. IsNotMade self.old
+            (at_point self.old point.now (installs self.old point.now row)) refused.0 self.new) }
+        ensures back { IfErr result (λ refused. refused.1 ≡ row) }
+    {
+        match self.place_at(point) {
+            Ok(place) => self.install_at(point, place, row),
+            Err(refusal) => Err((refusal, row)),
+        }
+    }
+
+    /// Removes the profiles of a point that match each criterion that is given.
+    fn clear(&mut self, point: &PointId, criteria: &Criteria) -> Result<Reply, Refusal>
+        ensures made { IfOk result (λ reply.
+            IsMade (at_point self.old point.now (clears self.old criteria.now)) reply self.new) }
+        ensures refused { IfErr result (λ refusal. IsNotMade self.old
+            (at_point self.old point.now (clears self.old criteria.now)) refusal self.new) }
+    {
+        let place = self.place_at(point)?;
+        self.clear_at(place, criteria)
+    }
+
+    /// Begins a transaction at a connector of a point, or answers a start that is told again. On a refusal
+    /// what began comes back.
+    fn start(
+        &mut self,
+        point: &PointId,
+        connector: u32,
+        begin: Begin,
+    ) -> Result<Reply, (Refusal, Begin)>
+        ensures made { IfOk result (λ reply. IsMade
+            (at_point self.old point.now (starts self.old connector begin)) reply self.new) }
+        ensures refused { IfErr result (λ refused. IsNotMade self.old
+            (at_point self.old point.now (starts self.old connector begin)) refused.0 self.new) }
+        ensures back { IfErr result (λ refused. refused.1 ≡ begin) }
+    {
+        match self.place_at(point) {
+            Ok(place) => self.start_at(place, connector, begin),
+            Err(refusal) => Err((refusal, begin)),
+        }
+    }
+
+    /// Ends the transaction of this number, where it is active at a point.
+    fn stop(&mut self, point: &PointId, number: i32) -> Result<Reply, Refusal>
+        ensures made { IfOk result (λ reply.
+            IsMade (at_point self.old point.now (stops self.old number)) reply self.new) }
+        ensures refused { IfErr result (λ refusal. IsNotMade self.old
+            (at_point self.old point.now (stops self.old number)) refusal self.new) }
+    {
+        let place = self.place_at(point)?;
+        self.stop_at(place, number)
+    }
+
+    /// Keeps a request for a schedule of a point.
+    fn take(&mut self, take: &Take) -> Result<Reply, Refusal>
+        ensures made { IfOk result (λ reply.
+            IsMade (at_point self.old take.now.point (takes self.old take.now)) reply self.new) }
+        ensures refused { IfErr result (λ refusal. IsNotMade self.old
+            (at_point self.old take.now.point (takes self.old take.now)) refusal self.new) }
+    {
+        let place = self.place_at(&take.point)?;
+        self.take_at(place, take)
+    }
+
+    /// The place of the point of an identity, while the central system isn't stopped. The refusals are
+    /// `Stopped` and `UnknownPoint`.
+    fn place_at(&self, point: &PointId) -> Result<usize, Refusal>
+        ensures place { result ≡ place_in self.now point.now }
+        ensures here { IfOk result (λ place. place_of self.now.site point.now ≡ Some place) }
+        ensures within { IfOk result (λ place. place < length self.now.books) }
+    {
+        if self.is_stopped {
+            return Err(Refusal::Stopped);
+        }
+        match self.site.place_of(point.as_str()) {
+            Some(place) => Ok(place),
+            None => Err(Refusal::UnknownPoint),
+        }
+    }
+
+    /// Why a row isn't installed in the book of a point, which is at this place, if memory lasts.
+    fn refusal_to_install(&self, point: &PointId, place: usize, row: &Row) -> Option<Refusal>
+        requires here { place_of self.now.site point.now ≡ Some place }
+        requires within { place < length self.now.books }
+        ensures refusal { result ≡ refusal_to_install self.now point.now row.now place }
+        ensures connector { IfNone result
+            (row.now.connector ≤ length (book_at self.now place).ceilings) }
+    {
+        if let Err(refusal) = admit(&self.site, point.as_str(), row.connector, &row.profile) {
+            return Some(refusal);
+        }
+        if let Some(refusal) = book_at(&self.books, place).book().install_refusal(row) {
+            return Some(refusal);
+        }
+        self.refusal_to_call(place)
+    }
+
+    /// Why no call is added for the point at a place, if memory lasts.
+    fn refusal_to_call(&self, place: usize) -> Option<Refusal>
+        requires { place < length self.now.outboxes }
+        ensures refusal { result ≡ refusal_to_call self.now place }
+        ensures room { IfNone result (length (outbox_at self.now place).calls < max_calls) }
+        ensures number { IfNone result ((outbox_at self.now place).next ≤ last_call_number) }
+    {
+        let outbox = outbox_at(&self.outboxes, place);
+        if outbox.is_full() {
+            return Some(Refusal::OutboxFull);
+        }
+        if outbox.is_exhausted() {
+            return Some(Refusal::VersionsExhausted);
+        }
+        self.version_refusal()
+    }
+
+    fn version_refusal(&self) -> Option<Refusal>
+        ensures { result ≡ version_refusal self.now }
+    {
+        if self.numbers.version == MAX_NUMBER {
+            Some(Refusal::VersionsExhausted)
+        } else {
+            None
+        }
+    }
+
+    /// Installs a row at a point, which is at this place. On a refusal the row comes back.
+    fn install_at(
+        &mut self,
+        point: &PointId,
+        place: usize,
+        row: Row,
+    ) -> Result<Reply, (Refusal, Row)>
+        requires here { place_of self.old.site point.now ≡ Some place }
+        requires within { place < length self.old.books }
+        ensures made { IfOk result
+            (λ reply. IsMade (installs self.old point.now row place) reply self.new) }
+        ensures refused { IfErr result (λ refused.
+            IsNotMade self.old (installs self.old point.now row place) refused.0 self.new) }
+        ensures back { IfErr result (λ refused. refused.1 ≡ row) }
+    {
+        if let Some(refusal) = self.refusal_to_install(point, place, &row) {
+            return Err((refusal, row));
+        }
+        // The call's memory comes first, so that a refusal leaves the book.
+        let Ok(call) = self.call_of(&row) else {
+            return Err((Refusal::OutOfMemory, row));
+        };
+        match install_at(&mut self.books, place, row) {
+            Ok(()) => {
+                add_at(&mut self.outboxes, place, call);
+                self.numbers.version += 1;
+                Ok(Reply::Accepted)
+            }
+            Err(failed) => Err((Refusal::OutOfMemory, failed.value)),
+        }
+    }
+
+    /// The call that tells a point of the install of a row.
+    fn call_of(&self, row: &Row) -> Result<PreparedCall, AllocError>
+        ensures { IfOk result (λ call. call ≡ CallBody.Set row.now.connector row.now.profile) }
+    {
+        let body = CallBody::Set {
+            connector: row.connector,
+            profile: row.profile.copy()?,
+        };
+        match PreparedCall::new(self.alloc, body) {
+            Ok(call) => Ok(call),
+            Err((error, _)) => Err(error),
+        }
+    }
+
+    /// Removes the profiles that match each criterion that is given from the book at a place.
+    fn clear_at(&mut self, place: usize, criteria: &Criteria) -> Result<Reply, Refusal>
+        requires { place < length self.old.books }
+        ensures { MatchResult result
+            (λ reply. IsMade (clears self.old criteria.now place) reply self.new)
+            (λ refusal. IsNotMade self.old (clears self.old criteria.now place) refusal self.new) }
+    {
+        if !book_at(&self.books, place).book().has_match(criteria) {
+            return Ok(Reply::Unknown);
+        }
+        if let Some(refusal) = self.refusal_to_call(place) {
+            return Err(refusal);
+        }
+        let Ok(call) = PreparedCall::new(self.alloc, CallBody::Clear(*criteria)) else {
+            return Err(Refusal::OutOfMemory);
+        };
+        clear_at(&mut self.books, place, criteria)?;
+        add_at(&mut self.outboxes, place, call);
+        self.numbers.version += 1;
+        Ok(Reply::Accepted)
+    }
+
+    /// Begins a transaction at a connector of the point at a place, or answers a start that is told again.
+    /// On a refusal what began comes back.
+    fn start_at(
+        &mut self,
+        place: usize,
+        connector: u32,
+        begin: Begin,
+    ) -> Result<Reply, (Refusal, Begin)>
+        requires { place < length self.old.books }
+        ensures made { IfOk result
+            (λ reply. IsMade (starts self.old connector begin place) reply self.new) }
+        ensures refused { IfErr result (λ refused.
+            IsNotMade self.old (starts self.old connector begin place) refused.0 self.new) }
+        ensures back { IfErr result (λ refused. refused.1 ≡ begin) }
+    {
+        let book = book_at(&self.books, place).book();
+        if connector == 0 || connector > book.connectors() {
+            return Err((Refusal::UnknownConnector, begin));
+        }
+        match book.began(connector, &begin) {
+            Began::Repeat(number) => Ok(Reply::Repeated(number)),
+            Began::Fresh => self.start_fresh(place, connector, begin),
+        }
+    }
+
+    fn refusal_to_start(&self) -> Option<Refusal>
+        ensures { result ≡ refusal_to_start self.now }
+    {
+        if let Some(refusal) = self.version_refusal() {
+            return Some(refusal);
+        }
+        if self.numbers.transaction == MAX_TRANSACTION {
+            return Some(Refusal::TransactionsExhausted);
+        }
+        None
+    }
+
+    /// Begins a new transaction at a connector, with the next number. On a refusal what began comes back.
+    fn start_fresh(
+        &mut self,
+        place: usize,
+        connector: u32,
+        begin: Begin,
+    ) -> Result<Reply, (Refusal, Begin)>
+        requires within { place < length self.old.books }
+        requires above { 0 < connector }
+        requires connector { connector ≤ length (book_at self.old place).ceilings }
+        ensures made { IfOk result (λ reply.
+            IsMade (starts_as Began.Fresh self.old connector begin place) reply self.new) }
+        ensures refused { IfErr result (λ refused. IsNotMade self.old
+            (starts_as Began.Fresh self.old connector begin place) refused.0 self.new) }
+        ensures back { IfErr result (λ refused. refused.1 ≡ begin) }
+    {
+        if let Some(refusal) = self.refusal_to_start() {
+            return Err((refusal, begin));
+        }
+        let number = (self.numbers.transaction + 1) as i32;
+        let starting = Starting {
+            connector,
+            begin,
+            number,
+        };
+        match start_at(&mut self.books, place, starting) {
+            Ok(()) => {
+                self.numbers.version += 1;
+                self.numbers.transaction += 1;
+                Ok(Reply::Started(number))
+            }
+            Err(failed) => Err((Refusal::OutOfMemory, failed.value)),
+        }
+    }
+
+    /// Ends the transaction of this number, where it is active at the point at a place.
+    fn stop_at(&mut self, place: usize, number: i32) -> Result<Reply, Refusal>
+        requires { place < length self.old.books }
+        ensures made { IfOk result
+            (λ reply. IsMade (stops self.old number place) reply self.new) }
+        ensures refused { IfErr result
+            (λ refusal. IsNotMade self.old (stops self.old number place) refusal self.new) }
+    {
+        if book_at(&self.books, place).book().connector_of(number).is_none() {
+            return Ok(Reply::NoSuch);
+        }
+        if let Some(refusal) = self.version_refusal() {
+            return Err(refusal);
+        }
+        stop_at(&mut self.books, place, number)?;
+        self.numbers.version += 1;
+        Ok(Reply::Ended)
+    }
+
+    // ---- requests for composite schedules
+
+    /// Why a request isn't kept, if memory lasts, though there is an ask.
+    fn refusal_to_take(&self, take: &Take) -> Option<Refusal>
+        ensures { result ≡ refusal_to_take self.now take.now }
+    {
+        if self.requests.len() >= MAX_REQUESTS {
+            return Some(Refusal::TooManyOpen);
+        }
+        if self.numbers.request == MAX_NUMBER {
+            return Some(Refusal::VersionsExhausted);
+        }
+        if take.seen > self.numbers.version {
+            return Some(Refusal::Behind {
+                seen: take.seen,
+                found: self.numbers.version,
+            });
+        }
+        None
+    }
+
+    /// Keeps a request for a schedule of the point at a place.
+    fn take_at(&mut self, place: usize, take: &Take) -> Result<Reply, Refusal>
+        requires { place < length self.old.books }
+        ensures { MatchResult result
+            (λ reply. IsMade (takes self.old take.now place) reply self.new)
+            (λ refusal. IsNotMade self.old (takes self.old take.now place) refusal self.new) }
+    {
+        let ask = ask_at(self.site.unit(), book_at(&self.books, place).book(), take)?;
+        if let Some(refusal) = self.refusal_to_take(take) {
+            return Err(refusal);
+        }
+        let book = book_at(&self.books, place);
+        let kept = book.share()?;
+        let told = book.share()?;
+        let number = self.numbers.request + 1;
+        let reply = taken(number, told, &ask);
+        self.requests.push(Request {
+            number,
+            place,
+            book: kept,
+            ask,
+            answer: None,
+        })?;
+        self.numbers.request = number;
+        Ok(reply)
+    }
+
+    /// Compiles the schedule of the request of a number.
+    fn compile(&mut self, number: u64) -> Result<Reply, Refusal>
+        ensures made { IfOk result (λ reply. Compiles self.old number reply self.new) }
+        ensures refused { IfErr result (λ refusal.
+            (cause_of (compiles self.old number no_answer) ≡ Some refusal) × (self.new ≡ self.old)) }
+    {
+        compile_request(self.alloc, &mut self.requests, number)?;
+        Ok(Reply::Compiled)
+    }
+
+    /// Hands out the answer to the request of a number.
+    fn answer(&mut self, number: u64) -> Result<Reply, Refusal>
+        ensures made { IfOk result (λ reply. IsMade (answers self.old number) reply self.new) }
+        ensures refused { IfErr result (λ refusal.
+            (cause_of (answers self.old number) ≡ Some refusal) × (self.new ≡ self.old)) }
+    {
+        hand_out(&mut self.requests, number)
+    }
+
+    /// Stops the central system.
+    fn finish(&mut self) -> Reply
+        ensures { finishes self.old ≡ record { reply = result; after = self.new } }
+    {
+        if !self.is_stopped {
+            stop_all(&mut self.requests);
+            self.is_stopped = true;
+        }
+        Reply::Finished
+    }
+
+    // ---- links and calls
+
+    /// Gives a point a new link.
+    fn attach(&mut self, point: &PointId) -> Result<Reply, Refusal>
+        ensures made { IfOk result (λ reply.
+            IsMade (at_point self.old point.now (attaches self.old)) reply self.new) }
+        ensures refused { IfErr result (λ refusal. IsNotMade self.old
+            (at_point self.old point.now (attaches self.old)) refusal self.new) }
+    {
+        let place = self.place_at(point)?;
+        if self.numbers.link == MAX_NUMBER {
+            return Err(Refusal::VersionsExhausted);
+        }
+        let link = self.numbers.link + 1;
+        attach_at(&mut self.outboxes, place, link);
+        self.numbers.link = link;
+        Ok(Reply::Attached(link))
+    }
+
+    /// Sends the first call that waits for a point over its link.
+    fn send(&mut self, point: &PointId, link: u64) -> Result<Reply, Refusal>
+        ensures made { IfOk result (λ reply.
+            IsMade (at_link self.old point.now link (sends self.old)) reply self.new) }
+        ensures refused { IfErr result (λ refusal. IsNotMade self.old
+            (at_link self.old point.now link (sends self.old)) refusal self.new) }
+    {
+        let place = self.linked_place(point, link)?;
+        match send_at(&mut self.outboxes, place)? {
+            Some(call) => Ok(Reply::Sent(call)),
+            None => Ok(Reply::Nothing),
+        }
+    }
+
+    /// Takes note that a point has answered the call of this number.
+    fn confirm(&mut self, point: &PointId, link: u64, number: u64) -> Result<Reply, Refusal>
+        ensures made { IfOk result (λ reply.
+            IsMade (at_link self.old point.now link (confirms self.old number)) reply self.new) }
+        ensures refused { IfErr result (λ refusal. IsNotMade self.old
+            (at_link self.old point.now link (confirms self.old number)) refusal self.new) }
+    {
+        let place = self.linked_place(point, link)?;
+        if confirm_at(&mut self.outboxes, place, number) {
+            Ok(Reply::Confirmed)
+        } else {
+            Err(Refusal::NothingInFlight)
+        }
+    }
+
+    /// Takes note that a link to a point is lost.
+    fn lose(&mut self, point: &PointId, link: u64) -> Result<Reply, Refusal>
+        ensures made { IfOk result (λ reply.
+            IsMade (at_link self.old point.now link (loses self.old)) reply self.new) }
+        ensures refused { IfErr result (λ refusal. IsNotMade self.old
+            (at_link self.old point.now link (loses self.old)) refusal self.new) }
+    {
+        let place = self.linked_place(point, link)?;
+        lose_at(&mut self.outboxes, place);
+        Ok(Reply::LinkLost)
+    }
+
+    /// The place of the point of an identity, while this is its present link and the central system isn't
+    /// stopped. The refusals are `Stopped` and `Superseded`.
+    fn linked_place(&self, point: &PointId, link: u64) -> Result<usize, Refusal>
+        ensures place { result ≡ linked_place_in self.now point.now link }
+        ensures within { IfOk result (λ place. place < length self.now.outboxes) }
+    {
+        if self.is_stopped {
+            return Err(Refusal::Stopped);
+        }
+        let Some(place) = self.site.place_of(point.as_str()) else {
+            return Err(Refusal::Superseded);
+        };
+        if outbox_at(&self.outboxes, place).link() == Some(link) {
+            Ok(place)
+        } else {
+            Err(Refusal::Superseded)
+        }
+    }
+}
+
+/// What was made, or the refusal with the step.
+fn with_step(made: Result<Reply, Refusal>, step: Step) -> Result<Reply, Refused>
+    ensures { MatchResult result (λ reply. made ≡ Ok reply)
+        (λ refused. (made ≡ Err refused.refusal) × (refused.step ≡ step)) }
+{
+    match made {
+        Ok(reply) => Ok(reply),
+        Err(refusal) => Err(Refused { refusal, step }),
+    }
+}
+
+fn taken(number: u64, book: SharedBook, ask: &Ask) -> Reply
+    ensures { result ≡ Reply.Taken number book ask.now }
+{
+    Reply::Taken {
+        number,
+        book,
+        ask: *ask,
     }
 }
