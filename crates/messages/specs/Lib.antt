@@ -8,3 +8,5 @@ pub mod PointActions
 pub mod Action
 pub mod FieldFaults
 pub mod ResponseText
+pub mod CallText
+pub mod ByCases

@@ -4,7 +4,9 @@
 
 mod action;
 mod action_kind;
+mod call;
 mod call_fault;
+mod call_text;
 mod field_name;
 mod fields;
 mod laws;
@@ -17,7 +19,9 @@ mod side;
 
 pub use action::{Action, ScheduleRequest, StartTransaction, read_action, read_fields};
 pub use action_kind::ActionKind;
+pub use call::{Call, CallBody};
 pub use call_fault::CallFault;
+pub use call_text::push_call;
 pub use field_name::FieldName;
 pub use laws::first_faults;
 pub use response::{Response, ScheduleResponse};
