@@ -74,16 +74,20 @@ impl<'a> AskedLimit<'a> {
     pub(crate) fn at(&self, instant: Instant) -> u32
         ensures { result ≡ limit self.now.state self.now.connector self.now.asked instant }
     {
-        let most = at_most(self.view.ceiling, first_limit(self.most.as_slice(), instant));
+        let most = at_most(
+            self.view.ceiling,
+            first_limit(self.most.as_slice(), instant),
+        );
         most.min(sum_of(self.looked.as_slice(), instant))
     }
 
     /// Its next place after an instant.
-    pub(crate) fn next_after(&self, instant: Instant) -> Option<Instant>
-        ensures { IsNextAsked self.now instant result }
+    pub(crate) fn next_after(&mut self, instant: Instant) -> Option<Instant>
+        ensures same { self.new ≡ self.old }
+        ensures next { IsNextAsked self.old instant result }
     {
-        let most = next_after(self.most.as_slice(), instant);
-        sooner(most, next_of_all(self.looked.as_slice(), instant))
+        let most = next_after(self.most.as_mut_slice(), instant);
+        sooner(most, next_of_all(self.looked.as_mut_slice(), instant))
     }
 }
 
@@ -99,12 +103,13 @@ fn sum_of(looked: &[Looked<'_>], instant: Instant) -> u32
 }
 
 /// The next place of any of some connectors after an instant.
-fn next_of_all(looked: &[Looked<'_>], instant: Instant) -> Option<Instant>
-    ensures { IsNextOfAll looked.now instant result }
+fn next_of_all(looked: &mut [Looked<'_>], instant: Instant) -> Option<Instant>
+    ensures same { looked.new ≡ looked.old }
+    ensures next { IsNextOfAll looked.old instant result }
 {
     let mut soonest = None;
-    for connector in looked {
-        soonest = sooner(soonest, connector.next_after(instant));
+    for place in 0..looked.len() {
+        soonest = sooner(soonest, looked[place].next_after(instant));
     }
     soonest
 }

@@ -24,13 +24,14 @@ pub(crate) fn first_limit(rows: &[Seen<'_>], instant: Instant) -> Option<u32>
 
 /// The next place of the rows down to the first that has a limit at an instant: up to there no
 /// lower one prevails.
-pub(crate) fn next_after(rows: &[Seen<'_>], instant: Instant) -> Option<Instant>
-    ensures { IsNextOfFirst rows.now instant result }
+pub(crate) fn next_after(rows: &mut [Seen<'_>], instant: Instant) -> Option<Instant>
+    ensures same { rows.new ≡ rows.old }
+    ensures next { IsNextOfFirst rows.old instant result }
 {
     let mut soonest = None;
-    for seen in rows {
-        soonest = sooner(soonest, seen.next_after(instant));
-        if seen.limit(instant).is_some() {
+    for place in 0..rows.len() {
+        soonest = sooner(soonest, rows[place].next_after(instant));
+        if rows[place].limit(instant).is_some() {
             return soonest;
         }
     }

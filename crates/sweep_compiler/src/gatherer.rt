@@ -88,6 +88,6 @@ impl<'a> Gatherer<'a> {
         ensures { result ≡ seen_from (point_state self.now.view) connector self.now.asked row.now }
     {
         let base = row.base(self.view.active_since(connector), self.asked);
-        Seen::new(row, base)
+        Seen::new(row, base, self.asked)
     }
 }

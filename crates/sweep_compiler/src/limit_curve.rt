@@ -45,7 +45,8 @@ impl Curve for LimitCurve<'_> {
     }
 
     fn go_on(&mut self) -> Option<u32> {
-        let next = self.limit.next_after(self.instant())?;
+        let here = self.instant();
+        let next = self.limit.next_after(here)?;
         let second = next.seconds() - self.ask.start.seconds();
         if second >= u64::from(self.ask.duration) {
             return None;

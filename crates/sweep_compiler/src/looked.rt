@@ -61,11 +61,12 @@ impl<'a> Looked<'a> {
     }
 
     /// The next place of its own limit after an instant.
-    pub(crate) fn next_after(&self, instant: Instant) -> Option<Instant>
-        ensures { IsNextLooked self.now instant result }
+    pub(crate) fn next_after(&mut self, instant: Instant) -> Option<Instant>
+        ensures same { self.new ≡ self.old }
+        ensures next { IsNextLooked self.old instant result }
     {
-        let own = next_after(self.own.as_slice(), instant);
-        let default = next_after(self.default.as_slice(), instant);
+        let own = next_after(self.own.as_mut_slice(), instant);
+        let default = next_after(self.default.as_mut_slice(), instant);
         sooner(own, default)
     }
 }

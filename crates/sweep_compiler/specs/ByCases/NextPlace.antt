@@ -1,6 +1,6 @@
 -- Of private clauses: next places after an instant, of rows, connectors and what is asked. To each there is
 -- what stays as it is up to it.
-use Rattle.std.specs.Prelude.{ℕ, List, Option}
+use Rattle.std.specs.Prelude.{◌≡◌, ℕ, nat_le, nat_lt, Bool, ◌&&◌, List, Option, Some, None}
 use Rattle.std.specs.List.{list_any, sum_by}
 use Rattle.meaning.specs.Limit.{limit}
 use Rattle.sweep_compiler.specs.Places.{is_place_asked}
@@ -10,6 +10,16 @@ use Rattle.sweep_compiler.specs.ByCases.Seen.{SeenRow, SeenConnector, LimitAsked
 -- of a row
 abbrev pub IsNextSeen : SeenRow → ℕ → Option ℕ → Type 0
 IsNextSeen seen instant next = IsNextChange (λ k. is_place_seen k seen) (λ k. limit_seen k seen) instant next
+
+-- whether an instant lies from another on and before a third, where that is there
+abbrev pub is_within : ℕ → Option ℕ → ℕ → Bool
+is_within since None instant = nat_le since instant
+is_within since (Some until) instant = nat_le since instant && nat_lt instant until
+
+-- that a row has a limit from an instant on and up to its next place
+pub record IsLimitSince (seen : SeenRow) (since : ℕ) (until limit : Option ℕ) : Type 0 where
+  pub next : IsNextSeen seen since until
+  pub has : limit ≡ limit_seen since seen
 
 -- of the first of the rows that has a limit
 abbrev pub IsNextOfFirst : List SeenRow → ℕ → Option ℕ → Type 0
