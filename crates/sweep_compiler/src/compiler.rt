@@ -6,6 +6,8 @@ ghost use Rattle.meaning.specs.Compiled.{IsCompiled};
 ghost use Rattle.point_book.specs.Book.{state_of};
 ghost use Rattle.sweep_compiler.specs.Places.{places};
 
+use crate::asked::AskedLimit;
+use crate::gatherer::Gatherer;
 use crate::limit_curve::LimitCurve;
 use crate::sweep::sweep_along;
 use crate::turns::Turns;
@@ -30,8 +32,14 @@ pub fn compile(
     ensures bound { turns.new ≤ turns.old + (1 + places book.now ask.now) }
     ensures each { IfOk result (λ schedule. turns.old + length schedule.periods ≤ turns.new) }
 {
-    let mut curve = LimitCurve {
+    let gatherer = Gatherer {
+        alloc,
         view: book.view(),
+        asked: ask.start,
+    };
+    let limit = AskedLimit::gathered(&gatherer, ask.connector)?;
+    let mut curve = LimitCurve {
+        limit,
         ask: *ask,
         second: 0,
     };
