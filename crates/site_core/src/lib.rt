@@ -10,3 +10,6 @@ pub use call::{Call, CallBody};
 pub use obey_laws::obeying_point_stays_in_step;
 pub use outbox::{Outbox, PreparedCall};
 pub use outbox_laws::calls_are_sent_in_order;
+
+#[cfg(test)]
+mod outbox_tests;

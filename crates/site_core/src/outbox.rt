@@ -115,14 +115,14 @@ impl Outbox {
         self.bodies.len()
     }
 
-    /// Whether as many calls as may be aren't confirmed.
+    /// Whether as many calls aren't confirmed as may be, so that no more may be added.
     pub fn is_full(&self) -> bool
         ensures { result ≡ is_full self.now }
     {
-        self.bodies.len() == MAX_CALLS
+        MAX_CALLS <= self.bodies.len()
     }
 
-    /// Whether the last call number was drawn.
+    /// Whether the last call number was drawn, so that no more calls may be added.
     pub fn is_exhausted(&self) -> bool
         ensures { result ≡ is_exhausted self.now }
     {
