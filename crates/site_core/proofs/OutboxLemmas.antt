@@ -1,8 +1,8 @@
 -- Bodies as numbered calls.
 use Rattle.std.proofs.Common.{◌≡◌, ℕ, ◌+◌, ◌-◌, ◌<◌, ◌≤◌, suc, refl, sym, ◌∙◌, ap, List, [], ◌∷◌, ◌++◌, length, drop, map, Bool, true, false, is_some, nat_eq, Option, Some, None, IsSome, slice_index_or, arith, length-append}
 use Rattle.std.specs.List.{range_with_len}
-use Rattle.site_core.specs.declared.call.Call.{Call}
-use Rattle.site_core.specs.declared.call.CallBody.{CallBody}
+use Rattle.messages.specs.declared.call.Call.{Call}
+use Rattle.messages.specs.declared.call.CallBody.{CallBody}
 use Rattle.site_core.specs.Outbox.{OutboxState, IsOutbox, numbered, clear_all, max_calls, last_call_number, is_number_of_first, is_number_in_flight, confirmed, sendable}
 
 pub numbered_length : (number : ℕ) (bodies : List CallBody) → length (numbered number bodies) ≡ length bodies

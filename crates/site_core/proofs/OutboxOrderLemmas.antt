@@ -1,7 +1,7 @@
 -- That calls are sent in order and confirmed in order, along any traffic.
 use Rattle.std.proofs.Common.{◌≡◌, ℕ, ◌+◌, ◌==◌, Bool, true, false, cond, ◌⊎◌, inl, inr, refl, sym, ◌∙◌, ap, List, [], ◌∷◌, ◌++◌, Option, None, Some, append-nil, append_assoc, subst}
-use Rattle.site_core.specs.declared.call.Call.{Call}
-use Rattle.site_core.specs.declared.call.CallBody.{CallBody}
+use Rattle.messages.specs.declared.call.Call.{Call}
+use Rattle.messages.specs.declared.call.CallBody.{CallBody}
 use Rattle.site_core.specs.Outbox.{OutboxState, numbered}
 use Rattle.site_core.specs.OutboxOrder.{Traffic, Attach, Lose, Add, Send, Confirm, GoesOn, AreInSendingOrder, AreSentInOrder, AreLeftUnlessConfirmed, after_all, numbers_sent, calls_confirmed, bodies_added}
 

@@ -1,12 +1,12 @@
 -- What the central system keeps of its calls to a charge point, and what changes it. A call is sent again
 -- until it is confirmed, and the next one only then. `record old { .. }` is the outbox with these fields
 -- changed and all else as it was.
-use Rattle.std.specs.Prelude.{ℕ, ◌+◌, ◌-◌, ◌<◌, ◌≤◌, ◌≡◌, nat_lt, ◌==◌, Bool, true, false, ◌&&◌, List, [], ◌∷◌, ◌++◌, length, drop, map, Option, None, Some, IsSome, if◌then◌else◌}
+use Rattle.std.specs.Prelude.{ℕ, ◌+◌, ◌-◌, ◌<◌, ◌≤◌, ◌≡◌, nat_le, nat_lt, ◌==◌, Bool, true, false, ◌&&◌, List, [], ◌∷◌, ◌++◌, length, drop, map, Option, None, Some, IsSome, if◌then◌else◌}
 use Rattle.std.specs.List.{range_with_len}
 use Rattle.profile.specs.declared.criteria.Criteria.{Criteria}
-use Rattle.site_core.specs.declared.call.Call.{Call}
-use Rattle.site_core.specs.declared.call.CallBody.{CallBody}
-use Rattle.site_core.specs.declared.call.CallBody.TheVariants.{Clear}
+use Rattle.messages.specs.declared.call.Call.{Call}
+use Rattle.messages.specs.declared.call.CallBody.{CallBody}
+use Rattle.messages.specs.declared.call.CallBody.TheVariants.{Clear}
 
 -- The limits are this system's choice; the standard has none.
 
@@ -57,8 +57,9 @@ lost old = record old { link = None; is_in_flight = false }
 
 -- ---- calls
 
+-- no call more may be added
 abbrev pub is_full : OutboxState → Bool
-is_full outbox = length outbox.calls == max_calls
+is_full outbox = nat_le max_calls (length outbox.calls)
 
 -- whether the last number was drawn
 abbrev pub is_exhausted : OutboxState → Bool

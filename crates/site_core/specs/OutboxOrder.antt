@@ -1,7 +1,7 @@
 -- In which order the calls of a point are sent, whatever sendings, replies and links are lost.
 use Rattle.std.specs.Prelude.{ℕ, ◌+◌, ◌≡◌, ◌⊎◌, List, [], ◌∷◌, ◌++◌, Option, None, Some, take, if◌then◌else◌}
-use Rattle.site_core.specs.declared.call.Call.{Call}
-use Rattle.site_core.specs.declared.call.CallBody.{CallBody}
+use Rattle.messages.specs.declared.call.Call.{Call}
+use Rattle.messages.specs.declared.call.CallBody.{CallBody}
 use Rattle.site_core.specs.Outbox.{OutboxState, opening_outbox, attached, lost, added, sendable, sent, is_number_in_flight, confirmed, numbered, clear_all}
 
 -- ---- numbers

@@ -24,9 +24,9 @@ use Rattle.site_core.specs.declared.reply.Reply.{Reply}
 use Rattle.site_core.specs.declared.reply.Reply.TheVariants.{Accepted, Unknown, Started, Repeated, Ended, NoSuch, Taken, Compiled, Answered, NotYet, Finished, Attached, Sent, Nothing, Confirmed, LinkLost}
 use Rattle.site_core.specs.declared.outcome.Refused.{Refused}
 use Rattle.site_core.specs.Limits.{max_number, max_transaction, max_requests}
-use Rattle.site_core.specs.declared.call.Call.{Call}
-use Rattle.site_core.specs.declared.call.CallBody.{CallBody}
-use Rattle.site_core.specs.declared.call.CallBody.TheVariants as bodies
+use Rattle.messages.specs.declared.call.Call.{Call}
+use Rattle.messages.specs.declared.call.CallBody.{CallBody}
+use Rattle.messages.specs.declared.call.CallBody.TheVariants as bodies
 use Rattle.site_core.specs.State.{MachineState, Kept, ScheduleAnswer, book_at, outbox_at}
 use Rattle.site_core.specs.Outbox.{OutboxState, is_full, is_exhausted, attached, lost, added, sendable, sent, is_number_in_flight, confirmed}
 use Rattle.site_core.specs.Requests.{request_of, answered, without, all_stopped}

@@ -5,14 +5,14 @@
 #![tactic(auto)]
 
 mod ask;
-mod call;
-mod headline;
 mod books;
+mod headline;
 mod machine;
 mod numbers;
 mod obey_laws;
 mod outbox;
 mod outbox_laws;
+mod outboxes;
 mod outcome;
 mod point_id;
 mod reply;
@@ -21,7 +21,6 @@ mod requests;
 mod shared_book;
 mod step;
 
-pub use call::{Call, CallBody};
 pub use headline::{
     answered_schedules_are_right, answers_are_right, answers_follow_one_take, runs_are_legal,
 };
@@ -36,3 +35,6 @@ pub use reply::Reply;
 pub use request::MAX_REQUESTS;
 pub use shared_book::SharedBook;
 pub use step::{Step, Take};
+
+#[cfg(test)]
+mod outbox_tests;

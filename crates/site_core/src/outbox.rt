@@ -3,7 +3,7 @@
 ghost use Rattle.std.specs.Prelude.{◌≡◌, ◌+◌, ◌-◌, ◌<◌, ◌≤◌, ◌^◌, ◌++◌, IfErr, IfOk, OnErr, OnOk, length};
 ghost use Rattle.site_core.specs.Outbox.{IsOutbox, added, attached, confirmed, is_exhausted, is_full, is_number_in_flight, last_call_number, lost, max_calls, opening_outbox, sendable, sent};
 
-use crate::call::{Call, CallBody};
+use messages::{Call, CallBody};
 use profile::Criteria;
 use std::alloc::{AllocError, Global};
 use std::collections::LinkedList;
@@ -33,7 +33,7 @@ pub struct PreparedCall {
 // Clauses see the call's body.
 impl Model for PreparedCall {
     ghost use Rattle.std.specs.Prelude.{◌≡◌, length, slice_index_or};
-    ghost use Rattle.site_core.specs.declared.call.CallBody.{CallBody};
+    ghost use Rattle.messages.specs.declared.call.CallBody.{CallBody};
     ghost use Rattle.site_core.specs.Outbox.{clear_all};
 
     ghost Value = { CallBody };
@@ -115,14 +115,14 @@ impl Outbox {
         self.bodies.len()
     }
 
-    /// Whether as many calls as may be aren't confirmed.
+    /// Whether as many calls aren't confirmed as may be, so that no more may be added.
     pub fn is_full(&self) -> bool
         ensures { result ≡ is_full self.now }
     {
-        self.bodies.len() == MAX_CALLS
+        MAX_CALLS <= self.bodies.len()
     }
 
-    /// Whether the last call number was drawn.
+    /// Whether the last call number was drawn, so that no more calls may be added.
     pub fn is_exhausted(&self) -> bool
         ensures { result ≡ is_exhausted self.now }
     {

@@ -1,6 +1,6 @@
 //! What the steps of the central system reply.
 
-use crate::call::Call;
+use messages::Call;
 use crate::shared_book::SharedBook;
 use meaning::{Ask, Composite};
 use ocpp_scalars::Refusal;

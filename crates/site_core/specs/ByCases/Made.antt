@@ -2,12 +2,12 @@
 -- Of private clauses.
 use Rattle.std.specs.Prelude.{◌≡◌, ℕ, List, Option, Some, None, Result, Ok, Err, if◌then◌else◌}
 use Rattle.ocpp_scalars.specs.declared.refusal.Refusal.{Refusal}
-use Rattle.ocpp_scalars.specs.declared.refusal.Refusal.TheVariants.{Stopped, UnknownPoint}
+use Rattle.ocpp_scalars.specs.declared.refusal.Refusal.TheVariants.{Stopped, Superseded, UnknownPoint}
 use Rattle.site_rules.specs.Site.{place_of}
 use Rattle.point_book.specs.Changes.{IsCause}
 use Rattle.site_core.specs.declared.reply.Reply.{Reply}
-use Rattle.site_core.specs.State.{MachineState}
-use Rattle.site_core.specs.Step.{Made, cause_of}
+use Rattle.site_core.specs.State.{MachineState, outbox_at}
+use Rattle.site_core.specs.Step.{Made, cause_of, is_present}
 
 -- made, with this reply and this state after it
 abbrev pub IsMade : Result Made Refusal → Reply → MachineState → Type 0
@@ -25,3 +25,13 @@ found_place (Some place) = Ok place
 
 abbrev pub place_in : MachineState → List ℕ → Result ℕ Refusal
 place_in state point = if state.is_stopped then Err Stopped else found_place (place_of state.site point)
+
+-- the place of a point over a link, or why nothing is made over it
+abbrev pub found_linked : MachineState → ℕ → Option ℕ → Result ℕ Refusal
+found_linked state link None = Err Superseded
+found_linked state link (Some place) =
+    if is_present link (outbox_at state place).link then Ok place else Err Superseded
+
+abbrev pub linked_place_in : MachineState → List ℕ → ℕ → Result ℕ Refusal
+linked_place_in state point link =
+    if state.is_stopped then Err Stopped else found_linked state link (place_of state.site point)

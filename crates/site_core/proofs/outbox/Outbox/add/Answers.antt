@@ -1,6 +1,6 @@
 use Rattle.std.proofs.Common.{◌+◌, ◌-◌, ◌<◌, ◌≤◌, ◌≡◌, length, ◌∙◌, ap, arith, length-append, List}
-use Rattle.site_core.specs.declared.call.Call.{Call}
-use Rattle.site_core.specs.declared.call.CallBody.{CallBody}
+use Rattle.messages.specs.declared.call.Call.{Call}
+use Rattle.messages.specs.declared.call.CallBody.{CallBody}
 use Rattle.site_core.specs.Outbox.{OutboxState, added, numbered}
 use Rattle.site_core.proofs.OutboxLemmas.{numbered_length, numbered_join}
 use Rattle.site_core.proofs.outbox.Outbox.add.Goals as goal

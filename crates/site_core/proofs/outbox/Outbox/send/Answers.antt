@@ -1,5 +1,5 @@
 use Rattle.std.proofs.Common.{ℕ, ◌-◌, ◌<◌, ◌≡◌, length, sym, ◌∙◌, ap, refl, true, false, not, is_some, slice_index_or}
-use Rattle.site_core.specs.declared.call.CallBody.{CallBody}
+use Rattle.messages.specs.declared.call.CallBody.{CallBody}
 use Rattle.site_core.specs.Outbox.{OutboxState, sendable}
 use Rattle.site_core.proofs.OutboxLemmas.{numbered_length, sendable_is}
 use Rattle.site_core.proofs.outbox.Outbox.send.Goals as goal
