@@ -1,3 +1,4 @@
 pub mod StepLemmas
 pub mod HistoryLemmas
 pub mod TakenRequests
+pub mod KeptRequests

@@ -25,7 +25,7 @@ use Rattle.site_core.specs.History.{Event, Legal, taken_event, answered_event, r
 use Rattle.site_core.specs.Run.{Runs}
 use Rattle.site_core.specs.Headline.{IsRightAfter, AnswersAreRight}
 use Rattle.site_core.proofs.HistoryLemmas.{legal_push, legal_split, runs_legal, run_at, takes_push, takes_once}
-use Rattle.site_core.proofs.StepLemmas.{LeavesRequests, IsTaking, IsHanding, taking, compiling, handing, finishing, compiles_is, finishes_is, installs_leaves, clears_leaves, starts_leaves, stops_leaves, takes_is, answers_is}
+use Rattle.site_core.proofs.StepLemmas.{LeavesRequests, IsHanding, taking, compiling, handing, finishing, Does, does, leaves, takes_one, compiles_one, hands_one, finishes_all, answers_is}
 
 -- ---- the one Take of a number
 
@@ -89,7 +89,7 @@ all_push : (P : Kept → Type 0) (requests : List Kept) (kept : Kept) → AllByR
 all_push P [] kept all one = (one, tt)
 all_push P (first ∷ requests) kept all one = (all.0, all_push P requests kept all.1 one)
 
-all_answered : (P : Kept → Type 0) (number : ℕ) (answer : ScheduleAnswer) (requests : List Kept) → AllByRecursion P requests
+pub all_answered : (P : Kept → Type 0) (number : ℕ) (answer : ScheduleAnswer) (requests : List Kept) → AllByRecursion P requests
     → ((kept : Kept) → request_of number requests ≡ Some kept → P kept → P (with_answer kept answer)) → AllByRecursion P (answered number answer requests)
 all_answered P number answer [] all each = tt
 all_answered P number answer (first ∷ requests) all each = go (first.number == number) each (λ e. all_answered P number answer requests all.1 e)
@@ -100,7 +100,7 @@ all_answered P number answer (first ∷ requests) all each = go (first.number ==
     go true it rest = (it first refl all.0, all.1)
     go false it rest = (all.0, rest it)
 
-all_without : (P : Kept → Type 0) (number : ℕ) (requests : List Kept) → AllByRecursion P requests → AllByRecursion P (without number requests)
+pub all_without : (P : Kept → Type 0) (number : ℕ) (requests : List Kept) → AllByRecursion P requests → AllByRecursion P (without number requests)
 all_without P number [] all = tt
 all_without P number (first ∷ requests) all = go (first.number == number) (all_without P number requests all.1)
   where
@@ -152,7 +152,7 @@ holds_at_opening opening none = record {
 }
 
 -- the event of a step that is made
-abbrev event_of : Step → Made → Event
+abbrev pub event_of : Step → Made → Event
 event_of step made = record { step = step; reply = made.reply }
 
 -- it holds after one event more, where that is a step
@@ -176,14 +176,11 @@ holds_changed opening events old step made holds site drawn no_take change reach
         (change (kept_after opening events event old.numbers.request old.numbers.request old.requests (λ number below. no_take number) (omega arith) holds.kept));
     }
 
-holds_left : (opening : MachineState) (events : List Event) (old : MachineState) (step : Step) (made : Made) → Holds opening events old → LeavesRequests old made → HoldsAfter opening events step made
-holds_left opening events old step made holds leaves =
-    holds_changed opening events old step made holds leaves.site leaves.drawn leaves.no_take
-    (subst (λ (requests : List Kept). AllByRecursion (IsKept opening (events ++ event_of step made ∷ []) old.numbers.request) requests) (sym leaves.requests))
-
--- a step that changes nothing
-leaves_all : (old : MachineState) (reply : Reply) → ((number : ℕ) → reply_takes number reply ≡ false) → LeavesRequests old (unchanged old reply)
-leaves_all old reply no_take = record { site = refl; requests = refl; drawn = refl; stopped = refl; no_take = no_take }
+holds_left : (opening : MachineState) (events : List Event) (old : MachineState) (step : Step) (made : Made) → Holds opening events old
+    → LeavesRequests old step made → HoldsAfter opening events step made
+holds_left opening events old step made holds is =
+    holds_changed opening events old step made holds is.site is.drawn is.no_take
+    (subst (λ (requests : List Kept). AllByRecursion (IsKept opening (events ++ event_of step made ∷ []) old.numbers.request) requests) (sym is.requests))
 
 holds_compiled : (opening : MachineState) (events : List Event) (old : MachineState) (number : ℕ) (kept : Kept) (answer : ScheduleAnswer) → Holds opening events old
     → request_of number old.requests ≡ Some kept → IsCompiledFor kept.book kept.ask answer → HoldsAfter opening events (steps.Compile number) (compiling old number answer)
@@ -253,41 +250,24 @@ holds_taken opening events old take place ask holds point asks reached =
 
 -- ---- every step, and every history
 
-holds_step : (opening : MachineState) (events : List Event) (old : MachineState) (step : Step) (reply : Reply) (new : MachineState) → Holds opening events old
-    → Steps old step reply new → HoldsAfter opening events step (record { reply = reply; after = new })
-holds_step opening events old (steps.Install point row) reply new holds made =
-    holds_left opening events old (steps.Install point row) _ holds (subst (λ (r : Result Made Refusal). IfOk r (LeavesRequests old)) made (installs_leaves old point row))
-holds_step opening events old (steps.Clear point criteria) reply new holds made =
-    holds_left opening events old (steps.Clear point criteria) _ holds (subst (λ (r : Result Made Refusal). IfOk r (LeavesRequests old)) made (clears_leaves old point criteria))
-holds_step opening events old (steps.Start point connector begin) reply new holds made =
-    holds_left opening events old (steps.Start point connector begin) _ holds (subst (λ (r : Result Made Refusal). IfOk r (LeavesRequests old)) made (starts_leaves old point connector begin))
-holds_step opening events old (steps.Stop point number) reply new holds made =
-    holds_left opening events old (steps.Stop point number) _ holds (subst (λ (r : Result Made Refusal). IfOk r (LeavesRequests old)) made (stops_leaves old point number))
-holds_step opening events old (steps.Take take) reply new holds made =
-    let taken : IsTaking old take (record { reply = reply; after = new }) = subst (λ (r : Result Made Refusal). IfOk r (IsTaking old take)) made (takes_is old take) in
-    subst (HoldsAfter opening events (steps.Take take)) taken.is (holds_taken opening events old take taken.place taken.ask holds taken.point taken.asks)
-holds_step opening events old (steps.Compile number) reply new holds made =
-    let is : compiling old number made.answer ≡ record { reply = reply; after = new } =
-    subst (λ (r : Result Made Refusal). IfOk r (λ m. compiling old number made.answer ≡ m)) made.made (compiles_is old number made.answer) in
-    subst (HoldsAfter opening events (steps.Compile number)) is (holds_compiled opening events old number made.kept made.answer holds made.is_kept made.right)
-holds_step opening events old (steps.Answer number) reply new holds made =
-    handed (subst (λ (r : Result Made Refusal). IfOk r (λ m. IsHanding old number m ⊎ (unchanged old NotYet ≡ m))) made (answers_is old number))
-  where
-    handed : IsHanding old number (record { reply = reply; after = new }) ⊎ (unchanged old NotYet ≡ record { reply = reply; after = new }) → HoldsAfter opening events (steps.Answer number) (record { reply = reply; after = new })
-    handed (inl is) = subst (HoldsAfter opening events (steps.Answer number)) is.is (holds_handed opening events old number is.kept is.answer holds)
-    handed (inr same) = subst (HoldsAfter opening events (steps.Answer number)) same (holds_left opening events old (steps.Answer number) (unchanged old NotYet) holds (leaves_all old NotYet (λ number. refl)))
-holds_step opening events old steps.Finish reply new holds made = finished (finishes_is old)
-  where
-    is : finishes old ≡ record { reply = reply; after = new }
-    is = cc
-    finished : ((old.is_stopped ≡ true) × (unchanged old Finished ≡ finishes old)) ⊎ (finishing old ≡ finishes old) → HoldsAfter opening events steps.Finish (record { reply = reply; after = new })
-    finished (inl both) = subst (HoldsAfter opening events steps.Finish) (both.1 ∙ is) (holds_left opening events old steps.Finish (unchanged old Finished) holds (leaves_all old Finished (λ number. refl)))
-    finished (inr same) = subst (HoldsAfter opening events steps.Finish) (same ∙ is) (holds_finished opening events old holds)
+pub holds_done : (opening : MachineState) (events : List Event) (old : MachineState) (step : Step) (made : Made) → Holds opening events old → Does old step made
+    → HoldsAfter opening events step made
+holds_done opening events old step made holds (leaves _ _ is) = holds_left opening events old step made holds is
+holds_done opening events old step made holds (takes_one take place ask point asks going) = holds_taken opening events old take place ask holds point asks
+holds_done opening events old step made holds (compiles_one number kept answer found unanswered right) = holds_compiled opening events old number kept answer holds found right
+holds_done opening events old step made holds (hands_one number kept answer found has) = holds_handed opening events old number kept answer holds
+holds_done opening events old step made holds finishes_all = holds_finished opening events old holds
+
+pub holds_step : (opening : MachineState) (events : List Event) (old : MachineState) (event : Event) (new : MachineState) → Holds opening events old
+    → Steps old event.step event.reply new → Holds opening (events ++ event ∷ []) new
+holds_step opening events old event new holds made =
+    holds_done opening events old event.step (record { reply = event.reply; after = new }) holds (does old event.step event.reply new made)
+    (legal_push opening events old event new holds.reached made)
 
 pub holds_after : (opening : MachineState) (events : List Event) (old : MachineState) (later : List Event) (new : MachineState) → Holds opening events old → Legal old later new → Holds opening (events ++ later) new
 holds_after opening events old [] new holds legal = subst (λ (es : List Event). Holds opening es new) (sym (append-nil events)) (subst (Holds opening events) (sym legal) holds)
 holds_after opening events old (event ∷ later) new holds legal =
-    let one = holds_step opening events old event.step event.reply legal.0 holds legal.1 (legal_push opening events old event legal.0 holds.reached legal.1) in
+    let one = holds_step opening events old event legal.0 holds legal.1 in
     subst (λ (es : List Event). Holds opening es new) (append_assoc events (event ∷ []) later) (holds_after opening (events ++ event ∷ []) legal.0 later new one legal.2)
 
 -- ---- the headline
