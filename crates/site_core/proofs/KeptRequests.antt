@@ -1,19 +1,18 @@
 -- How the kept requests change: none is lost, none is answered twice, and answers stay.
-use Rattle.std.proofs.Common.{◌≡◌, ℕ, zero, suc, ◌+◌, ◌<◌, ◌≤◌, ◌==◌, ◌&&◌, Bool, true, false, cond, length, List, [], ◌∷◌, ◌++◌, append_assoc, append-nil, add-zero, Option, Some, None, Err, is_some, unwrap_or, zero-le, refl, sym, ap, ◌∙◌, subst, inl, inr, arith}
+use Rattle.std.proofs.Common.{◌≡◌, ℕ, zero, ◌+◌, ◌<◌, ◌≤◌, ◌==◌, ◌&&◌, Bool, true, false, cond, List, [], ◌∷◌, ◌++◌, append_assoc, append-nil, add-zero, Option, Some, Err, is_some, unwrap_or, zero-le, refl, sym, ap, ◌∙◌, subst, inl, inr, arith}
 use Rattle.std.specs.Prelude.{◌⊎◌}
 use Rattle.std.specs.List.{AllByRecursion, Contains}
 use Rattle.std.proofs.lemmas.Bool.Decides.{nat_tests}
-use Rattle.std.proofs.lemmas.List.Elements.{Contains-append_right, Contains-append_left, Contains-push}
+use Rattle.std.proofs.lemmas.List.Elements.{Contains-append_right}
 use Rattle.std.proofs.lemmas.List.Sums.{sum_by_push, sum_by-cons}
 use Rattle.ocpp_scalars.specs.declared.refusal.Refusal.TheVariants.{Stopped}
 use Rattle.site_core.specs.declared.step.Step.{Step}
 use Rattle.site_core.specs.declared.step.Step.TheVariants as steps
-use Rattle.site_core.specs.declared.reply.Reply.{Reply}
 use Rattle.site_core.specs.State.{MachineState, Kept, ScheduleAnswer}
 use Rattle.site_core.specs.Requests.{request_of, with_answer, answered, without, stopped_request, all_stopped}
 use Rattle.site_core.specs.Step.{Made, Steps}
-use Rattle.site_core.specs.History.{Event, Legal, answered_event, reply_takes, is_take_of, takes_of, is_answer_of, answers_of, kept_of, IsAnswered}
-use Rattle.site_core.proofs.StepLemmas.{taking, compiling, handing, finishing, Does, does, leaves, takes_one, compiles_one, hands_one, finishes_all}
+use Rattle.site_core.specs.History.{Event, Legal, answered_event, is_take_of, takes_of, is_answer_of, answers_of, kept_of, IsAnswered}
+use Rattle.site_core.proofs.StepLemmas.{handing, Does, does, leaves, takes_one, compiles_one, hands_one, finishes_all}
 use Rattle.site_core.proofs.TakenRequests.{Holds, holds_step, holds_at_opening, event_of, all_answered, all_without}
 
 -- ---- how many are kept of a number

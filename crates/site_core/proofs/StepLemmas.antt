@@ -1,5 +1,5 @@
 -- What the steps that are made leave of the site, of the kept requests and of their numbers.
-use Rattle.std.proofs.Common.{◌≡◌, ℕ, ℤ, ◌+◌, Bool, true, false, cond, List, [], ◌∷◌, ◌++◌, Option, Some, None, Result, Ok, Err, refl, sym, ap, ◌∙◌, subst}
+use Rattle.std.proofs.Common.{◌≡◌, ℕ, ℤ, ◌+◌, Bool, true, false, cond, List, Option, Some, None, Result, Ok, Err, refl, sym, ap, ◌∙◌, subst}
 use Rattle.std.proofs.Common.{inl, inr, ◌||◌, ◌&&◌, ◌==◌, nat_lt, length, is_some}
 use Rattle.std.specs.Prelude.{IfOk, ◌⊎◌}
 use Rattle.std.specs.List.{list_any}
@@ -14,7 +14,6 @@ use Rattle.transactions.specs.declared.active_table.Began.TheVariants.{Fresh, Re
 use Rattle.transactions.specs.ActiveTable.{began, connector_of}
 use Rattle.meaning.specs.declared.ask.Ask.{Ask}
 use Rattle.site_rules.specs.Site.{place_of}
-use Rattle.point_book.specs.Book.{Book}
 use Rattle.point_book.specs.Changes.{book_cleared, book_stopped}
 use Rattle.site_core.specs.declared.step.Step.{Step}
 use Rattle.site_core.specs.declared.step.Step.TheVariants as steps
@@ -25,7 +24,7 @@ use Rattle.site_core.specs.State.{MachineState, Kept, ScheduleAnswer, book_at}
 use Rattle.site_core.specs.Requests.{request_of, answered, without, all_stopped}
 use Rattle.site_core.specs.Right.{IsCompiledFor}
 use Rattle.site_core.specs.Ask.{ask_at}
-use Rattle.site_core.specs.Step.{Made, Steps, Compiles, unless, changed, version_refusal, at_place, at_point, installs, clears, starts, starts_as, stops, takes, takes_ask, refusal_to_take, with_request, compiles, compiles_kept, answers, answers_kept, answers_with, finishes, unchanged, stepped, no_answer}
+use Rattle.site_core.specs.Step.{Made, Steps, unless, changed, version_refusal, at_place, at_point, installs, clears, starts, starts_as, stops, takes, takes_ask, with_request, compiles_kept, answers_kept, answers_with, finishes, unchanged, stepped, no_answer}
 use Rattle.site_core.specs.History.{reply_takes, asks_answer_of, has_answer}
 
 -- ---- what holds of whatever is made

@@ -1,8 +1,9 @@
 -- What every kept request comes from: one Take of its number, with its book and its ask.
-use Rattle.std.proofs.Common.{◌≡◌, ℕ, suc, ◌+◌, ◌<◌, ◌≤◌, ◌==◌, Bool, true, false, cond, not, List, [], ◌∷◌, ◌++◌, take, append_assoc, append-nil, Option, Some, None, Result, Ok, Err, unwrap_or, refl, sym, ap, ◌∙◌, subst, arith}
+use Rattle.std.proofs.Common.{◌≡◌, ℕ, ◌+◌, ◌<◌, ◌≤◌, ◌==◌, Bool, true, false, cond, List, [], ◌∷◌, ◌++◌, take, append_assoc, append-nil, Option, Some, None, Result, Ok, Err, unwrap_or, refl, sym, ap, ◌∙◌, subst, arith}
 use Rattle.std.proofs.Common.{inl, inr}
 use Rattle.std.specs.Prelude.{IfOk, IfSome, ◌⊎◌}
-use Rattle.std.specs.List.{AllByRecursion}
+use Rattle.std.specs.List.{AllByRecursion, Contains}
+use Rattle.std.proofs.lemmas.List.Elements.{Contains-append_left, Contains-push}
 use Rattle.std.proofs.lemmas.Bool.Decides.{nat_tests}
 use Rattle.ocpp_scalars.specs.declared.refusal.Refusal.{Refusal}
 use Rattle.ocpp_scalars.specs.declared.refusal.Refusal.TheVariants.{Stopped}
@@ -12,16 +13,15 @@ use Rattle.point_book.specs.Book.{Book}
 use Rattle.site_core.specs.declared.step.Step.{Step}
 use Rattle.site_core.specs.declared.step.Step.TheVariants as steps
 use Rattle.site_core.specs.declared.step.Take.{Take}
-use Rattle.site_core.specs.declared.reply.Reply.{Reply}
-use Rattle.site_core.specs.declared.reply.Reply.TheVariants.{Taken, Answered, Compiled, NotYet, Finished}
+use Rattle.site_core.specs.declared.reply.Reply.TheVariants.{Answered, NotYet}
 use Rattle.site_core.specs.declared.outcome.Outcome.{Outcome}
 use Rattle.site_core.specs.declared.outcome.Outcome.TheVariants.{Done}
-use Rattle.site_core.specs.State.{MachineState, Kept, ScheduleAnswer, book_at, opening_at}
+use Rattle.site_core.specs.State.{MachineState, Kept, ScheduleAnswer, book_at}
 use Rattle.site_core.specs.Requests.{request_of, with_answer, answered, without, stopped_request, all_stopped}
 use Rattle.site_core.specs.Right.{IsCompiledFor, IsRight}
 use Rattle.site_core.specs.Ask.{ask_at}
-use Rattle.site_core.specs.Step.{Made, Steps, Compiles, compiles, compiles_kept, stepped, no_answer, with_request, unchanged, finishes}
-use Rattle.site_core.specs.History.{Event, Legal, taken_event, answered_event, reply_takes, is_take_of, takes_of, history_of}
+use Rattle.site_core.specs.Step.{Made, Steps, unchanged}
+use Rattle.site_core.specs.History.{Event, Legal, taken_event, finish_event, answered_event, reply_takes, is_take_of, takes_of, history_of}
 use Rattle.site_core.specs.Run.{Runs}
 use Rattle.site_core.specs.Headline.{IsRightAfter, AnswersAreRight}
 use Rattle.site_core.proofs.HistoryLemmas.{legal_push, legal_split, runs_legal, run_at, takes_push, takes_once}
@@ -44,7 +44,7 @@ pub record WasTaken (opening : MachineState) (events : List Event) (number : ℕ
   pub asks : ask_at opening.site.unit book asked ≡ Ok ask
 
 -- one event more, which is no Take of it
-was_taken : (opening : MachineState) (events : List Event) (event : Event) (number : ℕ) (book : Book) (ask : Ask) → is_take_of number event ≡ false
+abbrev was_taken : (opening : MachineState) (events : List Event) (event : Event) (number : ℕ) (book : Book) (ask : Ask) → is_take_of number event ≡ false
     → WasTaken opening events number book ask → WasTaken opening (events ++ event ∷ []) number book ask
 was_taken opening events event number book ask other taken = record {
   before = taken.before;
@@ -63,27 +63,42 @@ was_taken opening events event number book ask other taken = record {
 
 -- ---- kept requests
 
--- it was taken, its answer is right, and its number isn't above the one drawn last
+-- It was taken, its answer is right, and Stopped only after a Finish. Its number isn't above the one drawn last.
 pub record IsKept (opening : MachineState) (events : List Event) (drawn : ℕ) (kept : Kept) : Type 0 where
   pub taken : WasTaken opening events kept.number kept.book kept.ask
   pub right : IfSome kept.answer (IsRight kept.book kept.ask)
+  pub stopped : kept.answer ≡ Some (Err Stopped) → Contains taken.since finish_event
   pub below : kept.number ≤ drawn
+
+-- it is kept, and was taken before this event
+record IsKeptSince (opening : MachineState) (events : List Event) (event : Event) (drawn : ℕ) (kept : Kept) : Type 0 where
+  is : IsKept opening events drawn kept
+  since : Contains is.taken.since event
 
 kept_after : (opening : MachineState) (events : List Event) (event : Event) (drawn later : ℕ) (requests : List Kept)
     → ((number : ℕ) → number ≤ drawn → is_take_of number event ≡ false) → drawn ≤ later
-    → AllByRecursion (IsKept opening events drawn) requests → AllByRecursion (IsKept opening (events ++ event ∷ []) later) requests
+    → AllByRecursion (IsKept opening events drawn) requests → AllByRecursion (IsKeptSince opening (events ++ event ∷ []) event later) requests
 kept_after opening events event drawn later [] other more all = tt
 kept_after opening events event drawn later (kept ∷ requests) other more all =
     let first = all.0 in
     let below : kept.number ≤ drawn = first.below in
     (
       record {
-        taken = was_taken opening events event kept.number kept.book kept.ask (other kept.number below) first.taken;
-        right = first.right;
-        below = omega arith;
+        is = record {
+          taken = was_taken opening events event kept.number kept.book kept.ask (other kept.number below) first.taken;
+          right = first.right;
+          stopped = λ is. Contains-append_left first.taken.since (event ∷ []) finish_event (first.stopped is);
+          below = omega arith;
+        };
+        since = Contains-push first.taken.since event;
       },
       kept_after opening events event drawn later requests other more all.1,
     )
+
+still_kept : (opening : MachineState) (events : List Event) (event : Event) (drawn : ℕ) (requests : List Kept)
+    → AllByRecursion (IsKeptSince opening events event drawn) requests → AllByRecursion (IsKept opening events drawn) requests
+still_kept opening events event drawn [] all = tt
+still_kept opening events event drawn (kept ∷ requests) all = (all.0.is, still_kept opening events event drawn requests all.1)
 
 all_push : (P : Kept → Type 0) (requests : List Kept) (kept : Kept) → AllByRecursion P requests → P kept → AllByRecursion P (requests ++ kept ∷ [])
 all_push P [] kept all one = (one, tt)
@@ -162,51 +177,67 @@ HoldsAfter opening events step made = Legal opening (events ++ event_of step mad
 -- after a step that is no Take, where what holds of the kept requests holds of those after it
 holds_changed : (opening : MachineState) (events : List Event) (old : MachineState) (step : Step) (made : Made) → Holds opening events old
     → made.after.site ≡ old.site → made.after.numbers.request ≡ old.numbers.request → ((number : ℕ) → reply_takes number made.reply ≡ false)
-    → (AllByRecursion (IsKept opening (events ++ event_of step made ∷ []) old.numbers.request) old.requests
-    → AllByRecursion (IsKept opening (events ++ event_of step made ∷ []) old.numbers.request) made.after.requests)
+    → (AllByRecursion (IsKeptSince opening (events ++ event_of step made ∷ []) (event_of step made) old.numbers.request) old.requests
+    → AllByRecursion (IsKeptSince opening (events ++ event_of step made ∷ []) (event_of step made) old.numbers.request) made.after.requests)
     → HoldsAfter opening events step made
 holds_changed opening events old step made holds site drawn no_take change reached =
     let event : Event = event_of step made in
+    let before = kept_after opening events event old.numbers.request old.numbers.request old.requests (λ number below. no_take number) (omega arith) holds.kept in
     record {
       reached = reached;
       site = site ∙ holds.site;
       later = λ number above. takes_push number events event (no_take number) ∙ holds.later number (omega (arith, drawn, above));
       kept =
         subst (λ (n : ℕ). AllByRecursion (IsKept opening (events ++ event ∷ []) n) made.after.requests) (sym drawn)
-        (change (kept_after opening events event old.numbers.request old.numbers.request old.requests (λ number below. no_take number) (omega arith) holds.kept));
+        (still_kept opening (events ++ event ∷ []) event old.numbers.request made.after.requests (change before));
     }
 
 holds_left : (opening : MachineState) (events : List Event) (old : MachineState) (step : Step) (made : Made) → Holds opening events old
     → LeavesRequests old step made → HoldsAfter opening events step made
 holds_left opening events old step made holds is =
     holds_changed opening events old step made holds is.site is.drawn is.no_take
-    (subst (λ (requests : List Kept). AllByRecursion (IsKept opening (events ++ event_of step made ∷ []) old.numbers.request) requests) (sym is.requests))
+    (subst (λ (requests : List Kept). AllByRecursion (IsKeptSince opening (events ++ event_of step made ∷ []) (event_of step made) old.numbers.request) requests) (sym is.requests))
+
+-- what a compiler answers is never Stopped
+never_stopped : (book : Book) (ask : Ask) (answer : ScheduleAnswer) → IsCompiledFor book ask answer → Some answer ≡ Some (Err Stopped) → ⊥
+never_stopped book ask answer compiled is = let stopped : answer ≡ Err Stopped = cc in subst (IsCompiledFor book ask) stopped compiled
 
 holds_compiled : (opening : MachineState) (events : List Event) (old : MachineState) (number : ℕ) (kept : Kept) (answer : ScheduleAnswer) → Holds opening events old
     → request_of number old.requests ≡ Some kept → IsCompiledFor kept.book kept.ask answer → HoldsAfter opening events (steps.Compile number) (compiling old number answer)
 holds_compiled opening events old number kept answer holds found right =
+    let event : Event = event_of (steps.Compile number) (compiling old number answer) in
     holds_changed opening events old (steps.Compile number) (compiling old number answer) holds refl refl (λ number. refl) (λ all.
-    all_answered (IsKept opening (events ++ event_of (steps.Compile number) (compiling old number answer) ∷ []) old.numbers.request) number answer old.requests all (λ other here is.
+    all_answered (IsKeptSince opening (events ++ event ∷ []) event old.numbers.request) number answer old.requests all (λ other here has.
     let same : kept ≡ other = cc in
+    let compiled : IsCompiledFor other.book other.ask answer = subst (λ (k : Kept). IsCompiledFor k.book k.ask answer) same right in
     record {
-      taken = is.taken;
-      right = subst (λ (k : Kept). IsRight k.book k.ask answer) same (right_of kept.book kept.ask answer right);
-      below = is.below;
+      is = record {
+        taken = has.is.taken;
+        right = right_of other.book other.ask answer compiled;
+        stopped = λ stopped. absurd (never_stopped other.book other.ask answer compiled stopped);
+        below = has.is.below;
+      };
+      since = has.since;
     }))
 
 holds_handed : (opening : MachineState) (events : List Event) (old : MachineState) (number : ℕ) (kept : Kept) (answer : ScheduleAnswer) → Holds opening events old
     → HoldsAfter opening events (steps.Answer number) (handing old kept answer)
 holds_handed opening events old number kept answer holds =
+    let event : Event = event_of (steps.Answer number) (handing old kept answer) in
     holds_changed opening events old (steps.Answer number) (handing old kept answer) holds refl refl (λ number. refl)
-    (all_without (IsKept opening (events ++ event_of (steps.Answer number) (handing old kept answer) ∷ []) old.numbers.request) kept.number old.requests)
+    (all_without (IsKeptSince opening (events ++ event ∷ []) event old.numbers.request) kept.number old.requests)
 
 holds_finished : (opening : MachineState) (events : List Event) (old : MachineState) → Holds opening events old → HoldsAfter opening events steps.Finish (finishing old)
 holds_finished opening events old holds =
     holds_changed opening events old steps.Finish (finishing old) holds refl refl (λ number. refl) (λ all.
-    all_finished (IsKept opening (events ++ event_of steps.Finish (finishing old) ∷ []) old.numbers.request) old.requests (λ kept is. record {
-      taken = is.taken;
-      right = right_when_stopped kept.book kept.ask kept.answer is.right;
-      below = is.below;
+    all_finished (IsKeptSince opening (events ++ finish_event ∷ []) finish_event old.numbers.request) old.requests (λ kept has. record {
+      is = record {
+        taken = has.is.taken;
+        right = right_when_stopped kept.book kept.ask kept.answer has.is.right;
+        stopped = λ stopped. has.since;
+        below = has.is.below;
+      };
+      since = has.since;
     }) all)
 
 -- the number that comes next isn't one of those drawn
@@ -227,7 +258,8 @@ holds_taken opening events old take place ask holds point asks reached =
       later = λ number above. takes_push number events event (next_is_below old.numbers.request number above) ∙ holds.later number (omega (arith, above));
       kept =
         all_push (IsKept opening (events ++ event ∷ []) (drawn + 1)) old.requests _
-        (kept_after opening events event drawn (drawn + 1) old.requests (next_differs old.numbers.request) (omega arith) holds.kept)
+        (still_kept opening (events ++ event ∷ []) event (drawn + 1) old.requests
+        (kept_after opening events event drawn (drawn + 1) old.requests (next_differs old.numbers.request) (omega arith) holds.kept))
         (record {
           taken = record {
             before = events;
@@ -244,6 +276,7 @@ holds_taken opening events old take place ask holds point asks reached =
             asks = subst (λ (site : SiteState). ask_at site.unit (book_at old place) take ≡ Ok ask) holds.site asks;
           };
           right = tt;
+          stopped = λ stopped. cc;
           below = omega arith;
         });
     }
@@ -288,23 +321,24 @@ handed_out_right opening events middle number book ask answer next holds made =
         let answers : is.answer ≡ answer = cc in
         let found = found_is (IsKept opening events middle.numbers.request) number middle.requests is.kept holds.kept is.found in
         let given : IsRight is.kept.book is.kept.ask is.answer = subst (λ (o : Option ScheduleAnswer). IfSome o (IsRight is.kept.book is.kept.ask)) is.has found.0.right in
+        let stopped : answer ≡ Err Stopped → Contains found.0.taken.since finish_event = λ e. found.0.stopped (is.has ∙ ap Some (answers ∙ e)) in
         let right : IsRight book ask answer = subst (λ (b : Book). IsRight b ask answer) books (subst (λ (a : Ask). IsRight is.kept.book a answer) asks (subst (IsRight is.kept.book is.kept.ask) answers given)) in
-        let taken : WasTaken opening events number book ask = subst (λ (n : ℕ). WasTaken opening events n book ask) found.1
-        (subst (λ (b : Book). WasTaken opening events is.kept.number b ask) books (subst (λ (a : Ask). WasTaken opening events is.kept.number is.kept.book a) asks found.0.taken)) in
+        let taken = found.0.taken in
         record {
           before = taken.before;
           asked = taken.asked;
           since = taken.since;
-          in_order = taken.in_order;
-          first = taken.first;
-          last = taken.last;
+          in_order = taken.in_order ∙ (λ i. taken.before ++ taken_event taken.asked (found.1 i) (books i) (asks i) ∷ taken.since);
+          first = ap (λ (n : ℕ). takes_of n taken.before) (sym found.1) ∙ taken.first;
+          last = ap (λ (n : ℕ). takes_of n taken.since) (sym found.1) ∙ taken.last;
           state = taken.state;
           reached = taken.reached;
           place = taken.place;
           point = taken.point;
-          had = taken.had;
-          asks = taken.asks;
+          had = sym books ∙ taken.had;
+          asks = subst (λ (b : Book). ask_at opening.site.unit b taken.asked ≡ Ok ask) books (taken.asks ∙ ap Ok asks);
           right = right;
+          stopped = stopped;
         }
 
 -- in a legal history from an opening state

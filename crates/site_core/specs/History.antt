@@ -7,7 +7,7 @@ use Rattle.site_core.specs.declared.step.Step.{Step}
 use Rattle.site_core.specs.declared.step.Step.TheVariants as steps
 use Rattle.site_core.specs.declared.step.Take.{Take}
 use Rattle.site_core.specs.declared.reply.Reply.{Reply}
-use Rattle.site_core.specs.declared.reply.Reply.TheVariants.{Taken, Answered}
+use Rattle.site_core.specs.declared.reply.Reply.TheVariants.{Taken, Answered, Finished}
 use Rattle.site_core.specs.declared.outcome.Outcome.{Outcome}
 use Rattle.site_core.specs.declared.outcome.Outcome.TheVariants.{Done, Refused}
 use Rattle.site_core.specs.State.{MachineState, Kept, ScheduleAnswer}
@@ -41,6 +41,10 @@ taken_event take number book ask = record { step = steps.Take take; reply = Take
 abbrev pub answered_event : ℕ → Book → Ask → ScheduleAnswer → Event
 answered_event number book ask answer =
     record { step = steps.Answer number; reply = Answered book ask answer }
+
+-- the central system is stopped
+abbrev pub finish_event : Event
+finish_event = record { step = steps.Finish; reply = Finished }
 
 abbrev pub reply_takes : ℕ → Reply → Bool
 reply_takes number (Taken taken book ask) = taken == number
