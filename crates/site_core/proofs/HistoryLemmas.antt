@@ -33,6 +33,14 @@ runs_legal old new (step ∷ steps) (Done reply ∷ outcomes) runs = (runs.0, ru
 runs_legal old new (step ∷ steps) (Refused refused ∷ outcomes) runs =
     subst (λ (m : MachineState). Legal m (history_of steps outcomes) new) runs.1.unchanged (runs_legal runs.0 new steps outcomes runs.2)
 
+pub runs_append : (old middle new : MachineState) (steps more : List Step) (outcomes others : List Outcome) → Runs old steps outcomes middle → Runs middle more others new
+    → Runs old (steps ++ more) (outcomes ++ others) new
+runs_append old middle new [] more [] others runs then_runs = subst (λ (m : MachineState). Runs m more others new) runs then_runs
+runs_append old middle new [] more (outcome ∷ outcomes) others runs then_runs = absurd runs
+runs_append old middle new (step ∷ steps) more [] others runs then_runs = absurd runs
+runs_append old middle new (step ∷ steps) more (outcome ∷ outcomes) others runs then_runs =
+    (runs.0, runs.1, runs_append runs.0 middle new steps more outcomes others runs.2 then_runs)
+
 -- the step at a place of a run, from where those before it lead
 pub run_at : (old new : MachineState) (steps : List Step) (outcomes : List Outcome) (n : ℕ) (step : Step) (outcome : Outcome)
     → Runs old steps outcomes new → slice_get steps n ≡ Some step → slice_get outcomes n ≡ Some outcome

@@ -114,12 +114,16 @@ counts_step opening events old event new holds counts made =
   where
     done : Made
     done = record { reply = event.reply; after = new }
+
     is : Does old event.step (record { reply = event.reply; after = new })
     is = does old event.step event.reply new made
+
     takes_more : (number : ℕ) → takes_of number (events ++ event ∷ []) ≡ takes_of number events + one_if (is_take_of number event)
     takes_more number = sum_by_push (λ (e : Event). one_if (is_take_of number e)) events event
+
     answers_more : (number : ℕ) → answers_of number (events ++ event ∷ []) ≡ answers_of number events + one_if (is_answer_of number event)
     answers_more number = sum_by_push (λ (e : Event). one_if (is_answer_of number e)) events event
+
     once : (number : ℕ) (takes : Bool) → is_take_of number event ≡ takes → takes_of number (events ++ event ∷ []) ≤ 1
     once number true takes =
         let drawn = takes_new number old event.step (record { reply = event.reply; after = new }) is takes in
@@ -232,6 +236,7 @@ stays old new (event ∷ events) number kept answer legal found has =
         → (request_of number new.requests ≡ Some kept) ⊎ Contains (event ∷ events) (answered_event number kept.book kept.ask answer)
     later (inl is) = inl is
     later (inr in_events) = inr (Contains-append_right (event ∷ []) events _ in_events)
+
     go : StaysOr number kept answer event.step (record { reply = event.reply; after = legal.0 })
         → (request_of number legal.0.requests ≡ Some kept → (request_of number new.requests ≡ Some kept) ⊎ Contains events (answered_event number kept.book kept.ask answer))
         → (request_of number new.requests ≡ Some kept) ⊎ Contains (event ∷ events) (answered_event number kept.book kept.ask answer)

@@ -2,3 +2,4 @@ pub mod StepLemmas
 pub mod HistoryLemmas
 pub mod TakenRequests
 pub mod KeptRequests
+pub mod BooksOfHistories

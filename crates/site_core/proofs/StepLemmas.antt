@@ -1,5 +1,5 @@
 -- What the steps that are made leave of the site, of the kept requests and of their numbers.
-use Rattle.std.proofs.Common.{◌≡◌, ℕ, ℤ, ◌+◌, Bool, true, false, cond, List, Option, Some, None, Result, Ok, Err, refl, sym, ap, ◌∙◌, subst}
+use Rattle.std.proofs.Common.{◌≡◌, ℕ, ℤ, ◌+◌, Bool, true, false, cond, List, Option, Some, None, Result, Ok, Err, slice_set, refl, sym, ap, ◌∙◌, subst}
 use Rattle.std.proofs.Common.{inl, inr, ◌||◌, ◌&&◌, ◌==◌, nat_lt, length, is_some}
 use Rattle.std.specs.Prelude.{IfOk, ◌⊎◌}
 use Rattle.std.specs.List.{list_any}
@@ -13,18 +13,19 @@ use Rattle.transactions.specs.declared.active_table.Began.{Began}
 use Rattle.transactions.specs.declared.active_table.Began.TheVariants.{Fresh, Repeat}
 use Rattle.transactions.specs.ActiveTable.{began, connector_of}
 use Rattle.meaning.specs.declared.ask.Ask.{Ask}
-use Rattle.site_rules.specs.Site.{place_of}
-use Rattle.point_book.specs.Changes.{book_cleared, book_stopped}
+use Rattle.site_rules.specs.Site.{SiteState, place_of}
+use Rattle.point_book.specs.Book.{Book}
+use Rattle.point_book.specs.Changes.{book_installed, book_cleared, book_started, book_stopped}
 use Rattle.site_core.specs.declared.step.Step.{Step}
 use Rattle.site_core.specs.declared.step.Step.TheVariants as steps
 use Rattle.site_core.specs.declared.step.Take.{Take}
 use Rattle.site_core.specs.declared.reply.Reply.{Reply}
-use Rattle.site_core.specs.declared.reply.Reply.TheVariants.{Accepted, Unknown, Ended, NoSuch, Taken, Compiled, Answered, NotYet, Finished}
-use Rattle.site_core.specs.State.{MachineState, Kept, ScheduleAnswer, book_at}
+use Rattle.site_core.specs.declared.reply.Reply.TheVariants.{Accepted, Unknown, Started, Ended, NoSuch, Taken, Compiled, Answered, NotYet, Finished}
+use Rattle.site_core.specs.State.{MachineState, Kept, ScheduleAnswer, book_in, book_at}
 use Rattle.site_core.specs.Requests.{request_of, answered, without, all_stopped}
 use Rattle.site_core.specs.Right.{IsCompiledFor}
 use Rattle.site_core.specs.Ask.{ask_at}
-use Rattle.site_core.specs.Step.{Made, Steps, unless, changed, version_refusal, at_place, at_point, installs, clears, starts, starts_as, stops, takes, takes_ask, with_request, compiles_kept, answers_kept, answers_with, finishes, unchanged, stepped, no_answer}
+use Rattle.site_core.specs.Step.{Made, Steps, unless, changed, version_refusal, next_transaction, at_place, at_point, installs, clears, starts, starts_as, stops, takes, takes_ask, with_request, compiles_kept, answers_kept, answers_with, finishes, unchanged, stepped, no_answer}
 use Rattle.site_core.specs.History.{reply_takes, asks_answer_of, has_answer}
 
 -- ---- what holds of whatever is made
@@ -46,10 +47,30 @@ at_point_made P old point made_at each = go old.is_stopped refl (place_of old.si
     go false is None here = tt
     go false is (Some place) here = each place is here
 
+-- ---- the books
+
+-- the books with that of one place changed
+abbrev with_change : List Book → Option ℕ → (Book → Book) → List Book
+with_change books None change = books
+with_change books (Some place) change = slice_set books place (change (book_in books place))
+
+-- what an event makes of the books
+abbrev pub books_after : SiteState → List Book → Step → Reply → List Book
+books_after site books (steps.Install point row) Accepted = with_change books (place_of site point) (λ book. book_installed book row)
+books_after site books (steps.Clear point criteria) Accepted = with_change books (place_of site point) (λ book. book_cleared book criteria)
+books_after site books (steps.Start point connector begin) (Started number) = with_change books (place_of site point) (λ book. book_started book connector begin number)
+books_after site books (steps.Stop point number) Ended = with_change books (place_of site point) (λ book. book_stopped book number)
+books_after site books step reply = books
+
+at_its_place : (old : MachineState) (point : List ℕ) (place : ℕ) (change : Book → Book) → place_of old.site point ≡ Some place
+    → slice_set old.books place (change (book_at old place)) ≡ with_change old.books (place_of old.site point) change
+at_its_place old point place change here = ap (λ (o : Option ℕ). with_change old.books o change) (sym here)
+
 -- ---- the steps that leave the requests as they are
 
 pub record LeavesRequests (old : MachineState) (step : Step) (made : Made) : Type 0 where
   pub site : made.after.site ≡ old.site
+  pub books : made.after.books ≡ books_after old.site old.books step made.reply
   pub requests : made.after.requests ≡ old.requests
   pub drawn : made.after.numbers.request ≡ old.numbers.request
   pub stopped : made.after.is_stopped ≡ old.is_stopped
@@ -59,35 +80,35 @@ pub record LeavesRequests (old : MachineState) (step : Step) (made : Made) : Typ
 installs_leaves : (old : MachineState) (point : List ℕ) (row : Row) → IfOk (stepped no_answer old (steps.Install point row)) (LeavesRequests old (steps.Install point row))
 installs_leaves old point row =
     at_point_made (LeavesRequests old (steps.Install point row)) old point (installs old point row) (λ place going here.
-    unless_made (LeavesRequests old (steps.Install point row)) _ _ (record { site = refl; requests = refl; drawn = refl; stopped = refl; no_take = λ number. refl; no_answer = λ number. refl }))
+    unless_made (LeavesRequests old (steps.Install point row)) _ _ (record { site = refl; books = at_its_place old point place (λ book. book_installed book row) here; requests = refl; drawn = refl; stopped = refl; no_take = λ number. refl; no_answer = λ number. refl }))
 
 clears_leaves : (old : MachineState) (point : List ℕ) (criteria : Criteria) → IfOk (stepped no_answer old (steps.Clear point criteria)) (LeavesRequests old (steps.Clear point criteria))
 clears_leaves old point criteria =
     at_point_made (LeavesRequests old (steps.Clear point criteria)) old point (clears old criteria) (λ place going here.
     let done : Made = record { reply = Accepted; after = changed old place (book_cleared (book_at old place) criteria) } in
     either_made (LeavesRequests old (steps.Clear point criteria)) (list_any (matches criteria) (book_at old place).rows) (unless (version_refusal old) done) (Ok (unchanged old Unknown))
-    (unless_made (LeavesRequests old (steps.Clear point criteria)) (version_refusal old) done (record { site = refl; requests = refl; drawn = refl; stopped = refl; no_take = λ number. refl; no_answer = λ number. refl }))
-    (record { site = refl; requests = refl; drawn = refl; stopped = refl; no_take = λ number. refl; no_answer = λ number. refl }))
+    (unless_made (LeavesRequests old (steps.Clear point criteria)) (version_refusal old) done (record { site = refl; books = at_its_place old point place (λ book. book_cleared book criteria) here; requests = refl; drawn = refl; stopped = refl; no_take = λ number. refl; no_answer = λ number. refl }))
+    (record { site = refl; books = refl; requests = refl; drawn = refl; stopped = refl; no_take = λ number. refl; no_answer = λ number. refl }))
 
-starts_as_leaves : (old : MachineState) (point : List ℕ) (found : Began) (connector : ℕ) (begin : Begin) (place : ℕ) → IfOk (starts_as found old connector begin place) (LeavesRequests old (steps.Start point connector begin))
-starts_as_leaves old point (Repeat number) connector begin place = record { site = refl; requests = refl; drawn = refl; stopped = refl; no_take = λ number. refl; no_answer = λ number. refl }
-starts_as_leaves old point Fresh connector begin place =
-    unless_made (LeavesRequests old (steps.Start point connector begin)) _ _ (record { site = refl; requests = refl; drawn = refl; stopped = refl; no_take = λ number. refl; no_answer = λ number. refl })
+starts_as_leaves : (old : MachineState) (point : List ℕ) (found : Began) (connector : ℕ) (begin : Begin) (place : ℕ) → place_of old.site point ≡ Some place → IfOk (starts_as found old connector begin place) (LeavesRequests old (steps.Start point connector begin))
+starts_as_leaves old point (Repeat number) connector begin place here = record { site = refl; books = refl; requests = refl; drawn = refl; stopped = refl; no_take = λ number. refl; no_answer = λ number. refl }
+starts_as_leaves old point Fresh connector begin place here =
+    unless_made (LeavesRequests old (steps.Start point connector begin)) _ _ (record { site = refl; books = at_its_place old point place (λ book. book_started book connector begin (next_transaction old)) here; requests = refl; drawn = refl; stopped = refl; no_take = λ number. refl; no_answer = λ number. refl })
 
 starts_leaves : (old : MachineState) (point : List ℕ) (connector : ℕ) (begin : Begin) → IfOk (stepped no_answer old (steps.Start point connector begin)) (LeavesRequests old (steps.Start point connector begin))
 starts_leaves old point connector begin =
     at_point_made (LeavesRequests old (steps.Start point connector begin)) old point (starts old connector begin) (λ place going here.
     either_made (LeavesRequests old (steps.Start point connector begin)) ((connector == 0) || nat_lt (length (book_at old place).ceilings) connector) (Err refusals.UnknownConnector)
     (starts_as (began (book_at old place).transactions connector begin) old connector begin place) tt
-    (starts_as_leaves old point (began (book_at old place).transactions connector begin) connector begin place))
+    (starts_as_leaves old point (began (book_at old place).transactions connector begin) connector begin place here))
 
 stops_leaves : (old : MachineState) (point : List ℕ) (number : ℤ) → IfOk (stepped no_answer old (steps.Stop point number)) (LeavesRequests old (steps.Stop point number))
 stops_leaves old point number =
     at_point_made (LeavesRequests old (steps.Stop point number)) old point (stops old number) (λ place going here.
     let done : Made = record { reply = Ended; after = changed old place (book_stopped (book_at old place) number) } in
     either_made (LeavesRequests old (steps.Stop point number)) (is_some (connector_of (book_at old place).transactions number)) (unless (version_refusal old) done) (Ok (unchanged old NoSuch))
-    (unless_made (LeavesRequests old (steps.Stop point number)) (version_refusal old) done (record { site = refl; requests = refl; drawn = refl; stopped = refl; no_take = λ number. refl; no_answer = λ number. refl }))
-    (record { site = refl; requests = refl; drawn = refl; stopped = refl; no_take = λ number. refl; no_answer = λ number. refl }))
+    (unless_made (LeavesRequests old (steps.Stop point number)) (version_refusal old) done (record { site = refl; books = at_its_place old point place (λ book. book_stopped book number) here; requests = refl; drawn = refl; stopped = refl; no_take = λ number. refl; no_answer = λ number. refl }))
+    (record { site = refl; books = refl; requests = refl; drawn = refl; stopped = refl; no_take = λ number. refl; no_answer = λ number. refl }))
 
 -- ---- Take
 
@@ -167,6 +188,7 @@ answers_is old number = asked (request_of number old.requests) refl
         → IsHanding old number (answers_with old kept answer) ⊎ (unchanged old NotYet ≡ answers_with old kept answer)
     given kept found None has = inr refl
     given kept found (Some answer) has = inl (record { kept = kept; found = found; answer = answer; has = has; is = refl })
+
     asked : (found : Option Kept) → request_of number old.requests ≡ found → IfOk (answers_kept old found) (λ made. IsHanding old number made ⊎ (unchanged old NotYet ≡ made))
     asked None found = tt
     asked (Some kept) found = given kept found kept.answer refl
@@ -212,13 +234,14 @@ does old (steps.Answer number) reply new made =
     handed (inl is) = subst (Does old (steps.Answer number)) is.is (hands_one number is.kept is.answer is.found is.has)
     handed (inr same) =
         subst (Does old (steps.Answer number)) same
-        (leaves _ _ (record { site = refl; requests = refl; drawn = refl; stopped = refl; no_take = λ number. refl; no_answer = λ other. and_false (number == other) }))
+        (leaves _ _ (record { site = refl; books = refl; requests = refl; drawn = refl; stopped = refl; no_take = λ number. refl; no_answer = λ other. and_false (number == other) }))
 does old steps.Finish reply new made = finished (finishes_is old)
   where
     is : finishes old ≡ record { reply = reply; after = new }
     is = cc
+
     finished : (unchanged old Finished ≡ finishes old) ⊎ (finishing old ≡ finishes old) → Does old steps.Finish (record { reply = reply; after = new })
     finished (inl same) =
         subst (Does old steps.Finish) (same ∙ is)
-        (leaves _ _ (record { site = refl; requests = refl; drawn = refl; stopped = refl; no_take = λ number. refl; no_answer = λ number. refl }))
+        (leaves _ _ (record { site = refl; books = refl; requests = refl; drawn = refl; stopped = refl; no_take = λ number. refl; no_answer = λ number. refl }))
     finished (inr same) = subst (Does old steps.Finish) (same ∙ is) finishes_all

@@ -81,8 +81,7 @@ kept_after : (opening : MachineState) (events : List Event) (event : Event) (dra
 kept_after opening events event drawn later [] other more all = tt
 kept_after opening events event drawn later (kept ∷ requests) other more all =
     let first = all.0 in
-    let below : kept.number ≤ drawn = first.below in
-    (
+    let below : kept.number ≤ drawn = first.below in (
       record {
         is = record {
           taken = was_taken opening events event kept.number kept.book kept.ask (other kept.number below) first.taken;
@@ -188,8 +187,8 @@ holds_changed opening events old step made holds site drawn no_take change reach
       site = site ∙ holds.site;
       later = λ number above. takes_push number events event (no_take number) ∙ holds.later number (omega (arith, drawn, above));
       kept =
-        subst (λ (n : ℕ). AllByRecursion (IsKept opening (events ++ event ∷ []) n) made.after.requests) (sym drawn)
-        (still_kept opening (events ++ event ∷ []) event old.numbers.request made.after.requests (change before));
+          subst (λ (n : ℕ). AllByRecursion (IsKept opening (events ++ event ∷ []) n) made.after.requests) (sym drawn)
+          (still_kept opening (events ++ event ∷ []) event old.numbers.request made.after.requests (change before));
     }
 
 holds_left : (opening : MachineState) (events : List Event) (old : MachineState) (step : Step) (made : Made) → Holds opening events old
@@ -257,28 +256,28 @@ holds_taken opening events old take place ask holds point asks reached =
       site = holds.site;
       later = λ number above. takes_push number events event (next_is_below old.numbers.request number above) ∙ holds.later number (omega (arith, above));
       kept =
-        all_push (IsKept opening (events ++ event ∷ []) (drawn + 1)) old.requests _
-        (still_kept opening (events ++ event ∷ []) event (drawn + 1) old.requests
-        (kept_after opening events event drawn (drawn + 1) old.requests (next_differs old.numbers.request) (omega arith) holds.kept))
-        (record {
-          taken = record {
-            before = events;
-            asked = take;
-            since = [];
-            in_order = refl;
-            first = holds.later (drawn + 1) (omega arith);
-            last = refl;
-            state = old;
-            reached = holds.reached;
-            place = place;
-            point = subst (λ (site : SiteState). place_of site take.point ≡ Some place) holds.site point;
-            had = refl;
-            asks = subst (λ (site : SiteState). ask_at site.unit (book_at old place) take ≡ Ok ask) holds.site asks;
-          };
-          right = tt;
-          stopped = λ stopped. cc;
-          below = omega arith;
-        });
+          all_push (IsKept opening (events ++ event ∷ []) (drawn + 1)) old.requests _
+          (still_kept opening (events ++ event ∷ []) event (drawn + 1) old.requests
+          (kept_after opening events event drawn (drawn + 1) old.requests (next_differs old.numbers.request) (omega arith) holds.kept))
+          (record {
+            taken = record {
+              before = events;
+              asked = take;
+              since = [];
+              in_order = refl;
+              first = holds.later (drawn + 1) (omega arith);
+              last = refl;
+              state = old;
+              reached = holds.reached;
+              place = place;
+              point = subst (λ (site : SiteState). place_of site take.point ≡ Some place) holds.site point;
+              had = refl;
+              asks = subst (λ (site : SiteState). ask_at site.unit (book_at old place) take ≡ Ok ask) holds.site asks;
+            };
+            right = tt;
+            stopped = λ stopped. cc;
+            below = omega arith;
+          });
     }
 
 -- ---- every step, and every history

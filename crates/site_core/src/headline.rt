@@ -48,6 +48,20 @@ pub fn answered_schedules_are_right()
         → AnswersAreRight (opening_at site numbers) steps outcomes }
 {}
 
+/// The law that a run after a run is one run of the steps of both: a machine may be run in parts.
+pub fn runs_join()
+    ensures { (old middle new : MachineState) (steps more : List Step) (outcomes others : List Outcome)
+        → Runs old steps outcomes middle → Runs middle more others new
+        → Runs old (steps ++ more) (outcomes ++ others) new }
+{}
+
+/// The law that what the points have after a legal history is determined by its events: of two states that
+/// it may lead to, which differ in answers that aren't handed out yet, each has the same books.
+pub fn books_follow_events()
+    ensures { (old one other : MachineState) (events : List Event)
+        → Legal old events one → Legal old events other → one.books ≡ other.books }
+{}
+
 /// The law that no request is lost and none is answered twice: in every legal history from an opening state
 /// a number is taken once at most, and then it is answered or still kept.
 pub fn requests_are_answered_once()
@@ -65,7 +79,7 @@ pub fn answers_stay()
         (answer : ScheduleAnswer) → Legal old events new
         → request_of number old.requests ≡ Some kept → kept.answer ≡ Some answer
         → (request_of number new.requests ≡ Some kept)
-            ⊎ Contains events (answered_event number kept.book kept.ask answer) }
+        ⊎ Contains events (answered_event number kept.book kept.ask answer) }
 {}
 
 /// The law that each request that is kept has its answer once the central system is stopped.
