@@ -1,3 +1,6 @@
+pub mod BookLemmas
+pub mod RequestLemmas
+pub mod MachineLemmas
 pub mod StepLemmas
 pub mod HistoryLemmas
 pub mod TakenRequests

@@ -5,5 +5,6 @@ pub mod Ask
 pub mod Requests
 pub mod Step
 pub mod Run
+pub mod ByCases
 pub mod History
 pub mod Headline

@@ -5,6 +5,7 @@
 #![tactic(auto)]
 
 mod ask;
+mod books;
 mod headline;
 mod machine;
 mod numbers;
@@ -12,6 +13,7 @@ mod outcome;
 mod point_id;
 mod reply;
 mod request;
+mod requests;
 mod shared_book;
 mod step;
 
@@ -25,5 +27,6 @@ pub use numbers::{MAX_NUMBER, Numbers};
 pub use outcome::{Outcome, Refused, RunFault};
 pub use point_id::PointId;
 pub use reply::Reply;
+pub use request::MAX_REQUESTS;
 pub use shared_book::SharedBook;
 pub use step::{Step, Take};
