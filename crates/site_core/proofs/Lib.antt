@@ -6,3 +6,4 @@ pub mod HistoryLemmas
 pub mod TakenRequests
 pub mod KeptRequests
 pub mod BooksOfHistories
+pub mod WorkedExamples
