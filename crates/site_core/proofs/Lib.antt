@@ -1,6 +1,7 @@
 pub mod BookLemmas
 pub mod RequestLemmas
 pub mod MachineLemmas
+pub mod RunLemmas
 pub mod StepLemmas
 pub mod HistoryLemmas
 pub mod TakenRequests
