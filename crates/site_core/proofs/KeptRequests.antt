@@ -13,7 +13,7 @@ use Rattle.site_core.specs.Requests.{request_of, with_answer, answered, without,
 use Rattle.site_core.specs.Step.{Made, Steps}
 use Rattle.site_core.specs.History.{Event, Legal, answered_event, is_take_of, takes_of, is_answer_of, answers_of, kept_of, IsAnswered}
 use Rattle.site_core.proofs.StepLemmas.{handing, Does, does, leaves, takes_one, compiles_one, hands_one, finishes_all}
-use Rattle.site_core.proofs.TakenRequests.{Holds, holds_step, holds_at_opening, event_of, all_answered, all_without}
+use Rattle.site_core.proofs.TakenRequests.{Holds, holds_step, holds_at_opening, event_of, found_number, all_answered, all_without}
 
 -- ---- how many are kept of a number
 
@@ -63,18 +63,6 @@ kept_without number found kept (first ∷ requests) is = go (first.number == fou
 and_true : (test : Bool) → (test && true) ≡ test
 and_true true = refl
 and_true false = refl
-
--- what is found has the number that was looked for
-found_number : (number : ℕ) (requests : List Kept) (kept : Kept) → request_of number requests ≡ Some kept → kept.number ≡ number
-found_number number [] kept is = cc
-found_number number (first ∷ requests) kept is = go (first.number == number) refl is (λ e. found_number number requests kept e)
-  where
-    go : (here : Bool) → (first.number == number) ≡ here → cond here (Some first) (request_of number requests) ≡ Some kept → (request_of number requests ≡ Some kept → kept.number ≡ number) → kept.number ≡ number
-    go true same is rest =
-        let one : first ≡ kept = cc in
-        let numbered : first.number ≡ number = grind (arith, nat_tests) in
-        ap (λ (k : Kept). k.number) (sym one) ∙ numbered
-    go false same is rest = rest is
 
 -- a step keeps one more where it is a Take, and one less where it hands out an answer
 balances : (number : ℕ) (old : MachineState) (step : Step) (made : Made) → Does old step made

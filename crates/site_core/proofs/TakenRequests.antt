@@ -126,17 +126,26 @@ all_finished : (P : Kept → Type 0) (requests : List Kept) → ((kept : Kept) �
 all_finished P [] each all = tt
 all_finished P (first ∷ requests) each all = (each first all.0, all_finished P requests each all.1)
 
-pub found_is : (P : Kept → Type 0) (number : ℕ) (requests : List Kept) (kept : Kept) → AllByRecursion P requests → request_of number requests ≡ Some kept → P kept × (kept.number ≡ number)
-found_is P number [] kept all found = cc
-found_is P number (first ∷ requests) kept all found = go (first.number == number) refl found (λ e. found_is P number requests kept all.1 e)
+-- what is found has the number that was looked for
+pub found_number : (number : ℕ) (requests : List Kept) (kept : Kept) → request_of number requests ≡ Some kept → kept.number ≡ number
+found_number number [] kept is = cc
+found_number number (first ∷ requests) kept is = go (first.number == number) refl is (λ e. found_number number requests kept e)
   where
-    go : (here : Bool) → (first.number == number) ≡ here → cond here (Some first) (request_of number requests) ≡ Some kept
-        → (request_of number requests ≡ Some kept → P kept × (kept.number ≡ number)) → P kept × (kept.number ≡ number)
-    go true is it rest =
-        let same : first ≡ kept = cc in
+    go : (here : Bool) → (first.number == number) ≡ here → cond here (Some first) (request_of number requests) ≡ Some kept → (request_of number requests ≡ Some kept → kept.number ≡ number) → kept.number ≡ number
+    go true same is rest =
+        let one : first ≡ kept = cc in
         let numbered : first.number ≡ number = grind (arith, nat_tests) in
-        (subst P same all.0, ap (λ (k : Kept). k.number) (sym same) ∙ numbered)
-    go false is it rest = rest it
+        ap (λ (k : Kept). k.number) (sym one) ∙ numbered
+    go false same is rest = rest is
+
+-- what holds of each holds of the one that is found
+found_holds : (P : Kept → Type 0) (number : ℕ) (requests : List Kept) (kept : Kept) → AllByRecursion P requests → request_of number requests ≡ Some kept → P kept
+found_holds P number [] kept all is = cc
+found_holds P number (first ∷ requests) kept all is = go (first.number == number) is (λ e. found_holds P number requests kept all.1 e)
+  where
+    go : (here : Bool) → cond here (Some first) (request_of number requests) ≡ Some kept → (request_of number requests ≡ Some kept → P kept) → P kept
+    go true is rest = let one : first ≡ kept = cc in subst P one all.0
+    go false is rest = rest is
 
 -- what a compiler may answer is right
 right_of : (book : Book) (ask : Ask) (answer : ScheduleAnswer) → IsCompiledFor book ask answer → IsRight book ask answer
@@ -318,18 +327,19 @@ handed_out_right opening events middle number book ask answer next holds made =
         let books : is.kept.book ≡ book = cc in
         let asks : is.kept.ask ≡ ask = cc in
         let answers : is.answer ≡ answer = cc in
-        let found = found_is (IsKept opening events middle.numbers.request) number middle.requests is.kept holds.kept is.found in
-        let given : IsRight is.kept.book is.kept.ask is.answer = subst (λ (o : Option ScheduleAnswer). IfSome o (IsRight is.kept.book is.kept.ask)) is.has found.0.right in
-        let stopped : answer ≡ Err Stopped → Contains found.0.taken.since finish_event = λ e. found.0.stopped (is.has ∙ ap Some (answers ∙ e)) in
+        let found = found_holds (IsKept opening events middle.numbers.request) number middle.requests is.kept holds.kept is.found in
+        let numbered : is.kept.number ≡ number = found_number number middle.requests is.kept is.found in
+        let given : IsRight is.kept.book is.kept.ask is.answer = subst (λ (o : Option ScheduleAnswer). IfSome o (IsRight is.kept.book is.kept.ask)) is.has found.right in
+        let stopped : answer ≡ Err Stopped → Contains found.taken.since finish_event = λ e. found.stopped (is.has ∙ ap Some (answers ∙ e)) in
         let right : IsRight book ask answer = subst (λ (b : Book). IsRight b ask answer) books (subst (λ (a : Ask). IsRight is.kept.book a answer) asks (subst (IsRight is.kept.book is.kept.ask) answers given)) in
-        let taken = found.0.taken in
+        let taken = found.taken in
         record {
           before = taken.before;
           asked = taken.asked;
           since = taken.since;
-          in_order = taken.in_order ∙ (λ i. taken.before ++ taken_event taken.asked (found.1 i) (books i) (asks i) ∷ taken.since);
-          first = ap (λ (n : ℕ). takes_of n taken.before) (sym found.1) ∙ taken.first;
-          last = ap (λ (n : ℕ). takes_of n taken.since) (sym found.1) ∙ taken.last;
+          in_order = taken.in_order ∙ (λ i. taken.before ++ taken_event taken.asked (numbered i) (books i) (asks i) ∷ taken.since);
+          first = ap (λ (n : ℕ). takes_of n taken.before) (sym numbered) ∙ taken.first;
+          last = ap (λ (n : ℕ). takes_of n taken.since) (sym numbered) ∙ taken.last;
           state = taken.state;
           reached = taken.reached;
           place = taken.place;

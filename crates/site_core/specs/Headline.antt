@@ -19,7 +19,8 @@ use Rattle.site_core.specs.History.{Event, Legal, history_of, taken_event, finis
 
 -- An answer that is handed out to the request of a number, with a book and an ask, after these events from an
 -- opening state, is right:
-pub record IsRightAfter (opening : MachineState) (events : List Event) (number : ℕ) (book : Book) (ask : Ask) (answer : ScheduleAnswer) : Type 0 where
+pub record IsRightAfter (opening : MachineState) (events : List Event) (number : ℕ) (book : Book) (ask : Ask)
+    (answer : ScheduleAnswer) : Type 0 where
   -- There were events before the request was taken,
   pub before : List Event
   -- there was its Take,

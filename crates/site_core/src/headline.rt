@@ -11,7 +11,8 @@ ghost use Rattle.site_core.specs.declared.outcome.Outcome.{Outcome};
 ghost use Rattle.site_core.specs.State.{MachineState, Kept, ScheduleAnswer, opening_at};
 ghost use Rattle.site_core.specs.Requests.{request_of};
 ghost use Rattle.site_core.specs.Run.{Runs};
-ghost use Rattle.site_core.specs.History.{Event, Legal, history_of, answered_event, takes_of, answers_of, kept_of, IsAnswered};
+ghost use Rattle.site_core.specs.History.{Event, Legal, history_of, answered_event};
+ghost use Rattle.site_core.specs.History.{takes_of, answers_of, kept_of, IsAnswered};
 ghost use Rattle.site_core.specs.Headline.{IsRightAfter, AnswersAreRight};
 
 /// The law that the steps that a run made are a legal history.
