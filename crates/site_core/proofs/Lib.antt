@@ -4,3 +4,10 @@ pub mod OutboxOrderLemmas
 pub mod BookLemmas
 pub mod RequestLemmas
 pub mod MachineLemmas
+pub mod RunLemmas
+pub mod StepLemmas
+pub mod HistoryLemmas
+pub mod TakenRequests
+pub mod KeptRequests
+pub mod BooksOfHistories
+pub mod WorkedExamples

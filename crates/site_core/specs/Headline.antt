@@ -1,6 +1,8 @@
 -- The headline: after any steps, in any order, every schedule that is handed out is right for what its point
 -- had when the schedule was asked, whatever was changed since (OCPP 1.6, 5.7).
-use Rattle.std.specs.Prelude.{ℕ, ◌≡◌, List, ◌∷◌, ◌++◌, take, slice_get, Some, Ok}
+use Rattle.std.specs.Prelude.{ℕ, ◌≡◌, List, ◌∷◌, ◌++◌, take, slice_get, Some, Ok, Err}
+use Rattle.std.specs.List.{Contains}
+use Rattle.ocpp_scalars.specs.declared.refusal.Refusal.TheVariants.{Stopped}
 use Rattle.meaning.specs.declared.ask.Ask.{Ask}
 use Rattle.site_rules.specs.Site.{place_of}
 use Rattle.point_book.specs.Book.{Book}
@@ -13,11 +15,12 @@ use Rattle.site_core.specs.declared.outcome.Outcome.TheVariants.{Done}
 use Rattle.site_core.specs.State.{MachineState, ScheduleAnswer, book_at}
 use Rattle.site_core.specs.Ask.{ask_at}
 use Rattle.site_core.specs.Right.{IsRight}
-use Rattle.site_core.specs.History.{Event, Legal, history_of, taken_event, takes_of}
+use Rattle.site_core.specs.History.{Event, Legal, history_of, taken_event, finish_event, takes_of}
 
 -- An answer that is handed out to the request of a number, with a book and an ask, after these events from an
 -- opening state, is right:
-pub record IsRightAfter (opening : MachineState) (events : List Event) (number : ℕ) (book : Book) (ask : Ask) (answer : ScheduleAnswer) : Type 0 where
+pub record IsRightAfter (opening : MachineState) (events : List Event) (number : ℕ) (book : Book) (ask : Ask)
+    (answer : ScheduleAnswer) : Type 0 where
   -- There were events before the request was taken,
   pub before : List Event
   -- there was its Take,
@@ -43,6 +46,8 @@ pub record IsRightAfter (opening : MachineState) (events : List Event) (number :
   pub asks : ask_at opening.site.unit book asked ≡ Ok ask
   -- For this book and this ask the answer is right: the exact schedule, or a permitted refusal.
   pub right : IsRight book ask answer
+  -- It is the refusal Stopped only where the central system was stopped since.
+  pub stopped : answer ≡ Err Stopped → Contains since finish_event
 
 -- Each answer that a run hands out, wherever in the run, is right after the steps that were made before it.
 abbrev pub AnswersAreRight : MachineState → List Step → List Outcome → Type 0

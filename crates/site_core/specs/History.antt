@@ -1,5 +1,5 @@
 -- Histories: what was done and what was replied, one event after another.
-use Rattle.std.specs.Prelude.{ℕ, ◌≡◌, ◌==◌, Bool, false, List, [], ◌∷◌}
+use Rattle.std.specs.Prelude.{ℕ, ◌≡◌, ◌==◌, ◌&&◌, Bool, true, false, List, [], ◌∷◌, IsSome}
 use Rattle.std.specs.List.{count_by}
 use Rattle.meaning.specs.declared.ask.Ask.{Ask}
 use Rattle.point_book.specs.Book.{Book}
@@ -7,10 +7,10 @@ use Rattle.site_core.specs.declared.step.Step.{Step}
 use Rattle.site_core.specs.declared.step.Step.TheVariants as steps
 use Rattle.site_core.specs.declared.step.Take.{Take}
 use Rattle.site_core.specs.declared.reply.Reply.{Reply}
-use Rattle.site_core.specs.declared.reply.Reply.TheVariants.{Taken, Answered}
+use Rattle.site_core.specs.declared.reply.Reply.TheVariants.{Taken, Answered, Finished}
 use Rattle.site_core.specs.declared.outcome.Outcome.{Outcome}
 use Rattle.site_core.specs.declared.outcome.Outcome.TheVariants.{Done, Refused}
-use Rattle.site_core.specs.State.{MachineState, ScheduleAnswer}
+use Rattle.site_core.specs.State.{MachineState, Kept, ScheduleAnswer}
 use Rattle.site_core.specs.Step.{Steps}
 
 -- a step that was made, and what it replied
@@ -42,6 +42,10 @@ abbrev pub answered_event : ℕ → Book → Ask → ScheduleAnswer → Event
 answered_event number book ask answer =
     record { step = steps.Answer number; reply = Answered book ask answer }
 
+-- the central system is stopped
+abbrev pub finish_event : Event
+finish_event = record { step = steps.Finish; reply = Finished }
+
 abbrev pub reply_takes : ℕ → Reply → Bool
 reply_takes number (Taken taken book ask) = taken == number
 reply_takes number other = false
@@ -52,3 +56,25 @@ is_take_of number event = reply_takes number event.reply
 -- how many of these events are Takes of this number
 abbrev pub takes_of : ℕ → List Event → ℕ
 takes_of number events = count_by (is_take_of number) events
+
+abbrev pub asks_answer_of : ℕ → Step → Bool
+asks_answer_of number (steps.Answer asked) = asked == number
+asks_answer_of number other = false
+
+abbrev pub has_answer : Reply → Bool
+has_answer (Answered book ask answer) = true
+has_answer other = false
+
+abbrev pub is_answer_of : ℕ → Event → Bool
+is_answer_of number event = asks_answer_of number event.step && has_answer event.reply
+
+-- how many of these events hand out an answer to a request of this number
+abbrev pub answers_of : ℕ → List Event → ℕ
+answers_of number events = count_by (is_answer_of number) events
+
+-- how many of the kept requests have this number
+abbrev pub kept_of : ℕ → List Kept → ℕ
+kept_of number requests = count_by (λ kept. kept.number == number) requests
+
+abbrev pub IsAnswered : Kept → Type 0
+IsAnswered kept = IsSome kept.answer

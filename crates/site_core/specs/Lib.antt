@@ -11,3 +11,6 @@ pub mod Headline
 pub mod OutboxOrder
 pub mod Obey
 pub mod ByCases
+pub mod ByCases
+pub mod History
+pub mod Headline

@@ -1,16 +1,18 @@
 //! The headline of this repository, as laws: public functions with empty bodies, whose clauses range over
 //! all runs.
 
-ghost use Rattle.std.specs.Prelude.{◌≡◌, ℕ, List, ◌∷◌, ◌++◌};
+ghost use Rattle.std.specs.Prelude.{◌≡◌, ◌⊎◌, ℕ, ◌+◌, ◌≤◌, List, ◌∷◌, ◌++◌, Some, IsTrue, All, Contains};
 ghost use Rattle.meaning.specs.declared.ask.Ask.{Ask};
 ghost use Rattle.site_rules.specs.Site.{SiteState};
 ghost use Rattle.point_book.specs.Book.{Book};
 ghost use Rattle.site_core.specs.declared.numbers.Numbers.{Numbers};
 ghost use Rattle.site_core.specs.declared.step.Step.{Step};
 ghost use Rattle.site_core.specs.declared.outcome.Outcome.{Outcome};
-ghost use Rattle.site_core.specs.State.{MachineState, ScheduleAnswer, opening_at};
+ghost use Rattle.site_core.specs.State.{MachineState, Kept, ScheduleAnswer, opening_at};
+ghost use Rattle.site_core.specs.Requests.{request_of};
 ghost use Rattle.site_core.specs.Run.{Runs};
-ghost use Rattle.site_core.specs.History.{Event, Legal, history_of, answered_event, takes_of};
+ghost use Rattle.site_core.specs.History.{Event, Legal, history_of, answered_event};
+ghost use Rattle.site_core.specs.History.{takes_of, answers_of, kept_of, IsAnswered};
 ghost use Rattle.site_core.specs.Headline.{IsRightAfter, AnswersAreRight};
 
 /// The law that the steps that a run made are a legal history.
@@ -45,4 +47,45 @@ pub fn answered_schedules_are_right()
     ensures { (site : SiteState) (numbers : Numbers) (steps : List Step) (outcomes : List Outcome)
         (state : MachineState) → Runs (opening_at site numbers) steps outcomes state
         → AnswersAreRight (opening_at site numbers) steps outcomes }
+{}
+
+/// The law that a run after a run is one run of the steps of both: a machine may be run in parts.
+pub fn runs_join()
+    ensures { (old middle new : MachineState) (steps more : List Step) (outcomes others : List Outcome)
+        → Runs old steps outcomes middle → Runs middle more others new
+        → Runs old (steps ++ more) (outcomes ++ others) new }
+{}
+
+/// The law that what the points have after a legal history is determined by its events: of two states that
+/// it may lead to, which differ in answers that aren't handed out yet, each has the same books.
+pub fn books_follow_events()
+    ensures { (old one other : MachineState) (events : List Event)
+        → Legal old events one → Legal old events other → one.books ≡ other.books }
+{}
+
+/// The law that no request is lost and none is answered twice: in every legal history from an opening state
+/// a number is taken once at most, and then it is answered or still kept.
+pub fn requests_are_answered_once()
+    ensures once { (site : SiteState) (numbers : Numbers) (events : List Event) (state : MachineState)
+        → Legal (opening_at site numbers) events state → (number : ℕ) → takes_of number events ≤ 1 }
+    ensures kept { (site : SiteState) (numbers : Numbers) (events : List Event) (state : MachineState)
+        → Legal (opening_at site numbers) events state → (number : ℕ)
+        → takes_of number events ≡ answers_of number events + kept_of number state.requests }
+{}
+
+/// The law that a request that has its answer keeps it, with its book and its ask, until that answer is
+/// handed out.
+pub fn answers_stay()
+    ensures { (old new : MachineState) (events : List Event) (number : ℕ) (kept : Kept)
+        (answer : ScheduleAnswer) → Legal old events new
+        → request_of number old.requests ≡ Some kept → kept.answer ≡ Some answer
+        → (request_of number new.requests ≡ Some kept)
+        ⊎ Contains events (answered_event number kept.book kept.ask answer) }
+{}
+
+/// The law that each request that is kept has its answer once the central system is stopped.
+pub fn stopped_requests_are_answered()
+    ensures { (site : SiteState) (numbers : Numbers) (events : List Event) (state : MachineState)
+        → Legal (opening_at site numbers) events state → IsTrue state.is_stopped
+        → All IsAnswered state.requests }
 {}

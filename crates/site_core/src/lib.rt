@@ -22,7 +22,9 @@ mod shared_book;
 mod step;
 
 pub use headline::{
-    answered_schedules_are_right, answers_are_right, answers_follow_one_take, runs_are_legal,
+    answered_schedules_are_right, answers_are_right, answers_follow_one_take, answers_stay,
+    books_follow_events, requests_are_answered_once, runs_are_legal, runs_join,
+    stopped_requests_are_answered,
 };
 pub use machine::Machine;
 pub use numbers::{MAX_NUMBER, Numbers};
