@@ -1,5 +1,5 @@
 -- Bodies as numbered calls.
-use Rattle.std.proofs.Common.{◌≡◌, ℕ, ◌+◌, ◌-◌, ◌<◌, ◌≤◌, suc, refl, sym, ◌∙◌, ap, List, [], ◌∷◌, ◌++◌, length, drop, map, Bool, true, false, is_some, nat_eq, Option, Some, None, IsSome, slice_index_or, arith, length-append}
+use Rattle.std.proofs.Common.{◌≡◌, ℕ, ◌+◌, ◌-◌, ◌<◌, ◌≤◌, suc, refl, sym, ◌∙◌, ap, List, [], ◌∷◌, ◌++◌, length, drop, map, Bool, true, ◌&&◌, false, is_some, nat_eq, Option, Some, None, IsSome, slice_index_or, arith, length-append}
 use Rattle.std.specs.List.{range_with_len}
 use Rattle.messages.specs.declared.call.Call.{Call}
 use Rattle.messages.specs.declared.call.CallBody.{CallBody}
@@ -57,12 +57,6 @@ numbered_drop next (body ∷ later) drawn =
     let same : next - length later ≡ (next - length (body ∷ later)) + 1 = omega arith in
     ap (λ (n : ℕ). numbered n later) same
 
--- the number of a first call
-pub numbered_first : (next number : ℕ) (bodies : List CallBody) → 0 < length bodies
-    → is_number_of_first (numbered (next - length bodies) bodies) number ≡ nat_eq (next - length bodies) number
-numbered_first next number (body ∷ later) some = refl
-numbered_first next number [] none = absurd (omega arith)
-
 pub sendable_is : (link : Option ℕ) (bodies : List CallBody) (next number : ℕ) (is_in_flight : Bool) (body : CallBody)
     → is_some link ≡ true → is_in_flight ≡ false → number ≡ next - length bodies → 0 < length bodies → body ≡ slice_index_or bodies 0 body
     → Some (record { number = number; body = body })
@@ -76,10 +70,13 @@ pub confirmed_is : (outbox : OutboxState) (number : ℕ) → is_number_in_flight
     → record { link = outbox.link; calls = drop 1 outbox.calls; next = outbox.next; is_in_flight = false } ≡ confirmed outbox number
 confirmed_is outbox number is = rw is refl
 
-pub number_in_flight_is : (link : Option ℕ) (bodies : List CallBody) (next number first : ℕ) (is_in_flight : Bool)
-    → is_in_flight ≡ true → 0 < length bodies → first ≡ next - length bodies
-    → nat_eq first number
-    ≡ is_number_in_flight (record { link = link; calls = numbered (next - length bodies) bodies; next = next; is_in_flight = is_in_flight }) number
-number_in_flight_is link bodies next number first true is some at =
-    ap (λ (n : ℕ). nat_eq n number) at ∙ sym (numbered_first next number bodies some)
-number_in_flight_is link bodies next number first false is some at = cc
+-- the call in flight is the first one
+pub number_in_flight : (outbox : OutboxState) (number : ℕ) → IsOutbox outbox → outbox.is_in_flight ≡ true
+    → is_number_in_flight outbox number ≡ nat_eq (outbox.next - length outbox.calls) number
+number_in_flight outbox number is flies = by outbox.calls is.numbers (is.in_flight flies).1
+  where
+    by : (calls : List Call) → map (λ (call : Call). call.number) calls ≡ range_with_len (outbox.next - length calls) (length calls)
+        → 0 < length calls → (outbox.is_in_flight && is_number_of_first calls number) ≡ nat_eq (outbox.next - length calls) number
+    by [] numbers none = absurd (omega arith)
+    by (call ∷ later) numbers some = let first : call.number ≡ outbox.next - length (call ∷ later) = cc in
+        ap (λ (b : Bool). b && nat_eq call.number number) flies ∙ ap (λ (n : ℕ). nat_eq n number) first

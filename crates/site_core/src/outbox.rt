@@ -119,7 +119,7 @@ impl Outbox {
     pub fn is_full(&self) -> bool
         ensures { result ≡ is_full self.now }
     {
-        MAX_CALLS <= self.bodies.len()
+        MAX_CALLS <= self.len()
     }
 
     /// Whether the last call number was drawn, so that no more calls may be added.
@@ -195,6 +195,7 @@ impl Outbox {
     }
 
     /// Whether the call in flight has this number.
+    #[tactic(auto, using(crate::proofs::OutboxLemmas::number_in_flight))]
     fn is_number_in_flight(&self, number: u64) -> bool
         ensures { result ≡ is_number_in_flight self.now number }
     {
@@ -206,9 +207,10 @@ impl Outbox {
 
     /// The number of the first call, or the next one's where there is none.
     fn first_number(&self) -> u64
-        ensures { result ≡ self.now.next - length self.now.calls }
+        ensures value { result ≡ self.now.next - length self.now.calls }
+        ensures outbox { IsOutbox self.now }
     {
-        self.next - self.bodies.len() as u64
+        self.next - self.len() as u64
     }
 }
 

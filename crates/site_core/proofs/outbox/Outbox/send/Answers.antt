@@ -8,7 +8,7 @@ pub returns-clause-call : goal.returns-clause-call
 returns-clause-call c =
     let i = c.self.inside in
     let first : c.first_number-number.result ≡ i.next - length i.bodies =
-    c.first_number-number.ensures ∙ sym (ap (λ (o : OutboxState). o.next - length o.calls) c.self.view_is)
+    c.first_number-number.ensures.value ∙ sym (ap (λ (o : OutboxState). o.next - length o.calls) c.self.view_is)
     ∙ ap (λ (n : ℕ). i.next - n) (numbered_length (i.next - length i.bodies) i.bodies) in
     let linked : is_some i.link ≡ true = c.is_none.ensures ∙ ap not c.if-is_none.false in
     let waits : i.is_in_flight ≡ false = c.if-self.false in
