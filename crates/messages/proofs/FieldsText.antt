@@ -1,7 +1,8 @@
 -- An object's fields that are written in two parts.
 use Rattle.std.proofs.Common.{◌≡◌, ℕ, List, [], ◌∷◌, ◌++◌, ap, sym, ◌∙◌, append-nil, append_assoc, Option, Some, None, codes, refl}
 use Rattle.std.specs.List.{filter_map}
-use Rattle.messages.specs.CallText.{field_text, fields_text, later_fields_text, later_texts, object_text, present, string_text}
+use Rattle.messages.specs.ObjectText.{field_text, fields_text, later_texts, object_text, present, string_text}
+use Rattle.messages.specs.ByCases.ObjectText.{later_fields_text}
 use Rattle.messages.proofs.TextPieces.{appended}
 
 later-append : (fields more : List (List ℕ × Option (List ℕ))) → later_texts (filter_map present (fields ++ more)) ≡ later_texts (filter_map present fields) ++ later_texts (filter_map present more)

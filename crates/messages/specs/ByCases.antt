@@ -1,2 +1,3 @@
 -- Forms by cases, with which proofs compute.
-pub mod CallText
+pub mod FieldValue
+pub mod ObjectText

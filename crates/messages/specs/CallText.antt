@@ -1,7 +1,6 @@
 -- What calls to a charge point look like, byte for byte: the keys in the order of OCPP 1.6, chapters 6 and 7, without
 -- those of absent fields, no blanks, limits with one decimal.
 use Rattle.std.specs.Prelude.{ℕ, List, [], ◌∷◌, ◌++◌, map, Option, Some, None, option_map, codes}
-use Rattle.std.specs.List.{filter_map}
 use Rattle.std.specs.Fmt.{decimal, signed_decimal}
 use Rattle.ocpp_scalars.specs.Writing.{instant_text, tenths_text}
 use Rattle.ocppj_frame.specs.Write as frames
@@ -15,14 +14,11 @@ use Rattle.profile.specs.declared.period.Period.{Period}
 use Rattle.profile.specs.declared.purpose.Purpose.{Purpose}
 use Rattle.profile.specs.declared.purpose.Purpose.TheVariants.{ChargePointMaxProfile, TxDefaultProfile, TxProfile}
 use Rattle.profile.specs.declared.schedule.Schedule.{Schedule}
+use Rattle.messages.specs.ObjectText.{list_text, object_text, string_text}
 use Rattle.messages.specs.ResponseText.{unit_text}
 use Rattle.messages.specs.declared.call.Call.{Call}
 use Rattle.messages.specs.declared.call.CallBody.{CallBody}
 use Rattle.messages.specs.declared.call.CallBody.TheVariants.{Clear, Set}
-
--- A name or an instant as a JSON string: neither has a character to escape.
-abbrev pub string_text : List ℕ → List ℕ
-string_text text = codes "\"" ++ text ++ codes "\""
 
 abbrev pub time_text : ℕ → List ℕ
 time_text instant = string_text (instant_text instant)
@@ -49,37 +45,6 @@ recurrency_of Relative = None
 abbrev pub recurrency_name : Recurrency → List ℕ
 recurrency_name Daily = codes "Daily"
 recurrency_name Weekly = codes "Weekly"
-
--- each behind a comma
-abbrev pub later_texts : List (List ℕ) → List ℕ
-later_texts [] = []
-later_texts (text ∷ texts) = codes "," ++ text ++ later_texts texts
-
--- with commas between them
-abbrev pub joined : List (List ℕ) → List ℕ
-joined [] = []
-joined (text ∷ texts) = text ++ later_texts texts
-
-abbrev pub list_text : List (List ℕ) → List ℕ
-list_text texts = codes "[" ++ joined texts ++ codes "]"
-
--- a field by its key, with its value as it is written
-abbrev pub field_text : List ℕ → List ℕ → List ℕ
-field_text key value = string_text key ++ codes ":" ++ value
-
-abbrev pub present : List ℕ × Option (List ℕ) → Option (List ℕ)
-present field = option_map (field_text field.0) field.1
-
--- the fields that are present, in this order
-unfoldable pub fields_text : List (List ℕ × Option (List ℕ)) → List ℕ
-fields_text fields = joined (filter_map present fields)
-
--- the same, each behind a comma
-unfoldable pub later_fields_text : List (List ℕ × Option (List ℕ)) → List ℕ
-later_fields_text fields = later_texts (filter_map present fields)
-
-unfoldable pub object_text : List (List ℕ × Option (List ℕ)) → List ℕ
-object_text fields = codes "{" ++ fields_text fields ++ codes "}"
 
 -- OCPP 1.6, chapter 7, ChargingSchedulePeriod
 unfoldable pub period_text : Period → List ℕ

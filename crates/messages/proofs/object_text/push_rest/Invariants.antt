@@ -1,9 +1,10 @@
 -- What was missing: what is written and the fields that are left make the whole.
 use Rattle.std.proofs.Common.{◌≡◌, ◌++◌, drop, map, option_map, string_bytes}
 use Rattle.std.specs.List.{filter_map}
-use Rattle.messages.specs.CallText.{present}
-use Rattle.messages.specs.ByCases.CallText.{rest_text, value_text}
-use Rattle.messages.proofs.call_text.push_rest.Given as goal
+use Rattle.messages.specs.ObjectText.{present}
+use Rattle.messages.specs.ByCases.FieldValue.{value_text}
+use Rattle.messages.specs.ByCases.ObjectText.{rest_text}
+use Rattle.messages.proofs.object_text.push_rest.Given as goal
 
 abbrev pub invariant-loop-key : goal.invariant-loop-key
 invariant-loop-key l =
