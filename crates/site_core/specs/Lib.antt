@@ -5,12 +5,9 @@ pub mod Right
 pub mod Ask
 pub mod Requests
 pub mod Step
+pub mod ByCases
 pub mod Run
 pub mod History
 pub mod Headline
 pub mod OutboxOrder
 pub mod Obey
-pub mod ByCases
-pub mod ByCases
-pub mod History
-pub mod Headline
