@@ -15,6 +15,8 @@ mod request;
 mod requests;
 mod shared_book;
 mod step;
+#[cfg(test)]
+mod tests;
 
 pub use machine::Machine;
 pub use numbers::{MAX_NUMBER, Numbers};
