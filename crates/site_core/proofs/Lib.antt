@@ -1,3 +1,5 @@
 pub mod OutboxLemmas
 pub mod ObeyLemmas
 pub mod OutboxOrderLemmas
+pub mod ObeyOrderLemmas
+pub mod OutboxExamples

@@ -1,3 +1,4 @@
 pub mod Outbox
 pub mod OutboxOrder
 pub mod Obey
+pub mod ObeyOrder
