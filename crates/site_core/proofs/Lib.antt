@@ -11,3 +11,5 @@ pub mod TakenRequests
 pub mod KeptRequests
 pub mod BooksOfHistories
 pub mod WorkedExamples
+pub mod ObeyOrderLemmas
+pub mod OutboxExamples

@@ -1,15 +1,19 @@
 -- That an obeying point stays in step: a call acts on the lasting rows alone, and again it changes nothing.
-use Rattle.std.proofs.Common.{◌≡◌, ℕ, ◌+◌, zero, suc, Bool, true, false, not, ◌⊎◌, inl, inr, refl, sym, ◌∙◌, ap, List, [], ◌∷◌, ◌++◌, filter, map, Option, None, Some, slice_get, subst, ◌&&◌, ◌||◌, ◌==◌, append-nil, arith}
+use Rattle.std.proofs.Common.{◌≡◌, ℕ, ◌+◌, zero, suc, Bool, true, false, not, ◌||◌, ◌&&◌, ◌==◌, ◌⊎◌, inl, inr, refl, sym, ◌∙◌, ap, subst, List, [], ◌∷◌, ◌++◌, filter, map, Option, None, Some, slice_get, append-nil, arith}
+use Rattle.std.specs.List.{filter_map}
 use Rattle.std.specs.Ordering.{int_eq}
 use Rattle.std.proofs.lemmas.Bool.Decides.{Decides-int_eq}
 use Rattle.std.proofs.lemmas.List.Elements.{filter-append}
+use Rattle.profile.specs.declared.charging_profile.Profile.{Profile}
 use Rattle.profile.specs.declared.row.Row.{Row}
 use Rattle.profile.specs.declared.criteria.Criteria.{Criteria}
 use Rattle.profile.specs.Purpose.{is_tx}
 use Rattle.profile.specs.Changes.{installed, cleared, without_transaction_profiles, has_key_of, is_replaced_by, rows_beside, matches, is_tx_profile_at}
+use Rattle.site_core.specs.declared.call.CallBody.{CallBody}
+use Rattle.site_core.specs.declared.call.CallBody.TheVariants.{Clear, Set}
 use Rattle.site_core.specs.Outbox.{every_profile}
 use Rattle.site_core.specs.OutboxOrder.{GoesOn}
-use Rattle.site_core.specs.Obey.{Change, Install, Clear, End, Obeying, at_moment, calls_of, lasting, last_number, numbers_of, obeyed, obeyed_call, obeyed_number, rows_after_call, StaysInStep}
+use Rattle.site_core.specs.Obey.{Change, Installs, Clears, Ends, Obeying, at_moment, call_of, calls_of, lasting, last_number, numbers_of, obeyed, obeyed_call, rows_after_call, StaysInStep}
 
 -- ---- filters
 
@@ -119,27 +123,30 @@ stays_beside new row = not (is_replaced_by new row)
 abbrev fails_some : Criteria → Row → Bool
 fails_some criteria row = not (matches criteria row)
 
-abbrev on_lasting : Option Change → List Row → List Row
-on_lasting None rows = rows
-on_lasting (Some (Install row)) rows = filter (stays_beside row) rows ++ lasting (row ∷ [])
-on_lasting (Some (Clear criteria)) rows = filter (fails_some criteria) rows
-on_lasting (Some (End connector)) rows = rows
+-- what a call sets, but for the moment
+abbrev row_of : ℕ → Profile → Row
+row_of connector profile = record { connector = connector; moment = 0; profile = profile }
 
-lasting_installed : (rows : List Row) (row : Row) → lasting (installed rows row) ≡ on_lasting (Some (Install row)) (lasting rows)
+abbrev on_lasting : Option CallBody → List Row → List Row
+on_lasting None rows = rows
+on_lasting (Some (Set connector profile)) rows =
+    filter (stays_beside (row_of connector profile)) rows ++ lasting (row_of connector profile ∷ [])
+on_lasting (Some (Clear criteria)) rows = filter (fails_some criteria) rows
+
+lasting_installed : (rows : List Row) (row : Row) → lasting (installed rows row) ≡ on_lasting (call_of (Installs row)) (lasting rows)
 lasting_installed rows row =
     lasting_append (rows_beside rows row) (row ∷ [])
     ∙ ap (λ (rs : List Row). rs ++ lasting (row ∷ [])) (lasting_filter (stays_beside row) (λ _. refl) rows)
+    ∙ ap (λ (rs : List Row). filter (stays_beside row) (lasting rows) ++ rs) (sym (lasting_moment row 0))
 
 lasting_cleared : (rows : List Row) (criteria : Criteria) → lasting (cleared rows criteria) ≡ on_lasting (Some (Clear criteria)) (lasting rows)
 lasting_cleared rows criteria = lasting_filter (fails_some criteria) (λ _. refl) rows
 
-lasting_obeyed : (moment : ℕ) (call : Option Change) (rows : List Row) → lasting (obeyed_call moment call rows) ≡ on_lasting call (lasting rows)
+lasting_obeyed : (moment : ℕ) (call : Option CallBody) (rows : List Row) → lasting (obeyed_call moment call rows) ≡ on_lasting call (lasting rows)
 lasting_obeyed moment None rows = refl
-lasting_obeyed moment (Some (Install row)) rows =
-    lasting_installed rows (at_moment moment row)
-    ∙ ap (λ (rs : List Row). filter (stays_beside row) (lasting rows) ++ rs) (lasting_moment row moment)
+lasting_obeyed moment (Some (Set connector profile)) rows =
+    lasting_installed rows (record { connector = connector; moment = moment; profile = profile })
 lasting_obeyed moment (Some (Clear criteria)) rows = lasting_cleared rows criteria
-lasting_obeyed moment (Some (End connector)) rows = refl
 
 -- what an install adds it would also replace
 replaces_itself : (row : Row) → filter (stays_beside row) (lasting (row ∷ [])) ≡ []
@@ -150,83 +157,84 @@ replaces_itself row = go (lasts row) refl
     by false b is = cc
 
     replaced : stays_beside row (at_moment 0 row) ≡ false
-    replaced = by (int_eq row.profile.id row.profile.id) (has_key_of row (at_moment 0 row)) ((Decides-int_eq row.profile.id row.profile.id).1 refl)
+    replaced =
+        by (int_eq row.profile.id row.profile.id) (has_key_of row (at_moment 0 row)) ((Decides-int_eq row.profile.id row.profile.id).1 refl)
 
     go : (b : Bool) → lasts row ≡ b → filter (stays_beside row) (lasting (row ∷ [])) ≡ []
     go true is = ap (filter (stays_beside row)) (lasting_kept row [] is) ∙ filter_gone (stays_beside row) (at_moment 0 row) [] replaced
     go false is = ap (filter (stays_beside row)) (lasting_gone row [] is)
 
 -- a call that comes again changes nothing
-on_lasting_again : (call : Option Change) (rows : List Row) → on_lasting call (on_lasting call rows) ≡ on_lasting call rows
+on_lasting_again : (call : Option CallBody) (rows : List Row) → on_lasting call (on_lasting call rows) ≡ on_lasting call rows
 on_lasting_again None rows = refl
-on_lasting_again (Some (Install row)) rows =
+on_lasting_again (Some (Set connector profile)) rows =
+    let row = row_of connector profile in
     let stay = filter (stays_beside row) rows in
     let new = lasting (row ∷ []) in
     ap (λ (rs : List Row). rs ++ new)
     (filter-append (stays_beside row) stay new ∙ ap (λ (rs : List Row). filter (stays_beside row) stay ++ rs) (replaces_itself row)
     ∙ append-nil (filter (stays_beside row) stay) ∙ filter_again (stays_beside row) rows)
 on_lasting_again (Some (Clear criteria)) rows = filter_again (fails_some criteria) rows
-on_lasting_again (Some (End connector)) rows = refl
 
 -- ---- the central system
 
 -- after its next call the central system has what that call makes of the lasting rows
 next_call : (changes : List Change) (before : ℕ) (rows : List Row)
     → lasting (rows_after_call (suc before) changes rows)
-    ≡ on_lasting (slice_get (calls_of changes) before) (lasting (rows_after_call before changes rows))
+    ≡ on_lasting (slice_get (filter_map call_of changes) before) (lasting (rows_after_call before changes rows))
 next_call [] zero rows = refl
 next_call [] (suc before) rows = refl
-next_call (Install row ∷ later) zero rows = lasting_installed rows row
-next_call (Install row ∷ later) (suc before) rows = next_call later before (installed rows row)
-next_call (Clear criteria ∷ later) zero rows = lasting_cleared rows criteria
-next_call (Clear criteria ∷ later) (suc before) rows = next_call later before (cleared rows criteria)
-next_call (End connector ∷ later) zero rows =
+next_call (Installs row ∷ later) zero rows = lasting_installed rows row
+next_call (Installs row ∷ later) (suc before) rows = next_call later before (installed rows row)
+next_call (Clears criteria ∷ later) zero rows = lasting_cleared rows criteria
+next_call (Clears criteria ∷ later) (suc before) rows = next_call later before (cleared rows criteria)
+next_call (Ends connector ∷ later) zero rows =
     next_call later zero (without_transaction_profiles rows connector)
-    ∙ ap (on_lasting (slice_get (calls_of later) zero)) (lasting_end rows connector)
-next_call (End connector ∷ later) (suc before) rows = next_call later (suc before) (without_transaction_profiles rows connector)
+    ∙ ap (on_lasting (slice_get (filter_map call_of later) zero)) (lasting_end rows connector)
+next_call (Ends connector ∷ later) (suc before) rows = next_call later (suc before) (without_transaction_profiles rows connector)
 
 -- ---- the point
 
--- call 0 leaves nothing
+-- what call 0 leaves
 cleared_all : (rows : List Row) → lasting (cleared rows every_profile) ≡ []
 cleared_all rows = ap lasting (filter_none rows)
 
 -- the same call again
 obeyed_again : (moment number : ℕ) (changes : List Change) (rows : List Row) → lasting rows ≡ lasting (rows_after_call number changes [])
-    → lasting (obeyed_number moment number changes rows) ≡ lasting (rows_after_call number changes [])
+    → lasting (obeyed_call moment (slice_get (calls_of changes) number) rows) ≡ lasting (rows_after_call number changes [])
 obeyed_again moment zero changes rows same = cleared_all rows
 obeyed_again moment (suc before) changes rows same =
-    let call = slice_get (calls_of changes) before in
+    let call = slice_get (filter_map call_of changes) before in
     lasting_obeyed moment call rows ∙ ap (on_lasting call) (same ∙ next_call changes before [])
     ∙ on_lasting_again call (lasting (rows_after_call before changes [])) ∙ sym (next_call changes before [])
 
 -- the next call
 obeyed_next : (moment before : ℕ) (changes : List Change) (rows : List Row) → lasting rows ≡ lasting (rows_after_call before changes [])
-    → lasting (obeyed_number moment (suc before) changes rows) ≡ lasting (rows_after_call (suc before) changes [])
+    → lasting (obeyed_call moment (slice_get (calls_of changes) (suc before)) rows) ≡ lasting (rows_after_call (suc before) changes [])
 obeyed_next moment before changes rows same =
-    let call = slice_get (calls_of changes) before in
+    let call = slice_get (filter_map call_of changes) before in
     lasting_obeyed moment call rows ∙ ap (on_lasting call) same ∙ sym (next_call changes before [])
 
 obeyed_one : (moment before number : ℕ) (changes : List Change) (rows : List Row) → (number ≡ before) ⊎ (number ≡ before + 1)
     → lasting rows ≡ lasting (rows_after_call before changes [])
-    → lasting (obeyed_number moment number changes rows) ≡ lasting (rows_after_call number changes [])
+    → lasting (obeyed_call moment (slice_get (calls_of changes) number) rows) ≡ lasting (rows_after_call number changes [])
 obeyed_one moment before number changes rows (inl e) same =
     obeyed_again moment number changes rows (same ∙ ap (λ (n : ℕ). lasting (rows_after_call n changes [])) (sym e))
 obeyed_one moment before number changes rows (inr e) same =
     let next : suc before ≡ number = omega arith in
-    let P : ℕ → Type 0 = λ n. lasting (obeyed_number moment n changes rows) ≡ lasting (rows_after_call n changes []) in
+    let P : ℕ → Type 0 = λ n. lasting (obeyed_call moment (slice_get (calls_of changes) n) rows) ≡ lasting (rows_after_call n changes []) in
     subst P next (obeyed_next moment before changes rows same)
 
 obeyed_all : (later : List Obeying) (before : ℕ) (changes : List Change) (rows : List Row)
     → GoesOn before (numbers_of later) → lasting rows ≡ lasting (rows_after_call before changes [])
-    → lasting (obeyed later changes rows) ≡ lasting (rows_after_call (last_number before later) changes [])
+    → lasting (obeyed (calls_of changes) later rows) ≡ lasting (rows_after_call (last_number before later) changes [])
 obeyed_all [] before changes rows goes same = same
-obeyed_all (call ∷ later) before changes rows goes same =
-    obeyed_all later call.number changes (obeyed_number call.moment call.number changes rows) goes.1
-    (obeyed_one call.moment before call.number changes rows goes.0 same)
+obeyed_all (obeying ∷ later) before changes rows goes same =
+    obeyed_all later obeying.number changes (obeyed_call obeying.moment (slice_get (calls_of changes) obeying.number) rows) goes.1
+    (obeyed_one obeying.moment before obeying.number changes rows goes.0 same)
 
 pub stays_in_step : StaysInStep
 stays_in_step changes first later rows order =
-    obeyed_all later first.number changes (obeyed_number first.moment first.number changes rows) order.1
-    (subst (λ (n : ℕ). lasting (obeyed_number first.moment n changes rows) ≡ lasting (rows_after_call n changes []))
+    obeyed_all later first.number changes (obeyed_call first.moment (slice_get (calls_of changes) first.number) rows) order.1
+    (subst (λ (n : ℕ). lasting (obeyed_call first.moment (slice_get (calls_of changes) n) rows) ≡ lasting (rows_after_call n changes []))
     (sym order.0) (cleared_all rows))

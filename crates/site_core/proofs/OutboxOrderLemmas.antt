@@ -5,15 +5,15 @@ use Rattle.messages.specs.declared.call.CallBody.{CallBody}
 use Rattle.site_core.specs.Outbox.{OutboxState, numbered}
 use Rattle.site_core.specs.OutboxOrder.{Traffic, Attach, Lose, Add, Send, Confirm, GoesOn, AreInSendingOrder, AreSentInOrder, AreLeftUnlessConfirmed, after_all, numbers_sent, calls_confirmed, bodies_added}
 
-abbrev outbox : Option ℕ → List Call → ℕ → Bool → OutboxState
+abbrev pub outbox : Option ℕ → List Call → ℕ → Bool → OutboxState
 outbox link calls next is_in_flight = record { link = link; calls = calls; next = next; is_in_flight = is_in_flight }
 
 -- calls of consecutive numbers, from the first to the one before the next
-abbrev AreFrom : ℕ → List Call → ℕ → Type 0
+abbrev pub AreFrom : ℕ → List Call → ℕ → Type 0
 AreFrom first [] next = first ≡ next
 AreFrom first (call ∷ later) next = (call.number ≡ first) × AreFrom (first + 1) later next
 
-from_push : (first : ℕ) (calls : List Call) (next : ℕ) (body : CallBody) → AreFrom first calls next
+pub from_push : (first : ℕ) (calls : List Call) (next : ℕ) (body : CallBody) → AreFrom first calls next
     → AreFrom first (calls ++ record { number = next; body = body } ∷ []) (next + 1)
 from_push first [] next body at = (sym at, ap (λ (n : ℕ). n + 1) at)
 from_push first (call ∷ later) next body are = (are.0, from_push (first + 1) later next body are.1)

@@ -20,11 +20,15 @@ use Rattle.site_core.specs.declared.step.Step.{Step}
 use Rattle.site_core.specs.declared.step.Step.TheVariants as steps
 use Rattle.site_core.specs.declared.step.Take.{Take}
 use Rattle.site_core.specs.declared.reply.Reply.{Reply}
-use Rattle.site_core.specs.declared.reply.Reply.TheVariants.{Accepted, Unknown, Started, Ended, NoSuch, Taken, Compiled, Answered, NotYet, Finished}
-use Rattle.site_core.specs.State.{MachineState, Kept, ScheduleAnswer, book_in, book_at}
+use Rattle.site_core.specs.declared.reply.Reply.TheVariants.{Accepted, Unknown, Started, Ended, NoSuch, Taken, Compiled, Answered, NotYet, Finished, Confirmed}
+use Rattle.site_core.specs.State.{MachineState, Kept, ScheduleAnswer, book_in, book_at, outbox_at}
 use Rattle.site_core.specs.Requests.{request_of, answered, without, all_stopped}
 use Rattle.site_core.specs.Right.{IsCompiledFor}
 use Rattle.site_core.specs.Ask.{ask_at}
+use Rattle.messages.specs.declared.call.Call.{Call}
+use Rattle.messages.specs.declared.call.CallBody.TheVariants as bodies
+use Rattle.site_core.specs.Outbox.{sendable, is_number_in_flight, confirmed}
+use Rattle.site_core.specs.Step.{at_link, at_linked_place, is_present, attaches, sends, sends_call, confirms, loses, with_outbox, changed_by_call, refusal_to_call}
 use Rattle.site_core.specs.Step.{Made, Steps, unless, changed, version_refusal, next_transaction, at_place, at_point, installs, clears, starts, starts_as, stops, takes, takes_ask, with_request, compiles_kept, answers_kept, answers_with, finishes, unchanged, stepped, no_answer}
 use Rattle.site_core.specs.History.{reply_takes, asks_answer_of, has_answer}
 
@@ -85,9 +89,9 @@ installs_leaves old point row =
 clears_leaves : (old : MachineState) (point : List ℕ) (criteria : Criteria) → IfOk (stepped no_answer old (steps.Clear point criteria)) (LeavesRequests old (steps.Clear point criteria))
 clears_leaves old point criteria =
     at_point_made (LeavesRequests old (steps.Clear point criteria)) old point (clears old criteria) (λ place going here.
-    let done : Made = record { reply = Accepted; after = changed old place (book_cleared (book_at old place) criteria) } in
-    either_made (LeavesRequests old (steps.Clear point criteria)) (list_any (matches criteria) (book_at old place).rows) (unless (version_refusal old) done) (Ok (unchanged old Unknown))
-    (unless_made (LeavesRequests old (steps.Clear point criteria)) (version_refusal old) done (record { site = refl; books = at_its_place old point place (λ book. book_cleared book criteria) here; requests = refl; drawn = refl; stopped = refl; no_take = λ number. refl; no_answer = λ number. refl }))
+    let done : Made = record { reply = Accepted; after = changed_by_call old place (book_cleared (book_at old place) criteria) (bodies.Clear criteria) } in
+    either_made (LeavesRequests old (steps.Clear point criteria)) (list_any (matches criteria) (book_at old place).rows) (unless (refusal_to_call old place) done) (Ok (unchanged old Unknown))
+    (unless_made (LeavesRequests old (steps.Clear point criteria)) (refusal_to_call old place) done (record { site = refl; books = at_its_place old point place (λ book. book_cleared book criteria) here; requests = refl; drawn = refl; stopped = refl; no_take = λ number. refl; no_answer = λ number. refl }))
     (record { site = refl; books = refl; requests = refl; drawn = refl; stopped = refl; no_take = λ number. refl; no_answer = λ number. refl }))
 
 starts_as_leaves : (old : MachineState) (point : List ℕ) (found : Began) (connector : ℕ) (begin : Begin) (place : ℕ) → place_of old.site point ≡ Some place → IfOk (starts_as found old connector begin place) (LeavesRequests old (steps.Start point connector begin))
@@ -109,6 +113,42 @@ stops_leaves old point number =
     either_made (LeavesRequests old (steps.Stop point number)) (is_some (connector_of (book_at old place).transactions number)) (unless (version_refusal old) done) (Ok (unchanged old NoSuch))
     (unless_made (LeavesRequests old (steps.Stop point number)) (version_refusal old) done (record { site = refl; books = at_its_place old point place (λ book. book_stopped book number) here; requests = refl; drawn = refl; stopped = refl; no_take = λ number. refl; no_answer = λ number. refl }))
     (record { site = refl; books = refl; requests = refl; drawn = refl; stopped = refl; no_take = λ number. refl; no_answer = λ number. refl }))
+
+-- ---- links and calls
+
+at_link_made : (P : Made → Type 0) (old : MachineState) (point : List ℕ) (link : ℕ) (made_at : ℕ → Result Made Refusal)
+    → ((place : ℕ) → IfOk (made_at place) P) → IfOk (at_link old point link made_at) P
+at_link_made P old point link made_at each =
+    either_made P old.is_stopped (Err refusals.Stopped) (at_linked_place old link (place_of old.site point) made_at) tt (found (place_of old.site point))
+  where
+    found : (place : Option ℕ) → IfOk (at_linked_place old link place made_at) P
+    found None = tt
+    found (Some place) = either_made P (is_present link (outbox_at old place).link) (made_at place) (Err refusals.Superseded) (each place) tt
+
+attaches_leaves : (old : MachineState) (point : List ℕ) → IfOk (stepped no_answer old (steps.Attach point)) (LeavesRequests old (steps.Attach point))
+attaches_leaves old point =
+    at_point_made (LeavesRequests old (steps.Attach point)) old point (attaches old) (λ place going here.
+    unless_made (LeavesRequests old (steps.Attach point)) _ _ (record { site = refl; books = refl; requests = refl; drawn = refl; stopped = refl; no_take = λ number. refl; no_answer = λ number. refl }))
+
+sends_leaves : (old : MachineState) (point : List ℕ) (link : ℕ) → IfOk (stepped no_answer old (steps.Send point link)) (LeavesRequests old (steps.Send point link))
+sends_leaves old point link =
+    at_link_made (LeavesRequests old (steps.Send point link)) old point link (sends old) (λ place. sent_call place (sendable (outbox_at old place)))
+  where
+    sent_call : (place : ℕ) (call : Option Call) → IfOk (sends_call old place call) (LeavesRequests old (steps.Send point link))
+    sent_call place None = record { site = refl; books = refl; requests = refl; drawn = refl; stopped = refl; no_take = λ number. refl; no_answer = λ number. refl }
+    sent_call place (Some call) = record { site = refl; books = refl; requests = refl; drawn = refl; stopped = refl; no_take = λ number. refl; no_answer = λ number. refl }
+
+confirms_leaves : (old : MachineState) (point : List ℕ) (link call : ℕ) → IfOk (stepped no_answer old (steps.Confirm point link call)) (LeavesRequests old (steps.Confirm point link call))
+confirms_leaves old point link call =
+    at_link_made (LeavesRequests old (steps.Confirm point link call)) old point link (confirms old call) (λ place.
+    let done : Made = record { reply = Confirmed; after = with_outbox old place (confirmed (outbox_at old place) call) } in
+    either_made (LeavesRequests old (steps.Confirm point link call)) (is_number_in_flight (outbox_at old place) call) (Ok done) (Err refusals.NothingInFlight)
+    (record { site = refl; books = refl; requests = refl; drawn = refl; stopped = refl; no_take = λ number. refl; no_answer = λ number. refl }) tt)
+
+loses_leaves : (old : MachineState) (point : List ℕ) (link : ℕ) → IfOk (stepped no_answer old (steps.Lost point link)) (LeavesRequests old (steps.Lost point link))
+loses_leaves old point link =
+    at_link_made (LeavesRequests old (steps.Lost point link)) old point link (loses old) (λ place.
+    record { site = refl; books = refl; requests = refl; drawn = refl; stopped = refl; no_take = λ number. refl; no_answer = λ number. refl })
 
 -- ---- Take
 
@@ -245,3 +285,11 @@ does old steps.Finish reply new made = finished (finishes_is old)
         subst (Does old steps.Finish) (same ∙ is)
         (leaves _ _ (record { site = refl; books = refl; requests = refl; drawn = refl; stopped = refl; no_take = λ number. refl; no_answer = λ number. refl }))
     finished (inr same) = subst (Does old steps.Finish) (same ∙ is) finishes_all
+does old (steps.Attach point) reply new made =
+    leaves _ _ (subst (λ (r : Result Made Refusal). IfOk r (LeavesRequests old (steps.Attach point))) made (attaches_leaves old point))
+does old (steps.Send point link) reply new made =
+    leaves _ _ (subst (λ (r : Result Made Refusal). IfOk r (LeavesRequests old (steps.Send point link))) made (sends_leaves old point link))
+does old (steps.Confirm point link call) reply new made =
+    leaves _ _ (subst (λ (r : Result Made Refusal). IfOk r (LeavesRequests old (steps.Confirm point link call))) made (confirms_leaves old point link call))
+does old (steps.Lost point link) reply new made =
+    leaves _ _ (subst (λ (r : Result Made Refusal). IfOk r (LeavesRequests old (steps.Lost point link))) made (loses_leaves old point link))

@@ -12,6 +12,7 @@ use Rattle.meaning.specs.Composite.{Schedule}
 use Rattle.meaning.specs.Limit.{limit_asked}
 use Rattle.meaning.specs.ByCases.Ask.{ask_with}
 use Rattle.meaning.proofs.Compiling.{answered as exact_answered}
+use Rattle.messages.specs.declared.call.CallBody.TheVariants.{Set}
 use Rattle.site_rules.specs.Site.{SiteState}
 use Rattle.point_book.specs.Book.{Book, empty_book, state_of}
 use Rattle.point_book.specs.Changes.{book_installed}
@@ -20,7 +21,7 @@ use Rattle.site_core.specs.declared.step.Take.{Take}
 use Rattle.site_core.specs.declared.reply.Reply.TheVariants.{Accepted, Compiled}
 use Rattle.site_core.specs.State.{MachineState, opening}
 use Rattle.site_core.specs.Right.{IsCompiledFor}
-use Rattle.site_core.specs.Step.{changed, with_request}
+use Rattle.site_core.specs.Step.{changed_by_call, with_request}
 use Rattle.site_core.specs.Requests.{answered, without}
 use Rattle.site_core.specs.History.{Event, Legal, taken_event, answered_event}
 
@@ -75,7 +76,7 @@ abbrev taken : MachineState
 taken = with_request (opening site) before ask 0
 
 abbrev installed : MachineState
-installed = changed taken 0 after
+installed = changed_by_call taken 0 after (Set 1 row.profile)
 
 abbrev taken_again : MachineState
 taken_again = with_request installed after ask 0

@@ -11,3 +11,4 @@ pub mod History
 pub mod Headline
 pub mod OutboxOrder
 pub mod Obey
+pub mod ObeyOrder

@@ -1,77 +1,79 @@
 -- That a point which does as it is told stays in step: whatever is lost or sent again, the profiles that
 -- outlast its transactions are those that the central system has for it.
-use Rattle.std.specs.Prelude.{ℕ, ◌≡◌, Bool, true, false, not, List, [], ◌∷◌, filter, map, Option, None, Some, zero, suc, slice_get}
+use Rattle.std.specs.Prelude.{ℕ, ◌≡◌, not, List, [], ◌∷◌, filter, map, Option, None, Some, zero, suc, slice_get}
+use Rattle.std.specs.List.{filter_map}
 use Rattle.profile.specs.declared.row.Row.{Row}
 use Rattle.profile.specs.declared.criteria.Criteria.{Criteria}
 use Rattle.profile.specs.Purpose.{is_tx}
 use Rattle.profile.specs.Changes.{installed, cleared, without_transaction_profiles}
-use Rattle.site_core.specs.Outbox.{every_profile}
+use Rattle.site_core.specs.declared.call.CallBody.{CallBody}
+use Rattle.site_core.specs.declared.call.CallBody.TheVariants.{Clear, Set}
+use Rattle.site_core.specs.Outbox.{clear_all}
 use Rattle.site_core.specs.OutboxOrder.{AreInSendingOrder}
 
 -- ---- the central system
 
 -- what changes the profiles that the central system has for a point
 pub data Change : Type 0 where
-  -- SetChargingProfile (OCPP 1.6, 5.16), which is also a call
-  Install : (row : Row) → Change
-  -- ClearChargingProfile (OCPP 1.6, 5.5), which is also a call
-  Clear : (criteria : Criteria) → Change
-  -- the end of the transaction at a connector (OCPP 1.6, 3.13), which the point knows without a call
-  End : (connector : ℕ) → Change
+  -- a profile is installed (OCPP 1.6, 5.16)
+  Installs : (row : Row) → Change
+  -- profiles are cleared (OCPP 1.6, 5.5)
+  Clears : (criteria : Criteria) → Change
+  -- the transaction at a connector ends (OCPP 1.6, 3.13)
+  Ends : (connector : ℕ) → Change
 
-abbrev pub is_call : Change → Bool
-is_call (Install row) = true
-is_call (Clear criteria) = true
-is_call (End connector) = false
-
--- the changes that are calls: the first of them is call 1
-abbrev pub calls_of : List Change → List Change
-calls_of changes = filter is_call changes
-
--- what the central system has for the point once it has made the change that is this call, having had these
--- rows before: after call 0, those
+-- what the central system has for a point once it has made as many installs and clears as this, having had
+-- these rows before
 abbrev pub rows_after_call : ℕ → List Change → List Row → List Row
 rows_after_call zero changes rows = rows
 rows_after_call (suc before) [] rows = rows
-rows_after_call (suc before) (Install row ∷ later) rows = rows_after_call before later (installed rows row)
-rows_after_call (suc before) (Clear criteria ∷ later) rows = rows_after_call before later (cleared rows criteria)
-rows_after_call (suc before) (End connector ∷ later) rows = rows_after_call (suc before) later (without_transaction_profiles rows connector)
+rows_after_call (suc before) (Installs row ∷ later) rows = rows_after_call before later (installed rows row)
+rows_after_call (suc before) (Clears criteria ∷ later) rows = rows_after_call before later (cleared rows criteria)
+rows_after_call (suc before) (Ends connector ∷ later) rows =
+    rows_after_call (suc before) later (without_transaction_profiles rows connector)
+
+-- ---- the calls
+
+-- the call to the point that makes the change known: it sees by itself that a transaction ends
+abbrev pub call_of : Change → Option CallBody
+call_of (Installs row) = Some (Set row.connector row.profile)
+call_of (Clears criteria) = Some (Clear criteria)
+call_of (Ends connector) = None
+
+-- call 0 clears all, and call k is the k-th install or clear
+abbrev pub calls_of : List Change → List CallBody
+calls_of changes = clear_all ∷ filter_map call_of changes
 
 -- ---- the point
 
--- that the point does as a call tells it, at a moment of its own
+-- that the point does as the call of this number tells it, at a moment of its own
 pub record Obeying : Type 0 where
   pub number : ℕ
   pub moment : ℕ
 
-abbrev pub at_moment : ℕ → Row → Row
-at_moment moment row = record row { moment = moment }
-
--- a number that no call has tells nothing
-abbrev pub obeyed_call : ℕ → Option Change → List Row → List Row
+abbrev pub obeyed_call : ℕ → Option CallBody → List Row → List Row
 obeyed_call moment None rows = rows
-obeyed_call moment (Some (Install row)) rows = installed rows (at_moment moment row)
 obeyed_call moment (Some (Clear criteria)) rows = cleared rows criteria
-obeyed_call moment (Some (End connector)) rows = rows
+obeyed_call moment (Some (Set connector profile)) rows =
+    installed rows (record { connector = connector; moment = moment; profile = profile })
 
--- call 0 clears all
-abbrev pub obeyed_number : ℕ → ℕ → List Change → List Row → List Row
-obeyed_number moment zero changes rows = cleared rows every_profile
-obeyed_number moment (suc before) changes rows = obeyed_call moment (slice_get (calls_of changes) before) rows
-
--- what the point has once it has obeyed calls in turn
-abbrev pub obeyed : List Obeying → List Change → List Row → List Row
-obeyed [] changes rows = rows
-obeyed (first ∷ later) changes rows = obeyed later changes (obeyed_number first.moment first.number changes rows)
+-- what the point has once it has obeyed some of these calls in turn, having had these rows before
+abbrev pub obeyed : List CallBody → List Obeying → List Row → List Row
+obeyed calls [] rows = rows
+obeyed calls (first ∷ later) rows =
+    obeyed calls later (obeyed_call first.moment (slice_get calls first.number) rows)
 
 abbrev pub numbers_of : List Obeying → List ℕ
-numbers_of calls = map (λ (call : Obeying). call.number) calls
+numbers_of obeyings = map (λ (obeying : Obeying). obeying.number) obeyings
 
 abbrev pub last_number : ℕ → List Obeying → ℕ
 last_number number [] = number
-last_number number (call ∷ later) = last_number call.number later
+last_number number (obeying ∷ later) = last_number obeying.number later
 
 -- ---- what is compared
+
+abbrev pub at_moment : ℕ → Row → Row
+at_moment moment row = record row { moment = moment }
 
 -- The profiles that outlast transactions. Their moments are left out: the point installs later than the
 -- central system.
@@ -81,10 +83,10 @@ lasting rows = map (at_moment 0) (filter (λ row. not (is_tx row.profile.purpose
 -- ---- the law
 
 -- A point has any rows, and then obeys calls in the order of sending. Its lasting rows are then those that
--- the central system had after the last of these calls.
+-- the central system had, which began with none, after the last of these calls.
 abbrev pub StaysInStep : Type 0
 StaysInStep =
     (changes : List Change) (first : Obeying) (later : List Obeying) (rows : List Row)
     → AreInSendingOrder (numbers_of (first ∷ later))
-    → lasting (obeyed (first ∷ later) changes rows)
+    → lasting (obeyed (calls_of changes) (first ∷ later) rows)
     ≡ lasting (rows_after_call (last_number first.number later) changes [])

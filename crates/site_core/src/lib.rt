@@ -20,8 +20,6 @@ mod request;
 mod requests;
 mod shared_book;
 mod step;
-#[cfg(test)]
-mod tests;
 
 pub use headline::{
     answered_schedules_are_right, answers_are_right, answers_follow_one_take, answers_stay,
@@ -30,7 +28,7 @@ pub use headline::{
 };
 pub use machine::Machine;
 pub use numbers::{MAX_NUMBER, Numbers};
-pub use obey_laws::obeying_point_stays_in_step;
+pub use obey_laws::{obeying_point_leaves_no_call_out, obeying_point_stays_in_step};
 pub use outbox::{Outbox, PreparedCall};
 pub use outbox_laws::calls_are_sent_in_order;
 pub use outcome::{Outcome, Refused, RunFault};
@@ -42,3 +40,5 @@ pub use step::{Step, Take};
 
 #[cfg(test)]
 mod outbox_tests;
+#[cfg(test)]
+mod tests;

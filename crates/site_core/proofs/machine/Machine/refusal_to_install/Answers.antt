@@ -14,4 +14,4 @@ returns-clause-connector c =
     let here : place_of old.site c.args.point.now ≡ Some c.args.place = subst (λ (s : MachineState). place_of s.site c.args.point.now ≡ Some c.args.place) (sym c.self.view_is) c.requires.here in
     let has : HasConnector old.site c.args.point.now c.args.row.now.connector = rw c.as_str.ensures at c.in_default.ensures.connector in
     let connector : c.args.row.now.connector ≤ length (book_at old c.args.place).ceilings = has_connector old.site old.books c.args.point.now c.args.place c.args.row.now.connector c.self.invariant.books within here has in
-    holds_if_none c.version_refusal.result (rw (← c.self.view_is) connector)
+    holds_if_none c.refusal_to_call.result (rw (← c.self.view_is) connector)

@@ -1,0 +1,26 @@
+-- In which order a point obeys the calls that are sent to it, whatever sendings are lost.
+use Rattle.std.specs.Prelude.{ℕ, Bool, true, false, List, [], ◌∷◌}
+use Rattle.std.specs.List.{AllByRecursion, Contains}
+use Rattle.site_core.specs.declared.call.Call.{Call}
+use Rattle.site_core.specs.Outbox.{opening_outbox}
+use Rattle.site_core.specs.OutboxOrder.{Traffic, AreInSendingOrder, numbers_sent, calls_confirmed}
+
+-- the numbers of the sendings that are obeyed, where for each sending in turn it is said whether it is; one
+-- that is lost isn't
+abbrev pub obeyed_numbers : List Bool → List ℕ → List ℕ
+obeyed_numbers [] sent = []
+obeyed_numbers (is_obeyed ∷ later) [] = []
+obeyed_numbers (true ∷ later) (number ∷ sent) = number ∷ obeyed_numbers later sent
+obeyed_numbers (false ∷ later) (number ∷ sent) = obeyed_numbers later sent
+
+-- whether a call is obeyed in one of its sendings
+abbrev pub IsObeyed : List ℕ → Call → Type 0
+IsObeyed obeyed call = Contains obeyed call.number
+
+-- A point that obeys calls in the order of their sendings, and each that is confirmed at least once, obeys
+-- them in sending order: it leaves none out, and goes back to none.
+abbrev pub AreObeyedInOrder : Type 0
+AreObeyedInOrder =
+    (traffic : List Traffic) (are_obeyed : List Bool)
+    → AllByRecursion (IsObeyed (obeyed_numbers are_obeyed (numbers_sent opening_outbox traffic))) (calls_confirmed opening_outbox traffic)
+    → AreInSendingOrder (obeyed_numbers are_obeyed (numbers_sent opening_outbox traffic))
