@@ -9,8 +9,8 @@ use Rattle.profile.specs.declared.row.Row.{Row}
 use Rattle.profile.specs.declared.criteria.Criteria.{Criteria}
 use Rattle.profile.specs.Purpose.{is_tx}
 use Rattle.profile.specs.Changes.{installed, cleared, without_transaction_profiles, has_key_of, is_replaced_by, rows_beside, matches, is_tx_profile_at}
-use Rattle.site_core.specs.declared.call.CallBody.{CallBody}
-use Rattle.site_core.specs.declared.call.CallBody.TheVariants.{Clear, Set}
+use Rattle.messages.specs.declared.call.CallBody.{CallBody}
+use Rattle.messages.specs.declared.call.CallBody.TheVariants.{Clear, Set}
 use Rattle.site_core.specs.Outbox.{every_profile}
 use Rattle.site_core.specs.OutboxOrder.{GoesOn}
 use Rattle.site_core.specs.Obey.{Change, Installs, Clears, Ends, Obeying, at_moment, call_of, calls_of, lasting, last_number, numbers_of, obeyed, obeyed_call, rows_after_call, StaysInStep}

@@ -1,8 +1,8 @@
 -- A point's day, computed by hand: links come and go, and each call is sent until it is confirmed.
 use Rattle.std.proofs.Common.{◌≡◌, refl, pos, List, [], ◌∷◌, map, true, Some, None}
-use Rattle.site_core.specs.declared.call.Call.{Call}
-use Rattle.site_core.specs.declared.call.CallBody.{CallBody}
-use Rattle.site_core.specs.declared.call.CallBody.TheVariants.{Clear}
+use Rattle.messages.specs.declared.call.Call.{Call}
+use Rattle.messages.specs.declared.call.CallBody.{CallBody}
+use Rattle.messages.specs.declared.call.CallBody.TheVariants.{Clear}
 use Rattle.site_core.specs.Outbox.{opening_outbox}
 use Rattle.site_core.specs.OutboxOrder.{Traffic, Attach, Lose, Add, Send, Confirm, after_all, numbers_sent, calls_confirmed}
 

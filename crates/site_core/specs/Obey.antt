@@ -6,8 +6,8 @@ use Rattle.profile.specs.declared.row.Row.{Row}
 use Rattle.profile.specs.declared.criteria.Criteria.{Criteria}
 use Rattle.profile.specs.Purpose.{is_tx}
 use Rattle.profile.specs.Changes.{installed, cleared, without_transaction_profiles}
-use Rattle.site_core.specs.declared.call.CallBody.{CallBody}
-use Rattle.site_core.specs.declared.call.CallBody.TheVariants.{Clear, Set}
+use Rattle.messages.specs.declared.call.CallBody.{CallBody}
+use Rattle.messages.specs.declared.call.CallBody.TheVariants.{Clear, Set}
 use Rattle.site_core.specs.Outbox.{clear_all}
 use Rattle.site_core.specs.OutboxOrder.{AreInSendingOrder}
 

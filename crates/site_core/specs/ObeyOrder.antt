@@ -1,7 +1,7 @@
 -- In which order a point obeys the calls that are sent to it, whatever sendings are lost.
 use Rattle.std.specs.Prelude.{ℕ, Bool, true, false, List, [], ◌∷◌}
 use Rattle.std.specs.List.{AllByRecursion, Contains}
-use Rattle.site_core.specs.declared.call.Call.{Call}
+use Rattle.messages.specs.declared.call.Call.{Call}
 use Rattle.site_core.specs.Outbox.{opening_outbox}
 use Rattle.site_core.specs.OutboxOrder.{Traffic, AreInSendingOrder, numbers_sent, calls_confirmed}
 

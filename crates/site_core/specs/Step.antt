@@ -100,8 +100,10 @@ installs old point row place = unless (refusal_to_install old point row place) (
 abbrev pub clears : MachineState → Criteria → ℕ → Result Made Refusal
 clears old criteria place =
     if list_any (matches criteria) (book_at old place).rows
-    then unless (version_refusal old)
-    (record { reply = Accepted; after = changed old place (book_cleared (book_at old place) criteria) })
+    then unless (refusal_to_call old place) (record {
+      reply = Accepted;
+      after = changed_by_call old place (book_cleared (book_at old place) criteria) (bodies.Clear criteria);
+    })
     else Ok (unchanged old Unknown)
 
 -- Start (OCPP 1.6, 4.8): transactions are numbered over the whole site. A start that is told again changes

@@ -1,6 +1,6 @@
 //! The machine: the state of the central system, and its one step.
 
-ghost use Rattle.std.specs.Prelude.{◌≡◌, ◌<◌, ◌≤◌, Some, IfSome, IfNone, IfOk, IfErr, MatchResult, Ok, Err, length};
+ghost use Rattle.std.specs.Prelude.{◌≡◌, ◌<◌, ◌≤◌, None, Some, IfSome, IfNone, IfOk, IfErr, MatchResult, Ok, Err, length};
 ghost use Rattle.ocpp_scalars.specs.declared.refusal.Refusal.{Refusal};
 ghost use Rattle.site_rules.specs.Site.{place_of};
 ghost use Rattle.transactions.specs.declared.active_table.Began.{Began};
@@ -10,6 +10,7 @@ ghost use Rattle.site_core.specs.Step.{Steps, IsRefused, first_refusal, NeedsNoM
 ghost use Rattle.site_core.specs.ByCases.Made.{IsMade, IsNotMade, place_in, linked_place_in};
 ghost use Rattle.site_core.specs.Outbox.{max_calls, last_call_number};
 ghost use Rattle.messages.specs.declared.call.CallBody.{CallBody};
+ghost use Rattle.point_book.specs.Changes.{install_refusal};
 ghost use Rattle.site_core.specs.Run.{HasOutcome, Runs};
 
 use crate::ask::ask_at;
@@ -311,6 +312,9 @@ impl Machine {
         requires here { place_of self.now.site point.now ≡ Some place }
         requires within { place < length self.now.books }
         ensures refusal { result ≡ refusal_to_install self.now point.now row.now place }
+        ensures allowed { IfNone result (install_refusal (book_at self.now place) row.now ≡ None) }
+        ensures room { IfNone result (length (outbox_at self.now place).calls < max_calls) }
+        ensures number { IfNone result ((outbox_at self.now place).next ≤ last_call_number) }
         ensures connector { IfNone result
             (row.now.connector ≤ length (book_at self.now place).ceilings) }
     {

@@ -5,4 +5,4 @@ use Rattle.site_core.specs.contracts.machine.Machine.{the_view}
 use Rattle.site_core.proofs.machine.Machine.clear_at.Goals as goal
 
 pub invariant_of-self-2 : goal.invariant_of-self-2
-invariant_of-self-2 c = ?
+invariant_of-self-2 c = called_fits (the_view c.self.inside) c.args.place _ _ _ _ c.self.invariant refl (rw (← c.self.view_is) at c.in_default.ensures.refusal) c.in_ok-clear_at.ensures.books c.add_at.ensures
