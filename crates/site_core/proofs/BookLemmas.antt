@@ -22,18 +22,18 @@ pub opening_books_fit : (points : List PointEntry) → map connectors_of_book (m
 opening_books_fit [] = refl
 opening_books_fit (point ∷ points) = ap (λ (l : List ℕ). length point.ceilings ∷ l) (opening_books_fit points)
 
--- the book of one more point
-pub one_more : (points : List PointEntry) (books new : List Book) (n : ℕ) (point : PointEntry) → books ≡ map opening_book (take (length books) points)
-    → n ≡ length books → Some point ≡ slice_get points n → new ≡ books ++ opening_book point ∷ []
-    → (new ≡ map opening_book (take (length new) points)) × (length new ≤ length points)
-one_more points books new n point so_far count here more =
+-- what is made of one point more, where each is made of its point
+pub one_more : {X : Type 0} (f : PointEntry → X) (points : List PointEntry) (items new : List X) (n : ℕ) (point : PointEntry) → items ≡ map f (take (length items) points)
+    → n ≡ length items → Some point ≡ slice_get points n → new ≡ items ++ f point ∷ []
+    → (new ≡ map f (take (length new) points)) × (length new ≤ length points)
+one_more {X} f points items new n point so_far count here more =
     let within : n < length points = slice_get_within points n point (sym here) in
-    let size : length new ≡ n + 1 = omega (arith, count, ap (λ (l : List Book). length l) more, length-append books (opening_book point ∷ [])) in
+    let size : length new ≡ n + 1 = omega (arith, count, ap (λ (l : List X). length l) more, length-append items (f point ∷ [])) in
     let read : get_or points n point ≡ point = get_or_from_slice_get points n point point (sym here) in
-    let step : map opening_book (take (n + 1) points) ≡ map opening_book (take n points) ++ opening_book point ∷ [] =
-    map_more opening_book points n point within ∙ ap (λ (p : PointEntry). map opening_book (take n points) ++ opening_book p ∷ []) read in
-    let front : books ≡ map opening_book (take n points) = so_far ∙ ap (λ (k : ℕ). map opening_book (take k points)) (sym count) in (
-      more ∙ ap (λ (l : List Book). l ++ opening_book point ∷ []) front ∙ sym step ∙ ap (λ (k : ℕ). map opening_book (take k points)) (sym size),
+    let step : map f (take (n + 1) points) ≡ map f (take n points) ++ f point ∷ [] =
+    map_more f points n point within ∙ ap (λ (p : PointEntry). map f (take n points) ++ f p ∷ []) read in
+    let front : items ≡ map f (take n points) = so_far ∙ ap (λ (k : ℕ). map f (take k points)) (sym count) in (
+      more ∙ ap (λ (l : List X). l ++ f point ∷ []) front ∙ sym step ∙ ap (λ (k : ℕ). map f (take k points)) (sym size),
       omega (arith, size, within),
     )
 

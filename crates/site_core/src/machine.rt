@@ -1,5 +1,6 @@
 //! The machine: the state of the central system, and its one step.
 
+<<<<<<< HEAD
 ghost use Rattle.std.specs.Prelude.{◌≡◌, ◌<◌, ◌≤◌, None, Some, IfSome, IfNone, IfOk, IfErr, MatchResult, Ok, Err, length};
 ghost use Rattle.ocpp_scalars.specs.declared.refusal.Refusal.{Refusal};
 ghost use Rattle.site_rules.specs.Site.{place_of};
@@ -20,21 +21,36 @@ use crate::outbox::{Outbox, PreparedCall};
 use crate::outboxes::{
     add_at, attach_at, confirm_at, lose_at, opening_outboxes, outbox_at, send_at,
 };
+=======
+ghost use Rattle.std.specs.Prelude.{◌≡◌, ◌<◌, ◌≤◌, Some, IfOk, IfErr, MatchResult, Ok, Err, length};
+ghost use Rattle.site_rules.specs.Site.{place_of};
+ghost use Rattle.site_core.specs.State.{AreNumbers, opening, opening_at};
+ghost use Rattle.site_core.specs.Step.{Steps, IsRefused, first_refusal, NeedsNoMemory};
+ghost use Rattle.site_core.specs.Run.{HasOutcome, Runs};
+ghost use Rattle.site_core.specs.ByCases.Made.{place_in};
+
+mod changes;
+mod schedules;
+
+use crate::books::opening_books;
+use crate::numbers::Numbers;
+>>>>>>> origin/core
 use crate::outcome::{Outcome, Refused, RunFault};
 use crate::point_id::PointId;
 use crate::reply::Reply;
-use crate::request::{MAX_REQUESTS, Request};
-use crate::requests::{compile_request, hand_out, stop_all};
+use crate::request::Request;
 use crate::shared_book::SharedBook;
+<<<<<<< HEAD
 use crate::step::{Step, Take};
 use meaning::Ask;
 use messages::CallBody;
+=======
+use crate::step::Step;
+>>>>>>> origin/core
 use ocpp_scalars::Refusal;
-use profile::{Criteria, Row};
-use site_rules::{Site, admit};
+use site_rules::Site;
 use std::alloc::{AllocError, Global};
 use std::marker::Model;
-use transactions::{Began, Begin};
 
 /// The central system of a site: what each of its points has, the requests for schedules that are kept,
 /// and the numbers that were drawn last.
@@ -222,75 +238,6 @@ impl Machine {
         }
     }
 
-    // ---- points
-
-    /// Installs a row at a point. On a refusal the row comes back.
-    fn install(&mut self, point: &PointId, row: Row) -> Result<Reply, (Refusal, Row)>
-        ensures made { IfOk result (λ reply.
-            IsMade (at_point self.old point.now (installs self.old point.now row)) reply self.new) }
-        ensures refused { IfErr result (λ refused. IsNotMade self.old
-            (at_point self.old point.now (installs self.old point.now row)) refused.0 self.new) }
-        ensures back { IfErr result (λ refused. refused.1 ≡ row) }
-    {
-        match self.place_at(point) {
-            Ok(place) => self.install_at(point, place, row),
-            Err(refusal) => Err((refusal, row)),
-        }
-    }
-
-    /// Removes the profiles of a point that match each criterion that is given.
-    fn clear(&mut self, point: &PointId, criteria: &Criteria) -> Result<Reply, Refusal>
-        ensures made { IfOk result (λ reply.
-            IsMade (at_point self.old point.now (clears self.old criteria.now)) reply self.new) }
-        ensures refused { IfErr result (λ refusal. IsNotMade self.old
-            (at_point self.old point.now (clears self.old criteria.now)) refusal self.new) }
-    {
-        let place = self.place_at(point)?;
-        self.clear_at(place, criteria)
-    }
-
-    /// Begins a transaction at a connector of a point, or answers a start that is told again. On a refusal
-    /// what began comes back.
-    fn start(
-        &mut self,
-        point: &PointId,
-        connector: u32,
-        begin: Begin,
-    ) -> Result<Reply, (Refusal, Begin)>
-        ensures made { IfOk result (λ reply. IsMade
-            (at_point self.old point.now (starts self.old connector begin)) reply self.new) }
-        ensures refused { IfErr result (λ refused. IsNotMade self.old
-            (at_point self.old point.now (starts self.old connector begin)) refused.0 self.new) }
-        ensures back { IfErr result (λ refused. refused.1 ≡ begin) }
-    {
-        match self.place_at(point) {
-            Ok(place) => self.start_at(place, connector, begin),
-            Err(refusal) => Err((refusal, begin)),
-        }
-    }
-
-    /// Ends the transaction of this number, where it is active at a point.
-    fn stop(&mut self, point: &PointId, number: i32) -> Result<Reply, Refusal>
-        ensures made { IfOk result (λ reply.
-            IsMade (at_point self.old point.now (stops self.old number)) reply self.new) }
-        ensures refused { IfErr result (λ refusal. IsNotMade self.old
-            (at_point self.old point.now (stops self.old number)) refusal self.new) }
-    {
-        let place = self.place_at(point)?;
-        self.stop_at(place, number)
-    }
-
-    /// Keeps a request for a schedule of a point.
-    fn take(&mut self, take: &Take) -> Result<Reply, Refusal>
-        ensures made { IfOk result (λ reply.
-            IsMade (at_point self.old take.now.point (takes self.old take.now)) reply self.new) }
-        ensures refused { IfErr result (λ refusal. IsNotMade self.old
-            (at_point self.old take.now.point (takes self.old take.now)) refusal self.new) }
-    {
-        let place = self.place_at(&take.point)?;
-        self.take_at(place, take)
-    }
-
     /// The place of the point of an identity, while the central system isn't stopped. The refusals are
     /// `Stopped` and `UnknownPoint`.
     fn place_at(&self, point: &PointId) -> Result<usize, Refusal>
@@ -306,6 +253,7 @@ impl Machine {
             None => Err(Refusal::UnknownPoint),
         }
     }
+<<<<<<< HEAD
 
     /// Why a row isn't installed in the book of a point, which is at this place, if memory lasts.
     fn refusal_to_install(&self, point: &PointId, place: usize, row: &Row) -> Option<Refusal>
@@ -673,6 +621,8 @@ impl Machine {
             Err(Refusal::Superseded)
         }
     }
+=======
+>>>>>>> origin/core
 }
 
 /// What was made, or the refusal with the step.
@@ -683,15 +633,5 @@ fn with_step(made: Result<Reply, Refusal>, step: Step) -> Result<Reply, Refused>
     match made {
         Ok(reply) => Ok(reply),
         Err(refusal) => Err(Refused { refusal, step }),
-    }
-}
-
-fn taken(number: u64, book: SharedBook, ask: &Ask) -> Reply
-    ensures { result ≡ Reply.Taken number book ask.now }
-{
-    Reply::Taken {
-        number,
-        book,
-        ask: *ask,
     }
 }

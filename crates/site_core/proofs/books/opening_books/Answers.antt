@@ -14,5 +14,5 @@ loop-point-preserved c =
     let count : c.len-in-loop-point.result ≡ length c.loop-point.books.items = omega (arith, c.len-in-loop-point.ensures, c.loop-point.books.ok.0) in
     let more : c.push.new.self.items ≡ c.loop-point.books.items ++ opening_book point ∷ [] =
     c.in_ok-push.ensures.items ∙ ap (λ (b : Book). c.loop-point.books.items ++ b ∷ []) book in
-    let grown = one_more c.args.site.now.points c.loop-point.books.items c.push.new.self.items c.len-in-loop-point.result point c.loop-point.invariant.so_far count c.in-Some.ensures.point more in
+    let grown = one_more opening_book c.args.site.now.points c.loop-point.books.items c.push.new.self.items c.len-in-loop-point.result point c.loop-point.invariant.so_far count c.in-Some.ensures.point more in
     record { so_far = grown.0; few = grown.1 }
