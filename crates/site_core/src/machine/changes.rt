@@ -1,20 +1,27 @@
 //! The steps that change what a point has.
 
-ghost use Rattle.std.specs.Prelude.{◌≡◌, ◌<◌, ◌≤◌, Some, IfNone, IfOk, IfErr, MatchResult, length};
+ghost use Rattle.std.specs.Prelude.{◌≡◌, ◌<◌, ◌≤◌, None, Some, IfNone, IfOk, IfErr, MatchResult, length};
 ghost use Rattle.site_rules.specs.Site.{place_of};
 ghost use Rattle.transactions.specs.declared.active_table.Began.{Began};
-ghost use Rattle.site_core.specs.State.{book_at};
-ghost use Rattle.site_core.specs.Step.{at_point, version_refusal, refusal_to_install, installs, clears, refusal_to_start, starts_as, starts, stops};
+ghost use Rattle.site_core.specs.State.{book_at, outbox_at};
+ghost use Rattle.site_core.specs.Step.{at_point, version_refusal, refusal_to_call, refusal_to_install, installs, clears, refusal_to_start, starts_as, starts, stops};
 ghost use Rattle.site_core.specs.ByCases.Made.{IsMade, IsNotMade};
+ghost use Rattle.site_core.specs.Outbox.{max_calls, last_call_number};
+ghost use Rattle.messages.specs.declared.call.CallBody.{CallBody};
+ghost use Rattle.point_book.specs.Changes.{install_refusal};
 
 use crate::books::{Starting, book_at, clear_at, install_at, start_at, stop_at};
 use crate::machine::Machine;
 use crate::numbers::{MAX_NUMBER, MAX_TRANSACTION};
+use crate::outbox::PreparedCall;
+use crate::outboxes::{add_at, outbox_at};
 use crate::point_id::PointId;
 use crate::reply::Reply;
+use messages::CallBody;
 use ocpp_scalars::Refusal;
 use profile::{Criteria, Row};
 use site_rules::admit;
+use std::alloc::AllocError;
 use transactions::{Began, Begin};
 
 impl Machine {
@@ -79,6 +86,9 @@ impl Machine {
         requires here { place_of self.now.site point.now ≡ Some place }
         requires within { place < length self.now.books }
         ensures refusal { result ≡ refusal_to_install self.now point.now row.now place }
+        ensures allowed { IfNone result (install_refusal (book_at self.now place) row.now ≡ None) }
+        ensures room { IfNone result (length (outbox_at self.now place).calls < max_calls) }
+        ensures number { IfNone result ((outbox_at self.now place).next ≤ last_call_number) }
         ensures connector { IfNone result
             (row.now.connector ≤ length (book_at self.now place).ceilings) }
     {
@@ -87,6 +97,23 @@ impl Machine {
         }
         if let Some(refusal) = book_at(&self.books, place).book().install_refusal(row) {
             return Some(refusal);
+        }
+        self.refusal_to_call(place)
+    }
+
+    /// Why no call is added for the point at a place, if memory lasts.
+    fn refusal_to_call(&self, place: usize) -> Option<Refusal>
+        requires { place < length self.now.outboxes }
+        ensures refusal { result ≡ refusal_to_call self.now place }
+        ensures room { IfNone result (length (outbox_at self.now place).calls < max_calls) }
+        ensures number { IfNone result ((outbox_at self.now place).next ≤ last_call_number) }
+    {
+        let outbox = outbox_at(&self.outboxes, place);
+        if outbox.is_full() {
+            return Some(Refusal::OutboxFull);
+        }
+        if outbox.is_exhausted() {
+            return Some(Refusal::VersionsExhausted);
         }
         self.version_refusal()
     }
@@ -119,12 +146,31 @@ impl Machine {
         if let Some(refusal) = self.refusal_to_install(point, place, &row) {
             return Err((refusal, row));
         }
+        // The call's memory comes first, so that a refusal leaves the book.
+        let Ok(call) = self.call_of(&row) else {
+            return Err((Refusal::OutOfMemory, row));
+        };
         match install_at(&mut self.books, place, row) {
             Ok(()) => {
+                add_at(&mut self.outboxes, place, call);
                 self.numbers.version += 1;
                 Ok(Reply::Accepted)
             }
             Err(failed) => Err((Refusal::OutOfMemory, failed.value)),
+        }
+    }
+
+    /// The call that tells a point of the install of a row.
+    fn call_of(&self, row: &Row) -> Result<PreparedCall, AllocError>
+        ensures { IfOk result (λ call. call ≡ CallBody.Set row.now.connector row.now.profile) }
+    {
+        let body = CallBody::Set {
+            connector: row.connector,
+            profile: row.profile.copy()?,
+        };
+        match PreparedCall::new(self.alloc, body) {
+            Ok(call) => Ok(call),
+            Err((error, _)) => Err(error),
         }
     }
 
@@ -138,10 +184,14 @@ impl Machine {
         if !book_at(&self.books, place).book().has_match(criteria) {
             return Ok(Reply::Unknown);
         }
-        if let Some(refusal) = self.version_refusal() {
+        if let Some(refusal) = self.refusal_to_call(place) {
             return Err(refusal);
         }
+        let Ok(call) = PreparedCall::new(self.alloc, CallBody::Clear(*criteria)) else {
+            return Err(Refusal::OutOfMemory);
+        };
         clear_at(&mut self.books, place, criteria)?;
+        add_at(&mut self.outboxes, place, call);
         self.numbers.version += 1;
         Ok(Reply::Accepted)
     }

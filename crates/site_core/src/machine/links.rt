@@ -1,0 +1,93 @@
+//! The steps of links to points, and of the calls that are sent over them.
+
+ghost use Rattle.std.specs.Prelude.{◌≡◌, ◌<◌, IfOk, IfErr, length};
+ghost use Rattle.site_core.specs.Step.{at_point, attaches, at_link, sends, confirms, loses};
+ghost use Rattle.site_core.specs.ByCases.Made.{IsMade, IsNotMade, linked_place_in};
+
+use crate::machine::Machine;
+use crate::numbers::MAX_NUMBER;
+use crate::outboxes::{attach_at, confirm_at, lose_at, outbox_at, send_at};
+use crate::point_id::PointId;
+use crate::reply::Reply;
+use ocpp_scalars::Refusal;
+
+impl Machine {
+    /// Gives a point a new link.
+    pub(super) fn attach(&mut self, point: &PointId) -> Result<Reply, Refusal>
+        ensures made { IfOk result (λ reply.
+            IsMade (at_point self.old point.now (attaches self.old)) reply self.new) }
+        ensures refused { IfErr result (λ refusal. IsNotMade self.old
+            (at_point self.old point.now (attaches self.old)) refusal self.new) }
+    {
+        let place = self.place_at(point)?;
+        if self.numbers.link == MAX_NUMBER {
+            return Err(Refusal::VersionsExhausted);
+        }
+        let link = self.numbers.link + 1;
+        attach_at(&mut self.outboxes, place, link);
+        self.numbers.link = link;
+        Ok(Reply::Attached(link))
+    }
+
+    /// Sends the first call that waits for a point over its link.
+    pub(super) fn send(&mut self, point: &PointId, link: u64) -> Result<Reply, Refusal>
+        ensures made { IfOk result (λ reply.
+            IsMade (at_link self.old point.now link (sends self.old)) reply self.new) }
+        ensures refused { IfErr result (λ refusal. IsNotMade self.old
+            (at_link self.old point.now link (sends self.old)) refusal self.new) }
+    {
+        let place = self.linked_place(point, link)?;
+        match send_at(&mut self.outboxes, place)? {
+            Some(call) => Ok(Reply::Sent(call)),
+            None => Ok(Reply::Nothing),
+        }
+    }
+
+    /// Takes note that a point has answered the call of this number.
+    pub(super) fn confirm(&mut self, point: &PointId, link: u64, number: u64) -> Result<Reply, Refusal>
+        ensures made { IfOk result (λ reply.
+            IsMade (at_link self.old point.now link (confirms self.old number)) reply self.new) }
+        ensures refused { IfErr result (λ refusal. IsNotMade self.old
+            (at_link self.old point.now link (confirms self.old number)) refusal self.new) }
+    {
+        let place = self.linked_place(point, link)?;
+        if confirm_at(&mut self.outboxes, place, number) {
+            Ok(Reply::Confirmed)
+        } else {
+            Err(Refusal::NothingInFlight)
+        }
+    }
+
+    /// Takes note that a link to a point is lost.
+    pub(super) fn lose(&mut self, point: &PointId, link: u64) -> Result<Reply, Refusal>
+        ensures made { IfOk result (λ reply.
+            IsMade (at_link self.old point.now link (loses self.old)) reply self.new) }
+        ensures refused { IfErr result (λ refusal. IsNotMade self.old
+            (at_link self.old point.now link (loses self.old)) refusal self.new) }
+    {
+        let place = self.linked_place(point, link)?;
+        lose_at(&mut self.outboxes, place);
+        Ok(Reply::LinkLost)
+    }
+
+    /// The place of the point of an identity, while this is its present link and the central system isn't
+    /// stopped. The refusals are `Stopped` and `Superseded`.
+    fn linked_place(&self, point: &PointId, link: u64) -> Result<usize, Refusal>
+        ensures place { result ≡ linked_place_in self.now point.now link }
+        ensures within { IfOk result (λ place. place < length self.now.outboxes) }
+    {
+        if self.is_stopped {
+            return Err(Refusal::Stopped);
+        }
+        let Some(place) = self.site.place_of(point.as_str()) else {
+            return Err(Refusal::Superseded);
+        };
+        if outbox_at(&self.outboxes, place).link() == Some(link) {
+            Ok(place)
+        } else {
+            Err(Refusal::Superseded)
+        }
+    }
+=======
+>>>>>>> origin/core
+}
