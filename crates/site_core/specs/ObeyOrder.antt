@@ -17,10 +17,14 @@ obeyed_numbers (false ∷ later) (number ∷ sent) = obeyed_numbers later sent
 abbrev pub IsObeyed : List ℕ → Call → Type 0
 IsObeyed obeyed call = Contains obeyed call.number
 
+-- the numbers of those that are obeyed along all that comes to an outbox
+abbrev pub numbers_obeyed : List Traffic → List Bool → List ℕ
+numbers_obeyed traffic are_obeyed = obeyed_numbers are_obeyed (numbers_sent opening_outbox traffic)
+
 -- A point that obeys calls in the order of their sendings, and each that is confirmed at least once, obeys
 -- them in sending order: it leaves none out, and goes back to none.
 abbrev pub AreObeyedInOrder : Type 0
 AreObeyedInOrder =
     (traffic : List Traffic) (are_obeyed : List Bool)
-    → AllByRecursion (IsObeyed (obeyed_numbers are_obeyed (numbers_sent opening_outbox traffic))) (calls_confirmed opening_outbox traffic)
-    → AreInSendingOrder (obeyed_numbers are_obeyed (numbers_sent opening_outbox traffic))
+    → AllByRecursion (IsObeyed (numbers_obeyed traffic are_obeyed)) (calls_confirmed opening_outbox traffic)
+    → AreInSendingOrder (numbers_obeyed traffic are_obeyed)

@@ -57,11 +57,11 @@ lost old = record old { link = None; is_in_flight = false }
 
 -- ---- calls
 
--- no call more may be added
+-- no more calls may be added
 abbrev pub is_full : OutboxState → Bool
 is_full outbox = nat_le max_calls (length outbox.calls)
 
--- whether the last number was drawn
+-- nor where the last number was drawn
 abbrev pub is_exhausted : OutboxState → Bool
 is_exhausted outbox = nat_lt last_call_number outbox.next
 
@@ -116,6 +116,7 @@ AreConsecutive outbox =
     map (λ (call : Call). call.number) outbox.calls
     ≡ range_with_len (outbox.next - length outbox.calls) (length outbox.calls)
 
+-- a call is in flight only where there is one, and over a link
 pub record IsOutbox (outbox : OutboxState) : Type 0 where
   pub numbers : AreConsecutive outbox
   pub drawn : length outbox.calls ≤ outbox.next

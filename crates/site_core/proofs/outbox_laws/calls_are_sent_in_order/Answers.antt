@@ -1,3 +1,4 @@
+-- The laws, by induction on the traffic.
 use Rattle.site_core.proofs.OutboxOrderLemmas.{sent_in_order, left_unless_confirmed}
 use Rattle.site_core.proofs.outbox_laws.calls_are_sent_in_order.Goals as goal
 
