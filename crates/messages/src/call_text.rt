@@ -58,7 +58,8 @@ fn push_clear(out: &mut String, criteria: &Criteria) -> Result<(), AllocError>
             ("chargingProfilePurpose", purpose(criteria.purpose)),
             ("stackLevel", whole(criteria.stack_level)),
         ],
-    )
+    )?;
+    Ok(())
 }
 
 /// Appends SetChargingProfile.req (chapter 6).
@@ -186,5 +187,6 @@ fn push_period(out: &mut String, period: &Period) -> Result<(), AllocError>
             ("limit", Some(FieldValue::Tenths(period.limit))),
             ("numberPhases", whole(period.number_phases)),
         ],
-    )
+    )?;
+    Ok(())
 }

@@ -1,5 +1,4 @@
--- The values of a call's fields that are no object and no list, as they are written. What a call looks like is
--- `specs/CallText.antt`.
+-- Of private clauses: the values of a call's fields that are no object and no list, as they are written.
 use Rattle.std.specs.Prelude.{ℕ, List}
 use Rattle.std.specs.Fmt.{decimal, signed_decimal}
 use Rattle.ocpp_scalars.specs.Writing.{tenths_text}

@@ -1,4 +1,4 @@
--- The parts in which an object is written.
+-- Of private clauses: the parts in which an object is written.
 use Rattle.std.specs.Prelude.{Bool, true, false, ℕ, List, Option}
 use Rattle.std.specs.List.{filter_map}
 use Rattle.messages.specs.ObjectText.{joined, later_texts, present}

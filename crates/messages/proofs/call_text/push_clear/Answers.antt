@@ -4,4 +4,6 @@ use Rattle.messages.proofs.call_text.push_clear.Goals as goal
 
 pub returns : goal.returns
 unfolding clear_text
-returns c = rw (c.signed.ensures, c.whole.ensures, c.purpose.ensures, c.whole-2.ensures) at c.push_object.ensures
+returns c =
+    let object = rw (c.signed.ensures, c.whole.ensures, c.purpose.ensures, c.whole-2.ensures) at c.in_ok-push_object.ensures in
+    search object

@@ -4,4 +4,6 @@ use Rattle.messages.proofs.call_text.push_period.Goals as goal
 
 pub returns : goal.returns
 unfolding period_text
-returns c = rw (c.whole.ensures) at c.push_object.ensures
+returns c =
+    let object = rw (c.whole.ensures) at c.in_ok-push_object.ensures in
+    search object
