@@ -1,8 +1,8 @@
 //! What an outbox sends from outside, and that memory suffices. A refused allocation of a call or of a
 //! sending is made again, so that the tests pass whichever of these is refused.
 
-use messages::{Call, CallBody};
 use crate::outbox::{Outbox, PreparedCall};
+use messages::{Call, CallBody};
 use profile::{
     Criteria, Period, PeriodList, Profile, ProfileKind, ProfileParts, Purpose, ScheduleParts, Unit,
 };

@@ -14,7 +14,7 @@ pub(crate) fn opening_outboxes(alloc: Global, site: &Site) -> Result<Vec<Outbox>
     ensures { IfOk result (λ outboxes. outboxes.items ≡ map opening_outbox_of site.now.points) }
 {
     let mut outboxes = Vec::with_capacity(alloc, site.len())?;
-    while let Some(_point) = site.point(outboxes.len()) {
+    while let Some(_) = site.point(outboxes.len()) {
         outboxes.push(Outbox::new(alloc)?)?;
     }
     Ok(outboxes)

@@ -1,8 +1,8 @@
 //! What the steps of the central system reply.
 
-use messages::Call;
 use crate::shared_book::SharedBook;
 use meaning::{Ask, Composite};
+use messages::Call;
 use ocpp_scalars::Refusal;
 
 /// What a step that is made replies.

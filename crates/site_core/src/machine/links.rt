@@ -44,7 +44,12 @@ impl Machine {
     }
 
     /// Takes note that a point has answered the call of this number.
-    pub(super) fn confirm(&mut self, point: &PointId, link: u64, number: u64) -> Result<Reply, Refusal>
+    pub(super) fn confirm(
+        &mut self,
+        point: &PointId,
+        link: u64,
+        number: u64,
+    ) -> Result<Reply, Refusal>
         ensures made { IfOk result (λ reply.
             IsMade (at_link self.old point.now link (confirms self.old number)) reply self.new) }
         ensures refused { IfErr result (λ refusal. IsNotMade self.old
@@ -88,6 +93,4 @@ impl Machine {
             Err(Refusal::Superseded)
         }
     }
-=======
->>>>>>> origin/core
 }
