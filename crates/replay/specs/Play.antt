@@ -4,8 +4,9 @@ use Rattle.std.specs.Fmt.{decimal}
 use Rattle.profile.specs.declared.unit.Unit.{Unit}
 use Rattle.messages.specs.ResponseText.{response_text}
 use Rattle.replay.specs.declared.script.line.LineFault.{LineFault}
+use Rattle.replay.specs.declared.script.line.LineFault.TheVariants.{NotComposite, UnknownRequest}
 use Rattle.replay.specs.declared.script.line.ScriptLine.{ScriptLine}
-use Rattle.replay.specs.declared.script.line.ScriptLine.TheVariants.{Text}
+use Rattle.replay.specs.declared.script.line.ScriptLine.TheVariants.{Text, Hold, Release}
 use Rattle.replay.specs.declared.script.play.Printed.{Printed}
 use Rattle.replay.specs.declared.session.todo.Todo.{Todo}
 use Rattle.replay.specs.declared.session.todo.Todo.TheVariants as todo
@@ -58,10 +59,15 @@ pub record PlayedLine : Type 0 where
 abbrev pub answer_played : Handled → PlayedLine
 answer_played text = record { printed = answer_line text.answer; is_fault = false; after = text.after }
 
+abbrev pub fault_played : SystemState → ℕ → LineFault → PlayedLine
+fault_played old number fault =
+    record { printed = fault_line number fault; is_fault = true; after = old }
+
 abbrev pub said_played : SystemState → ℕ → Result ScriptLine LineFault → PlayedLine
 said_played old number (Ok (Text text)) = answer_played (handled old text)
-said_played old number (Err fault) =
-    record { printed = fault_line number fault; is_fault = true; after = old }
+said_played old number (Ok (Hold text)) = fault_played old number NotComposite
+said_played old number (Ok (Release request)) = fault_played old number UnknownRequest
+said_played old number (Err fault) = fault_played old number fault
 
 -- an empty line prints nothing
 abbrev pub line_played : SystemState → ℕ → List ℕ → PlayedLine

@@ -19,6 +19,7 @@ use Rattle.messages.specs.declared.call_fault.CallFault.TheVariants.{FormationVi
 use Rattle.messages.specs.declared.response.Response.{Response}
 use Rattle.messages.specs.declared.response.Response.TheVariants.{Rejected, BootNotification, Heartbeat, Authorize, Empty, UnknownVendorId, Error}
 use Rattle.messages.specs.declared.action_kind.ActionKind.{ActionKind}
+use Rattle.messages.specs.declared.action_kind.ActionKind.TheVariants as kinds
 use Rattle.messages.specs.ActionKind.{action_named, side_of_kind}
 use Rattle.messages.specs.Action.{action_of_kind}
 use Rattle.replay.specs.declared.session.todo.Todo.{Todo}
@@ -103,3 +104,18 @@ todo_of_message text _ = todo.Nothing
 
 unfoldable pub todo_of : Sent → Todo
 todo_of text = todo_of_message text (message_of_text text.frame)
+
+-- ---- held texts
+
+abbrev pub is_schedule_kind : Option ActionKind → Bool
+is_schedule_kind (Some kinds.GetCompositeSchedule) = true
+is_schedule_kind _ = false
+
+-- whether a message is a CALL of GetCompositeSchedule
+abbrev pub asks_schedule : Result Message FrameFault → Bool
+asks_schedule (Ok (call id name payload)) = is_schedule_kind (action_named name)
+asks_schedule _ = false
+
+-- what a held text asks for, where it is a CALL of GetCompositeSchedule
+abbrev pub hold_of : Sent → Option Todo
+hold_of text = if asks_schedule (message_of_text text.frame) then Some (todo_of text) else None

@@ -1,10 +1,10 @@
 //! What a line of a script prints, and what the central system does at it.
 
-ghost use Rattle.std.specs.Prelude.{◌≡◌, false, Some, IfOk, OnErr, string_bytes};
+ghost use Rattle.std.specs.Prelude.{◌≡◌, false, true, Some, IfOk, OnErr, string_bytes};
 ghost use Rattle.messages.specs.ResponseText.{response_text};
-ghost use Rattle.replay.specs.Play.{handled, answer_line, answer_played, line_played, IsPlayed, IsOneOf};
+ghost use Rattle.replay.specs.Play.{handled, answer_line, fault_line, answer_played, line_played, IsPlayed, IsOneOf};
 
-use crate::script::line::{ScriptLine, read_line};
+use crate::script::line::{LineFault, ScriptLine, read_line};
 use crate::session::answer::response_of;
 use crate::session::sent_text::SentText;
 use crate::session::todo::{Todo, todo_of};
@@ -44,11 +44,22 @@ pub fn play_line(
             text: answer_line(alloc, system, &text)?,
             is_fault: false,
         }),
-        Err(fault) => Ok(Printed {
-            text: format!(in alloc; "! {number} {fault}\n")?,
-            is_fault: true,
-        }),
+        Ok(ScriptLine::Hold(_)) => fault_printed(alloc, number, LineFault::NotComposite),
+        Ok(ScriptLine::Release(_)) => fault_printed(alloc, number, LineFault::UnknownRequest),
+        Err(fault) => fault_printed(alloc, number, fault),
     }
+}
+
+/// The line with the fault of the script's line of this number.
+fn fault_printed(alloc: Global, number: u64, fault: LineFault) -> Result<Printed, AllocError>
+    ensures text { IfOk result
+        (λ printed. string_bytes printed.text ≡ fault_line number fault) }
+    ensures is { IfOk result (λ printed. printed.is_fault ≡ true) }
+{
+    Ok(Printed {
+        text: format!(in alloc; "! {number} {fault}\n")?,
+        is_fault: true,
+    })
 }
 
 /// The line with the answer to a text, if it has one.

@@ -6,7 +6,7 @@ ghost use Rattle.ocppj_frame.specs.Payload.{tree_at};
 ghost use Rattle.profile.specs.Parts.{profile_of_parts};
 ghost use Rattle.messages.specs.Action.{action_of_kind};
 ghost use Rattle.messages.specs.ActionKind.{action_named};
-ghost use Rattle.replay.specs.Todo.{begin_of, side_eq, step_of, step_of_made, step_of_reading, kind_of_sender, todo_of_message, todo_of, todo_with};
+ghost use Rattle.replay.specs.Todo.{begin_of, side_eq, step_of, step_of_made, step_of_reading, kind_of_sender, todo_of_message, todo_of, todo_with, asks_schedule, is_schedule_kind, hold_of};
 
 use crate::session::sent_text::SentText;
 use crate::system::step::Step;
@@ -52,6 +52,40 @@ pub fn todo_of(alloc: Global, text: &SentText<'_>) -> Result<Todo, AllocError>
         Err(FrameFault::Dropped) => Ok(Todo::Nothing),
         Err(FrameFault::OutOfMemory) => Err(AllocError),
     }
+}
+
+/// What a held text asks for: as [`todo_of`] has it, or `None` where the text is no CALL of
+/// GetCompositeSchedule.
+#[tactic(auto, unfolding(crate::specs::Todo::todo_of))]
+pub fn hold_of(alloc: Global, text: &SentText<'_>) -> Result<Option<Todo>, AllocError>
+    ensures { IfOk result (λ todo. todo ≡ hold_of text.now) }
+{
+    match read_frame(alloc, text.frame()) {
+        Ok(frame) => {
+            if !asks_schedule(&frame) {
+                return Ok(None);
+            }
+            Ok(Some(todo_of_message(alloc, text, frame)?))
+        }
+        Err(FrameFault::Formation { .. } | FrameFault::Dropped) => Ok(None),
+        Err(FrameFault::OutOfMemory) => Err(AllocError),
+    }
+}
+
+/// Whether a message is a CALL of GetCompositeSchedule.
+fn asks_schedule(frame: &Frame) -> bool
+    ensures { result ≡ asks_schedule (Ok (message_in frame.now)) }
+{
+    match frame {
+        Frame::Call { action, .. } => is_schedule_kind(ActionKind::named(action.as_str())),
+        Frame::Reply { .. } | Frame::Fault { .. } | Frame::Other => false,
+    }
+}
+
+fn is_schedule_kind(kind: Option<ActionKind>) -> bool
+    ensures { result ≡ is_schedule_kind kind }
+{
+    matches!(kind, Some(ActionKind::GetCompositeSchedule))
 }
 
 /// What a message asks for: only a CALL is answered.
