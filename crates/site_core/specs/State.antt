@@ -1,0 +1,90 @@
+-- The state of the central system: what it knows between two steps.
+use Rattle.std.specs.Prelude.{ℕ, ◌≡◌, ◌≤◌, Bool, false, List, [], map, length, slice_index_or, Option, Result}
+use Rattle.ocpp_scalars.specs.declared.refusal.Refusal.{Refusal}
+use Rattle.meaning.specs.declared.ask.Ask.{Ask}
+use Rattle.meaning.specs.Composite.{Schedule}
+use Rattle.site_rules.specs.Site.{PointEntry, SiteState}
+use Rattle.point_book.specs.Book.{Book, empty_book}
+use Rattle.site_core.specs.declared.numbers.Numbers.{Numbers}
+use Rattle.site_core.specs.Limits.{max_number, max_transaction, max_requests}
+
+-- the answer to a request for a composite schedule: that schedule, or why there is none
+abbrev pub ScheduleAnswer : Type 0
+ScheduleAnswer = Result Schedule Refusal
+
+-- a request for a composite schedule that is kept until its answer is handed out
+pub record Kept : Type 0 where
+  pub number : ℕ
+  -- the place of its point in the site file
+  pub place : ℕ
+  -- what the point had when the request was taken
+  pub book : Book
+  -- what is asked
+  pub ask : Ask
+  -- none before it is compiled
+  pub answer : Option ScheduleAnswer
+
+pub record MachineState : Type 0 where
+  -- the site, which no step changes
+  pub site : SiteState
+  -- the version, request, transaction and link numbers that were drawn last
+  pub numbers : Numbers
+  -- what each point has, in the order of the site file
+  pub books : List Book
+  -- the requests that are kept, in the order of their numbers
+  pub requests : List Kept
+  -- no step but compiling, answering and finishing is made any more
+  pub is_stopped : Bool
+
+-- a point with nothing installed and no active transaction
+abbrev pub opening_book : PointEntry → Book
+opening_book point = empty_book point.ceiling point.ceilings
+
+-- before the first step, with these numbers drawn last
+abbrev pub opening_at : SiteState → Numbers → MachineState
+opening_at site numbers = record {
+  site = site;
+  numbers = numbers;
+  books = map opening_book site.points;
+  requests = [];
+  is_stopped = false;
+}
+
+abbrev pub no_numbers : Numbers
+no_numbers = record { version = 0; request = 0; transaction = 0; link = 0 }
+
+abbrev pub opening : SiteState → MachineState
+opening site = opening_at site no_numbers
+
+-- What the point at a place of the site file has. A site's places have their books, so none is read as the
+-- empty one.
+abbrev pub book_in : List Book → ℕ → Book
+book_in books place = slice_index_or books place (empty_book 0 [])
+
+abbrev pub book_at : MachineState → ℕ → Book
+book_at state place = book_in state.books place
+
+-- ---- what is always so
+
+-- the connectors of a point by the site file, and by its book
+abbrev pub connectors_of_point : PointEntry → ℕ
+connectors_of_point point = length point.ceilings
+
+abbrev pub connectors_of_book : Book → ℕ
+connectors_of_book book = length book.ceilings
+
+-- each point has its book, with as many connectors
+abbrev pub AreBooksOf : SiteState → List Book → Type 0
+AreBooksOf site books = map connectors_of_book books ≡ map connectors_of_point site.points
+
+-- no number is above its limit
+pub record AreNumbers (numbers : Numbers) : Type 0 where
+  pub version : numbers.version ≤ max_number
+  pub request : numbers.request ≤ max_number
+  pub transaction : numbers.transaction ≤ max_transaction
+  pub link : numbers.link ≤ max_number
+
+pub record IsMachine (state : MachineState) : Type 0 where
+  pub books : AreBooksOf state.site state.books
+  pub numbers : AreNumbers state.numbers
+  pub few : length state.requests ≤ max_requests

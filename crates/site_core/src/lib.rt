@@ -1,0 +1,23 @@
+//! The central system as one machine: the state of a site between two steps, and its steps. Operators
+//! install and clear charging profiles, points start and stop transactions, and requests for composite
+//! schedules are taken, compiled and answered, in any order. What a step does stands in
+//! `specs/Step.antt`, what holds after any run in `specs/Headline.antt`.
+#![tactic(auto)]
+
+mod ask;
+mod machine;
+mod numbers;
+mod outcome;
+mod point_id;
+mod reply;
+mod request;
+mod shared_book;
+mod step;
+
+pub use machine::Machine;
+pub use numbers::{MAX_NUMBER, Numbers};
+pub use outcome::{Outcome, Refused, RunFault};
+pub use point_id::PointId;
+pub use reply::Reply;
+pub use shared_book::SharedBook;
+pub use step::{Step, Take};
