@@ -1,6 +1,8 @@
 //! The book of a charge point.
 
 ghost use Rattle.std.specs.Prelude.{◌≡◌, ◌↔◌, ◌+◌, ◌<◌, ◌≤◌, None, IsTrue, IfErr, IfOk, OnOk, length};
+ghost use Rattle.std.specs.List.{list_any};
+ghost use Rattle.profile.specs.Changes.{matches};
 ghost use Rattle.meaning.specs.View.{point_state};
 ghost use Rattle.stacking.specs.Rows.{AreRows};
 ghost use Rattle.transactions.specs.ActiveTable.{began, connector_of};
@@ -85,6 +87,36 @@ impl PointBook {
         ensures { result ≡ length self.now.ceilings }
     {
         self.ceilings.len() as u32
+    }
+
+    /// Why a row isn't installed, if memory lasts: the first cause of `NoTransaction`,
+    /// `OtherTransaction` and `TooManyProfiles`. Changes nothing.
+    pub fn install_refusal(&self, row: &Row) -> Option<Refusal>
+        ensures { result ≡ install_refusal self.now row.now }
+    {
+        let active = self.transactions.active_on(row.connector);
+        if let Some(refusal) = transaction_refusal(active, &row.profile) {
+            return Some(refusal);
+        }
+        if self.rows.has_room(row) {
+            None
+        } else {
+            Some(Refusal::TooManyProfiles)
+        }
+    }
+
+    /// Whether a profile matches each criterion that is given (chapter 5.5).
+    pub fn has_match(&self, criteria: &Criteria) -> bool
+        ensures { result ≡ list_any (matches criteria.now) self.now.rows }
+    {
+        self.rows.has_match(criteria)
+    }
+
+    /// The connector of the active transaction of this number, or `None` where no active one has it.
+    pub fn connector_of(&self, id: i32) -> Option<u32>
+        ensures { result ≡ connector_of self.now.transactions id }
+    {
+        self.transactions.connector_of(id)
     }
 
     /// Installs a row, which takes the place of those with its chargingProfileId and of those with
@@ -177,5 +209,13 @@ impl PointBook {
             rows,
             transactions,
         })
+    }
+}
+
+impl Clone for PointBook {
+    ghost is_clone = { λ old new. new ≡ old };
+
+    fn clone(&self) -> Result<PointBook, AllocError> {
+        self.copy()
     }
 }

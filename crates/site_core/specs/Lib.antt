@@ -5,3 +5,4 @@ pub mod Ask
 pub mod Requests
 pub mod Step
 pub mod Run
+pub mod ByCases

@@ -5,12 +5,14 @@
 #![tactic(auto)]
 
 mod ask;
+mod books;
 mod machine;
 mod numbers;
 mod outcome;
 mod point_id;
 mod reply;
 mod request;
+mod requests;
 mod shared_book;
 mod step;
 
@@ -19,5 +21,6 @@ pub use numbers::{MAX_NUMBER, Numbers};
 pub use outcome::{Outcome, Refused, RunFault};
 pub use point_id::PointId;
 pub use reply::Reply;
+pub use request::MAX_REQUESTS;
 pub use shared_book::SharedBook;
 pub use step::{Step, Take};

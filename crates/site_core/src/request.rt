@@ -5,6 +5,9 @@ use meaning::{Ask, Composite};
 use ocpp_scalars::Refusal;
 use std::marker::Model;
 
+/// The most requests for composite schedules that are kept, answered or not.
+pub const MAX_REQUESTS: usize = 64;
+
 /// A request for a composite schedule that is kept until its answer is handed out. The book has the
 /// connector that is asked.
 #[derive(Drop)]

@@ -1,11 +1,14 @@
 //! The book of a charge point, shared by the machine and by requests for schedules.
 
-ghost use Rattle.std.specs.Prelude.{◌≡◌, IfOk};
+ghost use Rattle.std.specs.Prelude.{◌≡◌, ◌≤◌, ◌<◌, None, IfErr, IfOk, OnErr, OnOk, length};
+ghost use Rattle.point_book.specs.Changes.{install_refusal, book_installed, book_cleared, book_started, book_stopped};
 
 use point_book::PointBook;
+use profile::{Criteria, Row};
 use std::alloc::{AllocError, AllocFailed, Global};
 use std::marker::Model;
 use std::sync::Arc;
+use transactions::Begin;
 
 /// The book of a charge point with several owners: a change makes a copy of it first where it has another
 /// owner, so that who took it keeps what it was.
@@ -48,5 +51,64 @@ impl SharedBook {
         ensures { result.now ≡ self.now }
     {
         &self.book
+    }
+
+    /// Installs a row (chapter 5.16), which may be installed. Out of memory the row comes back.
+    pub(crate) fn install(&mut self, row: Row) -> Result<(), AllocFailed<Row>>
+        requires connector { row.connector ≤ length self.old.ceilings }
+        requires allowed { install_refusal self.old row ≡ None }
+        ensures book { OnOk result (self.new ≡ book_installed self.old row) }
+        ensures kept { OnErr result (self.new ≡ self.old) }
+        ensures back { IfErr result (λ failed. failed.value ≡ row) }
+    {
+        let book = match Arc::make_mut(&mut self.book) {
+            Ok(book) => book,
+            Err(_) => return Err(AllocFailed { value: row }),
+        };
+        match book.install(row) {
+            Ok(()) => Ok(()),
+            Err((_, row)) => Err(AllocFailed { value: row }),
+        }
+    }
+
+    /// Removes the profiles that match each criterion that is given (chapter 5.5).
+    pub(crate) fn clear(&mut self, criteria: &Criteria) -> Result<(), AllocError>
+        ensures book { OnOk result (self.new ≡ book_cleared self.old criteria.now) }
+        ensures kept { OnErr result (self.new ≡ self.old) }
+    {
+        Arc::make_mut(&mut self.book)?.clear(criteria);
+        Ok(())
+    }
+
+    /// Begins a transaction of this number at a connector (chapter 4.8). Out of memory what began comes
+    /// back.
+    pub(crate) fn start(
+        &mut self,
+        connector: u32,
+        begin: Begin,
+        number: i32,
+    ) -> Result<(), AllocFailed<Begin>>
+        requires above { 0 < connector }
+        requires has { connector ≤ length self.old.ceilings }
+        ensures book { OnOk result (self.new ≡ book_started self.old connector begin number) }
+        ensures kept { OnErr result (self.new ≡ self.old) }
+        ensures back { IfErr result (λ failed. failed.value ≡ begin) }
+    {
+        match Arc::make_mut(&mut self.book) {
+            Ok(book) => {
+                book.start(connector, begin, number);
+                Ok(())
+            }
+            Err(_) => Err(AllocFailed { value: begin }),
+        }
+    }
+
+    /// Ends the transaction of this number, if it is active (chapter 4.10).
+    pub(crate) fn stop(&mut self, number: i32) -> Result<(), AllocError>
+        ensures book { OnOk result (self.new ≡ book_stopped self.old number) }
+        ensures kept { OnErr result (self.new ≡ self.old) }
+    {
+        Arc::make_mut(&mut self.book)?.stop(number);
+        Ok(())
     }
 }

@@ -1,6 +1,7 @@
 //! Which rows an install, a clear and the end of a transaction remove.
 
 ghost use Rattle.std.specs.Prelude.{◌≡◌, ◌≤◌, length, vec_len, vec_capacity};
+ghost use Rattle.std.specs.List.{list_any};
 ghost use Rattle.profile.specs.Changes.{is_purpose, has_key_of, is_replaced_by, rows_beside, matches, cleared, is_tx_profile_at, without_transaction_profiles};
 
 use profile::{Criteria, Purpose, Row};
@@ -10,6 +11,13 @@ pub(crate) fn staying(rows: &[Row], new: &Row) -> usize
     ensures { result ≡ length (rows_beside rows.now new.now) }
 {
     rows.iter().filter(|row| !is_replaced_by(new, row)).count()
+}
+
+/// Whether a row matches each criterion that is given.
+pub(crate) fn has_match(rows: &[Row], criteria: &Criteria) -> bool
+    ensures { result ≡ list_any (matches criteria.now) rows.now }
+{
+    rows.iter().any(|row| matches(criteria, row))
 }
 
 /// Removes the rows whose place a new one takes.

@@ -1,15 +1,16 @@
 //! The rows of a charge point.
 
-ghost use Rattle.std.specs.Prelude.{◌≡◌, ◌↔◌, ◌+◌, ◌≤◌, [], IsTrue, IfErr, IfOk, OnOk, length, slice_index_or};
+ghost use Rattle.std.specs.Prelude.{◌≡◌, ◌↔◌, ◌+◌, ◌≤◌, nat_le, [], IsTrue, IfErr, IfOk, OnOk, length, slice_index_or};
 ghost use Rattle.profile.specs.Candidates.{candidates};
-ghost use Rattle.profile.specs.Changes.{installed, cleared, without_transaction_profiles};
+ghost use Rattle.std.specs.List.{list_any};
+ghost use Rattle.profile.specs.Changes.{matches, installed, cleared, without_transaction_profiles};
 ghost use Rattle.stacking.specs.Limits.{max_rows};
 ghost use Rattle.stacking.specs.Candidates.{AreByFallingLevel};
 ghost use Rattle.stacking.specs.ByCases.Candidates.{candidates_left};
 ghost use Rattle.stacking.specs.Rows.{AreRows, IsRefused};
 
 use crate::candidates::Candidates;
-use crate::changes::{drop_cleared, drop_replaced, drop_transaction_profiles, staying};
+use crate::changes::{drop_cleared, drop_replaced, drop_transaction_profiles, has_match, staying};
 use ocpp_scalars::Refusal;
 use profile::{Criteria, MAX_STACK_LEVEL, Purpose, Row};
 use std::alloc::{AllocError, Global};
@@ -75,6 +76,20 @@ impl Rows {
         drop_replaced(&mut self.items, &row);
         self.items.push(row).unwrap();
         Ok(())
+    }
+
+    /// Whether there are at most `MAX_ROWS` after the install of a row.
+    pub fn has_room(&self, row: &Row) -> bool
+        ensures { result ≡ nat_le (length (installed self.now row.now)) max_rows }
+    {
+        staying(self.items.as_slice(), row) < MAX_ROWS
+    }
+
+    /// Whether a row matches each criterion that is given.
+    pub fn has_match(&self, criteria: &Criteria) -> bool
+        ensures { result ≡ list_any (matches criteria.now) self.now }
+    {
+        has_match(self.items.as_slice(), criteria)
     }
 
     /// Removes the rows that match each criterion that is given, and returns how many they were.

@@ -88,6 +88,14 @@ impl ActiveTable {
         Some(place as u32 + 1)
     }
 
+    /// The connector of the active transaction of this number, or `None` where no active one has it.
+    pub fn connector_of(&self, id: i32) -> Option<u32>
+        ensures { result ≡ connector_of self.now id }
+    {
+        let place = place_of(self.slots.as_slice(), id)?;
+        Some(place as u32 + 1)
+    }
+
     fn put(&mut self, place: usize, slot: Option<Transaction>)
         requires { place < length self.old }
         ensures { self.new ≡ slice_set self.old place slot }

@@ -1,0 +1,3 @@
+pub mod BookLemmas
+pub mod RequestLemmas
+pub mod MachineLemmas

@@ -1,0 +1,27 @@
+-- What a method makes of a step: what the step does, or nothing, for the first cause or for want of memory.
+-- Of private clauses.
+use Rattle.std.specs.Prelude.{◌≡◌, ℕ, List, Option, Some, None, Result, Ok, Err, if◌then◌else◌}
+use Rattle.ocpp_scalars.specs.declared.refusal.Refusal.{Refusal}
+use Rattle.ocpp_scalars.specs.declared.refusal.Refusal.TheVariants.{Stopped, UnknownPoint}
+use Rattle.site_rules.specs.Site.{place_of}
+use Rattle.point_book.specs.Changes.{IsCause}
+use Rattle.site_core.specs.declared.reply.Reply.{Reply}
+use Rattle.site_core.specs.State.{MachineState}
+use Rattle.site_core.specs.Step.{Made, cause_of}
+
+-- made, with this reply and this state after it
+abbrev pub IsMade : Result Made Refusal → Reply → MachineState → Type 0
+IsMade made reply new = made ≡ Ok (record { reply = reply; after = new })
+
+-- not made, for this cause, and the state is as it was
+pub record IsNotMade (old : MachineState) (made : Result Made Refusal) (refusal : Refusal) (new : MachineState) : Type 0 where
+  pub cause : IsCause (cause_of made) refusal
+  pub unchanged : new ≡ old
+
+-- the place of a point, or why nothing is made there
+abbrev pub found_place : Option ℕ → Result ℕ Refusal
+found_place None = Err UnknownPoint
+found_place (Some place) = Ok place
+
+abbrev pub place_in : MachineState → List ℕ → Result ℕ Refusal
+place_in state point = if state.is_stopped then Err Stopped else found_place (place_of state.site point)

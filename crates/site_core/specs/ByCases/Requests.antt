@@ -1,0 +1,35 @@
+-- What a call on the kept requests does, by the request of its number. Of private clauses.
+use Rattle.std.specs.Prelude.{◌≡◌, ℕ, Bool, false, List, Option, Some, None, is_some, Result, Ok, Err, if◌then◌else◌}
+use Rattle.ocpp_scalars.specs.declared.refusal.Refusal.{Refusal}
+use Rattle.ocpp_scalars.specs.declared.refusal.Refusal.TheVariants.{UnknownRequest, AlreadyAnswered}
+use Rattle.site_core.specs.declared.reply.Reply.{Reply}
+use Rattle.site_core.specs.declared.reply.Reply.TheVariants.{Answered, NotYet}
+use Rattle.site_core.specs.State.{Kept, ScheduleAnswer}
+use Rattle.site_core.specs.Right.{IsCompiledFor}
+use Rattle.site_core.specs.Requests.{request_of, answered, without}
+
+-- why the request of a number isn't compiled
+abbrev pub refusal_to_compile : Option Kept → Option Refusal
+refusal_to_compile None = Some UnknownRequest
+refusal_to_compile (Some kept) = if is_some kept.answer then Some AlreadyAnswered else None
+
+-- the request of a number had no answer, and has one now that a compiler may give for it
+pub record IsCompiledIn (number : ℕ) (old new : List Kept) : Type 0 where
+  pub kept : Kept
+  pub is_kept : request_of number old ≡ Some kept
+  pub had_none : is_some kept.answer ≡ false
+  pub answer : ScheduleAnswer
+  pub right : IsCompiledFor kept.book kept.ask answer
+  pub now : new ≡ answered number answer old
+
+-- the reply where the request of a number is asked for, and the requests that are kept then
+abbrev pub handed_with : Kept → Option ScheduleAnswer → List Kept → Reply × List Kept
+handed_with kept None requests = (NotYet, requests)
+handed_with kept (Some answer) requests = (Answered kept.book kept.ask answer, without kept.number requests)
+
+abbrev pub handed_kept : Option Kept → List Kept → Result (Reply × List Kept) Refusal
+handed_kept None requests = Err UnknownRequest
+handed_kept (Some kept) requests = Ok (handed_with kept kept.answer requests)
+
+abbrev pub handed_out : ℕ → List Kept → Result (Reply × List Kept) Refusal
+handed_out number requests = handed_kept (request_of number requests) requests

@@ -1,0 +1,103 @@
+//! The kept requests: finding one by its number, compiling it, and handing out its answer.
+
+ghost use Rattle.std.specs.Prelude.{◌≡◌, ◌≤◌, ◌==◌, length, Some, Ok, Err, true, is_some, MatchResult, option_map};
+ghost use Rattle.site_core.specs.declared.reply.Reply.{Reply};
+ghost use Rattle.std.specs.List.{position};
+ghost use Rattle.site_core.specs.State.{Kept};
+ghost use Rattle.site_core.specs.Requests.{request_of, stopped_request, all_stopped};
+ghost use Rattle.site_core.specs.ByCases.Requests.{refusal_to_compile, IsCompiledIn, handed_out};
+
+use crate::reply::Reply;
+use crate::request::Request;
+use ocpp_scalars::Refusal;
+use std::alloc::Global;
+use sweep_compiler::{Turns, compile};
+
+/// The place of the request of a number.
+fn place_of(requests: &[Request], number: u64) -> Option<usize>
+    ensures { result ≡ position (λ (kept : Kept). kept.number == number) requests.now }
+{
+    requests
+        .iter()
+        .position(|request| request.number == number)
+}
+
+/// Compiles the schedule of the request of a number. The refusals are `UnknownRequest` and
+/// `AlreadyAnswered`; that memory ran out for it is its answer.
+pub(crate) fn compile_request(
+    alloc: Global,
+    requests: &mut Vec<Request>,
+    number: u64,
+) -> Result<(), Refusal>
+    ensures made { MatchResult result (λ _. IsCompiledIn number requests.old.items requests.new.items)
+        (λ refusal.
+            (refusal_to_compile (request_of number requests.old.items) ≡ Some refusal)
+            × (requests.new.items ≡ requests.old.items)) }
+    ensures many { length requests.new.items ≡ length requests.old.items }
+{
+    let Some(place) = place_of(requests, number) else {
+        return Err(Refusal::UnknownRequest);
+    };
+    let request = &mut requests[place];
+    if request.answer.is_some() {
+        return Err(Refusal::AlreadyAnswered);
+    }
+    let answer = compile(alloc, request.book.book(), &request.ask, &mut Turns::new());
+    request.answer = Some(answer);
+    Ok(())
+}
+
+/// Hands out the answer to the request of a number, which is no longer kept then, or says that it isn't
+/// compiled yet. The refusal is `UnknownRequest`.
+pub(crate) fn hand_out(requests: &mut Vec<Request>, number: u64) -> Result<Reply, Refusal>
+    ensures made { MatchResult result
+        (λ reply. handed_out number requests.old.items ≡ Ok (reply, requests.new.items))
+        (λ refusal.
+            (handed_out number requests.old.items ≡ Err refusal)
+            × (requests.new.items ≡ requests.old.items)) }
+    ensures many { length requests.new.items ≤ length requests.old.items }
+{
+    let Some(place) = place_of(requests, number) else {
+        return Err(Refusal::UnknownRequest);
+    };
+    if !is_answered(&requests[place]) {
+        return Ok(Reply::NotYet);
+    }
+    let request = requests.remove(place);
+    Ok(reply_of(request))
+}
+
+fn is_answered(request: &Request) -> bool
+    ensures { result ≡ is_some request.now.answer }
+{
+    request.answer.is_some()
+}
+
+/// The answer to a request, which has one, with what it is for.
+fn reply_of(request: Request) -> Reply
+    requires { is_some request.answer ≡ true }
+    ensures { Some result ≡ option_map (Reply.Answered request.book request.ask) request.answer }
+{
+    Reply::Answered {
+        book: request.book,
+        ask: request.ask,
+        answer: request.answer.unwrap(),
+    }
+}
+
+/// Answers each request without an answer that the central system is stopped.
+pub(crate) fn stop_all(requests: &mut Vec<Request>)
+    ensures { requests.new.items ≡ all_stopped requests.old.items }
+{
+    for request in requests.iter_mut() {
+        stop(request);
+    }
+}
+
+fn stop(request: &mut Request)
+    ensures { request.new ≡ stopped_request request.old }
+{
+    if request.answer.is_none() {
+        request.answer = Some(Err(Refusal::Stopped));
+    }
+}
