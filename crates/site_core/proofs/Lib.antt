@@ -1,3 +1,4 @@
 pub mod BookLemmas
 pub mod RequestLemmas
 pub mod MachineLemmas
+pub mod RunLemmas

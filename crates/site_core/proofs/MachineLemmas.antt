@@ -1,5 +1,5 @@
 -- What is so of the machine after a change, and what it makes of a step.
-use Rattle.std.proofs.Common.{◌≡◌, ℕ, ◌+◌, ◌<◌, ◌≤◌, ◌==◌, Bool, true, false, cond, List, length, slice_set, Option, Some, None, IfNone, Result, Ok, Err, refl, sym, ap, ◌∙◌, lit≤, arith}
+use Rattle.std.proofs.Common.{◌≡◌, ℕ, ◌+◌, ◌≤◌, ◌==◌, true, false, cond, List, slice_set, Option, Some, None, IfNone, Result, Ok, Err, refl, ap, arith}
 use Rattle.std.proofs.lemmas.Bool.{eqb-false}
 use Rattle.ocpp_scalars.specs.declared.refusal.Refusal.{Refusal}
 use Rattle.ocpp_scalars.specs.declared.refusal.Refusal.TheVariants.{Stopped, UnknownPoint, VersionsExhausted, TransactionsExhausted}

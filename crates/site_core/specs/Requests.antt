@@ -1,5 +1,5 @@
 -- The kept requests: finding one by its number, answering it, and handing it out.
-use Rattle.std.specs.Prelude.{ℕ, ◌==◌, if◌then◌else◌, Bool, List, [], ◌∷◌, map, Option, Some, None, Err, unwrap_or}
+use Rattle.std.specs.Prelude.{ℕ, ◌==◌, if◌then◌else◌, List, [], ◌∷◌, map, Option, Some, None, Err, unwrap_or}
 use Rattle.ocpp_scalars.specs.declared.refusal.Refusal.TheVariants.{Stopped}
 use Rattle.site_core.specs.State.{Kept, ScheduleAnswer}
 

@@ -1,6 +1,5 @@
 -- When an answer to a request is right (OCPP 1.6, 5.7).
-use Rattle.std.specs.Prelude.{ℕ, Result, Ok, Err}
-use Rattle.ocpp_scalars.specs.declared.refusal.Refusal.{Refusal}
+use Rattle.std.specs.Prelude.{Err}
 use Rattle.ocpp_scalars.specs.declared.refusal.Refusal.TheVariants.{Stopped}
 use Rattle.meaning.specs.declared.ask.Ask.{Ask}
 use Rattle.meaning.specs.Limit.{limit_asked}

@@ -1,6 +1,6 @@
 -- One step of the central system: what it replies and what it changes, or the first cause why it is refused.
 -- All that a step doesn't name stays as it was, and a refused step changes nothing.
-use Rattle.std.specs.Prelude.{ℕ, ℤ, pos, ◌≡◌, ◌+◌, nat_lt, nat_le, ◌==◌, ◌||◌, Bool, true, List, [], ◌∷◌, ◌++◌, length, Option, Some, None, is_some, Result, Ok, Err, slice_set, if◌then◌else◌}
+use Rattle.std.specs.Prelude.{ℕ, ℤ, pos, ◌≡◌, ◌+◌, nat_lt, nat_le, ◌==◌, ◌||◌, true, List, [], ◌∷◌, ◌++◌, length, Option, Some, None, is_some, Result, Ok, Err, slice_set, if◌then◌else◌}
 use Rattle.std.specs.List.{list_any}
 use Rattle.ocpp_scalars.specs.declared.refusal.Refusal.{Refusal}
 use Rattle.ocpp_scalars.specs.declared.refusal.Refusal.TheVariants.{UnknownPoint, UnknownConnector, TooManyOpen, VersionsExhausted, TransactionsExhausted, Behind, OutOfMemory, UnknownRequest, AlreadyAnswered}
@@ -82,7 +82,7 @@ abbrev pub clears : MachineState → Criteria → ℕ → Result Made Refusal
 clears old criteria place =
     if list_any (matches criteria) (book_at old place).rows
     then unless (version_refusal old)
-      (record { reply = Accepted; after = changed old place (book_cleared (book_at old place) criteria) })
+    (record { reply = Accepted; after = changed old place (book_cleared (book_at old place) criteria) })
     else Ok (unchanged old Unknown)
 
 -- Start (OCPP 1.6, 4.8): transactions are numbered over the whole site. A start that is told again changes
@@ -103,7 +103,7 @@ starts_as (Repeat number) old connector begin place = Ok (unchanged old (Repeate
 starts_as Fresh old connector begin place = unless (refusal_to_start old) (record {
   reply = Started (next_transaction old);
   after = with_transaction
-    (changed old place (book_started (book_at old place) connector begin (next_transaction old)));
+      (changed old place (book_started (book_at old place) connector begin (next_transaction old)));
 })
 
 abbrev pub starts : MachineState → ℕ → Begin → ℕ → Result Made Refusal
@@ -116,7 +116,7 @@ abbrev pub stops : MachineState → ℤ → ℕ → Result Made Refusal
 stops old number place =
     if is_some (connector_of (book_at old place).transactions number)
     then unless (version_refusal old)
-      (record { reply = Ended; after = changed old place (book_stopped (book_at old place) number) })
+    (record { reply = Ended; after = changed old place (book_stopped (book_at old place) number) })
     else Ok (unchanged old NoSuch)
 
 -- ---- requests for composite schedules (OCPP 1.6, 5.7)

@@ -7,7 +7,7 @@ ghost use Rattle.transactions.specs.declared.active_table.Began.{Began};
 ghost use Rattle.site_core.specs.declared.reply.Reply.{Reply};
 ghost use Rattle.site_core.specs.State.{AreNumbers, opening, opening_at, book_at};
 ghost use Rattle.site_core.specs.Step.{Steps, IsRefused, first_refusal, NeedsNoMemory, at_point, version_refusal, refusal_to_install, installs, clears, refusal_to_start, starts_as, starts, stops, refusal_to_take, takes, Compiles, no_answer, compiles, answers, finishes, cause_of};
-ghost use Rattle.site_core.specs.Run.{Runs};
+ghost use Rattle.site_core.specs.Run.{HasOutcome, Runs};
 ghost use Rattle.site_core.specs.ByCases.Made.{IsMade, IsNotMade, place_in};
 
 use crate::ask::ask_at;
@@ -171,7 +171,25 @@ impl Machine {
             (λ outcomes. Runs self.old steps.items outcomes.items self.new)
             (λ fault. (self.new ≡ self.old) × (fault.steps ≡ steps)) }
     {
-        Err(RunFault { steps })
+        let mut outcomes = match Vec::with_capacity(self.alloc, steps.len()) {
+            Ok(outcomes) => outcomes,
+            Err(_) => return Err(RunFault { steps }),
+        };
+        for step in steps {
+            let outcome = self.outcome_of(step);
+            outcomes.push(outcome).unwrap();
+        }
+        Ok(outcomes)
+    }
+
+    /// What comes of a step.
+    fn outcome_of(&mut self, step: Step) -> Outcome
+        ensures { HasOutcome self.old step result self.new }
+    {
+        match self.step(step) {
+            Ok(reply) => Outcome::Done(reply),
+            Err(refused) => Outcome::Refused(refused),
+        }
     }
 
     // ---- points
@@ -411,7 +429,11 @@ impl Machine {
         ensures refused { IfErr result
             (λ refusal. IsNotMade self.old (stops self.old number place) refusal self.new) }
     {
-        if book_at(&self.books, place).book().connector_of(number).is_none() {
+        if book_at(&self.books, place)
+            .book()
+            .connector_of(number)
+            .is_none()
+        {
             return Ok(Reply::NoSuch);
         }
         if let Some(refusal) = self.version_refusal() {

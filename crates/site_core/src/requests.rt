@@ -17,9 +17,7 @@ use sweep_compiler::{Turns, compile};
 fn place_of(requests: &[Request], number: u64) -> Option<usize>
     ensures { result ≡ position (λ (kept : Kept). kept.number == number) requests.now }
 {
-    requests
-        .iter()
-        .position(|request| request.number == number)
+    requests.iter().position(|request| request.number == number)
 }
 
 /// Compiles the schedule of the request of a number. The refusals are `UnknownRequest` and
@@ -31,8 +29,8 @@ pub(crate) fn compile_request(
 ) -> Result<(), Refusal>
     ensures made { MatchResult result (λ _. IsCompiledIn number requests.old.items requests.new.items)
         (λ refusal.
-            (refusal_to_compile (request_of number requests.old.items) ≡ Some refusal)
-            × (requests.new.items ≡ requests.old.items)) }
+        (refusal_to_compile (request_of number requests.old.items) ≡ Some refusal)
+        × (requests.new.items ≡ requests.old.items)) }
     ensures many { length requests.new.items ≡ length requests.old.items }
 {
     let Some(place) = place_of(requests, number) else {
@@ -53,8 +51,8 @@ pub(crate) fn hand_out(requests: &mut Vec<Request>, number: u64) -> Result<Reply
     ensures made { MatchResult result
         (λ reply. handed_out number requests.old.items ≡ Ok (reply, requests.new.items))
         (λ refusal.
-            (handed_out number requests.old.items ≡ Err refusal)
-            × (requests.new.items ≡ requests.old.items)) }
+        (handed_out number requests.old.items ≡ Err refusal)
+        × (requests.new.items ≡ requests.old.items)) }
     ensures many { length requests.new.items ≤ length requests.old.items }
 {
     let Some(place) = place_of(requests, number) else {

@@ -1,5 +1,5 @@
 -- The request of the number is the one at the first place that has it.
-use Rattle.std.proofs.Common.{◌≡◌, Some, None, is_some, true, false, get_or, slice_set, refl, sym, ap, ◌∙◌}
+use Rattle.std.proofs.Common.{◌≡◌, Some, None, is_some, true, slice_set, refl, sym, ap, ◌∙◌}
 use Rattle.std.specs.List.{position}
 use Rattle.std.proofs.lemmas.List.{set-get_or}
 use Rattle.site_core.specs.State.{Kept}
@@ -16,9 +16,10 @@ pub returns-then-is_some-clause-made : goal.returns-then-is_some-clause-made
 returns-then-is_some-clause-made c =
     let found : Some c.in-Some.place ≡ position (has_number c.args.number) c.args.requests.now.items = rw c.deref.ensures.value at c.in-Some.ensures in
     let kept = c.index_mut-request.result.now in
-    let has : is_some kept.answer ≡ true = ap (λ (k : Kept). is_some k.answer) (sym c.request.view_is) ∙ sym c.if-is_some.ensures in
-    (answered_before c.args.number c.args.requests.now.items c.in-Some.place kept found c.index_mut-request.ensures.value has,
-     ap (λ (k : Kept). slice_set c.args.requests.now.items c.in-Some.place k) c.index_mut-request.ensures.value ∙ set-get_or c.args.requests.now.items c.in-Some.place kept)
+    let has : is_some kept.answer ≡ true = ap (λ (k : Kept). is_some k.answer) (sym c.request.view_is) ∙ sym c.if-is_some.ensures in (
+      answered_before c.args.number c.args.requests.now.items c.in-Some.place kept found c.index_mut-request.ensures.value has,
+      ap (λ (k : Kept). slice_set c.args.requests.now.items c.in-Some.place k) c.index_mut-request.ensures.value ∙ set-get_or c.args.requests.now.items c.in-Some.place kept,
+    )
 
 pub returns-clause-made : goal.returns-clause-made
 returns-clause-made c =

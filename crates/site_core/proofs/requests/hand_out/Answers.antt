@@ -1,5 +1,5 @@
 -- The request of the number is the one at the first place that has it.
-use Rattle.std.proofs.Common.{◌≡◌, Option, Some, None, is_some, true, false, refl, sym, ap}
+use Rattle.std.proofs.Common.{◌≡◌, Option, Some, None, refl, sym, ap}
 use Rattle.std.specs.List.{position}
 use Rattle.site_core.specs.State.{Kept}
 use Rattle.site_core.specs.ByCases.Requests.{handed_kept}
