@@ -84,9 +84,8 @@ abbrev pub hold_stepped : PlayerState → List ℕ → ActionKind → Stepped �
 hold_stepped old id kind step = hold_answered old id kind step.outcome step.after
 
 abbrev pub hold_handled : PlayerState → Todo → Handled
-hold_handled old todo.Nothing = record { printed = []; after = old }
-hold_handled old (todo.Answer id response) = record { printed = answer_line id response; after = old }
 hold_handled old (todo.Step id kind step) = hold_stepped old id kind (stepped_exactly old.machine step)
+hold_handled old other = todo_handled old other
 
 -- the request of this number is answered, and no longer held
 abbrev pub release_handled : PlayerState → ℕ → List ℕ → Handled

@@ -134,8 +134,6 @@ fn hold_line(alloc: Global, player: &mut Player, todo: Todo) -> Result<String, A
         (λ line. IsHandled (hold_handled player.old todo) (string_bytes line) player.new) }
 {
     match todo {
-        Todo::Nothing => Ok(String::new(alloc)),
-        Todo::Answer { id, response } => response_line(alloc, id.as_str(), &response),
         Todo::Step { id, kind, step } => {
             let unit = player.site().unit();
             match player.step(step)? {
@@ -146,6 +144,7 @@ fn hold_line(alloc: Global, player: &mut Player, todo: Todo) -> Result<String, A
                 outcome => outcome_line(alloc, unit, kind, &id, outcome),
             }
         }
+        other => todo_line(alloc, player, other),
     }
 }
 
