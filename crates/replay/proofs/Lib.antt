@@ -3,6 +3,7 @@ pub mod HeldLemmas
 pub mod LineLemmas
 pub mod MachineLemmas
 pub mod OutputLemmas
+pub mod PlayLemmas
 pub mod ScriptLemmas
 pub mod TodoLemmas
 pub mod WriteLemmas

@@ -31,6 +31,10 @@ made_exactly old (steps.Take take) reply new asked made = ap (made_or_refused ol
 made_exactly old (steps.Compile number) reply new asked made = absurd asked
 made_exactly old (steps.Answer number) reply new asked made = ap (made_or_refused old) made
 made_exactly old steps.Finish reply new asked made = ap (made_or_refused old) made
+made_exactly old (steps.Attach point) reply new asked made = ap (made_or_refused old) made
+made_exactly old (steps.Send point link) reply new asked made = ap (made_or_refused old) made
+made_exactly old (steps.Confirm point link number) reply new asked made = ap (made_or_refused old) made
+made_exactly old (steps.Lost point link) reply new asked made = ap (made_or_refused old) made
 
 -- the cause is that of the refusal
 caused : (made : Result Made Refusal) (refusal : Refusal) → cause_of made ≡ Some refusal → made ≡ Err refusal
@@ -67,6 +71,10 @@ refused_exactly old (steps.Compile number) refusal e =
     ap (made_or_refused old) (compile_refused old number (exact_answer (request_of number old.requests)) (request_of number old.requests) refusal e)
 refused_exactly old (steps.Answer number) refusal e = ap (made_or_refused old) (caused _ refusal e)
 refused_exactly old steps.Finish refusal e = absurd (cc (e))
+refused_exactly old (steps.Attach point) refusal e = ap (made_or_refused old) (caused _ refusal e)
+refused_exactly old (steps.Send point link) refusal e = ap (made_or_refused old) (caused _ refusal e)
+refused_exactly old (steps.Confirm point link number) refusal e = ap (made_or_refused old) (caused _ refusal e)
+refused_exactly old (steps.Lost point link) refusal e = ap (made_or_refused old) (caused _ refusal e)
 
 pub exactly : (old : MachineState) (step : Step) (outcome : Result Reply Refusal) (new : MachineState) → IsAsked step → ComesOf old step outcome new
     → stepped_exactly old step ≡ record { outcome = outcome; after = new }

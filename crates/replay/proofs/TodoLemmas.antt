@@ -14,12 +14,14 @@ use Rattle.messages.specs.declared.action.Action.TheVariants as actions
 use Rattle.messages.specs.declared.action_kind.ActionKind.{ActionKind}
 use Rattle.messages.specs.declared.call_fault.CallFault.{CallFault}
 use Rattle.messages.specs.declared.response.Response.{Response}
+use Rattle.messages.specs.declared.side.Side.{Side}
+use Rattle.messages.specs.declared.side.Side.TheVariants.{Operator, Point}
 use Rattle.messages.specs.ActionKind.{action_named}
 use Rattle.messages.specs.Action.{action_of_kind}
 use Rattle.site_core.specs.declared.step.Step.{Step}
 use Rattle.replay.specs.declared.session.todo.Todo.{Todo}
 use Rattle.replay.specs.SentText.{Sent}
-use Rattle.replay.specs.Todo.{step_of_made, step_of, step_of_reading, kind_of_sender, todo_with, todo_of_kind, todo_of_message, todo_of, asks_schedule, hold_of}
+use Rattle.replay.specs.Todo.{step_of_made, step_of, step_of_reading, kind_of_sender, todo_with, todo_of_kind, call_numbered, todo_confirm, todo_of_reply, todo_of_message, todo_of, asks_schedule, hold_of}
 use Rattle.replay.specs.ByCases.MachineSteps.{IsAsked}
 use Rattle.replay.specs.ByCases.Todo.{AsksNoCompile}
 
@@ -56,9 +58,19 @@ of_kind text id None payload = tt
 of_kind text id (Some kind) payload =
     with_step id kind (step_of_reading text (action_of_kind kind payload)) (read text (action_of_kind kind payload))
 
+confirm : (point : List ℕ) (number : Option ℕ) → AsksNoCompile (todo_confirm point number)
+confirm point None = tt
+confirm point (Some number) = tt
+
+of_reply : (sender : Side) (point id : List ℕ) → AsksNoCompile (todo_of_reply sender point id)
+of_reply Operator point id = tt
+of_reply Point point id = confirm point (call_numbered id)
+
 of_message : (text : Sent) (message : Result Message FrameFault) → AsksNoCompile (todo_of_message text message)
 of_message text (Ok (messages.call id name payload)) = of_kind text id (kind_of_sender text.sender (action_named name)) payload
-of_message text (Ok message) = tt
+of_message text (Ok (messages.call_result id payload)) = of_reply text.sender text.point id
+of_message text (Ok (messages.call_error id)) = of_reply text.sender text.point id
+of_message text (Ok messages.other) = tt
 of_message text (Err (faults.Formation id)) = tt
 of_message text (Err fault) = tt
 

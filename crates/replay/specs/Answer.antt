@@ -9,7 +9,7 @@ use Rattle.messages.specs.declared.call_fault.CallFault.TheVariants as faults
 use Rattle.messages.specs.declared.response.Response.{Response}
 use Rattle.messages.specs.declared.response.Response.TheVariants as responses
 use Rattle.site_core.specs.declared.reply.Reply.{Reply}
-use Rattle.site_core.specs.declared.reply.Reply.TheVariants.{Accepted, Unknown, Started, Repeated, Ended, NoSuch, Taken, Compiled, Answered, NotYet, Finished}
+use Rattle.site_core.specs.declared.reply.Reply.TheVariants.{Accepted, Unknown, Started, Repeated, Ended, NoSuch, Taken, Compiled, Answered, NotYet, Finished, Attached, Sent, Nothing, Confirmed, LinkLost}
 use Rattle.site_core.specs.State.{ScheduleAnswer}
 
 -- a refused install or ask is answered by its .conf, any other refused CALL by a CALLERROR
@@ -25,7 +25,8 @@ schedule_response unit kind ask (Ok schedule) = responses.Schedule
 schedule_response unit kind ask (Err refusal) = refused_response kind refusal
 
 -- A reply as a response to a CALL of this kind. A start that is told again is answered as the first time. No
--- CALL is answered that its request is taken or compiled, or that the central system is stopped.
+-- CALL is answered that its request is taken or compiled, or that the central system is stopped, nor with what
+-- becomes of a link or of a call.
 abbrev pub reply_response : Unit → ActionKind → Reply → Option Response
 reply_response unit kind Accepted = Some responses.Accepted
 reply_response unit kind Unknown = Some responses.Unknown
@@ -38,6 +39,11 @@ reply_response unit kind (Taken number book ask) = None
 reply_response unit kind Compiled = None
 reply_response unit kind NotYet = None
 reply_response unit kind Finished = None
+reply_response unit kind (Attached link) = None
+reply_response unit kind (Sent call) = None
+reply_response unit kind Nothing = None
+reply_response unit kind Confirmed = None
+reply_response unit kind LinkLost = None
 
 -- what came of a step as a response to a CALL of this kind
 abbrev pub response_of : Unit → ActionKind → Result Reply Refusal → Option Response

@@ -1,5 +1,6 @@
--- What comes of the steps that a text asks for, where each compile gives the exact schedule or ResultTooLong.
-use Rattle.std.specs.Prelude.{ℕ, Option, Some, None, Result, Ok, Err}
+-- What comes of the steps that a text asks for, where each compile gives the exact schedule or ResultTooLong,
+-- and of those that its point's link and calls are for.
+use Rattle.std.specs.Prelude.{ℕ, List, Option, Some, None, Result, Ok, Err}
 use Rattle.ocpp_scalars.specs.declared.refusal.Refusal.{Refusal}
 use Rattle.meaning.specs.Limit.{limit_asked}
 use Rattle.meaning.specs.ByCases.Exact.{exact_schedule}
@@ -7,8 +8,8 @@ use Rattle.point_book.specs.Book.{state_of}
 use Rattle.site_core.specs.declared.step.Step.{Step}
 use Rattle.site_core.specs.declared.step.Step.TheVariants as steps
 use Rattle.site_core.specs.declared.reply.Reply.{Reply}
-use Rattle.site_core.specs.declared.reply.Reply.TheVariants.{Taken}
-use Rattle.site_core.specs.State.{MachineState, Kept, ScheduleAnswer}
+use Rattle.site_core.specs.declared.reply.Reply.TheVariants.{Taken, Nothing}
+use Rattle.site_core.specs.State.{MachineState, Kept, ScheduleAnswer, link_of}
 use Rattle.site_core.specs.Requests.{request_of}
 use Rattle.site_core.specs.Step.{Made, stepped, no_answer}
 
@@ -48,3 +49,29 @@ at_once outcome after = record { outcome = outcome; after = after }
 -- one step, and where that takes a request, it is compiled and answered at once
 abbrev pub stepped_at_once : MachineState → Step → Stepped
 stepped_at_once old step = at_once (stepped_exactly old step).outcome (stepped_exactly old step).after
+
+-- ---- links and calls (OCPP-J 1.6, 3 and 4)
+
+-- a point has a link from its first text on
+abbrev pub attached_unless : Option ℕ → MachineState → List ℕ → MachineState
+attached_unless (Some link) old point = old
+attached_unless None old point = (stepped_exactly old (steps.Attach point)).after
+
+abbrev pub attached_once : MachineState → List ℕ → MachineState
+attached_once old point = attached_unless (link_of old point) old point
+
+-- the first call that waits for a point goes out over its link
+abbrev pub sent_over : Option ℕ → MachineState → List ℕ → Stepped
+sent_over None old point = record { outcome = Ok Nothing; after = old }
+sent_over (Some link) old point = stepped_exactly old (steps.Send point link)
+
+abbrev pub sent_first : MachineState → List ℕ → Stepped
+sent_first old point = sent_over (link_of old point) old point
+
+-- a point has answered the call of a number; where that isn't in flight, nothing changes
+abbrev pub confirmed_over : Option ℕ → MachineState → List ℕ → ℕ → MachineState
+confirmed_over None old point number = old
+confirmed_over (Some link) old point number = (stepped_exactly old (steps.Confirm point link number)).after
+
+abbrev pub confirmed_by : MachineState → List ℕ → ℕ → MachineState
+confirmed_by old point number = confirmed_over (link_of old point) old point number

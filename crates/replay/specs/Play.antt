@@ -6,9 +6,13 @@ use Rattle.profile.specs.declared.unit.Unit.{Unit}
 use Rattle.messages.specs.declared.action_kind.ActionKind.{ActionKind}
 use Rattle.messages.specs.declared.action_kind.ActionKind.TheVariants.{GetCompositeSchedule}
 use Rattle.messages.specs.declared.response.Response.{Response}
+use Rattle.messages.specs.declared.call.Call.{Call}
+use Rattle.messages.specs.CallText.{call_text}
 use Rattle.messages.specs.ResponseText.{response_text}
+use Rattle.messages.specs.declared.side.Side.{Side}
+use Rattle.messages.specs.declared.side.Side.TheVariants as sides
 use Rattle.site_core.specs.declared.reply.Reply.{Reply}
-use Rattle.site_core.specs.declared.reply.Reply.TheVariants.{Taken}
+use Rattle.site_core.specs.declared.reply.Reply.TheVariants.{Taken, Sent}
 use Rattle.site_core.specs.State.{MachineState}
 use Rattle.replay.specs.declared.script.line.LineFault.{LineFault}
 use Rattle.replay.specs.declared.script.line.LineFault.TheVariants.{NotComposite, UnknownRequest}
@@ -18,8 +22,9 @@ use Rattle.replay.specs.declared.script.play.Printed.{Printed}
 use Rattle.replay.specs.declared.session.todo.Todo.{Todo}
 use Rattle.replay.specs.declared.session.todo.Todo.TheVariants as todo
 use Rattle.replay.specs.Held.{id_held, let_go}
-use Rattle.replay.specs.Player.{PlayerState}
-use Rattle.replay.specs.MachineSteps.{Stepped, stepped_exactly, handed_out, stepped_at_once}
+use Rattle.replay.specs.Player.{PlayerState, with_machine}
+use Rattle.replay.specs.SentText as texts
+use Rattle.replay.specs.MachineSteps.{Stepped, stepped_exactly, handed_out, stepped_at_once, attached_once, sent_first, confirmed_by}
 use Rattle.replay.specs.Todo.{todo_of, hold_of}
 use Rattle.replay.specs.Answer.{response_of}
 use Rattle.replay.specs.Line.{line_of, fault_name}
@@ -37,6 +42,15 @@ answer_if id (Some response) = answer_line id response
 -- the answer to the CALL of this id, on a site of this unit
 abbrev pub outcome_line : Unit → List ℕ → ActionKind → Result Reply Refusal → List ℕ
 outcome_line unit id kind outcome = answer_if id (response_of unit kind outcome)
+
+-- `* ID FRAME`
+abbrev pub sent_line : List ℕ → Call → List ℕ
+sent_line point call = codes "* " ++ (point ++ (codes " " ++ (call_text call ++ codes "\n")))
+
+-- the call that goes out to a point, if one does
+abbrev pub call_line : List ℕ → Result Reply Refusal → List ℕ
+call_line point (Ok (Sent call)) = sent_line point call
+call_line point outcome = []
 
 -- `held N`
 abbrev pub held_line : ℕ → List ℕ
@@ -64,6 +78,31 @@ abbrev pub todo_handled : PlayerState → Todo → Handled
 todo_handled old todo.Nothing = record { printed = []; after = old }
 todo_handled old (todo.Answer id response) = record { printed = answer_line id response; after = old }
 todo_handled old (todo.Step id kind step) = answered old id kind (stepped_at_once old.machine step)
+todo_handled old (todo.Confirm point number) =
+    record { printed = []; after = with_machine old (confirmed_by old.machine point number) }
+
+-- ---- texts of points
+
+-- after what was printed comes the call that goes out now
+abbrev pub call_handled : Handled → List ℕ → Stepped → Handled
+call_handled text point step = record {
+  printed = text.printed ++ call_line point step.outcome;
+  after = with_machine text.after step.after;
+}
+
+abbrev pub with_call : List ℕ → Handled → Handled
+with_call point text = call_handled text point (sent_first text.after.machine point)
+
+-- the text of a point, which has a link then: its answer, and then a call
+abbrev pub point_handled : PlayerState → texts.Sent → Handled
+point_handled old text =
+    with_call text.point
+    (todo_handled (with_machine old (attached_once old.machine text.point)) (todo_of text))
+
+-- a text by its sender
+abbrev pub text_handled : PlayerState → Side → texts.Sent → Handled
+text_handled old sides.Operator text = todo_handled old (todo_of text)
+text_handled old sides.Point text = point_handled old text
 
 -- ---- held asks
 
@@ -118,7 +157,7 @@ release_played old line number (Some id) = text_played (release_handled old numb
 
 -- the line of this number in its script
 abbrev pub said_played : PlayerState → ℕ → ScriptLine → PlayedLine
-said_played old line (Text text) = text_played (todo_handled old (todo_of text))
+said_played old line (Text text) = text_played (text_handled old text.sender text)
 said_played old line (Hold text) = hold_played old line (hold_of text)
 said_played old line (Release number) = release_played old line number (id_held number old.held)
 

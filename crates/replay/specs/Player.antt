@@ -10,6 +10,9 @@ pub record PlayerState : Type 0 where
   -- the requests that are held, in the order of their lines
   pub held : List Held
 
+abbrev pub with_machine : PlayerState → MachineState → PlayerState
+with_machine old machine = record old { machine = machine }
+
 -- before the first line
 abbrev pub first_state : SiteState → PlayerState
 first_state site = record { machine = opening site; held = [] }

@@ -1,10 +1,11 @@
--- What a text asks for: nothing, an answer without a step, or a step.
-use Rattle.std.specs.Prelude.{ℕ, Bool, true, false, List, Option, Some, None, Result, Ok, Err, if◌then◌else◌}
+-- What a text asks for: nothing, an answer without a step, a step, or that a call is confirmed.
+use Rattle.std.specs.Prelude.{ℕ, codes, Bool, true, false, List, Option, Some, None, Result, Ok, Err, if◌then◌else◌}
+use Rattle.std.specs.Str.{bytes_eq}
 use Rattle.ocpp_scalars.specs.declared.refusal.Refusal.{Refusal}
 use Rattle.ocppj_frame.specs.declared.fault.FrameFault.{FrameFault}
 use Rattle.ocppj_frame.specs.declared.fault.FrameFault.TheVariants.{Formation}
 use Rattle.ocppj_frame.specs.Tree.{Tree}
-use Rattle.ocppj_frame.specs.Message.{Message, call}
+use Rattle.ocppj_frame.specs.Message.{Message, call, call_result, call_error, other}
 use Rattle.ocppj_frame.specs.ByCases.Message.{message_of_text}
 use Rattle.profile.specs.declared.charging_profile.Profile.{Profile}
 use Rattle.profile.specs.Parts.{profile_of_parts}
@@ -28,6 +29,7 @@ use Rattle.replay.specs.declared.session.todo.Todo.TheVariants as todo
 use Rattle.site_core.specs.declared.step.Step.{Step}
 use Rattle.site_core.specs.declared.step.Step.TheVariants as steps
 use Rattle.site_core.specs.declared.step.Take.{Take}
+use Rattle.replay.specs.ByCases.Form.{number_of}
 use Rattle.replay.specs.SentText.{Sent}
 
 -- ---- actions: a step, or the answer where there is none
@@ -107,13 +109,31 @@ abbrev pub todo_of_call : Sent → List ℕ → List ℕ → Tree → Todo
 todo_of_call text id name payload =
     todo_of_kind text id (kind_of_sender text.sender (action_named name)) payload
 
+-- ---- replies to calls (OCPP-J 1.6, 4.2.2 and 4.2.3)
+
+-- the number of the call that an id stands for: its decimal text, and nothing else, is the id
+abbrev pub call_numbered : List ℕ → Option ℕ
+call_numbered id = if bytes_eq id (codes "0") then Some 0 else number_of id
+
+abbrev pub todo_confirm : List ℕ → Option ℕ → Todo
+todo_confirm point None = todo.Nothing
+todo_confirm point (Some number) = todo.Confirm point number
+
+-- a point's reply confirms the call of its id, whatever it says; an operator is sent no calls
+abbrev pub todo_of_reply : Side → List ℕ → List ℕ → Todo
+todo_of_reply Operator point id = todo.Nothing
+todo_of_reply Point point id = todo_confirm point (call_numbered id)
+
 -- ---- texts
 
 -- only a CALL is answered, a malformed one too where it has an id
 abbrev pub todo_of_message : Sent → Result Message FrameFault → Todo
 todo_of_message text (Ok (call id name payload)) = todo_of_call text id name payload
+todo_of_message text (Ok (call_result id payload)) = todo_of_reply text.sender text.point id
+todo_of_message text (Ok (call_error id)) = todo_of_reply text.sender text.point id
+todo_of_message text (Ok other) = todo.Nothing
 todo_of_message text (Err (Formation id)) = todo.Answer id (Error FormationViolation)
-todo_of_message text _ = todo.Nothing
+todo_of_message text (Err _) = todo.Nothing
 
 unfoldable pub todo_of : Sent → Todo
 todo_of text = todo_of_message text (message_of_text text.frame)

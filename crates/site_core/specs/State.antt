@@ -1,9 +1,9 @@
 -- The state of the central system: what it knows between two steps.
-use Rattle.std.specs.Prelude.{ℕ, ◌≡◌, ◌≤◌, Bool, false, List, [], map, length, slice_index_or, Option, Result}
+use Rattle.std.specs.Prelude.{ℕ, ◌≡◌, ◌≤◌, Bool, false, List, [], map, length, slice_index_or, Option, None, Some, Result}
 use Rattle.ocpp_scalars.specs.declared.refusal.Refusal.{Refusal}
 use Rattle.meaning.specs.declared.ask.Ask.{Ask}
 use Rattle.meaning.specs.Composite.{Schedule}
-use Rattle.site_rules.specs.Site.{PointEntry, SiteState}
+use Rattle.site_rules.specs.Site.{PointEntry, SiteState, place_of}
 use Rattle.point_book.specs.Book.{Book, empty_book}
 use Rattle.site_core.specs.declared.numbers.Numbers.{Numbers}
 use Rattle.site_core.specs.Limits.{max_number, max_transaction, max_requests}
@@ -78,6 +78,14 @@ outbox_in outboxes place = slice_index_or outboxes place opening_outbox
 
 abbrev pub outbox_at : MachineState → ℕ → OutboxState
 outbox_at state place = outbox_in state.outboxes place
+
+-- the present link of the point at a place, and of the point of an identity; a stranger has none
+abbrev pub link_at : MachineState → Option ℕ → Option ℕ
+link_at state None = None
+link_at state (Some place) = (outbox_at state place).link
+
+abbrev pub link_of : MachineState → List ℕ → Option ℕ
+link_of state point = link_at state (place_of state.site point)
 
 -- ---- what is always so
 

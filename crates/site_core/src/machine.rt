@@ -2,7 +2,7 @@
 
 ghost use Rattle.std.specs.Prelude.{◌≡◌, ◌<◌, ◌≤◌, Some, IfOk, IfErr, MatchResult, Ok, Err, length};
 ghost use Rattle.site_rules.specs.Site.{place_of};
-ghost use Rattle.site_core.specs.State.{AreNumbers, opening, opening_at};
+ghost use Rattle.site_core.specs.State.{AreNumbers, link_of, opening, opening_at};
 ghost use Rattle.site_core.specs.Step.{Steps, IsRefused, first_refusal, NeedsNoMemory};
 ghost use Rattle.site_core.specs.Run.{HasOutcome, Runs};
 ghost use Rattle.site_core.specs.ByCases.Made.{place_in};
@@ -14,7 +14,7 @@ mod schedules;
 use crate::books::opening_books;
 use crate::numbers::Numbers;
 use crate::outbox::Outbox;
-use crate::outboxes::opening_outboxes;
+use crate::outboxes::{opening_outboxes, outbox_at};
 use crate::outcome::{Outcome, Refused, RunFault};
 use crate::point_id::PointId;
 use crate::reply::Reply;
@@ -117,6 +117,14 @@ impl Machine {
         ensures { result ≡ length self.now.requests }
     {
         self.requests.len()
+    }
+
+    /// The present link of the point of an identity, if it has one.
+    pub fn link_of(&self, point: &str) -> Option<u64>
+        ensures { result ≡ link_of self.now point.now }
+    {
+        let place = self.site.place_of(point)?;
+        outbox_at(&self.outboxes, place).link()
     }
 
     /// Makes a step, or says why not: then nothing has changed, and the step comes back. Compiling, answering

@@ -1,13 +1,13 @@
-//! Steps of the central system's machine.
+//! Steps of the central system's machine, those on a point's link and calls among them.
 
-ghost use Rattle.std.specs.Prelude.{◌≡◌, IfOk};
-ghost use Rattle.replay.specs.MachineSteps.{stepped_exactly, handed_out, stepped_at_once};
+ghost use Rattle.std.specs.Prelude.{◌≡◌, IfOk, OnOk};
+ghost use Rattle.replay.specs.MachineSteps.{stepped_exactly, handed_out, stepped_at_once, attached_once, sent_first, confirmed_by};
 ghost use Rattle.replay.specs.ByCases.MachineSteps.{ComesOf, IsAsked, is_memory};
 
 use meaning::exact_schedules;
 use ocpp_scalars::Refusal;
-use site_core::{Machine, Reply, Step};
-use std::alloc::AllocError;
+use site_core::{Machine, PointId, Reply, Step};
+use std::alloc::{AllocError, Global};
 
 /// What comes of a step: its reply, or why it is refused.
 pub type StepOutcome = Result<Reply, Refusal>;
@@ -46,6 +46,51 @@ pub fn hand_out(machine: &mut Machine, number: u64) -> Result<StepOutcome, Alloc
         return Err(AllocError);
     }
     Ok(outcome)
+}
+
+/// Gives a point a link, if it has none.
+pub fn attach_once(alloc: Global, machine: &mut Machine, point: &str) -> Result<(), AllocError>
+    ensures { OnOk result (machine.new ≡ attached_once machine.old point.now) }
+{
+    match machine.link_of(point) {
+        Some(_) => Ok(()),
+        None => {
+            let point = PointId::copied(alloc, point)?;
+            let _ = step_exactly(machine, Step::Attach(point))?;
+            Ok(())
+        }
+    }
+}
+
+/// Sends the first call that waits for a point over its link.
+pub fn send_first(
+    alloc: Global,
+    machine: &mut Machine,
+    point: &str,
+) -> Result<StepOutcome, AllocError>
+    ensures { IfOk result (λ outcome. sent_first machine.old point.now
+        ≡ record { outcome = outcome; after = machine.new }) }
+{
+    match machine.link_of(point) {
+        Some(link) => {
+            let point = PointId::copied(alloc, point)?;
+            step_exactly(machine, Step::Send { point, link })
+        }
+        None => Ok(Ok(Reply::Nothing)),
+    }
+}
+
+/// Confirms the call of a number to a point over its link. Where that call isn't in flight, nothing changes.
+pub fn confirm_call(machine: &mut Machine, point: PointId, call: u64) -> Result<(), AllocError>
+    ensures { OnOk result (machine.new ≡ confirmed_by machine.old point call) }
+{
+    match machine.link_of(point.as_str()) {
+        Some(link) => {
+            let _ = step_exactly(machine, Step::Confirm { point, link, call })?;
+            Ok(())
+        }
+        None => Ok(()),
+    }
 }
 
 /// Makes a step, or says why not.

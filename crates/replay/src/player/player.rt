@@ -2,13 +2,15 @@
 
 ghost use Rattle.std.specs.Prelude.{◌≡◌, ◌∷◌, [], ◌++◌, None, IfOk, OnOk};
 ghost use Rattle.replay.specs.Held.{id_held, let_go};
-ghost use Rattle.replay.specs.MachineSteps.{stepped_exactly, handed_out, stepped_at_once};
+ghost use Rattle.replay.specs.MachineSteps.{stepped_exactly, handed_out, stepped_at_once, attached_once, sent_first, confirmed_by};
 ghost use Rattle.replay.specs.ByCases.MachineSteps.{IsAsked};
 
 use crate::player::held::{Held, let_go};
-use crate::player::machine_steps::{StepOutcome, hand_out, step_at_once, step_exactly};
+use crate::player::machine_steps::{
+    StepOutcome, attach_once, confirm_call, hand_out, send_first, step_at_once, step_exactly,
+};
 use ocppj_frame::MessageId;
-use site_core::{Machine, Step};
+use site_core::{Machine, PointId, Step};
 use site_rules::Site;
 use std::alloc::{AllocError, Global};
 use std::marker::Model;
@@ -33,7 +35,7 @@ impl Model for Player {
 }
 
 impl Player {
-    ghost use Rattle.replay.specs.Player.{first_state};
+    ghost use Rattle.replay.specs.Player.{first_state, with_machine};
     ghost use Rattle.replay.specs.ByCases.Player.{ComesTo};
 
     /// Before the first line of a script on a site.
@@ -77,6 +79,31 @@ impl Player {
             (λ outcome. ComesTo self.old (handed_out self.old.machine number) outcome self.new) }
     {
         hand_out(&mut self.machine, number)
+    }
+
+    /// Gives a point a link, if it has none.
+    pub fn attach_once(&mut self, alloc: Global, point: &str) -> Result<(), AllocError>
+        ensures { OnOk result
+            (self.new ≡ with_machine self.old (attached_once self.old.machine point.now)) }
+    {
+        attach_once(alloc, &mut self.machine, point)
+    }
+
+    /// Sends the first call that waits for a point over its link.
+    pub fn send_first(&mut self, alloc: Global, point: &str) -> Result<StepOutcome, AllocError>
+        ensures { IfOk result
+            (λ outcome. ComesTo self.old (sent_first self.old.machine point.now) outcome self.new) }
+    {
+        let outcome = send_first(alloc, &mut self.machine, point)?;
+        Ok(outcome)
+    }
+
+    /// Confirms the call of a number to a point, if it is in flight.
+    pub fn confirm_call(&mut self, point: PointId, call: u64) -> Result<(), AllocError>
+        ensures { OnOk result
+            (self.new ≡ with_machine self.old (confirmed_by self.old.machine point call)) }
+    {
+        confirm_call(&mut self.machine, point, call)
     }
 
     /// Holds a request.

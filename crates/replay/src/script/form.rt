@@ -3,7 +3,7 @@
 ghost use Rattle.std.specs.Prelude.{◌≡◌, option_map};
 ghost use Rattle.replay.specs.ByCases.Form.{word_at, word_named, begins_above_zero, number_of, words_view, form_of};
 
-/// The highest number of a request.
+/// The highest number of a request, and of a call.
 const MAX_REQUEST: u64 = 1_000_000_000_000;
 
 /// Which line that brings a text it is, by its second word.
@@ -81,8 +81,8 @@ fn split_word(text: &str) -> Option<(&str, &str)>
     Some((word, rest))
 }
 
-/// The number of a request that a word is, in decimal without leading zeros.
-fn number_of(word: &str) -> Option<u64>
+/// The number from 1 to 1,000,000,000,000 that a word is, in decimal without leading zeros.
+pub fn number_of(word: &str) -> Option<u64>
     ensures { result ≡ number_of word.now }
 {
     if !begins_above_zero(word) {

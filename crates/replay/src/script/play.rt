@@ -1,7 +1,8 @@
 //! What a line of a script prints, and what its player does at it.
 
-ghost use Rattle.std.specs.Prelude.{◌≡◌, true, false, IfOk, string_bytes};
-ghost use Rattle.replay.specs.Play.{answer_line, outcome_line, held_line, fault_line, todo_handled, hold_handled, release_played, said_played, line_played, IsPlayed, IsHandled};
+ghost use Rattle.std.specs.Prelude.{◌≡◌, ◌++◌, true, false, IfOk, OnOk, string_bytes};
+ghost use Rattle.replay.specs.Play.{answer_line, outcome_line, sent_line, call_line, held_line, fault_line, todo_handled, point_handled, text_handled, hold_handled, release_played, said_played, line_played, IsPlayed, IsHandled};
+ghost use Rattle.replay.specs.Todo.{todo_of};
 ghost use Rattle.replay.specs.ByCases.Todo.{AsksNoCompile};
 ghost use Rattle.replay.specs.Held.{id_held};
 
@@ -10,8 +11,9 @@ use crate::player::machine_steps::StepOutcome;
 use crate::player::player::Player;
 use crate::script::line::{LineFault, ScriptLine, read_line};
 use crate::session::answer::response_of;
+use crate::session::sent_text::SentText;
 use crate::session::todo::{Todo, hold_of, todo_of};
-use messages::{ActionKind, Response, push_response};
+use messages::{ActionKind, Call, Response, Side, push_call, push_response};
 use ocppj_frame::MessageId;
 use profile::Unit;
 use site_core::Reply;
@@ -56,10 +58,7 @@ fn play_said(
         (λ printed. IsPlayed (said_played player.old number said.entry) printed player.new) }
 {
     match said {
-        ScriptLine::Text(text) => {
-            let todo = todo_of(alloc, &text)?;
-            Ok(without_fault(todo_line(alloc, player, todo)?))
-        }
+        ScriptLine::Text(text) => Ok(without_fault(text_lines(alloc, player, &text)?)),
         ScriptLine::Hold(text) => match hold_of(alloc, &text)? {
             Some(todo) => Ok(without_fault(hold_line(alloc, player, todo)?)),
             None => fault_printed(alloc, number, LineFault::NotComposite),
@@ -110,7 +109,67 @@ fn fault_printed(alloc: Global, number: u64, fault: LineFault) -> Result<Printed
     })
 }
 
+/// The lines with the answer to a text and the call that goes out to its sender.
+fn text_lines(alloc: Global, player: &mut Player, text: &SentText<'_>) -> Result<String, AllocError>
+    ensures { IfOk result (λ lines. IsHandled
+        (text_handled player.old text.now.sender text.now) (string_bytes lines) player.new) }
+{
+    match text.sender() {
+        Side::Operator => text_line(alloc, player, text),
+        Side::Point => point_lines(alloc, player, text),
+    }
+}
+
+/// The lines with the answer to a point's text and the call that goes out to the point, which has a link then.
+fn point_lines(
+    alloc: Global,
+    player: &mut Player,
+    text: &SentText<'_>,
+) -> Result<String, AllocError>
+    ensures { IfOk result
+        (λ lines. IsHandled (point_handled player.old text.now) (string_bytes lines) player.new) }
+{
+    player.attach_once(alloc, text.point())?;
+    let mut lines = text_line(alloc, player, text)?;
+    let outcome = player.send_first(alloc, text.point())?;
+    push_call_line(&mut lines, text.point(), &outcome)?;
+    Ok(lines)
+}
+
+/// Appends the line with the call that goes out to a point, if one does.
+fn push_call_line(lines: &mut String, point: &str, outcome: &StepOutcome) -> Result<(), AllocError>
+    ensures { OnOk result
+        (string_bytes lines.new ≡ string_bytes lines.old ++ call_line point.now outcome.now) }
+{
+    match outcome {
+        Ok(Reply::Sent(call)) => push_sent(lines, point, call),
+        _ => Ok(()),
+    }
+}
+
+/// Appends the line with a call that goes out to a point.
+fn push_sent(lines: &mut String, point: &str, call: &Call) -> Result<(), AllocError>
+    ensures { OnOk result
+        (string_bytes lines.new ≡ string_bytes lines.old ++ sent_line point.now call.now) }
+{
+    lines.push_str("* ")?;
+    lines.push_str(point)?;
+    lines.push_str(" ")?;
+    push_call(lines, call)?;
+    lines.push_str("\n")?;
+    Ok(())
+}
+
 /// The line with the answer to a text, if it has one.
+fn text_line(alloc: Global, player: &mut Player, text: &SentText<'_>) -> Result<String, AllocError>
+    ensures { IfOk result (λ line. IsHandled
+        (todo_handled player.old (todo_of text.now)) (string_bytes line) player.new) }
+{
+    let todo = todo_of(alloc, text)?;
+    todo_line(alloc, player, todo)
+}
+
+/// The line with the answer to what a text asks for, if it has one.
 fn todo_line(alloc: Global, player: &mut Player, todo: Todo) -> Result<String, AllocError>
     requires { AsksNoCompile todo }
     ensures { IfOk result
@@ -123,6 +182,10 @@ fn todo_line(alloc: Global, player: &mut Player, todo: Todo) -> Result<String, A
             let unit = player.site().unit();
             let outcome = player.step_at_once(step)?;
             outcome_line(alloc, unit, kind, &id, outcome)
+        }
+        Todo::Confirm { point, call } => {
+            player.confirm_call(point, call)?;
+            Ok(String::new(alloc))
         }
     }
 }

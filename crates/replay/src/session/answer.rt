@@ -35,7 +35,15 @@ fn reply_response(unit: Unit, kind: ActionKind, reply: Reply) -> Option<Response
         Reply::Repeated(transaction) => Some(Response::StartTransaction { transaction }),
         Reply::Ended | Reply::NoSuch => Some(Response::Empty),
         Reply::Answered { ask, answer, .. } => Some(schedule_response(unit, kind, &ask, answer)),
-        Reply::Taken { .. } | Reply::Compiled | Reply::NotYet | Reply::Finished => None,
+        Reply::Taken { .. }
+        | Reply::Compiled
+        | Reply::NotYet
+        | Reply::Finished
+        | Reply::Attached(_)
+        | Reply::Sent(_)
+        | Reply::Nothing
+        | Reply::Confirmed
+        | Reply::LinkLost => None,
     }
 }
 

@@ -1,4 +1,4 @@
-//! What a text asks for: nothing, an answer without a step, or a step.
+//! What a text asks for: nothing, an answer without a step, a step, or that a call is confirmed.
 
 ghost use Rattle.std.specs.Prelude.{◌≡◌, Ok, IfOk};
 ghost use Rattle.ocppj_frame.specs.Frame.{message_in};
@@ -6,8 +6,9 @@ ghost use Rattle.ocppj_frame.specs.Payload.{tree_at};
 ghost use Rattle.profile.specs.Parts.{profile_of_parts};
 ghost use Rattle.messages.specs.Action.{action_of_kind};
 ghost use Rattle.messages.specs.ActionKind.{action_named};
-ghost use Rattle.replay.specs.Todo.{begin_of, take_of, side_eq, step_of, step_of_made, step_of_reading, kind_of_sender, todo_of_message, todo_of, todo_with, asks_schedule, is_schedule_kind, hold_of};
+ghost use Rattle.replay.specs.Todo.{begin_of, take_of, side_eq, step_of, step_of_made, step_of_reading, kind_of_sender, call_numbered, todo_confirm, todo_of_reply, todo_of_message, todo_of, todo_with, asks_schedule, is_schedule_kind, hold_of};
 
+use crate::script::form::number_of;
 use crate::session::sent_text::SentText;
 use messages::{
     Action, ActionKind, CallFault, Response, ScheduleRequest, Side, StartTransaction, read_fields,
@@ -37,6 +38,11 @@ pub enum Todo {
         id: MessageId,
         kind: ActionKind,
         step: Step,
+    },
+    /// The text is the point's reply to the call of this number.
+    Confirm {
+        point: PointId,
+        call: u64,
     },
 }
 
@@ -90,7 +96,7 @@ fn is_schedule_kind(kind: Option<ActionKind>) -> bool
     matches!(kind, Some(ActionKind::GetCompositeSchedule))
 }
 
-/// What a message asks for: only a CALL is answered.
+/// What a message asks for: only a CALL is answered, and a reply may confirm a call.
 fn todo_of_message(alloc: Global, text: &SentText<'_>, frame: Frame) -> Result<Todo, AllocError>
     ensures { IfOk result (λ todo. todo ≡ todo_of_message text.now (Ok (message_in frame))) }
 {
@@ -109,8 +115,41 @@ fn todo_of_message(alloc: Global, text: &SentText<'_>, frame: Frame) -> Result<T
             let asked = step_of_fields(alloc, text, kind, payload.root())?;
             Ok(todo_with(id, kind, asked))
         }
-        Frame::Reply { .. } | Frame::Fault { .. } | Frame::Other => Ok(Todo::Nothing),
+        Frame::Reply { id, .. } => todo_of_reply(alloc, text, id.as_str()),
+        Frame::Fault { id } => todo_of_reply(alloc, text, id.as_str()),
+        Frame::Other => Ok(Todo::Nothing),
     }
+}
+
+/// What a reply of this id asks for: a point's confirms the call of that number.
+fn todo_of_reply(alloc: Global, text: &SentText<'_>, id: &str) -> Result<Todo, AllocError>
+    ensures { IfOk result
+        (λ todo. todo ≡ todo_of_reply text.now.sender text.now.point id.now) }
+{
+    match text.sender() {
+        Side::Operator => Ok(Todo::Nothing),
+        Side::Point => todo_confirm(alloc, text.point(), call_numbered(id)),
+    }
+}
+
+/// The confirmation of a point's call of this number, if there is one.
+fn todo_confirm(alloc: Global, point: &str, call: Option<u64>) -> Result<Todo, AllocError>
+    ensures { IfOk result (λ todo. todo ≡ todo_confirm point.now call) }
+{
+    match call {
+        Some(call) => {
+            let point = PointId::copied(alloc, point)?;
+            Ok(Todo::Confirm { point, call })
+        }
+        None => Ok(Todo::Nothing),
+    }
+}
+
+/// The number of the call whose decimal text an id is.
+fn call_numbered(id: &str) -> Option<u64>
+    ensures { result ≡ call_numbered id.now }
+{
+    if id == "0" { Some(0) } else { number_of(id) }
 }
 
 /// The step or the answer to the CALL of this id.
