@@ -1,7 +1,11 @@
 -- What the laws of outboxes and of points that obey say of the machine: the calls and the profiles of a
 -- point along a history.
-use Rattle.std.specs.Prelude.{ℕ, ◌+◌, ◌≡◌, ◌==◌, Bool, false, List, [], ◌∷◌, ◌++◌, length, map, filter, replicate, slice_get, Option, None, Some}
-use Rattle.std.specs.List.{flat_map, AllByRecursion}
+use Rattle.std.specs.Prelude.{ℕ, ◌≡◌, ◌==◌, Bool, false, List, [], ◌∷◌, ◌++◌, length, map, filter, Option, None, Some}
+use Rattle.std.specs.List.{flat_map}
+use Rattle.profile.specs.declared.row.Row.{Row}
+use Rattle.profile.specs.Changes.{installed, cleared, without_transaction_profiles}
+use Rattle.transactions.specs.declared.transaction.Transaction.{Transaction}
+use Rattle.transactions.specs.ActiveTable.{connector_of, started, stopped}
 use Rattle.site_rules.specs.Site.{SiteState, place_of}
 use Rattle.messages.specs.declared.call.Call.{Call}
 use Rattle.messages.specs.declared.call.CallBody.{CallBody}
@@ -9,12 +13,12 @@ use Rattle.messages.specs.declared.call.CallBody.TheVariants as bodies
 use Rattle.site_core.specs.declared.numbers.Numbers.{Numbers}
 use Rattle.site_core.specs.declared.step.Step.{Step}
 use Rattle.site_core.specs.declared.step.Step.TheVariants as steps
-use Rattle.site_core.specs.declared.step.Take.{Take}
 use Rattle.site_core.specs.declared.reply.Reply.{Reply}
 use Rattle.site_core.specs.declared.reply.Reply.TheVariants as replies
-use Rattle.site_core.specs.Outbox.{opening_outbox}
-use Rattle.site_core.specs.OutboxOrder.{Traffic, Attach, Lose, Add, Send, Confirm, after_all, calls_confirmed, calls_so_far, AreInSendingOrder}
-use Rattle.site_core.specs.State.{MachineState, opening_at, outbox_at}
+use Rattle.site_core.specs.Outbox.{opening_outbox, clear_all}
+use Rattle.site_core.specs.OutboxOrder.{Traffic, Attach, Lose, Add, Send, Confirm, after_all, calls_confirmed, calls_so_far, bodies_added, AreInSendingOrder}
+use Rattle.site_core.specs.Obey.{Change, Installs, Clears, Ends, Obeying, numbers_of, last_number, obeyed, lasting}
+use Rattle.site_core.specs.State.{MachineState, opening, opening_at, book_at, outbox_at}
 use Rattle.site_core.specs.History.{Event, Legal}
 
 -- ---- the events of a point
@@ -107,3 +111,73 @@ abbrev pub CallsAreLeftUnlessConfirmed : Type 0
 CallsAreLeftUnlessConfirmed = OfEachPoint (λ site place history state.
     calls_confirmed opening_outbox (traffic_of site place history) ++ (outbox_at state place).calls
     ≡ calls_made site place history)
+
+-- ---- its profiles
+
+-- the active transactions, at connectors 1, 2, .., of the point that a step names, after the step
+abbrev pub slots_after : List (Option Transaction) → Step → Reply → List (Option Transaction)
+slots_after slots (steps.Start point connector begin) (replies.Started number) = started slots connector begin number
+slots_after slots (steps.Stop point number) replies.Ended = stopped slots number
+slots_after slots step reply = slots
+
+abbrev pub end_at : Option ℕ → List Change
+end_at None = []
+end_at (Some connector) = Ends connector ∷ []
+
+-- what a step with its reply changes of the profiles of the point that it names. A new transaction ends the
+-- one before it at its connector (OCPP 1.6, 3.13).
+abbrev pub changes_by : List (Option Transaction) → Step → Reply → List Change
+changes_by slots (steps.Install point row) replies.Accepted = Installs row ∷ []
+changes_by slots (steps.Clear point criteria) replies.Accepted = Clears criteria ∷ []
+changes_by slots (steps.Start point connector begin) (replies.Started number) = Ends connector ∷ []
+changes_by slots (steps.Stop point number) replies.Ended = end_at (connector_of slots number)
+changes_by slots step reply = []
+
+abbrev pub changes_from : List (Option Transaction) → List Event → List Change
+changes_from slots [] = []
+changes_from slots (event ∷ later) =
+    changes_by slots event.step event.reply ++ changes_from (slots_after slots event.step event.reply) later
+
+-- no transaction is active at the opening
+abbrev pub opening_slots : SiteState → ℕ → List (Option Transaction)
+opening_slots site place = (book_at (opening site) place).transactions
+
+-- all that changes the profiles of the point at a place
+abbrev pub changes_of : SiteState → ℕ → List Event → List Change
+changes_of site place history = changes_from (opening_slots site place) (events_at site place history)
+
+-- the rows after all these changes
+abbrev pub rows_after_all : List Change → List Row → List Row
+rows_after_all [] rows = rows
+rows_after_all (Installs row ∷ later) rows = rows_after_all later (installed rows row)
+rows_after_all (Clears criteria ∷ later) rows = rows_after_all later (cleared rows criteria)
+rows_after_all (Ends connector ∷ later) rows = rows_after_all later (without_transaction_profiles rows connector)
+
+-- the installs and clears of the point at a place that were accepted, as calls
+abbrev pub accepted : SiteState → ℕ → List Event → List CallBody
+accepted site place history = bodies_added (traffic_of site place history)
+
+-- what calls 0, 1, .. of the point at a place tell it
+abbrev pub bodies_of : SiteState → ℕ → List Event → List CallBody
+bodies_of site place history = clear_all ∷ accepted site place history
+
+-- ---- the laws of its profiles
+
+-- the rows that the machine has for a point are what the changes by its events make of none
+abbrev pub RowsFollowHistories : Type 0
+RowsFollowHistories = OfEachPoint (λ site place history state.
+    (book_at state place).rows ≡ rows_after_all (changes_of site place history) [])
+
+-- A point has any rows, and then obeys calls in the order of sending, the last of them the one that was added
+-- last in the earlier history (or call 0, where none was). Its lasting rows are then those that the machine had
+-- for it in the state that the earlier history leads to, whatever comes later.
+abbrev pub PointsStayInStep : Type 0
+PointsStayInStep =
+    (site : SiteState) (numbers : Numbers) (earlier later : List Event) (middle state : MachineState)
+    → Legal (opening_at site numbers) earlier middle → Legal middle later state
+    → (point : List ℕ) (place : ℕ) → place_of site point ≡ Some place
+    → (first : Obeying) (others : List Obeying) (rows : List Row)
+    → AreInSendingOrder (numbers_of (first ∷ others))
+    → last_number first.number others ≡ length (accepted site place earlier)
+    → lasting (obeyed (bodies_of site place (earlier ++ later)) (first ∷ others) rows)
+    ≡ lasting (book_at middle place).rows
