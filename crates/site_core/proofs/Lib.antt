@@ -13,3 +13,4 @@ pub mod BooksOfHistories
 pub mod WorkedExamples
 pub mod ObeyOrderLemmas
 pub mod OutboxExamples
+pub mod CallOrderLemmas

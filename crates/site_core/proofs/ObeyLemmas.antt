@@ -98,7 +98,7 @@ lasting_within test each (row ∷ rows) = go (test row) refl (lasts row) refl (l
     go false fails false goes rest =
         ap lasting (filter_gone test row rows fails) ∙ rest ∙ sym (lasting_gone row rows goes)
 
-lasting_end : (rows : List Row) (connector : ℕ) → lasting (without_transaction_profiles rows connector) ≡ lasting rows
+pub lasting_end : (rows : List Row) (connector : ℕ) → lasting (without_transaction_profiles rows connector) ≡ lasting rows
 lasting_end rows connector = lasting_within (λ row. not (is_tx_profile_at connector row)) stays rows
   where
     by : (a b : Bool) → not a ≡ true → not (a && b) ≡ true

@@ -34,15 +34,15 @@ use Rattle.site_core.specs.History.{reply_takes, asks_answer_of, has_answer}
 
 -- ---- what holds of whatever is made
 
-unless_made : (P : Made → Type 0) (refusal : Option Refusal) (made : Made) → P made → IfOk (unless refusal made) P
+pub unless_made : (P : Made → Type 0) (refusal : Option Refusal) (made : Made) → P made → IfOk (unless refusal made) P
 unless_made P None made h = h
 unless_made P (Some refusal) made h = tt
 
-either_made : (P : Made → Type 0) (test : Bool) (one other : Result Made Refusal) → IfOk one P → IfOk other P → IfOk (cond test one other) P
+pub either_made : (P : Made → Type 0) (test : Bool) (one other : Result Made Refusal) → IfOk one P → IfOk other P → IfOk (cond test one other) P
 either_made P true one other h k = h
 either_made P false one other h k = k
 
-at_point_made : (P : Made → Type 0) (old : MachineState) (point : List ℕ) (made_at : ℕ → Result Made Refusal)
+pub at_point_made : (P : Made → Type 0) (old : MachineState) (point : List ℕ) (made_at : ℕ → Result Made Refusal)
     → ((place : ℕ) → old.is_stopped ≡ false → place_of old.site point ≡ Some place → IfOk (made_at place) P) → IfOk (at_point old point made_at) P
 at_point_made P old point made_at each = go old.is_stopped refl (place_of old.site point) refl
   where
@@ -54,7 +54,7 @@ at_point_made P old point made_at each = go old.is_stopped refl (place_of old.si
 -- ---- the books
 
 -- the books with that of one place changed
-abbrev with_change : List Book → Option ℕ → (Book → Book) → List Book
+abbrev pub with_change : List Book → Option ℕ → (Book → Book) → List Book
 with_change books None change = books
 with_change books (Some place) change = slice_set books place (change (book_in books place))
 

@@ -12,3 +12,4 @@ pub mod Headline
 pub mod OutboxOrder
 pub mod Obey
 pub mod ObeyOrder
+pub mod CallOrder

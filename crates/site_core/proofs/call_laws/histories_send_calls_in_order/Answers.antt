@@ -1,0 +1,12 @@
+-- The laws, by induction on the history.
+use Rattle.site_core.proofs.CallOrderLemmas.{outboxes_follow, sent_by_history, left_of_history}
+use Rattle.site_core.proofs.call_laws.histories_send_calls_in_order.Goals as goal
+
+pub returns-clause-outbox : goal.returns-clause-outbox
+returns-clause-outbox c = outboxes_follow
+
+pub returns-clause-order : goal.returns-clause-order
+returns-clause-order c = sent_by_history
+
+pub returns-clause-calls : goal.returns-clause-calls
+returns-clause-calls c = left_of_history

@@ -1,0 +1,183 @@
+-- What the laws of outboxes and of points that obey say of the machine: the calls and the profiles of a
+-- point along a history.
+use Rattle.std.specs.Prelude.{ℕ, ◌≡◌, ◌==◌, Bool, false, List, [], ◌∷◌, ◌++◌, length, map, filter, Option, None, Some}
+use Rattle.std.specs.List.{flat_map}
+use Rattle.profile.specs.declared.row.Row.{Row}
+use Rattle.profile.specs.Changes.{installed, cleared, without_transaction_profiles}
+use Rattle.transactions.specs.declared.transaction.Transaction.{Transaction}
+use Rattle.transactions.specs.ActiveTable.{connector_of, started, stopped}
+use Rattle.site_rules.specs.Site.{SiteState, place_of}
+use Rattle.messages.specs.declared.call.Call.{Call}
+use Rattle.messages.specs.declared.call.CallBody.{CallBody}
+use Rattle.messages.specs.declared.call.CallBody.TheVariants as bodies
+use Rattle.site_core.specs.declared.numbers.Numbers.{Numbers}
+use Rattle.site_core.specs.declared.step.Step.{Step}
+use Rattle.site_core.specs.declared.step.Step.TheVariants as steps
+use Rattle.site_core.specs.declared.reply.Reply.{Reply}
+use Rattle.site_core.specs.declared.reply.Reply.TheVariants as replies
+use Rattle.site_core.specs.Outbox.{opening_outbox, clear_all}
+use Rattle.site_core.specs.OutboxOrder.{Traffic, Attach, Lose, Add, Send, Confirm, after_all, calls_confirmed, calls_so_far, bodies_added, AreInSendingOrder}
+use Rattle.site_core.specs.Obey.{Change, Installs, Clears, Ends, Obeying, numbers_of, last_number, obeyed, lasting}
+use Rattle.site_core.specs.State.{MachineState, opening, opening_at, book_at, outbox_at}
+use Rattle.site_core.specs.History.{Event, Legal}
+
+-- ---- the events of a point
+
+abbrev pub is_place : ℕ → Option ℕ → Bool
+is_place place None = false
+is_place place (Some other) = other == place
+
+-- whether an identity is that of the point at a place
+abbrev pub is_at : SiteState → ℕ → List ℕ → Bool
+is_at site place point = is_place place (place_of site point)
+
+-- whether a step names the point at a place
+abbrev pub names : SiteState → ℕ → Step → Bool
+names site place (steps.Install point row) = is_at site place point
+names site place (steps.Clear point criteria) = is_at site place point
+names site place (steps.Start point connector begin) = is_at site place point
+names site place (steps.Stop point number) = is_at site place point
+names site place (steps.Take take) = is_at site place take.point
+names site place (steps.Attach point) = is_at site place point
+names site place (steps.Send point link) = is_at site place point
+names site place (steps.Confirm point link number) = is_at site place point
+names site place (steps.Lost point link) = is_at site place point
+names site place other = false
+
+-- the events whose steps name the point at a place
+abbrev pub events_at : SiteState → ℕ → List Event → List Event
+events_at site place history = filter (λ (event : Event). names site place event.step) history
+
+-- ---- its calls
+
+-- what a step with its reply brings to the outbox of the point that it names
+abbrev pub traffic_by : Step → Reply → List Traffic
+traffic_by (steps.Install point row) replies.Accepted = Add (bodies.Set row.connector row.profile) ∷ []
+traffic_by (steps.Clear point criteria) replies.Accepted = Add (bodies.Clear criteria) ∷ []
+traffic_by (steps.Attach point) (replies.Attached link) = Attach link ∷ []
+traffic_by (steps.Send point link) (replies.Sent call) = Send ∷ []
+traffic_by (steps.Confirm point link number) replies.Confirmed = Confirm number ∷ []
+traffic_by (steps.Lost point link) replies.LinkLost = Lose ∷ []
+traffic_by step reply = []
+
+abbrev pub traffic_by_event : Event → List Traffic
+traffic_by_event event = traffic_by event.step event.reply
+
+-- all that comes to the outbox of the point at a place
+abbrev pub traffic_of : SiteState → ℕ → List Event → List Traffic
+traffic_of site place history = flat_map traffic_by_event (events_at site place history)
+
+abbrev pub calls_by : Step → Reply → List Call
+calls_by (steps.Send point link) (replies.Sent call) = call ∷ []
+calls_by step reply = []
+
+abbrev pub calls_by_event : Event → List Call
+calls_by_event event = calls_by event.step event.reply
+
+-- the calls that are sent to the point at a place, in the order of their sendings, as Send replies them
+abbrev pub calls_sent : SiteState → ℕ → List Event → List Call
+calls_sent site place history = flat_map calls_by_event (events_at site place history)
+
+abbrev pub numbers_of_calls : List Call → List ℕ
+numbers_of_calls calls = map (λ (call : Call). call.number) calls
+
+-- Every call of the point at a place so far: call 0 clears all, and call k is the k-th of its installs and
+-- clears that were accepted.
+abbrev pub calls_made : SiteState → ℕ → List Event → List Call
+calls_made site place history = calls_so_far (traffic_of site place history)
+
+-- ---- the laws of its calls
+
+-- In a legal history from the opening, along which a point of the site has this place.
+abbrev pub OfEachPoint : (SiteState → ℕ → List Event → MachineState → Type 0) → Type 0
+OfEachPoint holds =
+    (site : SiteState) (numbers : Numbers) (history : List Event) (state : MachineState)
+    → Legal (opening_at site numbers) history state
+    → (point : List ℕ) (place : ℕ) → place_of site point ≡ Some place
+    → holds site place history state
+
+-- the outbox of a point is what all that came to it makes of the opening one
+abbrev pub OutboxesFollowHistories : Type 0
+OutboxesFollowHistories = OfEachPoint (λ site place history state.
+    outbox_at state place ≡ after_all opening_outbox (traffic_of site place history))
+
+-- the calls that Send replies are in sending order
+abbrev pub CallsAreSentInOrder : Type 0
+CallsAreSentInOrder = OfEachPoint (λ site place history state.
+    AreInSendingOrder (numbers_of_calls (calls_sent site place history)))
+
+-- the calls of an outbox are all calls without the confirmed ones, and those were confirmed in order
+abbrev pub CallsAreLeftUnlessConfirmed : Type 0
+CallsAreLeftUnlessConfirmed = OfEachPoint (λ site place history state.
+    calls_confirmed opening_outbox (traffic_of site place history) ++ (outbox_at state place).calls
+    ≡ calls_made site place history)
+
+-- ---- its profiles
+
+-- the active transactions, at connectors 1, 2, .., of the point that a step names, after the step
+abbrev pub slots_after : List (Option Transaction) → Step → Reply → List (Option Transaction)
+slots_after slots (steps.Start point connector begin) (replies.Started number) = started slots connector begin number
+slots_after slots (steps.Stop point number) replies.Ended = stopped slots number
+slots_after slots step reply = slots
+
+abbrev pub end_at : Option ℕ → List Change
+end_at None = []
+end_at (Some connector) = Ends connector ∷ []
+
+-- what a step with its reply changes of the profiles of the point that it names. A new transaction ends the
+-- one before it at its connector (OCPP 1.6, 3.13).
+abbrev pub changes_by : List (Option Transaction) → Step → Reply → List Change
+changes_by slots (steps.Install point row) replies.Accepted = Installs row ∷ []
+changes_by slots (steps.Clear point criteria) replies.Accepted = Clears criteria ∷ []
+changes_by slots (steps.Start point connector begin) (replies.Started number) = Ends connector ∷ []
+changes_by slots (steps.Stop point number) replies.Ended = end_at (connector_of slots number)
+changes_by slots step reply = []
+
+abbrev pub changes_from : List (Option Transaction) → List Event → List Change
+changes_from slots [] = []
+changes_from slots (event ∷ later) =
+    changes_by slots event.step event.reply ++ changes_from (slots_after slots event.step event.reply) later
+
+-- no transaction is active at the opening
+abbrev pub opening_slots : SiteState → ℕ → List (Option Transaction)
+opening_slots site place = (book_at (opening site) place).transactions
+
+-- all that changes the profiles of the point at a place
+abbrev pub changes_of : SiteState → ℕ → List Event → List Change
+changes_of site place history = changes_from (opening_slots site place) (events_at site place history)
+
+-- the rows after all these changes
+abbrev pub rows_after_all : List Change → List Row → List Row
+rows_after_all [] rows = rows
+rows_after_all (Installs row ∷ later) rows = rows_after_all later (installed rows row)
+rows_after_all (Clears criteria ∷ later) rows = rows_after_all later (cleared rows criteria)
+rows_after_all (Ends connector ∷ later) rows = rows_after_all later (without_transaction_profiles rows connector)
+
+-- the installs and clears of the point at a place that were accepted, as calls
+abbrev pub accepted : SiteState → ℕ → List Event → List CallBody
+accepted site place history = bodies_added (traffic_of site place history)
+
+-- what calls 0, 1, .. of the point at a place tell it
+abbrev pub bodies_of : SiteState → ℕ → List Event → List CallBody
+bodies_of site place history = clear_all ∷ accepted site place history
+
+-- ---- the laws of its profiles
+
+-- the rows that the machine has for a point are what the changes by its events make of none
+abbrev pub RowsFollowHistories : Type 0
+RowsFollowHistories = OfEachPoint (λ site place history state.
+    (book_at state place).rows ≡ rows_after_all (changes_of site place history) [])
+
+-- A point has any rows, and then obeys calls in the order of sending, the last of them the one that was added
+-- last in the earlier history (or call 0, where none was). Its lasting rows are then those that the machine had
+-- for it in the state that the earlier history leads to, whatever comes later.
+abbrev pub PointsStayInStep : Type 0
+PointsStayInStep =
+    (site : SiteState) (numbers : Numbers) (earlier later : List Event) (middle state : MachineState)
+    → Legal (opening_at site numbers) earlier middle → Legal middle later state
+    → (point : List ℕ) (place : ℕ) → place_of site point ≡ Some place
+    → (first : Obeying) (others : List Obeying) (rows : List Row)
+    → AreInSendingOrder (numbers_of (first ∷ others))
+    → last_number first.number others ≡ length (accepted site place earlier)
+    → lasting (obeyed (bodies_of site place (earlier ++ later)) (first ∷ others) rows)
+    ≡ lasting (book_at middle place).rows
