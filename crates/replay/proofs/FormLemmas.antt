@@ -16,7 +16,7 @@ use Rattle.std.proofs.lemmas.Fmt.{decimal_is_IsNumeral, decimal-digits_value, de
 use Rattle.std.proofs.lemmas.Str.Parse.{IsNumeralModel, numerals_by_value, parse_plain}
 use Rattle.replay.specs.declared.script.form.LineWord.{LineWord}
 use Rattle.replay.specs.declared.script.form.LineWord.TheVariants.{Operator, Point, Hold}
-use Rattle.replay.specs.Limits.{max_request}
+use Rattle.site_core.specs.Limits.{max_number}
 use Rattle.replay.specs.Form.{Form, text_line, release_line, spelled, IsWord, IsOfForm}
 use Rattle.ocpp_scalars.specs.OptionSteps.{◌>>=◌}
 use Rattle.replay.specs.ByCases.Form.{is_space, word_at, word_named, is_number, begins_above_zero, number_of, release_form, text_form, form_of}
@@ -107,32 +107,32 @@ release_is_word : IsWord (codes "release")
 release_is_word = (lit< tt, λ k below. eqb-false (get_or (codes "release") k 0) 32 (fails_before_first is_space (codes "release") k 0 below))
 
 -- a word is the decimal text of the number that it is
-number_is : (word : List ℕ) (n : ℕ) → number_of word ≡ Some n → (word ≡ decimal n) × (1 ≤ n) × (n ≤ max_request)
+number_is : (word : List ℕ) (n : ℕ) → number_of word ≡ Some n → (word ≡ decimal n) × (1 ≤ n) × (n ≤ max_number)
 unfolding number_of
 number_is word n some =
     let value = digits_value 10 word in
     elim (either (is_number word value) value n None some) [
       | inl test ↦
-          let parts = both_true (bytes_eq word (decimal value)) (nat_lt 0 value && nat_le value max_request) test.0 in
-          let bounds = both_true (nat_lt 0 value) (nat_le value max_request) parts.1 in
+          let parts = both_true (bytes_eq word (decimal value)) (nat_lt 0 value && nat_le value max_number) test.0 in
+          let bounds = both_true (nat_lt 0 value) (nat_le value max_number) parts.1 in
           let same : value ≡ n = test.1 in (
             (bytes_eq-Decides word (decimal value)).0 parts.0 ∙ ap decimal same,
             omega (arith, same, ltb-true 0 value bounds.0),
-            omega (arith, same, leb-true value max_request bounds.1),
+            omega (arith, same, leb-true value max_number bounds.1),
           )
       | inr none ↦ absurd (cc (none.1))
     ]
 
 -- the decimal text of a number is that number
-number_made : (n : ℕ) → 1 ≤ n → n ≤ max_request → number_of (decimal n) ≡ Some n
+number_made : (n : ℕ) → 1 ≤ n → n ≤ max_number → number_of (decimal n) ≡ Some n
 unfolding number_of
 number_made n low high =
     let value = (decimal_is_IsNumeral n (omega (arith, high))).1 in
-    let test : is_number (decimal n) n ≡ true = rw ((bytes_eq-Decides (decimal n) (decimal n)).1 refl, lt-ltb 0 n (omega (arith, low)), le-leb n max_request high) refl in
+    let test : is_number (decimal n) n ≡ true = rw ((bytes_eq-Decides (decimal n) (decimal n)).1 refl, lt-ltb 0 n (omega (arith, low)), le-leb n max_number high) refl in
     ap (λ v. cond (is_number (decimal n) v) (Some v) None) value ∙ rw test refl
 
 -- a word that is no number of a request
-pub no_number : (word : List ℕ) → ((n : ℕ) → word ≡ decimal n → 1 ≤ n → n ≤ max_request → ⊥) → None ≡ number_of word
+pub no_number : (word : List ℕ) → ((n : ℕ) → word ≡ decimal n → 1 ≤ n → n ≤ max_number → ⊥) → None ≡ number_of word
 no_number word none =
     elim (number_of word) as (λ o. number_of word ≡ o → None ≡ o) [
       | None ↦ λ here. refl
@@ -140,14 +140,14 @@ no_number word none =
     ] refl
 
 -- a number of a request begins with a digit above 0
-pub above_zero : (word : List ℕ) (n : ℕ) → word ≡ decimal n → 1 ≤ n → n ≤ max_request → begins_above_zero word ≡ true
+pub above_zero : (word : List ℕ) (n : ℕ) → word ≡ decimal n → 1 ≤ n → n ≤ max_number → begins_above_zero word ≡ true
 above_zero word n is low high = ap begins_above_zero is ∙ lt-ltb 48 (get_or (decimal n) 0 0) (first_decimal n (omega (arith, low)) (omega (arith, high)))
 
 digits_model : IsNumeralModel (λ ds. all_ascii_digits ds ≡ true) (digits_value 10)
 digits_model = numerals_by_value _ (search rules)
 
 -- what is parsed and begins with a digit above 0 is a number of a request, up to the highest
-pub parsed : {E : Type 0} (word : List ℕ) (n : ℕ) (r : Result ℕ E) → ParsesUnsigned 64 10 word r → r ≡ Ok n → begins_above_zero word ≡ true → n ≤ max_request → Some n ≡ number_of word
+pub parsed : {E : Type 0} (word : List ℕ) (n : ℕ) (r : Result ℕ E) → ParsesUnsigned 64 10 word r → r ≡ Ok n → begins_above_zero word ≡ true → n ≤ max_number → Some n ≡ number_of word
 parsed word n r parses ok above high =
     let first : 48 < get_or word 0 0 = ltb-true 48 (get_or word 0 0) above in
     let plain = rw ok at (parse_plain digits_model 64 word r parses (λ plus. absurd (omega (arith, first, plus)))) in

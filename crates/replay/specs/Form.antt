@@ -5,7 +5,7 @@ use Rattle.std.specs.List.{EachIndex}
 use Rattle.ocpp_scalars.specs.Ascii.{space}
 use Rattle.replay.specs.declared.script.form.LineWord.{LineWord}
 use Rattle.replay.specs.declared.script.form.LineWord.TheVariants.{Operator, Point, Hold}
-use Rattle.replay.specs.Limits.{max_request}
+use Rattle.site_core.specs.Limits.{max_number}
 
 pub data Form : Type 0 where
   -- `INSTANT operator ID FRAME`, `INSTANT point ID FRAME` and `INSTANT hold ID FRAME`
@@ -30,4 +30,4 @@ IsOfForm line (text_line instant word point frame) =
     × IsWord instant × IsWord point
 IsOfForm line (release_line instant number) =
     (line ≡ instant ++ (space ∷ (codes "release" ++ (space ∷ decimal number))))
-    × IsWord instant × (1 ≤ number) × (number ≤ max_request)
+    × IsWord instant × (1 ≤ number) × (number ≤ max_number)

@@ -10,7 +10,7 @@ use Rattle.replay.specs.declared.script.form.LineWord.{LineWord}
 use Rattle.replay.specs.declared.script.form.LineWord.TheVariants.{Operator, Point, Hold}
 use Rattle.replay.specs.declared.script.form.Words.{Words}
 use Rattle.replay.specs.declared.script.form.Words.TheVariants.{Text, Release}
-use Rattle.replay.specs.Limits.{max_request}
+use Rattle.site_core.specs.Limits.{max_number}
 use Rattle.replay.specs.Form.{Form, text_line, release_line}
 
 abbrev pub is_space : ℕ → Bool
@@ -33,7 +33,7 @@ word_named word =
 
 -- whether a number is one of a request, and a word is its decimal text
 abbrev pub is_number : List ℕ → ℕ → Bool
-is_number word n = bytes_eq word (decimal n) && (nat_lt 0 n && nat_le n max_request)
+is_number word n = bytes_eq word (decimal n) && (nat_lt 0 n && nat_le n max_number)
 
 -- the digits above 0 are above this byte, and a plus is below it
 abbrev pub begins_above_zero : List ℕ → Bool

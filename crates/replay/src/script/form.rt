@@ -3,8 +3,7 @@
 ghost use Rattle.std.specs.Prelude.{◌≡◌, option_map};
 ghost use Rattle.replay.specs.ByCases.Form.{word_at, word_named, begins_above_zero, number_of, words_view, form_of};
 
-/// The highest number of a request, and of a call.
-const MAX_REQUEST: u64 = 1_000_000_000_000;
+use site_core::MAX_NUMBER;
 
 /// Which line that brings a text it is, by its second word.
 #[derive(Clone, Copy, Debug, PartialEq, Eq)]
@@ -91,7 +90,7 @@ pub fn number_of(word: &str) -> Option<u64>
     let Ok(number) = word.parse::<u64>() else {
         return None;
     };
-    if number > MAX_REQUEST {
+    if number > MAX_NUMBER {
         return None;
     }
     Some(number)

@@ -14,12 +14,12 @@ returns-in_default c =
     let read = parse-decimal 64 n c.args.word.now c.parse.result (omega (arith, high)) (omega (arith, high)) is c.parse.ensures.value.0 in
     absurd (cc (read, c.in_default.is)))
 
-pub returns-then-number-gt-MAX_REQUEST : goal.returns-then-number-gt-MAX_REQUEST
-returns-then-number-gt-MAX_REQUEST c =
+pub returns-then-number-gt-MAX_NUMBER : goal.returns-then-number-gt-MAX_NUMBER
+returns-then-number-gt-MAX_NUMBER c =
     no_number c.args.word.now (λ n is low high.
     let read = parse-decimal 64 n c.args.word.now c.parse.result (omega (arith, high)) (omega (arith, high)) is c.parse.ensures.value.0 in
     let same : n ≡ c.in-Ok.number = cc (read, c.in-Ok.is) in
-    absurd (omega (arith, same, high, c.if-number-gt-MAX_REQUEST.true)))
+    absurd (omega (arith, same, high, c.if-number-gt-MAX_NUMBER.true)))
 
 pub returns : goal.returns
-returns c = parsed c.args.word.now c.in-Ok.number c.parse.result c.parse.ensures.value.0 c.in-Ok.is (sym c.begins_above_zero.ensures ∙ c.if-not-begins_above_zero.false) (omega (arith, c.if-number-gt-MAX_REQUEST.false))
+returns c = parsed c.args.word.now c.in-Ok.number c.parse.result c.parse.ensures.value.0 c.in-Ok.is (sym c.begins_above_zero.ensures ∙ c.if-not-begins_above_zero.false) (omega (arith, c.if-number-gt-MAX_NUMBER.false))
