@@ -35,10 +35,14 @@ enum Told {
     Compile(u64),
     Answer(u64),
     Finish,
+    Attach(&'static str),
+    Send(&'static str, u64),
+    Confirm(&'static str, u64, u64),
+    Lost(&'static str, u64),
 }
 
-/// What came of a step: what it is, and its number: of a transaction, a request, or the tenths of the first
-/// limit that is answered.
+/// What came of a step: what it is, and its number: of a transaction, a request, a link, a call, or the
+/// tenths of the first limit that is answered.
 type Outcomes = (&'static str, u64);
 
 fn site(alloc: Global) -> Result<Site, SiteFault> {
@@ -131,6 +135,20 @@ fn step(alloc: Global, told: Told) -> Result<Step, Fail> {
         Told::Compile(number) => Step::Compile(number),
         Told::Answer(number) => Step::Answer(number),
         Told::Finish => Step::Finish,
+        Told::Attach(point) => Step::Attach(PointId::copied(alloc, point)?),
+        Told::Send(point, link) => Step::Send {
+            point: PointId::copied(alloc, point)?,
+            link,
+        },
+        Told::Confirm(point, link, call) => Step::Confirm {
+            point: PointId::copied(alloc, point)?,
+            link,
+            call,
+        },
+        Told::Lost(point, link) => Step::Lost {
+            point: PointId::copied(alloc, point)?,
+            link,
+        },
     })
 }
 
@@ -153,6 +171,11 @@ fn reply_told(reply: &Reply) -> Outcomes {
         },
         Reply::NotYet => ("NotYet", 0),
         Reply::Finished => ("Finished", 0),
+        Reply::Attached(link) => ("Attached", *link),
+        Reply::Sent(call) => ("Sent", call.number),
+        Reply::Nothing => ("Nothing", 0),
+        Reply::Confirmed => ("Confirmed", 0),
+        Reply::LinkLost => ("LinkLost", 0),
     }
 }
 
@@ -332,4 +355,189 @@ fn as_many_requests_as_may_be_open(rt: HostRuntime) -> Result<(), Fail> {
         (Told::Take("CP1"), ("Taken", 65)),
     ];
     run(&rt, alloc, &mut machine, &steps)
+}
+
+/// A call goes out over the present link alone, and again until it is confirmed.
+#[test]
+fn a_call_is_sent_until_it_is_confirmed(rt: HostRuntime) -> Result<(), Fail> {
+    let alloc = rt.alloc();
+    let mut machine = Machine::new(alloc, site(alloc)?)?;
+    let steps = [
+        (Told::Send("CP1", 0), ("Superseded", 0)),
+        (Told::Attach("CP1"), ("Attached", 1)),
+        (Told::Attach("CP1"), ("Attached", 2)),
+        (Told::Send("CP1", 1), ("Superseded", 0)),
+        (Told::Send("CP1", 2), ("Sent", 0)),
+        (Told::Send("CP1", 2), ("Nothing", 0)),
+        (Told::Confirm("CP1", 1, 0), ("Superseded", 0)),
+        (Told::Lost("CP1", 1), ("Superseded", 0)),
+        (Told::Lost("CP1", 2), ("LinkLost", 0)),
+        (Told::Send("CP1", 2), ("Superseded", 0)),
+        (Told::Attach("CP1"), ("Attached", 3)),
+        (Told::Send("CP1", 3), ("Sent", 0)),
+        (Told::Confirm("CP1", 3, 1), ("NothingInFlight", 0)),
+        (Told::Confirm("CP1", 3, 0), ("Confirmed", 0)),
+        (Told::Confirm("CP1", 3, 0), ("NothingInFlight", 0)),
+        (Told::Send("CP1", 3), ("Nothing", 0)),
+        (Told::Attach("CP9"), ("UnknownPoint", 0)),
+        (Told::Send("CP9", 3), ("Superseded", 0)),
+    ];
+    run(&rt, alloc, &mut machine, &steps)
+}
+
+/// A call that is in flight over a link waits again once the point has a new one.
+#[test]
+fn a_new_link_sends_what_was_in_flight(rt: HostRuntime) -> Result<(), Fail> {
+    let alloc = rt.alloc();
+    let mut machine = Machine::new(alloc, site(alloc)?)?;
+    let steps = [
+        (Told::Install("CP2", 100), ("Accepted", 0)),
+        (Told::Attach("CP2"), ("Attached", 1)),
+        (Told::Send("CP2", 1), ("Sent", 0)),
+        (Told::Attach("CP2"), ("Attached", 2)),
+        (Told::Confirm("CP2", 2, 0), ("NothingInFlight", 0)),
+        (Told::Send("CP2", 2), ("Sent", 0)),
+        (Told::Start("CP2", 1), ("Started", 1)),
+        (Told::Confirm("CP2", 2, 0), ("Confirmed", 0)),
+        (Told::Send("CP2", 2), ("Sent", 1)),
+        (Told::Confirm("CP2", 2, 1), ("Confirmed", 0)),
+        (Told::Send("CP2", 2), ("Nothing", 0)),
+        (Told::Finish, ("Finished", 0)),
+        (Told::Send("CP2", 2), ("Stopped", 0)),
+        (Told::Attach("CP2"), ("Stopped", 0)),
+    ];
+    run(&rt, alloc, &mut machine, &steps)
+}
+
+/// As many calls wait as may be, call 0 among them. A start adds none.
+#[test]
+fn an_outbox_is_full_after_255_installs(rt: HostRuntime) -> Result<(), Fail> {
+    let alloc = rt.alloc();
+    let mut machine = Machine::new(alloc, site(alloc)?)?;
+    for _ in 0..255u8 {
+        let install = [(Told::Install("CP1", 100), ("Accepted", 0))];
+        run(&rt, alloc, &mut machine, &install)?;
+    }
+    let steps = [
+        (Told::Install("CP1", 70), ("OutboxFull", 0)),
+        (Told::Clear("CP1"), ("OutboxFull", 0)),
+        (Told::Start("CP1", 1), ("Started", 1)),
+        (Told::Install("CP2", 70), ("Accepted", 0)),
+        (Told::Clear("CP2"), ("Accepted", 0)),
+        (Told::Clear("CP2"), ("Unknown", 0)),
+        (Told::Attach("CP1"), ("Attached", 1)),
+        (Told::Send("CP1", 1), ("Sent", 0)),
+        (Told::Install("CP1", 70), ("OutboxFull", 0)),
+        (Told::Confirm("CP1", 1, 0), ("Confirmed", 0)),
+        (Told::Install("CP1", 70), ("Accepted", 0)),
+        (Told::Install("CP1", 80), ("OutboxFull", 0)),
+        (Told::Send("CP1", 1), ("Sent", 1)),
+    ];
+    run(&rt, alloc, &mut machine, &steps)?;
+    assert_eq!(rt; machine.version(), 259);
+    Ok(())
+}
+
+#[test]
+fn links_end(rt: HostRuntime) -> Result<(), Fail> {
+    let alloc = rt.alloc();
+    let one_left = Numbers {
+        version: 0,
+        request: 0,
+        transaction: 0,
+        link: MAX_NUMBER - 1,
+    };
+    let mut machine = Machine::new_at(alloc, site(alloc)?, one_left)?;
+    let steps = [
+        (Told::Attach("CP1"), ("Attached", MAX_NUMBER)),
+        (Told::Attach("CP1"), ("VersionsExhausted", 0)),
+        (Told::Attach("CP2"), ("VersionsExhausted", 0)),
+        (Told::Attach("CP9"), ("UnknownPoint", 0)),
+        (Told::Send("CP1", MAX_NUMBER), ("Sent", 0)),
+        (Told::Confirm("CP1", MAX_NUMBER, 0), ("Confirmed", 0)),
+        (Told::Lost("CP1", MAX_NUMBER), ("LinkLost", 0)),
+        (Told::Attach("CP1"), ("VersionsExhausted", 0)),
+    ];
+    run(&rt, alloc, &mut machine, &steps)
+}
+
+/// The reply to a step. Where memory is refused to it, nothing has changed, and the step that comes back is
+/// made again.
+fn made(rt: &impl Abort, machine: &mut Machine, step: Step) -> Result<Outcomes, Fail> {
+    let before = (machine.version(), machine.open_requests());
+    match machine.step(step) {
+        Ok(reply) => Ok(reply_told(&reply)),
+        Err(refused) => {
+            assert_eq!(rt; refused.refusal, Refusal::OutOfMemory);
+            assert_eq!(rt; (machine.version(), machine.open_requests()), before);
+            let again = machine.step(refused.step).ok().ok_or("no memory")?;
+            Ok(reply_told(&again))
+        }
+    }
+}
+
+/// Passes whichever allocation of a step is refused: what a refused step left shows in what comes of the
+/// same one once more.
+#[test]
+fn a_step_is_made_again_where_memory_was_refused(rt: HostRuntime) -> Result<(), Fail> {
+    let alloc = rt.alloc();
+    let mut machine = Machine::new(alloc, site(alloc)?)?;
+    let expected = [
+        (Told::Install("CP1", 100), ("Accepted", 0)),
+        (Told::Take("CP1"), ("Taken", 1)),
+        (Told::Install("CP1", 70), ("Accepted", 0)),
+        (Told::Start("CP1", 1), ("Started", 1)),
+        (Told::Take("CP1"), ("Taken", 2)),
+        (Told::Clear("CP1"), ("Accepted", 0)),
+        (Told::Stop("CP1", 1), ("Ended", 0)),
+        (Told::Attach("CP1"), ("Attached", 1)),
+        (Told::Send("CP1", 1), ("Sent", 0)),
+        (Told::Confirm("CP1", 1, 0), ("Confirmed", 0)),
+        (Told::Send("CP1", 1), ("Sent", 1)),
+        (Told::Lost("CP1", 1), ("LinkLost", 0)),
+    ];
+    let mut steps = Vec::new(alloc);
+    for (told, _) in &expected {
+        steps.push(step(alloc, *told)?)?;
+    }
+    for (step, (_, outcome)) in steps.into_iter().zip(expected.iter()) {
+        assert_eq!(rt; made(&rt, &mut machine, step)?, *outcome);
+    }
+    assert_eq!(rt; machine.version(), 5);
+    assert_eq!(rt; machine.open_requests(), 2);
+    Ok(())
+}
+
+/// Where memory is refused to a run, none of its steps was made; where it is refused to one of them, the
+/// others are made.
+#[test]
+fn a_run_goes_on_where_memory_was_refused(rt: HostRuntime) -> Result<(), Fail> {
+    let alloc = rt.alloc();
+    let mut machine = Machine::new(alloc, site(alloc)?)?;
+    let mut steps = Vec::new(alloc);
+    for _ in 0..4u8 {
+        steps.push(take(alloc, "CP1", 0)?)?;
+    }
+    let outcomes = match machine.run(steps) {
+        Ok(outcomes) => outcomes,
+        Err(fault) => {
+            assert_eq!(rt; (fault.steps.len(), machine.open_requests()), (4, 0));
+            machine.run(fault.steps).ok().ok_or("no memory")?
+        }
+    };
+    let mut taken = 0u64;
+    for outcome in outcomes {
+        match outcome {
+            Outcome::Done(reply) => {
+                taken += 1;
+                assert_eq!(rt; reply_told(&reply), ("Taken", taken));
+            }
+            Outcome::Refused(refused) => {
+                assert_eq!(rt; machine.open_requests(), 3);
+                assert_eq!(rt; made(&rt, &mut machine, refused.step)?, ("Taken", 4));
+            }
+        }
+    }
+    assert_eq!(rt; machine.open_requests(), 4);
+    Ok(())
 }
