@@ -94,8 +94,8 @@ impl PointBook {
     pub fn install_refusal(&self, row: &Row) -> Option<Refusal>
         ensures { result ≡ install_refusal self.now row.now }
     {
-        let active = self.transactions.active_on(row.connector);
-        if let Some(refusal) = transaction_refusal(active, &row.profile) {
+        let transaction = self.transactions.active_on(row.connector);
+        if let Some(refusal) = transaction_refusal(transaction, &row.profile) {
             return Some(refusal);
         }
         if self.rows.has_room(row) {

@@ -16,6 +16,8 @@ mod request;
 mod requests;
 mod shared_book;
 mod step;
+#[cfg(test)]
+mod tests;
 
 pub use headline::{
     answered_schedules_are_right, answers_are_right, answers_follow_one_take, answers_stay,

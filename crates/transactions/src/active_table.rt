@@ -92,8 +92,8 @@ impl ActiveTable {
     pub fn connector_of(&self, id: i32) -> Option<u32>
         ensures { result ≡ connector_of self.now id }
     {
-        let place = place_of(self.slots.as_slice(), id)?;
-        Some(place as u32 + 1)
+        let before = place_of(self.slots.as_slice(), id)?;
+        Some(before as u32 + 1)
     }
 
     fn put(&mut self, place: usize, slot: Option<Transaction>)

@@ -1,0 +1,117 @@
+//! The steps of requests for composite schedules, and the end.
+
+ghost use Rattle.std.specs.Prelude.{◌≡◌, ◌<◌, Some, IfOk, IfErr, MatchResult, length};
+ghost use Rattle.site_core.specs.declared.reply.Reply.{Reply};
+ghost use Rattle.site_core.specs.Step.{at_point, refusal_to_take, takes, Compiles, no_answer, compiles, answers, finishes, cause_of};
+ghost use Rattle.site_core.specs.ByCases.Made.{IsMade, IsNotMade};
+
+use crate::ask::ask_at;
+use crate::books::book_at;
+use crate::machine::Machine;
+use crate::numbers::MAX_NUMBER;
+use crate::reply::Reply;
+use crate::request::{MAX_REQUESTS, Request};
+use crate::requests::{compile_request, hand_out, stop_all};
+use crate::shared_book::SharedBook;
+use crate::step::Take;
+use meaning::Ask;
+use ocpp_scalars::Refusal;
+
+impl Machine {
+    /// Keeps a request for a schedule of a point.
+    pub(super) fn take(&mut self, take: &Take) -> Result<Reply, Refusal>
+        ensures made { IfOk result (λ reply.
+            IsMade (at_point self.old take.now.point (takes self.old take.now)) reply self.new) }
+        ensures refused { IfErr result (λ refusal. IsNotMade self.old
+            (at_point self.old take.now.point (takes self.old take.now)) refusal self.new) }
+    {
+        let place = self.place_at(&take.point)?;
+        self.take_at(place, take)
+    }
+
+    /// Why a request isn't kept, if memory lasts, though there is an ask.
+    fn refusal_to_take(&self, take: &Take) -> Option<Refusal>
+        ensures { result ≡ refusal_to_take self.now take.now }
+    {
+        if self.requests.len() >= MAX_REQUESTS {
+            return Some(Refusal::TooManyOpen);
+        }
+        if self.numbers.request == MAX_NUMBER {
+            return Some(Refusal::VersionsExhausted);
+        }
+        if take.seen > self.numbers.version {
+            return Some(Refusal::Behind {
+                seen: take.seen,
+                found: self.numbers.version,
+            });
+        }
+        None
+    }
+
+    /// Keeps a request for a schedule of the point at a place.
+    fn take_at(&mut self, place: usize, take: &Take) -> Result<Reply, Refusal>
+        requires { place < length self.old.books }
+        ensures { MatchResult result
+            (λ reply. IsMade (takes self.old take.now place) reply self.new)
+            (λ refusal. IsNotMade self.old (takes self.old take.now place) refusal self.new) }
+    {
+        let ask = ask_at(self.site.unit(), book_at(&self.books, place).book(), take)?;
+        if let Some(refusal) = self.refusal_to_take(take) {
+            return Err(refusal);
+        }
+        let book = book_at(&self.books, place);
+        let kept = book.share()?;
+        let told = book.share()?;
+        let number = self.numbers.request + 1;
+        let reply = taken(number, told, &ask);
+        self.requests.push(Request {
+            number,
+            place,
+            book: kept,
+            ask,
+            answer: None,
+        })?;
+        self.numbers.request = number;
+        Ok(reply)
+    }
+
+    /// Compiles the schedule of the request of a number.
+    pub(super) fn compile(&mut self, number: u64) -> Result<Reply, Refusal>
+        ensures made { IfOk result (λ reply. Compiles self.old number reply self.new) }
+        ensures refused { IfErr result (λ refusal.
+            (cause_of (compiles self.old number no_answer) ≡ Some refusal) × (self.new ≡ self.old)) }
+    {
+        compile_request(self.alloc, &mut self.requests, number)?;
+        Ok(Reply::Compiled)
+    }
+
+    /// Hands out the answer to the request of a number.
+    pub(super) fn answer(&mut self, number: u64) -> Result<Reply, Refusal>
+        ensures made { IfOk result (λ reply. IsMade (answers self.old number) reply self.new) }
+        ensures refused { IfErr result (λ refusal.
+            (cause_of (answers self.old number) ≡ Some refusal) × (self.new ≡ self.old)) }
+    {
+        hand_out(&mut self.requests, number)
+    }
+
+    /// Stops the central system.
+    pub(super) fn finish(&mut self) -> Reply
+        ensures { finishes self.old ≡ record { reply = result; after = self.new } }
+    {
+        if !self.is_stopped {
+            stop_all(&mut self.requests);
+            self.is_stopped = true;
+        }
+        Reply::Finished
+    }
+}
+
+fn taken(number: u64, book: SharedBook, ask: &Ask) -> Reply
+    ensures { result ≡ Reply.Taken number book ask.now }
+{
+    Reply::Taken {
+        number,
+        book,
+        ask: *ask,
+    }
+}

@@ -1,0 +1,335 @@
+//! Runs of steps with what comes of each, and steps at the last numbers.
+
+use crate::machine::Machine;
+use crate::numbers::{MAX_NUMBER, Numbers};
+use crate::outcome::Outcome;
+use crate::point_id::PointId;
+use crate::reply::Reply;
+use crate::step::{Step, Take};
+use ocpp_scalars::{IdTag, Instant, Refusal};
+use profile::{
+    Criteria, Period, PeriodList, Profile, ProfileKind, ProfileParts, Purpose, Row, ScheduleParts,
+    Unit,
+};
+use site_rules::{Site, SiteFault, read_site};
+use std::alloc::Global;
+use std::process::Abort;
+use std::test::Fail;
+use transactions::Begin;
+
+const SITE: &str =
+    r#"{"unit":"A","points":[{"id":"CP1","ceiling":32.0,"connectors":[16.0,16.0]},{"id":"CP2","ceiling":32.0,"connectors":[16.0]}]}"#;
+
+/// 2025-01-01T00:00:00Z.
+const MIDNIGHT: u64 = 1_735_689_600;
+
+/// A step in few words. A row is a TxDefaultProfile at connector 0 with one limit, and its id is the
+/// limit's number of tenths; an ask is of connector 1, for a minute from midnight on.
+#[derive(Clone, Copy)]
+enum Told {
+    Install(&'static str, u32),
+    Clear(&'static str),
+    Start(&'static str, u32),
+    Stop(&'static str, i32),
+    Take(&'static str),
+    Compile(u64),
+    Answer(u64),
+    Finish,
+}
+
+/// What came of a step: what it is, and its number: of a transaction, a request, or the tenths of the first
+/// limit that is answered.
+type Outcomes = (&'static str, u64);
+
+fn site(alloc: Global) -> Result<Site, SiteFault> {
+    read_site(alloc, SITE.as_bytes())
+}
+
+fn midnight() -> Result<Instant, Fail> {
+    Ok(Instant::try_new(MIDNIGHT).ok_or("past the last")?)
+}
+
+fn row(alloc: Global, limit: u32) -> Result<Row, Fail> {
+    let mut periods = Vec::new(alloc);
+    periods.push(Period {
+        start: 0,
+        limit,
+        number_phases: None,
+    })?;
+    let parts = ProfileParts {
+        id: i32::try_from(limit).ok().ok_or("too high a limit")?,
+        transaction: None,
+        stack_level: 0,
+        purpose: Purpose::TxDefaultProfile,
+        kind: ProfileKind::Absolute,
+        recurrency: None,
+        valid_from: None,
+        valid_to: None,
+        schedule: ScheduleParts {
+            duration: None,
+            start: None,
+            unit: Unit::A,
+            periods: PeriodList::try_new(periods).ok().ok_or("no period")?,
+            min_charging_rate: None,
+        },
+    };
+    match Profile::try_new(parts) {
+        Ok(profile) => Ok(Row {
+            connector: 0,
+            moment: midnight()?,
+            profile,
+        }),
+        Err((refusal, _)) => Err(refusal)?,
+    }
+}
+
+fn take(alloc: Global, point: &str, seen: u64) -> Result<Step, Fail> {
+    Ok(Step::Take(Take {
+        point: PointId::copied(alloc, point)?,
+        connector: 1,
+        start: midnight()?,
+        duration: 60,
+        unit: None,
+        seen,
+    }))
+}
+
+fn start(alloc: Global, point: &str, connector: u32) -> Result<Step, Fail> {
+    let id_tag = IdTag::try_new(String::from_str(alloc, "ann")?);
+    Ok(Step::Start {
+        point: PointId::copied(alloc, point)?,
+        connector,
+        begin: Begin {
+            id_tag: id_tag.ok().ok_or("too long a tag")?,
+            meter_start: 0,
+            timestamp: midnight()?,
+        },
+    })
+}
+
+fn step(alloc: Global, told: Told) -> Result<Step, Fail> {
+    Ok(match told {
+        Told::Install(point, limit) => Step::Install {
+            point: PointId::copied(alloc, point)?,
+            row: row(alloc, limit)?,
+        },
+        Told::Clear(point) => Step::Clear {
+            point: PointId::copied(alloc, point)?,
+            criteria: Criteria {
+                id: None,
+                connector: None,
+                purpose: None,
+                stack_level: None,
+            },
+        },
+        Told::Start(point, connector) => start(alloc, point, connector)?,
+        Told::Stop(point, transaction) => Step::Stop {
+            point: PointId::copied(alloc, point)?,
+            transaction,
+        },
+        Told::Take(point) => take(alloc, point, 0)?,
+        Told::Compile(number) => Step::Compile(number),
+        Told::Answer(number) => Step::Answer(number),
+        Told::Finish => Step::Finish,
+    })
+}
+
+fn reply_told(reply: &Reply) -> Outcomes {
+    match reply {
+        Reply::Accepted => ("Accepted", 0),
+        Reply::Unknown => ("Unknown", 0),
+        Reply::Started(number) => ("Started", u64::from(number.unsigned_abs())),
+        Reply::Repeated(number) => ("Repeated", u64::from(number.unsigned_abs())),
+        Reply::Ended => ("Ended", 0),
+        Reply::NoSuch => ("NoSuch", 0),
+        Reply::Taken { number, .. } => ("Taken", *number),
+        Reply::Compiled => ("Compiled", 0),
+        Reply::Answered { answer, .. } => match answer {
+            Ok(schedule) => match schedule.periods().first() {
+                Some(period) => ("limit", u64::from(period.limit)),
+                None => ("no limit", 0),
+            },
+            Err(refusal) => (refusal.name(), 1),
+        },
+        Reply::NotYet => ("NotYet", 0),
+        Reply::Finished => ("Finished", 0),
+    }
+}
+
+fn outcome_told(outcome: &Outcome) -> Outcomes {
+    match outcome {
+        Outcome::Done(reply) => reply_told(reply),
+        Outcome::Refused(refused) => (refused.refusal.name(), 0),
+    }
+}
+
+/// Runs steps, each with what has to come of it.
+fn run(
+    rt: &impl Abort,
+    alloc: Global,
+    machine: &mut Machine,
+    expected: &[(Told, Outcomes)],
+) -> Result<(), Fail> {
+    let mut steps = Vec::new(alloc);
+    for (told, _) in expected {
+        steps.push(step(alloc, *told)?)?;
+    }
+    let outcomes = machine.run(steps).ok().ok_or("no memory")?;
+    assert_eq!(rt; outcomes.len(), expected.len());
+    for (place, (_, outcome)) in expected.iter().enumerate() {
+        assert!(rt; place < outcomes.len());
+        assert_eq!(rt; outcome_told(&outcomes[place]), *outcome, "step {place}");
+    }
+    Ok(())
+}
+
+#[test]
+fn finishing_answers_stopped(rt: HostRuntime) -> Result<(), Fail> {
+    let alloc = rt.alloc();
+    let mut machine = Machine::new(alloc, site(alloc)?)?;
+    let steps = [
+        (Told::Take("CP1"), ("Taken", 1)),
+        (Told::Finish, ("Finished", 0)),
+        (Told::Answer(1), ("Stopped", 1)),
+        (Told::Install("CP1", 160), ("Stopped", 0)),
+        (Told::Take("CP9"), ("Stopped", 0)),
+        (Told::Answer(1), ("UnknownRequest", 0)),
+        (Told::Finish, ("Finished", 0)),
+    ];
+    run(&rt, alloc, &mut machine, &steps)
+}
+
+#[test]
+fn an_answer_is_given_once(rt: HostRuntime) -> Result<(), Fail> {
+    let alloc = rt.alloc();
+    let mut machine = Machine::new(alloc, site(alloc)?)?;
+    let steps = [
+        (Told::Take("CP1"), ("Taken", 1)),
+        (Told::Answer(1), ("NotYet", 0)),
+        (Told::Compile(1), ("Compiled", 0)),
+        (Told::Compile(1), ("AlreadyAnswered", 0)),
+        (Told::Compile(2), ("UnknownRequest", 0)),
+        (Told::Finish, ("Finished", 0)),
+        (Told::Answer(1), ("limit", 160)),
+        (Told::Answer(1), ("UnknownRequest", 0)),
+        (Told::Compile(1), ("UnknownRequest", 0)),
+    ];
+    run(&rt, alloc, &mut machine, &steps)
+}
+
+/// Each answer is of the book that its point had when it was asked, whatever the order of the answers.
+#[test]
+fn answers_are_of_their_books(rt: HostRuntime) -> Result<(), Fail> {
+    let alloc = rt.alloc();
+    let mut machine = Machine::new(alloc, site(alloc)?)?;
+    let steps = [
+        (Told::Install("CP1", 100), ("Accepted", 0)),
+        (Told::Take("CP1"), ("Taken", 1)),
+        (Told::Install("CP1", 70), ("Accepted", 0)),
+        (Told::Take("CP1"), ("Taken", 2)),
+        (Told::Take("CP2"), ("Taken", 3)),
+        (Told::Clear("CP2"), ("Unknown", 0)),
+        (Told::Clear("CP1"), ("Accepted", 0)),
+        (Told::Compile(2), ("Compiled", 0)),
+        (Told::Compile(3), ("Compiled", 0)),
+        (Told::Compile(1), ("Compiled", 0)),
+        (Told::Answer(3), ("limit", 160)),
+        (Told::Answer(2), ("limit", 70)),
+        (Told::Answer(1), ("limit", 100)),
+    ];
+    run(&rt, alloc, &mut machine, &steps)?;
+    assert_eq!(rt; machine.version(), 3);
+    assert_eq!(rt; machine.open_requests(), 0);
+    Ok(())
+}
+
+#[test]
+fn transactions_are_numbered_over_the_site(rt: HostRuntime) -> Result<(), Fail> {
+    let alloc = rt.alloc();
+    let mut machine = Machine::new(alloc, site(alloc)?)?;
+    let steps = [
+        (Told::Start("CP1", 1), ("Started", 1)),
+        (Told::Start("CP2", 1), ("Started", 2)),
+        (Told::Start("CP1", 1), ("Repeated", 1)),
+        (Told::Start("CP2", 2), ("UnknownConnector", 0)),
+        (Told::Start("CP2", 0), ("UnknownConnector", 0)),
+        (Told::Stop("CP1", 2), ("NoSuch", 0)),
+        (Told::Stop("CP2", 2), ("Ended", 0)),
+        (Told::Stop("CP2", 2), ("NoSuch", 0)),
+        (Told::Stop("CP9", 1), ("UnknownPoint", 0)),
+    ];
+    run(&rt, alloc, &mut machine, &steps)?;
+    assert_eq!(rt; machine.version(), 3);
+    Ok(())
+}
+
+#[test]
+fn numbers_end(rt: HostRuntime) -> Result<(), Fail> {
+    let alloc = rt.alloc();
+    let last_version = Numbers {
+        version: MAX_NUMBER,
+        request: 0,
+        transaction: 0,
+        link: 0,
+    };
+    let mut machine = Machine::new_at(alloc, site(alloc)?, last_version)?;
+    let steps = [
+        (Told::Install("CP1", 100), ("VersionsExhausted", 0)),
+        (Told::Start("CP1", 1), ("VersionsExhausted", 0)),
+        (Told::Stop("CP1", 1), ("NoSuch", 0)),
+        (Told::Clear("CP1"), ("Unknown", 0)),
+        (Told::Take("CP1"), ("Taken", 1)),
+        (Told::Compile(1), ("Compiled", 0)),
+        (Told::Answer(1), ("limit", 160)),
+    ];
+    run(&rt, alloc, &mut machine, &steps)?;
+    let last_transaction = Numbers {
+        version: 0,
+        request: MAX_NUMBER,
+        transaction: 2_147_483_647,
+        link: 0,
+    };
+    let mut machine = Machine::new_at(alloc, site(alloc)?, last_transaction)?;
+    let steps = [
+        (Told::Start("CP1", 1), ("TransactionsExhausted", 0)),
+        (Told::Take("CP1"), ("VersionsExhausted", 0)),
+        (Told::Install("CP1", 100), ("Accepted", 0)),
+    ];
+    run(&rt, alloc, &mut machine, &steps)
+}
+
+#[test]
+fn a_take_is_not_behind(rt: HostRuntime) -> Result<(), Fail> {
+    let alloc = rt.alloc();
+    let mut machine = Machine::new(alloc, site(alloc)?)?;
+    let refusal = machine.step(take(alloc, "CP1", 5)?).err();
+    let refusal = refusal.map(|refused| refused.refusal);
+    assert_eq!(rt; refusal, Some(Refusal::Behind { seen: 5, found: 0 }));
+    run(
+        &rt,
+        alloc,
+        &mut machine,
+        &[(Told::Take("CP1"), ("Taken", 1))],
+    )
+}
+
+/// Requests are counted until their answers are handed out.
+#[test]
+fn as_many_requests_as_may_be_open(rt: HostRuntime) -> Result<(), Fail> {
+    let alloc = rt.alloc();
+    let mut machine = Machine::new(alloc, site(alloc)?)?;
+    for number in 1..65u64 {
+        let steps = [
+            (Told::Take("CP1"), ("Taken", number)),
+            (Told::Compile(number), ("Compiled", 0)),
+        ];
+        run(&rt, alloc, &mut machine, &steps)?;
+    }
+    assert_eq!(rt; machine.open_requests(), 64);
+    let steps = [
+        (Told::Take("CP1"), ("TooManyOpen", 0)),
+        (Told::Answer(2), ("limit", 160)),
+        (Told::Take("CP1"), ("Taken", 65)),
+    ];
+    run(&rt, alloc, &mut machine, &steps)
+}
