@@ -1,4 +1,5 @@
 pub mod Sweeping
 pub mod NextChanges
-pub mod Limits
+pub mod ByLevel
+pub mod Gathered
 pub mod WorkedExamples

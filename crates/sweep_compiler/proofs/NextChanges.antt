@@ -1,28 +1,19 @@
 -- Next places of two things are a next place of what is made of both: of rows, of connectors, of the point.
-use Rattle.std.proofs.Common.{◌≡◌, ℕ, ◌+◌, ◌<◌, ◌≤◌, Bool, true, false, ◌||◌, List, [], ◌∷◌, ◌++◌, filter, cond, Option, Some, None, nat_lt, refl, ap, sym, subst, ◌∙◌, arith}
-use Rattle.std.specs.List.{list_any, filter_map, sum_by}
+use Rattle.std.proofs.Common.{◌≡◌, ℕ, ◌+◌, ◌<◌, ◌≤◌, Bool, true, false, ◌||◌, List, [], ◌∷◌, ◌++◌, length, take, drop, get_or, cond, Option, Some, None, is_some, nat_lt, refl, ap, sym, subst, ◌∙◌, arith}
+use Rattle.std.specs.List.{list_any, sum_by}
 use Rattle.std.proofs.Math.Bool.{or-false}
-use Rattle.std.proofs.lemmas.List.{append-nil}
-use Rattle.std.proofs.lemmas.List.Elements.{filter-append, filter_map-append}
+use Rattle.std.proofs.lemmas.List.{take_more, take-append-drop}
 use Rattle.std.proofs.lemmas.List.Folds.{list_any-append}
 use Rattle.std.proofs.lemmas.List.Sums.{sum_by_push}
 use Rattle.std.proofs.lemmas.Bool.Decides.{nat_tests}
+use Rattle.meaning.specs.Limit.{or_else}
 use Rattle.sweep_compiler.specs.ByCases.NextChange.{IsNextChange, sooner}
+use Rattle.sweep_compiler.specs.ByCases.Seen.{SeenRow, SeenConnector, limit_seen, is_place_seen, first_limit, own_limit_seen, is_place_looked}
+use Rattle.sweep_compiler.specs.ByCases.NextPlace.{IsNextSeen, IsNextOfFirst, IsNextLooked, IsNextOfAll}
 
 -- ---- what a next place is of
 
--- a value that is made of one that stays, stays
-pub change_map : {X Y : Type 0} (make : X → Y) (place : ℕ → Bool) (value : ℕ → X) (instant : ℕ) (next : Option ℕ)
-    → IsNextChange place value instant next → IsNextChange place (λ k. make (value k)) instant next
-change_map make place value instant None h = λ k from within. ap make (h k from within)
-change_map make place value instant (Some next) h = record {
-  later = h.later;
-  in_calendar = h.in_calendar;
-  is_place = h.is_place;
-  stays = λ k from below. ap make (h.stays k from below);
-}
-
--- the same of a test and a value that agree everywhere with the others
+-- tests and values that agree everywhere have one next place
 pub change_as : {X : Type 0} (place place' : ℕ → Bool) (value value' : ℕ → X) (instant : ℕ) (next : Option ℕ)
     → ((k : ℕ) → place k ≡ place' k) → ((k : ℕ) → value k ≡ value' k)
     → IsNextChange place value instant next → IsNextChange place' value' instant next
@@ -81,58 +72,79 @@ change_both make place place' value value' instant (Some next) (Some other) h h'
 
 -- ---- over a list, one element after the other
 
-filter_push : {X : Type 0} (test : X → Bool) (xs : List X) (x : X) → test x ≡ true → filter test (xs ++ x ∷ []) ≡ filter test xs ++ x ∷ []
-filter_push test xs x h = filter-append test xs (x ∷ []) ∙ ap (λ b. filter test xs ++ cond b (x ∷ []) []) h
-
-filter_skip : {X : Type 0} (test : X → Bool) (xs : List X) (x : X) → test x ≡ false → filter test (xs ++ x ∷ []) ≡ filter test xs
-filter_skip test xs x h = filter-append test xs (x ∷ []) ∙ (ap (λ b. filter test xs ++ cond b (x ∷ []) []) h ∙ append-nil (filter test xs))
+take_one : {X : Type 0} (i next : ℕ) (xs : List X) (x : X) → next ≡ i + 1 → i < length xs → x ≡ get_or xs i x → take next xs ≡ take i xs ++ x ∷ []
+take_one {X = X} i next xs x e below is = ap (λ (n : ℕ). take n xs) e ∙ (take_more xs i x below ∙ ap (λ (y : X). take i xs ++ y ∷ []) (sym is))
 
 any_push : {X : Type 0} (test : X → Bool) (xs : List X) (x : X) → (list_any test xs || test x) ≡ list_any test (xs ++ x ∷ [])
 any_push test xs x = sym (list_any-append test xs (x ∷ []) ∙ ap (λ b. list_any test xs || b) (or-false (test x)))
 
-one_of : {X Y : Type 0} (give : X → Option Y) (x : X) → filter_map (λ (y : Option Y). y) (give x ∷ []) ≡ filter_map give (x ∷ [])
-one_of {Y = Y} give x = go (give x)
+-- the first of rows that has a limit is that of some of them, or else of the others
+first_append : (instant : ℕ) (rows others : List SeenRow) → first_limit instant (rows ++ others) ≡ or_else (first_limit instant rows) (first_limit instant others)
+first_append instant [] others = refl
+first_append instant (x ∷ rows) others = go (limit_seen instant x) (first_append instant rows others)
   where
-    go : (next : Option Y) → filter_map (λ (y : Option Y). y) (next ∷ []) ≡ filter_map (λ (y : Option Y). y) (next ∷ [])
-    go next = refl
+    go : (limit : Option ℕ) → first_limit instant (rows ++ others) ≡ or_else (first_limit instant rows) (first_limit instant others)
+        → or_else limit (first_limit instant (rows ++ others)) ≡ or_else (or_else limit (first_limit instant rows)) (first_limit instant others)
+    go None h = h
+    go (Some limit) h = refl
 
-given_push : {X Y : Type 0} (give : X → Option Y) (xs : List X) (x : X) → filter_map give xs ++ filter_map (λ (y : Option Y). y) (give x ∷ []) ≡ filter_map give (xs ++ x ∷ [])
-given_push give xs x = ap (λ ys. filter_map give xs ++ ys) (one_of give x) ∙ sym (filter_map-append give xs (x ∷ []))
+pub first_more : (i more : ℕ) (rows : List SeenRow) (x : SeenRow) (instant : ℕ) (next other : Option ℕ) → more ≡ i + 1 → i < length rows → x ≡ get_or rows i x
+    → IsNextOfFirst (take i rows) instant next → IsNextSeen x instant other → IsNextOfFirst (take more rows) instant (sooner next other)
+first_more i more rows x instant next other e below is h here =
+    let both = change_both (λ (limit limit' : Option ℕ). or_else limit (or_else limit' None)) (λ k. list_any (is_place_seen k) (take i rows)) (λ k. is_place_seen k x)
+    (λ k. first_limit k (take i rows)) (λ k. limit_seen k x) instant next other h here in
+    subst (λ (xs : List SeenRow). IsNextOfFirst xs instant (sooner next other)) (sym (take_one i more rows x e below is))
+    (change_as _ _ _ _ instant (sooner next other) (λ k. any_push (is_place_seen k) (take i rows) x) (λ k. sym (first_append k (take i rows) (x ∷ []))) both)
 
--- what a next place of a list of elements is, each with its places and with what it may have
-abbrev pub IsNextOfGiven : {X Y : Type 0} → (ℕ → X → Bool) → (ℕ → X → Option Y) → List X → ℕ → Option ℕ → Type 0
-IsNextOfGiven place give xs instant next = IsNextChange (λ k. list_any (place k) xs) (λ k. filter_map (give k) xs) instant next
+some_first : (limit other : Option ℕ) → is_some limit ≡ true → or_else limit other ≡ limit
+some_first None other h = absurd (false_is_not_true h)
+  where
+    false_is_not_true : false ≡ true → ⊥
+    false_is_not_true e = cc
+some_first (Some limit) other h = refl
 
-pub given_more : {X Y : Type 0} (place : ℕ → X → Bool) (give : ℕ → X → Option Y) (test : X → Bool) (xs ys : List X) (x : X) (instant : ℕ) (next other : Option ℕ)
-    → ys ≡ xs ++ x ∷ [] → test x ≡ true
-    → IsNextOfGiven place give (filter test xs) instant next → IsNextChange (λ k. place k x) (λ k. give k x) instant other
-    → IsNextOfGiven place give (filter test ys) instant (sooner next other)
-given_more {X = X} {Y = Y} place give test xs ys x instant next other e passes h here =
-    let both = change_both (λ (zs : List Y) (y : Option Y). zs ++ filter_map (λ (y : Option Y). y) (y ∷ [])) (λ k. list_any (place k) (filter test xs)) (λ k. place k x) (λ k. filter_map (give k) (filter test xs)) (λ k. give k x) instant next other h here in
-    subst (λ (zs : List X). IsNextOfGiven place give zs instant (sooner next other)) (sym (ap (filter test) e ∙ filter_push test xs x passes))
-    (change_as _ _ _ _ instant (sooner next other) (λ k. any_push (place k) (filter test xs) x) (λ k. given_push (give k) (filter test xs) x) both)
+any_more : {X : Type 0} (test : X → Bool) (xs ys : List X) → list_any test xs ≡ true → list_any test (xs ++ ys) ≡ true
+any_more test xs ys h = list_any-append test xs ys ∙ or-first (list_any test xs) (list_any test ys) h
 
-pub given_skip : {X Y : Type 0} (place : ℕ → X → Bool) (give : ℕ → X → Option Y) (test : X → Bool) (xs ys : List X) (x : X) (instant : ℕ) (next : Option ℕ)
-    → ys ≡ xs ++ x ∷ [] → test x ≡ false
-    → IsNextOfGiven place give (filter test xs) instant next → IsNextOfGiven place give (filter test ys) instant next
-given_skip {X = X} place give test xs ys x instant next e fails h =
-    subst (λ (zs : List X). IsNextOfGiven place give zs instant next) (sym (ap (filter test) e ∙ filter_skip test xs x fails)) h
+-- a next place of the first rows, one of which has a limit, is one of all the rows
+first_stays : (rows others : List SeenRow) (instant : ℕ) (next : Option ℕ) → is_some (first_limit instant rows) ≡ true
+    → IsNextOfFirst rows instant next → IsNextOfFirst (rows ++ others) instant next
+first_stays rows others instant next has h = go next h
+  where
+    now : first_limit instant (rows ++ others) ≡ first_limit instant rows
+    now = first_append instant rows others ∙ some_first (first_limit instant rows) (first_limit instant others) has
 
--- the same of a sum
-abbrev pub IsNextOfSum : {X : Type 0} → (ℕ → X → Bool) → (ℕ → X → ℕ) → List X → ℕ → Option ℕ → Type 0
-IsNextOfSum place give xs instant next = IsNextChange (λ k. list_any (place k) xs) (λ k. sum_by (give k) xs) instant next
+    later : (k : ℕ) → first_limit k rows ≡ first_limit instant rows → first_limit k (rows ++ others) ≡ first_limit instant (rows ++ others)
+    later k e = first_append k rows others ∙ (some_first (first_limit k rows) (first_limit k others) (ap is_some e ∙ has) ∙ (e ∙ sym now))
 
-pub sum_more : {X : Type 0} (place : ℕ → X → Bool) (give : ℕ → X → ℕ) (test : X → Bool) (xs ys : List X) (x : X) (instant : ℕ) (next other : Option ℕ)
-    → ys ≡ xs ++ x ∷ [] → test x ≡ true
-    → IsNextOfSum place give (filter test xs) instant next → IsNextChange (λ k. place k x) (λ k. give k x) instant other
-    → IsNextOfSum place give (filter test ys) instant (sooner next other)
-sum_more {X = X} place give test xs ys x instant next other e passes h here =
-    let both = change_both (λ (sum : ℕ) (n : ℕ). sum + n) (λ k. list_any (place k) (filter test xs)) (λ k. place k x) (λ k. sum_by (give k) (filter test xs)) (λ k. give k x) instant next other h here in
-    subst (λ (zs : List X). IsNextOfSum place give zs instant (sooner next other)) (sym (ap (filter test) e ∙ filter_push test xs x passes))
-    (change_as _ _ _ _ instant (sooner next other) (λ k. any_push (place k) (filter test xs) x) (λ k. sym (sum_by_push (give k) (filter test xs) x)) both)
+    go : (next : Option ℕ) → IsNextOfFirst rows instant next → IsNextOfFirst (rows ++ others) instant next
+    go None h = λ k from within. later k (h k from within)
+    go (Some next) h = record {
+      later = h.later;
+      in_calendar = h.in_calendar;
+      is_place = any_more (is_place_seen next) rows others h.is_place;
+      stays = λ k from below. later k (h.stays k from below);
+    }
 
-pub sum_skip : {X : Type 0} (place : ℕ → X → Bool) (give : ℕ → X → ℕ) (test : X → Bool) (xs ys : List X) (x : X) (instant : ℕ) (next : Option ℕ)
-    → ys ≡ xs ++ x ∷ [] → test x ≡ false
-    → IsNextOfSum place give (filter test xs) instant next → IsNextOfSum place give (filter test ys) instant next
-sum_skip {X = X} place give test xs ys x instant next e fails h =
-    subst (λ (zs : List X). IsNextOfSum place give zs instant next) (sym (ap (filter test) e ∙ filter_skip test xs x fails)) h
+or_else_some : (limit other : Option ℕ) → is_some other ≡ true → is_some (or_else limit (or_else other None)) ≡ true
+or_else_some None None h = h
+or_else_some None (Some other) h = refl
+or_else_some (Some limit) other h = refl
+
+pub first_stops : (i more : ℕ) (rows : List SeenRow) (x : SeenRow) (instant : ℕ) (next other : Option ℕ) → more ≡ i + 1 → i < length rows → x ≡ get_or rows i x
+    → is_some (limit_seen instant x) ≡ true
+    → IsNextOfFirst (take i rows) instant next → IsNextSeen x instant other → IsNextOfFirst rows instant (sooner next other)
+first_stops i more rows x instant next other e below is some h here =
+    let has : is_some (first_limit instant (take more rows)) ≡ true =
+    ap (λ (xs : List SeenRow). is_some (first_limit instant xs)) (take_one i more rows x e below is)
+    ∙ (ap is_some (first_append instant (take i rows) (x ∷ [])) ∙ or_else_some (first_limit instant (take i rows)) (limit_seen instant x) some) in
+    subst (λ (xs : List SeenRow). IsNextOfFirst xs instant (sooner next other)) (take-append-drop more rows)
+    (first_stays (take more rows) (drop more rows) instant (sooner next other) has (first_more i more rows x instant next other e below is h here))
+
+pub all_more : (i more : ℕ) (looked : List SeenConnector) (x : SeenConnector) (instant : ℕ) (next other : Option ℕ) → more ≡ i + 1 → i < length looked → x ≡ get_or looked i x
+    → IsNextOfAll (take i looked) instant next → IsNextLooked x instant other → IsNextOfAll (take more looked) instant (sooner next other)
+all_more i more looked x instant next other e below is h here =
+    let both = change_both (λ (sum n : ℕ). sum + n) (λ k. list_any (is_place_looked k) (take i looked)) (λ k. is_place_looked k x)
+    (λ k. sum_by (own_limit_seen k) (take i looked)) (λ k. own_limit_seen k x) instant next other h here in
+    subst (λ (xs : List SeenConnector). IsNextOfAll xs instant (sooner next other)) (sym (take_one i more looked x e below is))
+    (change_as _ _ _ _ instant (sooner next other) (λ k. any_push (is_place_looked k) (take i looked) x) (λ k. sym (sum_by_push (own_limit_seen k) (take i looked) x)) both)

@@ -1,3 +1,4 @@
 pub mod Curve
 pub mod NextChange
+pub mod Seen
 pub mod NextPlace

@@ -6,6 +6,8 @@ ghost use Rattle.meaning.specs.Compiled.{IsCompiled};
 ghost use Rattle.point_book.specs.Book.{state_of};
 ghost use Rattle.sweep_compiler.specs.Places.{places};
 
+use crate::asked::AskedLimit;
+use crate::gatherer::Gatherer;
 use crate::limit_curve::LimitCurve;
 use crate::sweep::sweep_along;
 use crate::turns::Turns;
@@ -14,9 +16,11 @@ use ocpp_scalars::Refusal;
 use point_book::PointBook;
 use std::alloc::Global;
 
-/// The exact schedule of an ask (chapter 5.7). Its limit is evaluated once for the start, and at most
-/// once for each place after it, however long the ask is. The refusals are `ResultTooLong`, where
-/// the schedule has more than `MAX_COMPOSITE_PERIODS` periods, and `OutOfMemory`.
+/// The exact schedule of an ask (chapter 5.7). Its limit is evaluated once for the start, and at
+/// most once for each place after it, however long the ask is. The rows that count are gathered
+/// first, in memory that grows with them and with the connectors looked at, and not with the
+/// duration. The refusals are `ResultTooLong`, where the schedule has more than
+/// `MAX_COMPOSITE_PERIODS` periods, and `OutOfMemory`.
 pub fn compile(
     alloc: Global,
     book: &PointBook,
@@ -30,8 +34,14 @@ pub fn compile(
     ensures bound { turns.new ≤ turns.old + (1 + places book.now ask.now) }
     ensures each { IfOk result (λ schedule. turns.old + length schedule.periods ≤ turns.new) }
 {
-    let mut curve = LimitCurve {
+    let gatherer = Gatherer {
+        alloc,
         view: book.view(),
+        asked: ask.start,
+    };
+    let limit = AskedLimit::gathered(&gatherer, ask.connector)?;
+    let mut curve = LimitCurve {
+        limit,
         ask: *ask,
         second: 0,
     };

@@ -3,10 +3,15 @@
 //! else. What a place is stands in `specs/Places.antt`.
 #![tactic(auto)]
 
+mod asked;
 mod compiler;
 mod curve;
+mod falling;
+mod gatherer;
 mod limit_curve;
-mod place_finder;
+mod looked;
+mod seen;
+mod sooner;
 mod sweep;
 mod turns;
 

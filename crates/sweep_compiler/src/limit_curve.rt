@@ -1,23 +1,22 @@
 //! The limit of a connector along the seconds of an ask.
 
-ghost use Rattle.std.specs.Prelude.{◌≡◌, ℕ, ◌+◌, ◌<◌, ◌≤◌, length};
-ghost use Rattle.meaning.specs.View.{point_state};
+ghost use Rattle.std.specs.Prelude.{◌≡◌, ℕ, ◌+◌, ◌<◌};
 ghost use Rattle.meaning.specs.Limit.{limit_asked};
 ghost use Rattle.sweep_compiler.specs.Places.{is_second_asked};
 
+use crate::asked::AskedLimit;
 use crate::curve::Curve;
-use crate::place_finder::PlaceFinder;
-use crate::turns::{Moment, Turns};
-use meaning::{Ask, View};
+use crate::turns::Turns;
+use meaning::Ask;
 use ocpp_scalars::Instant;
 
 /// The limit that is asked, and the second at which a sweep along it stands.
-#[derive(Clone, Copy)]
+#[derive(Drop)]
 pub(crate) struct LimitCurve<'a> {
-    pub view: View<'a>,
+    pub limit: AskedLimit<'a>,
     pub ask: Ask,
     pub second: u32,
-    pub ghost has_connector: { ask.connector ≤ length view.ceilings.now },
+    pub ghost asked: { limit.asked ≡ ask.start },
     pub ghost within: { second < ask.duration },
 }
 
@@ -32,30 +31,22 @@ impl LimitCurve<'_> {
 
 impl Curve for LimitCurve<'_> {
     ghost limits = { λ curve.
-        limit_asked (point_state curve.view) curve.ask.connector curve.ask.start };
+        limit_asked curve.limit.state curve.limit.connector curve.limit.asked };
 
     ghost is_place = { λ curve.
-        is_second_asked (point_state curve.view) curve.ask.connector curve.ask.start };
+        is_second_asked curve.limit.state curve.limit.connector curve.limit.asked };
 
     ghost end = { λ curve. curve.ask.duration };
 
     ghost here = { λ curve. curve.second };
 
     fn limit(&self, turns: &mut Turns) -> u32 {
-        let moment = Moment {
-            connector: self.ask.connector,
-            asked: self.ask.start,
-            instant: self.instant(),
-        };
-        turns.limit_at(&self.view, moment)
+        turns.limit_at(&self.limit, self.instant())
     }
 
     fn go_on(&mut self) -> Option<u32> {
-        let finder = PlaceFinder {
-            view: self.view,
-            asked: self.ask.start,
-        };
-        let next = finder.next(self.ask.connector, self.instant())?;
+        let here = self.instant();
+        let next = self.limit.next_after(here)?;
         let second = next.seconds() - self.ask.start.seconds();
         if second >= u64::from(self.ask.duration) {
             return None;

@@ -257,6 +257,26 @@ fn begin(alloc: Global, book: &mut PointBook) -> Option<()> {
 }
 
 #[test]
+fn goes_down_the_most_levels(rt: HostRuntime) -> Result<(), Fail> {
+    let alloc = rt.alloc();
+    let mut book = point(alloc).ok_or("no memory")?;
+    assert!(rt; begin(alloc, &mut book).is_some());
+    for level in 0..100 {
+        let told = RowTold {
+            valid_to: Some(60 * (100 - level)),
+            ..told(level as i32, level, ProfileKind::Recurring, 0)
+        };
+        let periods = period_list(alloc, &[(0, 60 + level)]);
+        assert!(rt; install(&mut book, told, periods).is_some());
+    }
+    for connector in 0..3 {
+        let minutes = counts(alloc, &book, asked(connector, 0, 6_000));
+        assert_eq!(rt; minutes, Some((Ok(100), 100)));
+    }
+    Ok(())
+}
+
+#[test]
 fn answers_as_the_plain_compiler(rt: HostRuntime) -> Result<(), Fail> {
     let alloc = rt.alloc();
     let mut book = point(alloc).ok_or("no memory")?;

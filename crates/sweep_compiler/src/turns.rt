@@ -1,15 +1,14 @@
 //! How often a limit was evaluated.
 
-ghost use Rattle.std.specs.Prelude.{◌≡◌, ℕ, ◌+◌, ◌<◌, ◌≤◌, ◌^◌, length};
-ghost use Rattle.meaning.specs.View.{point_state};
+ghost use Rattle.std.specs.Prelude.{◌≡◌, ℕ, ◌+◌, ◌<◌, ◌^◌};
 ghost use Rattle.meaning.specs.Limit.{limit};
 
-use meaning::{View, limit_at};
+use crate::asked::AskedLimit;
 use ocpp_scalars::Instant;
 use std::marker::Model;
 
-/// How often a limit was evaluated: each call of `limit_at` by a compiler is a turn. Only the call
-/// itself counts one.
+/// How often a limit was evaluated: each call of `limit_at` is a turn. Only the call itself
+/// counts one.
 #[derive(Debug, Drop)]
 pub struct Turns {
     count: u64,
@@ -21,14 +20,6 @@ impl Model for Turns {
     ghost Value = { ℕ };
 
     ghost view = { λ t. t.count };
-}
-
-/// Where and when a limit is evaluated, in a schedule asked from `asked` on.
-#[derive(Clone, Copy, Debug)]
-pub(crate) struct Moment {
-    pub connector: u32,
-    pub asked: Instant,
-    pub instant: Instant,
 }
 
 impl Turns {
@@ -46,15 +37,13 @@ impl Turns {
         self.count
     }
 
-    /// The limit at a moment, in tenths, which is one turn.
-    pub(crate) fn limit_at(&mut self, view: &View<'_>, moment: Moment) -> u32
-        requires has_connector { moment.connector ≤ length view.now.ceilings.now }
+    /// The limit that is asked, at an instant and in tenths, which is one turn.
+    pub(crate) fn limit_at(&mut self, asked: &AskedLimit<'_>, instant: Instant) -> u32
         requires room { self.old + 1 < 2 ^ 64 }
-        ensures limit { result ≡ limit (point_state view.now) moment.connector moment.asked
-            moment.instant }
+        ensures limit { result ≡ limit asked.now.state asked.now.connector asked.now.asked instant }
         ensures turn { self.new ≡ self.old + 1 }
     {
         self.count += 1;
-        limit_at(view, moment.connector, moment.asked, moment.instant)
+        asked.at(instant)
     }
 }

@@ -1,40 +1,40 @@
--- Of private clauses: next places after an instant, of rows, connectors and the whole point. To each there is
+-- Of private clauses: next places after an instant, of rows, connectors and what is asked. To each there is
 -- what stays as it is up to it.
-use Rattle.std.specs.Prelude.{ℕ, Option}
-use Rattle.std.specs.List.{list_any}
-use Rattle.profile.specs.declared.purpose.Purpose.{Purpose}
-use Rattle.profile.specs.declared.row.Row.{Row}
-use Rattle.meaning.specs.View.{PointState}
-use Rattle.meaning.specs.Prevailing.{prevailing, level_and_limit}
-use Rattle.meaning.specs.Limit.{active_connectors, own_limit, shared_limit, limit}
-use Rattle.sweep_compiler.specs.Places.{is_place_of, is_place_for, is_place_at, is_place_asked}
+use Rattle.std.specs.Prelude.{◌≡◌, ℕ, nat_le, nat_lt, Bool, ◌&&◌, List, Option, Some, None}
+use Rattle.std.specs.List.{list_any, sum_by}
+use Rattle.meaning.specs.Limit.{limit}
+use Rattle.sweep_compiler.specs.Places.{is_place_asked}
 use Rattle.sweep_compiler.specs.ByCases.NextChange.{IsNextChange}
+use Rattle.sweep_compiler.specs.ByCases.Seen.{SeenRow, SeenConnector, LimitAsked, limit_seen, is_place_seen, first_limit, own_limit_seen, is_place_looked}
 
--- of a row, seen from a connector
-abbrev pub IsNextOf : Row → PointState → ℕ → ℕ → ℕ → Option ℕ → Type 0
-IsNextOf row state connector asked instant next =
-    IsNextChange
-    (λ k. is_place_of state connector asked k row)
-    (λ k. level_and_limit state connector asked k row) instant next
+-- of a row
+abbrev pub IsNextSeen : SeenRow → ℕ → Option ℕ → Type 0
+IsNextSeen seen instant next = IsNextChange (λ k. is_place_seen k seen) (λ k. limit_seen k seen) instant next
 
--- of the rows that count for a connector among the profiles of a purpose
-abbrev pub IsNextFor : Purpose → PointState → ℕ → ℕ → ℕ → Option ℕ → Type 0
-IsNextFor purpose state connector asked instant next =
-    IsNextChange (is_place_for purpose state connector asked) (prevailing purpose state connector asked) instant next
+-- whether an instant lies from another on and before a third, where that is there
+abbrev pub is_within : ℕ → Option ℕ → ℕ → Bool
+is_within since None instant = nat_le since instant
+is_within since (Some until) instant = nat_le since instant && nat_lt instant until
 
--- of the profiles that set a connector's own limit
-abbrev pub IsNextAt : PointState → ℕ → ℕ → ℕ → Option ℕ → Type 0
-IsNextAt state connector asked instant next =
-    IsNextChange (is_place_at state connector asked) (own_limit state connector asked) instant next
+-- that a row has a limit from an instant on and up to its next place
+pub record IsLimitSince (seen : SeenRow) (since : ℕ) (until limit : Option ℕ) : Type 0 where
+  pub next : IsNextSeen seen since until
+  pub has : limit ≡ limit_seen since seen
 
--- of the connectors with an active transaction
-abbrev pub IsNextOfActive : PointState → ℕ → ℕ → Option ℕ → Type 0
-IsNextOfActive state asked instant next =
-    IsNextChange
-    (λ k. list_any (λ active. is_place_at state active asked k) (active_connectors state))
-    (shared_limit state asked) instant next
+-- of the first of the rows that has a limit
+abbrev pub IsNextOfFirst : List SeenRow → ℕ → Option ℕ → Type 0
+IsNextOfFirst rows instant next = IsNextChange (λ k. list_any (is_place_seen k) rows) (λ k. first_limit k rows) instant next
 
--- of what is asked for a connector, 0 being the whole point
-abbrev pub IsNextAsked : PointState → ℕ → ℕ → ℕ → Option ℕ → Type 0
-IsNextAsked state connector asked instant next =
-    IsNextChange (is_place_asked state connector asked) (limit state connector asked) instant next
+-- of a connector's own limit
+abbrev pub IsNextLooked : SeenConnector → ℕ → Option ℕ → Type 0
+IsNextLooked seen instant next = IsNextChange (λ k. is_place_looked k seen) (λ k. own_limit_seen k seen) instant next
+
+-- of what connectors may draw together
+abbrev pub IsNextOfAll : List SeenConnector → ℕ → Option ℕ → Type 0
+IsNextOfAll looked instant next =
+    IsNextChange (λ k. list_any (is_place_looked k) looked) (λ k. sum_by (own_limit_seen k) looked) instant next
+
+-- of what is asked
+abbrev pub IsNextAsked : LimitAsked → ℕ → Option ℕ → Type 0
+IsNextAsked of instant next =
+    IsNextChange (is_place_asked of.state of.connector of.asked) (limit of.state of.connector of.asked) instant next

@@ -1,0 +1,115 @@
+//! The limit that is asked.
+
+ghost use Rattle.std.specs.Prelude.{◌≡◌, ◌≤◌, length, min, IfOk};
+ghost use Rattle.std.specs.List.{sum_by};
+ghost use Rattle.meaning.specs.View.{point_state};
+ghost use Rattle.meaning.specs.Limit.{limit};
+ghost use Rattle.sweep_compiler.specs.ByCases.Seen.{own_limit_seen};
+ghost use Rattle.sweep_compiler.specs.ByCases.NextPlace.{IsNextAsked, IsNextOfAll};
+
+use crate::falling::{first_limit, next_after};
+use crate::gatherer::Gatherer;
+use crate::looked::{Looked, at_most};
+use crate::seen::Seen;
+use crate::sooner::sooner;
+use meaning::View;
+use ocpp_scalars::Instant;
+use profile::Purpose;
+use std::alloc::AllocError;
+use std::marker::Model;
+
+/// The limit of a connector, 0 being the whole point, in a schedule asked from an instant on: the
+/// rows that count for it, gathered.
+#[derive(Drop)]
+pub(crate) struct AskedLimit<'a> {
+    view: View<'a>,
+    connector: u32,
+    asked: Instant,
+    /// The ChargePointMaxProfiles, by falling stack level.
+    most: Vec<Seen<'a>>,
+    looked: Vec<Looked<'a>>,
+}
+
+impl<'a> Model for AskedLimit<'a> {
+    ghost use Rattle.meaning.specs.View.{point_state};
+    ghost use Rattle.sweep_compiler.specs.ByCases.Seen.{LimitAsked, AreGathered};
+
+    ghost Value = { LimitAsked };
+
+    ghost view = { λ a. record {
+      state = point_state a.view;
+      connector = a.connector;
+      asked = a.asked;
+    } };
+
+    ghost invariant = { λ a.
+        AreGathered (point_state a.view) a.connector a.asked a.most.items a.looked.items };
+}
+
+impl<'a> AskedLimit<'a> {
+    /// The limit of a connector, gathered.
+    pub(crate) fn gathered(
+        gatherer: &Gatherer<'a>,
+        connector: u32,
+    ) -> Result<AskedLimit<'a>, AllocError>
+        requires has_connector { connector ≤ length gatherer.now.view.ceilings.now }
+        ensures { IfOk result (λ limit. limit ≡ record {
+          state = point_state gatherer.now.view;
+          connector = connector;
+          asked = gatherer.now.asked;
+        }) }
+    {
+        let most = gatherer.rows(Purpose::ChargePointMaxProfile, 0)?;
+        let looked = gatherer.connectors(connector)?;
+        Ok(AskedLimit {
+            view: gatherer.view,
+            connector,
+            asked: gatherer.asked,
+            most,
+            looked,
+        })
+    }
+
+    /// The limit at an instant, in tenths.
+    pub(crate) fn at(&self, instant: Instant) -> u32
+        ensures { result ≡ limit self.now.state self.now.connector self.now.asked instant }
+    {
+        let most = at_most(
+            self.view.ceiling,
+            first_limit(self.most.as_slice(), instant),
+        );
+        most.min(sum_of(self.looked.as_slice(), instant))
+    }
+
+    /// Its next place after an instant.
+    pub(crate) fn next_after(&mut self, instant: Instant) -> Option<Instant>
+        ensures same { self.new ≡ self.old }
+        ensures next { IsNextAsked self.old instant result }
+    {
+        let most = next_after(self.most.as_mut_slice(), instant);
+        sooner(most, next_of_all(self.looked.as_mut_slice(), instant))
+    }
+}
+
+/// What connectors may draw together at an instant, or the most that there is where that is less.
+fn sum_of(looked: &[Looked<'_>], instant: Instant) -> u32
+    ensures { result ≡ min (sum_by (own_limit_seen instant) looked.now) 4294967295 }
+{
+    let mut sum: u32 = 0;
+    for connector in looked {
+        sum = sum.saturating_add(connector.limit(instant));
+    }
+    sum
+}
+
+/// The next place of any of some connectors after an instant.
+fn next_of_all(looked: &mut [Looked<'_>], instant: Instant) -> Option<Instant>
+    ensures same { looked.new ≡ looked.old }
+    ensures next { IsNextOfAll looked.old instant result }
+{
+    let mut soonest = None;
+    for place in 0..looked.len() {
+        soonest = sooner(soonest, looked[place].next_after(instant));
+    }
+    soonest
+}

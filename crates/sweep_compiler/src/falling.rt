@@ -1,0 +1,60 @@
+//! Rows by falling stack level: the first that has a limit prevails.
+
+ghost use Rattle.std.specs.Prelude.{◌≡◌, IfOk};
+ghost use Rattle.sweep_compiler.specs.ByCases.Seen.{first_limit, inserted, place_of};
+ghost use Rattle.sweep_compiler.specs.ByCases.NextPlace.{IsNextOfFirst};
+
+use crate::seen::Seen;
+use crate::sooner::sooner;
+use ocpp_scalars::Instant;
+use std::alloc::AllocError;
+
+/// The limit of the first of the rows that has one at an instant.
+pub(crate) fn first_limit(rows: &[Seen<'_>], instant: Instant) -> Option<u32>
+    ensures { result ≡ first_limit instant rows.now }
+{
+    for seen in rows {
+        let limit = seen.limit(instant);
+        if limit.is_some() {
+            return limit;
+        }
+    }
+    None
+}
+
+/// The next place of the rows down to the first that has a limit at an instant: up to there no
+/// lower one prevails.
+pub(crate) fn next_after(rows: &mut [Seen<'_>], instant: Instant) -> Option<Instant>
+    ensures same { rows.new ≡ rows.old }
+    ensures next { IsNextOfFirst rows.old instant result }
+{
+    let mut soonest = None;
+    for place in 0..rows.len() {
+        soonest = sooner(soonest, rows[place].next_after(instant));
+        if rows[place].limit(instant).is_some() {
+            return soonest;
+        }
+    }
+    soonest
+}
+
+/// Puts a row behind those of its level and above.
+pub(crate) fn insert<'a>(rows: &mut Vec<Seen<'a>>, seen: Seen<'a>) -> Result<(), AllocError>
+    ensures { IfOk result (λ _. rows.new.items ≡ inserted seen.entry rows.old.items) }
+{
+    let place = place_of(rows.as_slice(), seen.level());
+    rows.insert(place, seen)?;
+    Ok(())
+}
+
+/// How many rows stand before the first of a lower level.
+fn place_of(rows: &[Seen<'_>], level: u32) -> usize
+    ensures { result ≡ place_of level rows.now }
+{
+    for place in 0..rows.len() {
+        if rows[place].level() < level {
+            return place;
+        }
+    }
+    rows.len()
+}
