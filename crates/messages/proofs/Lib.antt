@@ -1,3 +1,4 @@
 pub mod FirstFaults
 pub mod PeriodsRead
 pub mod TextPieces
+pub mod FieldsText

@@ -2,7 +2,7 @@
 use Rattle.std.proofs.Common.{◌≡◌, ℕ, List, ◌++◌, ap, ◌∙◌, append_assoc}
 
 -- A text with a piece more is appended as one.
-appended : (old text before piece after : List ℕ) → before ≡ old ++ text → after ≡ before ++ piece → after ≡ old ++ (text ++ piece)
+pub appended : (old text before piece after : List ℕ) → before ≡ old ++ text → after ≡ before ++ piece → after ≡ old ++ (text ++ piece)
 appended old text before piece after p q = q ∙ ap (λ (l : List ℕ). l ++ piece) p ∙ append_assoc old text piece
 
 pub three_pieces : (old a b c s t u : List ℕ) → s ≡ old ++ a → t ≡ s ++ b → u ≡ t ++ c → u ≡ old ++ (a ++ b ++ c)

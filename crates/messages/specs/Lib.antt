@@ -8,3 +8,6 @@ pub mod PointActions
 pub mod Action
 pub mod FieldFaults
 pub mod ResponseText
+pub mod ObjectText
+pub mod CallText
+pub mod ByCases

@@ -4,10 +4,14 @@
 
 mod action;
 mod action_kind;
+mod call;
 mod call_fault;
+mod call_text;
 mod field_name;
+mod field_value;
 mod fields;
 mod laws;
+mod object_text;
 mod operator_actions;
 mod point_actions;
 mod profile_fields;
@@ -17,7 +21,9 @@ mod side;
 
 pub use action::{Action, ScheduleRequest, StartTransaction, read_action, read_fields};
 pub use action_kind::ActionKind;
+pub use call::{Call, CallBody};
 pub use call_fault::CallFault;
+pub use call_text::push_call;
 pub use field_name::FieldName;
 pub use laws::first_faults;
 pub use response::{Response, ScheduleResponse};

@@ -205,7 +205,7 @@ fn push_schedule(out: &mut String, unit: Unit, schedule: &Composite) -> Result<(
     Ok(())
 }
 
-fn unit_name(unit: Unit) -> &'static str
+pub(crate) fn unit_name(unit: Unit) -> &'static str
     ensures { result.now ≡ unit_text unit }
 {
     match unit {

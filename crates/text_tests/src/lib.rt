@@ -3,6 +3,8 @@
 #![tactic(auto)]
 
 #[cfg(test)]
+mod call_texts;
+#[cfg(test)]
 mod frame_texts;
 #[cfg(test)]
 mod message_texts;

@@ -1,0 +1,51 @@
+-- An object's fields that are written in two parts.
+use Rattle.std.proofs.Common.{◌≡◌, ℕ, List, [], ◌∷◌, ◌++◌, ap, sym, ◌∙◌, append-nil, append_assoc, Option, Some, None, codes, refl}
+use Rattle.std.specs.List.{filter_map}
+use Rattle.messages.specs.ObjectText.{field_text, fields_text, later_texts, object_text, present, string_text}
+use Rattle.messages.specs.ByCases.ObjectText.{later_fields_text}
+use Rattle.messages.proofs.TextPieces.{appended}
+
+later-append : (fields more : List (List ℕ × Option (List ℕ))) → later_texts (filter_map present (fields ++ more)) ≡ later_texts (filter_map present fields) ++ later_texts (filter_map present more)
+later-append [] more = refl
+later-append ((key, None) ∷ fields) more = later-append fields more
+later-append ((key, Some value) ∷ fields) more =
+    ap (λ (l : List ℕ). codes "," ++ field_text key value ++ l) (later-append fields more)
+    ∙ sym (append_assoc (codes "," ++ field_text key value) (later_texts (filter_map present fields)) (later_texts (filter_map present more)))
+
+-- Fields are written up to one that is present, and the later ones behind them.
+cut : (before middle after : List (List ℕ × Option (List ℕ))) (key value : List ℕ) → fields_text (before ++ ((key, Some value) ∷ (middle ++ after))) ≡ fields_text (before ++ ((key, Some value) ∷ middle)) ++ later_fields_text after
+unfolding fields_text later_fields_text
+cut [] middle after key value =
+    ap (λ (l : List ℕ). field_text key value ++ l) (later-append middle after)
+    ∙ sym (append_assoc (field_text key value) (later_texts (filter_map present middle)) (later_texts (filter_map present after)))
+cut ((name, None) ∷ before) middle after key value = cut before middle after key value
+cut ((name, Some text) ∷ before) middle after key value =
+    ap (λ (l : List ℕ). field_text name text ++ l)
+    (ap (λ fields. later_texts (filter_map present fields)) (sym (append_assoc before ((key, Some value) ∷ middle) after))
+    ∙ later-append (before ++ ((key, Some value) ∷ middle)) after)
+    ∙ sym (append_assoc (field_text name text) (later_texts (filter_map present (before ++ ((key, Some value) ∷ middle)))) (later_texts (filter_map present after)))
+
+pub fields_more : (old : List ℕ) (before middle after : List (List ℕ × Option (List ℕ))) (key value s t : List ℕ) → s ≡ old ++ fields_text (before ++ ((key, Some value) ∷ middle)) → t ≡ s ++ later_fields_text after → t ≡ old ++ fields_text (before ++ ((key, Some value) ∷ (middle ++ after)))
+fields_more old before middle after key value s t p q =
+    appended old (fields_text (before ++ ((key, Some value) ∷ middle))) s (later_fields_text after) t p q
+    ∙ ap (λ (l : List ℕ). old ++ l) (sym (cut before middle after key value))
+
+-- A key behind a comma, its value and the later fields.
+later_field : (old key value : List ℕ) (after : List (List ℕ × Option (List ℕ))) (a b c : List ℕ) → a ≡ old ++ (codes "," ++ string_text key ++ codes ":") → b ≡ a ++ value → c ≡ b ++ later_fields_text after → c ≡ old ++ later_fields_text ((key, Some value) ∷ after)
+unfolding later_fields_text
+later_field old key value after a b c p q r =
+    appended old (codes "," ++ string_text key ++ codes ":" ++ value) b (later_texts (filter_map present after)) c
+    (appended old (codes "," ++ string_text key ++ codes ":") a value b p q) r
+
+-- An object's fields, a key behind a comma, its value and the later fields.
+pub nested_object : (old : List ℕ) (before middle after : List (List ℕ × Option (List ℕ))) (key value name text s t u v w x : List ℕ) → s ≡ old ++ codes "{" → t ≡ s ++ fields_text (before ++ ((key, Some value) ∷ middle)) → u ≡ t ++ (codes "," ++ string_text name ++ codes ":") → v ≡ u ++ text → w ≡ v ++ later_fields_text after → x ≡ w ++ codes "}" → x ≡ old ++ object_text (before ++ ((key, Some value) ∷ (middle ++ ((name, Some text) ∷ after))))
+unfolding object_text
+nested_object old before middle after key value name text s t u v w x h i j k l m =
+    let fields = fields_more s before middle ((name, Some text) ∷ after) key value t w i (later_field t name text after u v w j k l) in
+    let whole = fields_text (before ++ ((key, Some value) ∷ (middle ++ ((name, Some text) ∷ after)))) in
+    appended old (codes "{" ++ whole) w (codes "}") x (appended old (codes "{") s whole w h fields) m
+
+-- The same without later fields.
+pub object_of_two : (old : List ℕ) (middle : List (List ℕ × Option (List ℕ))) (key value name text s t u v x : List ℕ) → s ≡ old ++ codes "{" → t ≡ s ++ fields_text ((key, Some value) ∷ middle) → u ≡ t ++ (codes "," ++ string_text name ++ codes ":") → v ≡ u ++ text → x ≡ v ++ codes "}" → x ≡ old ++ object_text ((key, Some value) ∷ (middle ++ ((name, Some text) ∷ [])))
+unfolding later_fields_text
+object_of_two old middle key value name text s t u v x h i j k m = nested_object old [] middle [] key value name text s t u v v x h i j k (sym (append-nil v)) m

@@ -1,0 +1,3 @@
+-- Forms by cases, with which proofs compute.
+pub mod FieldValue
+pub mod ObjectText

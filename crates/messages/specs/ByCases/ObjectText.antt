@@ -1,0 +1,13 @@
+-- Of private clauses: the parts in which an object is written.
+use Rattle.std.specs.Prelude.{Bool, true, false, ℕ, List, Option}
+use Rattle.std.specs.List.{filter_map}
+use Rattle.messages.specs.ObjectText.{joined, later_texts, present}
+
+-- the fields that are present, each behind a comma
+unfoldable pub later_fields_text : List (List ℕ × Option (List ℕ)) → List ℕ
+later_fields_text fields = later_texts (filter_map present fields)
+
+-- what is left of a list of texts, by whether some of it is written
+abbrev pub rest_text : Bool → List (List ℕ) → List ℕ
+rest_text false texts = joined texts
+rest_text true texts = later_texts texts

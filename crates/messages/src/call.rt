@@ -1,0 +1,50 @@
+//! The calls that go to a charge point.
+
+ghost use Rattle.std.specs.Prelude.{◌≡◌, IfOk};
+
+use profile::{Criteria, Profile};
+use std::alloc::AllocError;
+
+/// A call to a charge point (OCPP-J 1.6, 4.2.1).
+#[derive(Debug, Drop)]
+pub struct Call {
+    /// Its number among the point's calls, which is its message id.
+    pub number: u64,
+    pub body: CallBody,
+}
+
+/// What a call asks a charge point to do (chapters 5.5 and 5.16).
+#[derive(Debug, Drop)]
+pub enum CallBody {
+    /// ClearChargingProfile, of the profiles that match these criteria.
+    Clear(Criteria),
+    /// SetChargingProfile, at this connector.
+    Set { connector: u32, profile: Profile },
+}
+
+impl Call {
+    /// A copy.
+    pub fn copy(&self) -> Result<Call, AllocError>
+        ensures { IfOk result (λ copy. copy ≡ self.now) }
+    {
+        Ok(Call {
+            number: self.number,
+            body: self.body.copy()?,
+        })
+    }
+}
+
+impl CallBody {
+    /// A copy.
+    pub fn copy(&self) -> Result<CallBody, AllocError>
+        ensures { IfOk result (λ copy. copy ≡ self.now) }
+    {
+        match self {
+            CallBody::Clear(criteria) => Ok(CallBody::Clear(*criteria)),
+            CallBody::Set { connector, profile } => Ok(CallBody::Set {
+                connector: *connector,
+                profile: profile.copy()?,
+            }),
+        }
+    }
+}

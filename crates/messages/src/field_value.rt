@@ -1,0 +1,150 @@
+//! The values of a call's fields that are no object and no list.
+ghost use Rattle.std.specs.Prelude.{◌≡◌, ◌++◌, OnOk, option_map, string_bytes};
+ghost use Rattle.std.specs.Fmt.{decimal, signed_decimal};
+ghost use Rattle.ocpp_scalars.specs.Writing.{tenths_text};
+ghost use Rattle.messages.specs.CallText.{kind_name, purpose_name, recurrency_name, recurrency_of, time_text};
+ghost use Rattle.messages.specs.ObjectText.{string_text};
+ghost use Rattle.messages.specs.ByCases.FieldValue.{value_text};
+
+use crate::response_text::unit_name;
+use ocpp_scalars::{Instant, push_instant, push_tenths};
+use profile::{Kind, Purpose, Recurrency, Unit};
+use std::alloc::AllocError;
+
+/// A field's value that is no object and no list.
+#[derive(Clone, Copy)]
+pub(crate) enum FieldValue {
+    Whole(u32),
+    Signed(i32),
+    Tenths(u32),
+    Time(Instant),
+    PurposeName(Purpose),
+    KindName(Kind),
+    RecurrencyName(Recurrency),
+    UnitName(Unit),
+}
+
+pub(crate) fn whole(number: Option<u32>) -> Option<FieldValue>
+    ensures { option_map value_text result ≡ option_map decimal number }
+{
+    number.map(FieldValue::Whole)
+}
+
+pub(crate) fn signed(number: Option<i32>) -> Option<FieldValue>
+    ensures { option_map value_text result ≡ option_map signed_decimal number }
+{
+    number.map(FieldValue::Signed)
+}
+
+pub(crate) fn tenths(tenths: Option<u32>) -> Option<FieldValue>
+    ensures { option_map value_text result ≡ option_map tenths_text tenths }
+{
+    tenths.map(FieldValue::Tenths)
+}
+
+pub(crate) fn time(instant: Option<Instant>) -> Option<FieldValue>
+    ensures { option_map value_text result ≡ option_map time_text instant }
+{
+    instant.map(FieldValue::Time)
+}
+
+pub(crate) fn purpose(purpose: Option<Purpose>) -> Option<FieldValue>
+    ensures { option_map value_text result
+        ≡ option_map (λ p. string_text (purpose_name p)) purpose }
+{
+    purpose.map(FieldValue::PurposeName)
+}
+
+/// The recurrencyKind of a kind, which a Recurring one alone has.
+pub(crate) fn recurrency(kind: Kind) -> Option<FieldValue>
+    ensures { option_map value_text result
+        ≡ option_map (λ r. string_text (recurrency_name r)) (recurrency_of kind) }
+{
+    match kind {
+        Kind::Recurring(recurrency) => Some(FieldValue::RecurrencyName(recurrency)),
+        Kind::Absolute | Kind::Relative => None,
+    }
+}
+
+/// Appends a value.
+pub(crate) fn push_value(out: &mut String, value: FieldValue) -> Result<(), AllocError>
+    ensures { OnOk result
+        (string_bytes out.new ≡ string_bytes out.old ++ value_text value) }
+{
+    match value {
+        FieldValue::Whole(number) => push_whole(out, number),
+        FieldValue::Signed(number) => push_signed(out, number),
+        FieldValue::Tenths(tenths) => push_tenths(out, tenths),
+        FieldValue::Time(instant) => push_time(out, instant),
+        FieldValue::PurposeName(purpose) => push_string(out, purpose_name(purpose)),
+        FieldValue::KindName(kind) => push_string(out, kind_name(kind)),
+        FieldValue::RecurrencyName(recurrency) => push_string(out, recurrency_name(recurrency)),
+        FieldValue::UnitName(unit) => push_string(out, unit_name(unit)),
+    }
+}
+
+fn push_whole(out: &mut String, number: u32) -> Result<(), AllocError>
+    ensures { OnOk result (string_bytes out.new ≡ string_bytes out.old ++ decimal number) }
+{
+    write!(out, "{number}")?;
+    Ok(())
+}
+
+fn push_signed(out: &mut String, number: i32) -> Result<(), AllocError>
+    ensures { OnOk result
+        (string_bytes out.new ≡ string_bytes out.old ++ signed_decimal number) }
+{
+    write!(out, "{number}")?;
+    Ok(())
+}
+
+/// Appends an instant as a JSON string.
+fn push_time(out: &mut String, instant: Instant) -> Result<(), AllocError>
+    ensures { OnOk result
+        (string_bytes out.new ≡ string_bytes out.old ++ time_text instant) }
+{
+    out.push_str(r#"""#)?;
+    push_instant(out, instant)?;
+    out.push_str(r#"""#)?;
+    Ok(())
+}
+
+/// Appends a text without a character to escape as a JSON string.
+pub(crate) fn push_string(out: &mut String, text: &str) -> Result<(), AllocError>
+    ensures { OnOk result
+        (string_bytes out.new ≡ string_bytes out.old ++ string_text text.now) }
+{
+    out.push_str(r#"""#)?;
+    out.push_str(text)?;
+    out.push_str(r#"""#)?;
+    Ok(())
+}
+
+fn purpose_name(purpose: Purpose) -> &'static str
+    ensures { result.now ≡ purpose_name purpose }
+{
+    match purpose {
+        Purpose::ChargePointMaxProfile => "ChargePointMaxProfile",
+        Purpose::TxDefaultProfile => "TxDefaultProfile",
+        Purpose::TxProfile => "TxProfile",
+    }
+}
+
+fn kind_name(kind: Kind) -> &'static str
+    ensures { result.now ≡ kind_name kind }
+{
+    match kind {
+        Kind::Absolute => "Absolute",
+        Kind::Recurring(_) => "Recurring",
+        Kind::Relative => "Relative",
+    }
+}
+
+fn recurrency_name(recurrency: Recurrency) -> &'static str
+    ensures { result.now ≡ recurrency_name recurrency }
+{
+    match recurrency {
+        Recurrency::Daily => "Daily",
+        Recurrency::Weekly => "Weekly",
+    }
+}

@@ -1,0 +1,81 @@
+//! The texts of JSON objects, of the fields that are present.
+ghost use Rattle.std.specs.Prelude.{◌≡◌, ◌++◌, OnOk, map, option_map, string_bytes};
+ghost use Rattle.std.specs.List.{filter_map};
+ghost use Rattle.messages.specs.ObjectText.{field_text, fields_text, object_text, present};
+ghost use Rattle.messages.specs.ByCases.FieldValue.{value_text};
+ghost use Rattle.messages.specs.ByCases.ObjectText.{later_fields_text, rest_text};
+
+use crate::field_value::{FieldValue, push_string, push_value};
+use std::alloc::AllocError;
+
+/// Appends an object of the fields that are present, in this order.
+#[tactic(auto, unfolding(crate::specs::ObjectText::object_text))]
+pub(crate) fn push_object(
+    out: &mut String,
+    fields: &[(&str, Option<FieldValue>)],
+) -> Result<(), AllocError>
+    ensures { OnOk result (string_bytes out.new ≡ string_bytes out.old
+        ++ object_text (map (λ row. (row.0.now, option_map value_text row.1)) fields.now)) }
+{
+    out.push_str("{")?;
+    push_fields(out, fields)?;
+    out.push_str("}")?;
+    Ok(())
+}
+
+/// Appends the fields that are present, in this order, with commas between them.
+#[tactic(auto, unfolding(crate::specs::ObjectText::fields_text))]
+pub(crate) fn push_fields(
+    out: &mut String,
+    fields: &[(&str, Option<FieldValue>)],
+) -> Result<(), AllocError>
+    ensures { OnOk result (string_bytes out.new ≡ string_bytes out.old
+        ++ fields_text (map (λ row. (row.0.now, option_map value_text row.1)) fields.now)) }
+{
+    push_rest(out, false, fields)
+}
+
+/// Appends the fields that are present, in this order, each behind a comma.
+#[tactic(auto, unfolding(crate::specs::ByCases::ObjectText::later_fields_text))]
+pub(crate) fn push_later_fields(
+    out: &mut String,
+    fields: &[(&str, Option<FieldValue>)],
+) -> Result<(), AllocError>
+    ensures { OnOk result (string_bytes out.new ≡ string_bytes out.old
+        ++ later_fields_text (map (λ row. (row.0.now, option_map value_text row.1)) fields.now)) }
+{
+    push_rest(out, true, fields)
+}
+
+/// Appends the fields that are present, in this order, with commas between them, and one before
+/// them if some are written.
+fn push_rest(
+    out: &mut String,
+    some_written: bool,
+    fields: &[(&str, Option<FieldValue>)],
+) -> Result<(), AllocError>
+    ensures { OnOk result (string_bytes out.new ≡ string_bytes out.old ++ rest_text some_written
+        (filter_map present (map (λ row. (row.0.now, option_map value_text row.1)) fields.now))) }
+{
+    let mut some_written = some_written;
+    for (key, value) in fields {
+        if let Some(value) = value {
+            if some_written {
+                out.push_str(",")?;
+            }
+            push_field(out, key, *value)?;
+            some_written = true;
+        }
+    }
+    Ok(())
+}
+
+/// Appends a field, its key and its value.
+fn push_field(out: &mut String, key: &str, value: FieldValue) -> Result<(), AllocError>
+    ensures { OnOk result (string_bytes out.new
+        ≡ string_bytes out.old ++ field_text key.now (value_text value)) }
+{
+    push_string(out, key)?;
+    out.push_str(":")?;
+    push_value(out, value)
+}
