@@ -25,6 +25,12 @@ def site_of(case):
     return own if os.path.isfile(own) else os.path.join(TOP, "tests", "replay", "site.json")
 
 
+def status_of(case):
+    """The exit status that is wanted of a folder's run."""
+    status = os.path.join(case, "status")
+    return int(bytes_of(status)) if os.path.isfile(status) else 0
+
+
 def replay_cases():
     """Each folder with a script: name, arguments, standard input, and what is wanted."""
     for folder in ("examples", os.path.join("tests", "replay")):
@@ -33,14 +39,13 @@ def replay_cases():
             case = os.path.join(top, name)
             if not os.path.isfile(os.path.join(case, "script")):
                 continue
-            status = os.path.join(case, "status")
             yield (
                 f"{folder}/{name}",
                 ["replay", "--site", site_of(case)],
                 bytes_of(os.path.join(case, "script")),
                 bytes_of(os.path.join(case, "stdout")),
                 b"",
-                int(bytes_of(status)) if os.path.isfile(status) else 0,
+                status_of(case),
             )
 
 
@@ -217,12 +222,18 @@ def device_problems(program, folder):
 
 
 def memory_problems(program, folder):
-    """Examples with each of their allocations refused in turn: a prefix of the output and OutOfMemory."""
+    """Scripts with each of their allocations refused in turn: a prefix of the output and OutOfMemory."""
     library = os.path.join(folder, "refuse_allocation.so")
     source = os.path.join(TOP, "tests", "refuse_allocation.c")
     subprocess.run(["cc", "-O2", "-shared", "-fPIC", "-o", library, source, "-ldl"], check=True)
-    for name, least in (("first-schedule", 20), ("point-messages", 60), ("ordinary-day", 200)):
-        refused, problems = refusals(program, library, os.path.join(TOP, "examples", name))
+    for case, least in (
+        ("examples/first-schedule", 20),
+        ("examples/point-messages", 60),
+        ("examples/ordinary-day", 200),
+        ("tests/replay/holds-released-in-another-order", 100),
+    ):
+        name = os.path.basename(case)
+        refused, problems = refusals(program, library, os.path.join(TOP, case))
         if refused < least:
             problems.append(f"only {refused} allocations were refused")
         yield f"{name}: each of {refused} allocations refused", problems
@@ -230,9 +241,9 @@ def memory_problems(program, folder):
 
 def refusals(program, library, case):
     """How many allocations the run of this folder makes, and where a refused one ends it otherwise than it should."""
-    arguments = [program, "replay", "--site", os.path.join(case, "site.json")]
-    script, whole, status = (bytes_of(os.path.join(case, name)) for name in ("script", "stdout", "status"))
-    unrefused = (int(status), whole, b"")
+    arguments = [program, "replay", "--site", site_of(case)]
+    script, whole = (bytes_of(os.path.join(case, name)) for name in ("script", "stdout"))
+    unrefused = (status_of(case), whole, b"")
     refused, without_effect, problems = 0, 0, []
     for number in range(10_000):  # the run of number 0 refuses nothing
         environment = {**os.environ, "LD_PRELOAD": library, "REFUSED_ALLOCATION": str(number)}

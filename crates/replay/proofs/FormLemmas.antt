@@ -1,18 +1,25 @@
 -- The form of a line, found word by word, is the form that it has.
-use Rattle.std.proofs.Common.{◌≡◌, ◌↔◌, ℕ, ◌+◌, ◌<◌, ◌&&◌, List, ◌∷◌, ◌++◌, length, take, drop, get_or, codes, Bool, true, false, cond, nat_lt, Option, Some, None, unwrap_or, ◌⊎◌, inl, inr, refl, sym, ap, ◌∙◌, subst, arith, length-append, lit<}
+use Rattle.std.proofs.Common.{◌≡◌, ◌↔◌, ℕ, ◌+◌, ◌<◌, ◌≤◌, ◌&&◌, List, ◌∷◌, ◌++◌, length, take, drop, get_or, codes, Bool, true, false, cond, nat_lt, nat_le, Result, Ok, Option, Some, None, unwrap_or, ◌⊎◌, inl, inr, refl, sym, ap, ◌∙◌, subst, arith, length-append, lit<, zero, suc, rules}
 use Rattle.std.specs.List.{position_or_len, before_first, after_first}
 use Rattle.std.specs.Str.{bytes_eq}
-use Rattle.std.proofs.lemmas.Bool.{ltb-true, lt-ltb, eqb-true, eqb-false, ne_eqb}
+use Rattle.std.proofs.lemmas.Bool.{ltb-true, lt-ltb, leb-true, le-leb, eqb-true, eqb-false, ne_eqb}
 use Rattle.std.proofs.lemmas.List.{length-take-le, get_or-take}
 use Rattle.std.proofs.lemmas.List.Sums.{split_at_first, passes_at_first, fails_before_first, position_or_len_is}
 use Rattle.std.proofs.lemmas.Slice.Eq.{bytes_eq-Decides}
 use Rattle.std.proofs.Math.ListN.{get_or-append}
 use Rattle.std.proofs.Math.Seq.{take-append_seam, drop-append-add, get_or-append_seam}
-use Rattle.messages.specs.declared.side.Side.{Side}
-use Rattle.messages.specs.declared.side.Side.TheVariants.{Operator, Point}
-use Rattle.replay.specs.Form.{Form, sent_text, sender_word, IsWord, IsOfForm}
+use Rattle.std.specs.Fmt.{decimal}
+use Rattle.std.specs.Str.Parse.{digits_value}
+use Rattle.std.specs.Str.{all_ascii_digits}
+use Rattle.std.specs.Str.Parse.{ParsesUnsigned}
+use Rattle.std.proofs.lemmas.Fmt.{decimal_is_IsNumeral, decimal-digits_value, decimal_digit, first_decimal}
+use Rattle.std.proofs.lemmas.Str.Parse.{IsNumeralModel, numerals_by_value, parse_plain}
+use Rattle.replay.specs.declared.script.form.LineWord.{LineWord}
+use Rattle.replay.specs.declared.script.form.LineWord.TheVariants.{Operator, Point, Hold}
+use Rattle.replay.specs.Limits.{max_request}
+use Rattle.replay.specs.Form.{Form, text_line, release_line, spelled, IsWord, IsOfForm}
 use Rattle.ocpp_scalars.specs.OptionSteps.{◌>>=◌}
-use Rattle.replay.specs.ByCases.Form.{is_space, word_at, sender_named, form_of}
+use Rattle.replay.specs.ByCases.Form.{is_space, word_at, word_named, is_number, begins_above_zero, number_of, release_form, text_form, form_of}
 
 -- both tests held where a choice gave its value
 both : {X : Type 0} (a b : Bool) (x y : X) → cond (a && b) (Some x) None ≡ Some y → (a ≡ true) × (b ≡ true) × (x ≡ y)
@@ -20,11 +27,14 @@ both true true x y e = (refl, refl, cc)
 both true false x y e = absurd (cc)
 both false b x y e = absurd (cc)
 
--- one of two tests gave the value
-either : {X : Type 0} (a b : Bool) (x y z : X) → cond a (Some x) (cond b (Some y) None) ≡ Some z → ((a ≡ true) × (x ≡ z)) ⊎ ((b ≡ true) × (y ≡ z))
-either true b x y z e = inl (refl, cc)
-either false true x y z e = inr (refl, cc)
-either false false x y z e = absurd (cc)
+both_true : (a b : Bool) → (a && b) ≡ true → (a ≡ true) × (b ≡ true)
+both_true true b e = (refl, e)
+both_true false b e = absurd (cc)
+
+-- one of some tests gave the value
+either : {X : Type 0} (a : Bool) (x z : X) (o : Option X) → cond a (Some x) o ≡ Some z → ((a ≡ true) × (x ≡ z)) ⊎ ((a ≡ false) × (o ≡ Some z))
+either true x z o e = inl (refl, cc)
+either false x z o e = inr (refl, e)
 
 -- a step that gave a value had one before it
 bound : {A B : Type 0} (f : A → Option B) (o : Option A) (y : B) → (o >>= f) ≡ Some y → (x : A) × (o ≡ Some x) × (f x ≡ Some y)
@@ -64,44 +74,142 @@ word_made word rest is =
     ap (λ n. cond (nat_lt 0 n && nat_lt n (length text)) (Some (take n text, drop (n + 1) text)) None) place
     ∙ rw (lt-ltb 0 (length word) is.0, lt-ltb (length word) (length text) long) whole
 
--- a sender's word names it, and no other word does
-sender_is : (word : List ℕ) (sender : Side) → sender_named word ≡ Some sender → word ≡ sender_word sender
-sender_is word sender some =
-    elim (either (bytes_eq word (codes "operator")) (bytes_eq word (codes "point")) Operator Point sender some) [
-      | inl test ↦ (bytes_eq-Decides word (codes "operator")).0 test.0 ∙ ap sender_word test.1
-      | inr test ↦ (bytes_eq-Decides word (codes "point")).0 test.0 ∙ ap sender_word test.1
+-- a word names the line that it stands for, and no other word does
+word_is_spelled : (text : List ℕ) (word : LineWord) → word_named text ≡ Some word → text ≡ spelled word
+word_is_spelled text word some =
+    elim (either (bytes_eq text (codes "operator")) Operator word _ some) [
+      | inl test ↦ (bytes_eq-Decides text (codes "operator")).0 test.0 ∙ ap spelled test.1
+      | inr more ↦ elim (either (bytes_eq text (codes "point")) Point word _ more.1) [
+        | inl test ↦ (bytes_eq-Decides text (codes "point")).0 test.0 ∙ ap spelled test.1
+        | inr last ↦ elim (either (bytes_eq text (codes "hold")) Hold word None last.1) [
+          | inl test ↦ (bytes_eq-Decides text (codes "hold")).0 test.0 ∙ ap spelled test.1
+          | inr none ↦ absurd (cc (none.1))
+        ]
+      ]
     ]
 
-sender_made : (sender : Side) → sender_named (sender_word sender) ≡ Some sender
-sender_made Operator = refl
-sender_made Point = refl
+word_made_named : (word : LineWord) → word_named (spelled word) ≡ Some word
+word_made_named Operator = refl
+word_made_named Point = refl
+word_made_named Hold = refl
 
-sender_is_word : (sender : Side) → IsWord (sender_word sender)
-sender_is_word Operator = (lit< tt, λ k below. eqb-false (get_or (codes "operator") k 0) 32 (fails_before_first is_space (codes "operator") k 0 below))
-sender_is_word Point = (lit< tt, λ k below. eqb-false (get_or (codes "point") k 0) 32 (fails_before_first is_space (codes "point") k 0 below))
+not_release : (word : LineWord) → bytes_eq (spelled word) (codes "release") ≡ false
+not_release Operator = refl
+not_release Point = refl
+not_release Hold = refl
+
+spelled_is_word : (word : LineWord) → IsWord (spelled word)
+spelled_is_word Operator = (lit< tt, λ k below. eqb-false (get_or (codes "operator") k 0) 32 (fails_before_first is_space (codes "operator") k 0 below))
+spelled_is_word Point = (lit< tt, λ k below. eqb-false (get_or (codes "point") k 0) 32 (fails_before_first is_space (codes "point") k 0 below))
+spelled_is_word Hold = (lit< tt, λ k below. eqb-false (get_or (codes "hold") k 0) 32 (fails_before_first is_space (codes "hold") k 0 below))
+
+release_is_word : IsWord (codes "release")
+release_is_word = (lit< tt, λ k below. eqb-false (get_or (codes "release") k 0) 32 (fails_before_first is_space (codes "release") k 0 below))
+
+-- a word is the decimal text of the number that it is
+number_is : (word : List ℕ) (n : ℕ) → number_of word ≡ Some n → (word ≡ decimal n) × (1 ≤ n) × (n ≤ max_request)
+unfolding number_of
+number_is word n some =
+    let value = digits_value 10 word in
+    elim (either (is_number word value) value n None some) [
+      | inl test ↦
+          let parts = both_true (bytes_eq word (decimal value)) (nat_lt 0 value && nat_le value max_request) test.0 in
+          let bounds = both_true (nat_lt 0 value) (nat_le value max_request) parts.1 in
+          let same : value ≡ n = test.1 in (
+            (bytes_eq-Decides word (decimal value)).0 parts.0 ∙ ap decimal same,
+            omega (arith, same, ltb-true 0 value bounds.0),
+            omega (arith, same, leb-true value max_request bounds.1),
+          )
+      | inr none ↦ absurd (cc (none.1))
+    ]
+
+-- the decimal text of a number is that number
+number_made : (n : ℕ) → 1 ≤ n → n ≤ max_request → number_of (decimal n) ≡ Some n
+unfolding number_of
+number_made n low high =
+    let value = (decimal_is_IsNumeral n (omega (arith, high))).1 in
+    let test : is_number (decimal n) n ≡ true = rw ((bytes_eq-Decides (decimal n) (decimal n)).1 refl, lt-ltb 0 n (omega (arith, low)), le-leb n max_request high) refl in
+    ap (λ v. cond (is_number (decimal n) v) (Some v) None) value ∙ rw test refl
+
+-- a word that is no number of a request
+pub no_number : (word : List ℕ) → ((n : ℕ) → word ≡ decimal n → 1 ≤ n → n ≤ max_request → ⊥) → None ≡ number_of word
+no_number word none =
+    elim (number_of word) as (λ o. number_of word ≡ o → None ≡ o) [
+      | None ↦ λ here. refl
+      | Some n ↦ λ here. let is = number_is word n here in absurd (none n is.0 is.1 is.2)
+    ] refl
+
+-- a number of a request begins with a digit above 0
+pub above_zero : (word : List ℕ) (n : ℕ) → word ≡ decimal n → 1 ≤ n → n ≤ max_request → begins_above_zero word ≡ true
+above_zero word n is low high = ap begins_above_zero is ∙ lt-ltb 48 (get_or (decimal n) 0 0) (first_decimal n (omega (arith, low)) (omega (arith, high)))
+
+digits_model : IsNumeralModel (λ ds. all_ascii_digits ds ≡ true) (digits_value 10)
+digits_model = numerals_by_value _ (search rules)
+
+-- what is parsed and begins with a digit above 0 is a number of a request, up to the highest
+pub parsed : {E : Type 0} (word : List ℕ) (n : ℕ) (r : Result ℕ E) → ParsesUnsigned 64 10 word r → r ≡ Ok n → begins_above_zero word ≡ true → n ≤ max_request → Some n ≡ number_of word
+parsed word n r parses ok above high =
+    let first : 48 < get_or word 0 0 = ltb-true 48 (get_or word 0 0) above in
+    let plain = rw ok at (parse_plain digits_model 64 word r parses (λ plus. absurd (omega (arith, first, plus)))) in
+    let digits = plain.0 in
+    let value : n ≡ digits_value 10 word = plain.1 in
+    let text : decimal (digits_value 10 word) ≡ word =
+    decimal-digits_value digits_model word digits.0 digits.1 (λ zero. absurd (omega (arith, first, zero))) digits.2 in
+    let same : word ≡ decimal n = sym text ∙ ap decimal (sym value) in
+    let low : 1 ≤ n = elim n as (λ m. n ≡ m → 1 ≤ m) [
+      | zero ↦ λ none. absurd (omega (arith, first, ap (λ l. get_or l 0 0) (same ∙ ap decimal none ∙ decimal_digit 0 (lit< tt))))
+      | suc m ↦ λ some. omega arith
+    ] refl in
+    sym (number_made n low high) ∙ ap number_of (sym same)
+
+text_is : (line : List ℕ) (form : Form) (instant second : List ℕ × List ℕ) → word_at line ≡ Some instant → word_at instant.1 ≡ Some second
+    → text_form instant.0 second.0 second.1 ≡ Some form → IsOfForm line form
+text_is line form instant second one two some =
+    let third = bound _ (word_named second.0) form some in
+    let last = bound _ (word_at second.1) form third.2 in
+    let same : text_line instant.0 third.0 last.0.0 last.0.1 ≡ form = ap (λ o. unwrap_or o form) last.2 in
+    let kind : second.0 ≡ spelled third.0 = word_is_spelled second.0 third.0 third.1 in
+    let first = word_is line instant one in
+    let next = word_is instant.1 second two in
+    let point = word_is second.1 last.0 last.1 in
+    subst (IsOfForm line) same
+    (first.0 ∙ ap (λ l. instant.0 ++ 32 ∷ l) (next.0 ∙ ap (λ k. k ++ 32 ∷ second.1) kind ∙ ap (λ l. spelled third.0 ++ 32 ∷ l) point.0), first.1, point.1)
+
+release_is : (line : List ℕ) (form : Form) (instant second : List ℕ × List ℕ) → word_at line ≡ Some instant → word_at instant.1 ≡ Some second
+    → bytes_eq second.0 (codes "release") ≡ true → release_form instant.0 second.1 ≡ Some form → IsOfForm line form
+release_is line form instant second one two test some =
+    let third = bound _ (number_of second.1) form some in
+    let same : release_line instant.0 third.0 ≡ form = ap (λ o. unwrap_or o form) third.2 in
+    let kind : second.0 ≡ codes "release" = (bytes_eq-Decides second.0 (codes "release")).0 test in
+    let first = word_is line instant one in
+    let next = word_is instant.1 second two in
+    let number = number_is second.1 third.0 third.1 in
+    subst (IsOfForm line) same
+    (first.0 ∙ ap (λ l. instant.0 ++ 32 ∷ l) (next.0 ∙ ap (λ k. k ++ 32 ∷ second.1) kind ∙ ap (λ l. codes "release" ++ 32 ∷ l) number.0), first.1, number.1, number.2)
 
 form_is : (line : List ℕ) (form : Form) → form_of line ≡ Some form → IsOfForm line form
 unfolding form_of
 form_is line form some =
     let first = bound _ (word_at line) form some in
     let second = bound _ (word_at first.0.1) form first.2 in
-    let third = bound _ (word_at second.0.1) form second.2 in
-    let last = bound _ (sender_named second.0.0) form third.2 in
-    let same : sent_text first.0.0 last.0 third.0.0 third.0.1 ≡ form = ap (λ o. unwrap_or o form) last.2 in
-    let kind : second.0.0 ≡ sender_word last.0 = sender_is second.0.0 last.0 last.1 in
-    let one = word_is line first.0 first.1 in
-    let two = word_is first.0.1 second.0 second.1 in
-    let three = word_is second.0.1 third.0 third.1 in
-    subst (IsOfForm line) same
-    (one.0 ∙ ap (λ l. first.0.0 ++ 32 ∷ l) (two.0 ∙ ap (λ k. k ++ 32 ∷ second.0.1) kind ∙ ap (λ l. sender_word last.0 ++ 32 ∷ l) three.0), one.1, three.1)
+    elim (bytes_eq second.0.0 (codes "release")) as (λ b. bytes_eq second.0.0 (codes "release") ≡ b → cond b (release_form first.0.0 second.0.1) (text_form first.0.0 second.0.0 second.0.1) ≡ Some form → IsOfForm line form) [
+      | true ↦ λ here e. release_is line form first.0 second.0 first.1 second.1 here e
+      | false ↦ λ here e. text_is line form first.0 second.0 first.1 second.1 e
+    ] refl second.2
 
 form_made : (line : List ℕ) (form : Form) → IsOfForm line form → form_of line ≡ Some form
 unfolding form_of
-form_made line (sent_text instant sender point frame) form =
+form_made line (text_line instant word point frame) form =
     let tail = point ++ 32 ∷ frame in
-    let middle = sender_word sender ++ 32 ∷ tail in
+    let middle = spelled word ++ 32 ∷ tail in
     ap form_of form.0
-    ∙ rw (word_made instant middle form.1) (rw (word_made (sender_word sender) tail (sender_is_word sender)) (rw (word_made point frame form.2) (rw (sender_made sender) refl)))
+    ∙ rw (word_made instant middle form.1) (rw (word_made (spelled word) tail (spelled_is_word word))
+    (rw (not_release word) (rw (word_made_named word) (rw (word_made point frame form.2) refl))))
+form_made line (release_line instant number) form =
+    let middle = codes "release" ++ 32 ∷ decimal number in
+    ap form_of form.0
+    ∙ rw (word_made instant middle form.1) (rw (word_made (codes "release") (decimal number) release_is_word)
+    (rw (number_made number form.2 form.3) refl))
 
 pub line_form : (line : List ℕ) (form : Form) → (form_of line ≡ Some form) ↔ IsOfForm line form
 line_form line form = (form_is line form, form_made line form)

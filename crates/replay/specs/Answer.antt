@@ -1,27 +1,45 @@
--- The answer to a CALL whose step was made.
+-- The answer to a CALL whose step was made or refused.
+use Rattle.std.specs.Prelude.{Option, Some, None, Result, Ok, Err}
 use Rattle.ocpp_scalars.specs.declared.refusal.Refusal.{Refusal}
 use Rattle.profile.specs.declared.unit.Unit.{Unit}
+use Rattle.meaning.specs.declared.ask.Ask.{Ask}
 use Rattle.messages.specs.declared.action_kind.ActionKind.{ActionKind}
 use Rattle.messages.specs.declared.action_kind.ActionKind.TheVariants as kinds
 use Rattle.messages.specs.declared.call_fault.CallFault.TheVariants as faults
 use Rattle.messages.specs.declared.response.Response.{Response}
-use Rattle.messages.specs.declared.response.Response.TheVariants.{Accepted, Rejected, Unknown, Schedule, StartTransaction, Empty, Error}
-use Rattle.replay.specs.declared.system.step.Reply.{Reply}
-use Rattle.replay.specs.declared.system.step.Reply.TheVariants.{Installed, Cleared, NothingCleared, Started, Stopped, Composed, Refused}
+use Rattle.messages.specs.declared.response.Response.TheVariants as responses
+use Rattle.site_core.specs.declared.reply.Reply.{Reply}
+use Rattle.site_core.specs.declared.reply.Reply.TheVariants.{Accepted, Unknown, Started, Repeated, Ended, NoSuch, Taken, Compiled, Answered, NotYet, Finished}
+use Rattle.site_core.specs.State.{ScheduleAnswer}
 
 -- a refused install or ask is answered by its .conf, any other refused CALL by a CALLERROR
 abbrev pub refused_response : ActionKind → Refusal → Response
-refused_response kinds.SetChargingProfile refusal = Rejected refusal
-refused_response kinds.GetCompositeSchedule refusal = Rejected refusal
-refused_response _ refusal = Error (faults.Refused refusal)
+refused_response kinds.SetChargingProfile refusal = responses.Rejected refusal
+refused_response kinds.GetCompositeSchedule refusal = responses.Rejected refusal
+refused_response _ refusal = responses.Error (faults.Refused refusal)
 
--- a reply as a response to a CALL of this kind, on a site of this unit
-abbrev pub response_of : Unit → ActionKind → Reply → Response
-response_of unit kind Installed = Accepted
-response_of unit kind Cleared = Accepted
-response_of unit kind NothingCleared = Unknown
-response_of unit kind (Started transaction) = StartTransaction transaction
-response_of unit kind Stopped = Empty
-response_of unit kind (Composed connector start schedule) =
-    Schedule (record { connector = connector; start = start; unit = unit; schedule = schedule })
-response_of unit kind (Refused refusal) = refused_response kind refusal
+-- the answer to a request for a composite schedule, on a site of this unit
+abbrev pub schedule_response : Unit → ActionKind → Ask → ScheduleAnswer → Response
+schedule_response unit kind ask (Ok schedule) = responses.Schedule
+    (record { connector = ask.connector; start = ask.start; unit = unit; schedule = schedule })
+schedule_response unit kind ask (Err refusal) = refused_response kind refusal
+
+-- A reply as a response to a CALL of this kind. A start that is told again is answered as the first time. No
+-- CALL is answered that its request is taken or compiled, or that the central system is stopped.
+abbrev pub reply_response : Unit → ActionKind → Reply → Option Response
+reply_response unit kind Accepted = Some responses.Accepted
+reply_response unit kind Unknown = Some responses.Unknown
+reply_response unit kind (Started transaction) = Some (responses.StartTransaction transaction)
+reply_response unit kind (Repeated transaction) = Some (responses.StartTransaction transaction)
+reply_response unit kind Ended = Some responses.Empty
+reply_response unit kind NoSuch = Some responses.Empty
+reply_response unit kind (Answered book ask answer) = Some (schedule_response unit kind ask answer)
+reply_response unit kind (Taken number book ask) = None
+reply_response unit kind Compiled = None
+reply_response unit kind NotYet = None
+reply_response unit kind Finished = None
+
+-- what came of a step as a response to a CALL of this kind
+abbrev pub response_of : Unit → ActionKind → Result Reply Refusal → Option Response
+response_of unit kind (Ok reply) = reply_response unit kind reply
+response_of unit kind (Err refusal) = Some (refused_response kind refusal)

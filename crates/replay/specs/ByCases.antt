@@ -1,3 +1,6 @@
-pub mod Books
 pub mod Form
+pub mod Held
 pub mod Input
+pub mod MachineSteps
+pub mod Player
+pub mod Todo

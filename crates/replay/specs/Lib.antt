@@ -1,9 +1,9 @@
 pub mod Limits
-pub mod Ask
 pub mod SentText
-pub mod CentralSystem
+pub mod Held
+pub mod Player
 pub mod ByCases
-pub mod Step
+pub mod MachineSteps
 pub mod Todo
 pub mod Answer
 pub mod Form

@@ -12,3 +12,7 @@ max_line_bytes = 1_048_576
 -- the highest number of a transaction: the greatest whole number that a message may have
 abbrev pub max_transaction : ℕ
 max_transaction = 2_147_483_647
+
+-- the highest number of a request (this system's choice)
+abbrev pub max_request : ℕ
+max_request = 1_000_000_000_000

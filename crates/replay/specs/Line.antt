@@ -3,34 +3,50 @@ use Rattle.std.specs.Prelude.{ℕ, Bool, false, not, is_none, nat_lt, if◌then�
 use Rattle.std.specs.Str.{is_utf8}
 use Rattle.ocpp_scalars.specs.ByCases.InstantText.{instant_of}
 use Rattle.ocpp_scalars.specs.declared.instant_text.InstantFault.{InstantFault}
-use Rattle.messages.specs.declared.side.Side.{Side}
-use Rattle.messages.specs.declared.side.Side.TheVariants.{Operator, Point}
+use Rattle.messages.specs.declared.side.Side.TheVariants as sides
 use Rattle.site_rules.specs.Site.{SiteState, place_of}
+use Rattle.replay.specs.declared.script.form.LineWord.{LineWord}
+use Rattle.replay.specs.declared.script.form.LineWord.TheVariants.{Operator, Point, Hold}
 use Rattle.replay.specs.declared.script.line.ScriptLine.{ScriptLine}
-use Rattle.replay.specs.declared.script.line.ScriptLine.TheVariants.{Text}
+use Rattle.replay.specs.declared.script.line.ScriptLine.TheVariants as lines
 use Rattle.replay.specs.declared.script.line.LineFault.{LineFault}
-use Rattle.replay.specs.declared.script.line.LineFault.TheVariants.{TooLong, BadText, BadLine, BadInstant, UnknownPoint}
+use Rattle.replay.specs.declared.script.line.LineFault.TheVariants.{TooLong, BadText, BadLine, BadInstant, UnknownPoint, NotComposite, UnknownRequest}
 use Rattle.replay.specs.Limits.{max_line_bytes}
 use Rattle.replay.specs.SentText.{sent}
-use Rattle.replay.specs.Form.{Form, sent_text}
+use Rattle.replay.specs.Form.{Form, text_line, release_line}
 use Rattle.replay.specs.ByCases.Form.{form_of}
 
 -- a point's own text names a point of the site; whether an operator's does is the central system's to say
-abbrev pub is_stranger : SiteState → Side → List ℕ → Bool
+abbrev pub is_stranger : SiteState → LineWord → List ℕ → Bool
 is_stranger site Operator point = false
 is_stranger site Point point = is_none (place_of site point)
+is_stranger site Hold point = false
 
-abbrev pub text_said : SiteState → Side → List ℕ → List ℕ → Result ℕ InstantFault → Result ScriptLine LineFault
-text_said site sender point frame (Err fault) = Err BadInstant
-text_said site sender point frame (Ok moment) =
-    if is_stranger site sender point then Err UnknownPoint
-    else Ok (Text (sent moment sender point frame))
+-- a held ask is an operator's
+abbrev pub text_of : ℕ → LineWord → List ℕ → List ℕ → ScriptLine
+text_of moment Operator point frame = lines.Text (sent moment sides.Operator point frame)
+text_of moment Point point frame = lines.Text (sent moment sides.Point point frame)
+text_of moment Hold point frame = lines.Hold (sent moment sides.Operator point frame)
+
+-- the first word
+abbrev pub instant_in : Form → List ℕ
+instant_in (text_line instant word point frame) = instant
+instant_in (release_line instant number) = instant
+
+-- what a line says at a moment, which makes no difference to a release
+abbrev pub said_at : SiteState → ℕ → Form → Result ScriptLine LineFault
+said_at site moment (text_line instant word point frame) =
+    if is_stranger site word point then Err UnknownPoint else Ok (text_of moment word point frame)
+said_at site moment (release_line instant number) = Ok (lines.Release number)
+
+abbrev pub said_if : SiteState → Form → Result ℕ InstantFault → Result ScriptLine LineFault
+said_if site form (Err fault) = Err BadInstant
+said_if site form (Ok moment) = said_at site moment form
 
 -- what a line says by its form
 abbrev pub line_of_form : SiteState → Option Form → Result ScriptLine LineFault
 line_of_form site None = Err BadLine
-line_of_form site (Some (sent_text instant sender point frame)) =
-    text_said site sender point frame (instant_of instant)
+line_of_form site (Some form) = said_if site form (instant_of (instant_in form))
 
 -- what a line says on a site
 unfoldable pub line_of : SiteState → List ℕ → Result ScriptLine LineFault
@@ -46,3 +62,5 @@ fault_name BadText = codes "BadText"
 fault_name BadLine = codes "BadLine"
 fault_name BadInstant = codes "BadInstant"
 fault_name UnknownPoint = codes "UnknownPoint"
+fault_name NotComposite = codes "NotComposite"
+fault_name UnknownRequest = codes "UnknownRequest"

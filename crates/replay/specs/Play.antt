@@ -1,79 +1,142 @@
--- What a line of a script prints, and what the central system does at it.
-use Rattle.std.specs.Prelude.{ℕ, ◌≡◌, ◌⊎◌, ◌==◌, Bool, true, false, if◌then◌else◌, List, [], ◌++◌, length, codes, string_bytes, Option, Some, None, Result, Ok, Err}
+-- What a line of a script prints, and what is known after it.
+use Rattle.std.specs.Prelude.{ℕ, ◌≡◌, ◌==◌, Bool, true, false, if◌then◌else◌, List, [], ◌∷◌, ◌++◌, length, codes, string_bytes, Option, Some, None, Result, Ok, Err}
 use Rattle.std.specs.Fmt.{decimal}
+use Rattle.ocpp_scalars.specs.declared.refusal.Refusal.{Refusal}
 use Rattle.profile.specs.declared.unit.Unit.{Unit}
+use Rattle.messages.specs.declared.action_kind.ActionKind.{ActionKind}
+use Rattle.messages.specs.declared.action_kind.ActionKind.TheVariants.{GetCompositeSchedule}
+use Rattle.messages.specs.declared.response.Response.{Response}
 use Rattle.messages.specs.ResponseText.{response_text}
+use Rattle.site_core.specs.declared.reply.Reply.{Reply}
+use Rattle.site_core.specs.declared.reply.Reply.TheVariants.{Taken}
+use Rattle.site_core.specs.State.{MachineState}
 use Rattle.replay.specs.declared.script.line.LineFault.{LineFault}
+use Rattle.replay.specs.declared.script.line.LineFault.TheVariants.{NotComposite, UnknownRequest}
 use Rattle.replay.specs.declared.script.line.ScriptLine.{ScriptLine}
-use Rattle.replay.specs.declared.script.line.ScriptLine.TheVariants.{Text}
+use Rattle.replay.specs.declared.script.line.ScriptLine.TheVariants.{Text, Hold, Release}
 use Rattle.replay.specs.declared.script.play.Printed.{Printed}
 use Rattle.replay.specs.declared.session.todo.Todo.{Todo}
 use Rattle.replay.specs.declared.session.todo.Todo.TheVariants as todo
-use Rattle.messages.specs.declared.action_kind.ActionKind.{ActionKind}
-use Rattle.replay.specs.SentText.{Sent}
-use Rattle.replay.specs.CentralSystem.{SystemState}
-use Rattle.replay.specs.Step.{Stepped, stepped}
-use Rattle.replay.specs.Todo.{todo_of}
+use Rattle.replay.specs.Held.{id_held, let_go}
+use Rattle.replay.specs.Player.{PlayerState}
+use Rattle.replay.specs.MachineSteps.{Stepped, stepped_exactly, handed_out, stepped_at_once}
+use Rattle.replay.specs.Todo.{todo_of, hold_of}
 use Rattle.replay.specs.Answer.{response_of}
 use Rattle.replay.specs.Line.{line_of, fault_name}
 
--- ---- texts
-
--- the answer to a text, if it has one, and what is known then
-pub record Handled : Type 0 where
-  pub answer : Option (List ℕ)
-  pub after : SystemState
-
-abbrev pub step_handled : List ℕ → Unit → ActionKind → Stepped → Handled
-step_handled id unit kind step =
-    record { answer = Some (response_text id (response_of unit kind step.reply)); after = step.after }
-
-abbrev pub todo_handled : List ℕ → SystemState → Todo → Handled
-todo_handled point old todo.Nothing = record { answer = None; after = old }
-todo_handled point old (todo.Answer id response) =
-    record { answer = Some (response_text id response); after = old }
-todo_handled point old (todo.Step id kind step) =
-    step_handled id old.site.unit kind (stepped old point step)
-
-abbrev pub handled : SystemState → Sent → Handled
-handled old text = todo_handled text.point old (todo_of text)
-
--- ---- lines
+-- ---- what is printed
 
 -- `> ANSWER`
-abbrev pub answer_line : Option (List ℕ) → List ℕ
-answer_line None = []
-answer_line (Some answer) = codes "> " ++ (answer ++ codes "\n")
+abbrev pub answer_line : List ℕ → Response → List ℕ
+answer_line id response = codes "> " ++ (response_text id response ++ codes "\n")
+
+abbrev pub answer_if : List ℕ → Option Response → List ℕ
+answer_if id None = []
+answer_if id (Some response) = answer_line id response
+
+-- the answer to the CALL of this id, on a site of this unit
+abbrev pub outcome_line : Unit → List ℕ → ActionKind → Result Reply Refusal → List ℕ
+outcome_line unit id kind outcome = answer_if id (response_of unit kind outcome)
+
+-- `held N`
+abbrev pub held_line : ℕ → List ℕ
+held_line number = codes "held " ++ (decimal number ++ codes "\n")
 
 -- `! LINE NAME`
 abbrev pub fault_line : ℕ → LineFault → List ℕ
 fault_line number fault = codes "! " ++ (decimal number ++ (codes " " ++ (fault_name fault ++ codes "\n")))
 
+-- ---- texts
+
+-- what is printed, and what is known then
+pub record Handled : Type 0 where
+  pub printed : List ℕ
+  pub after : PlayerState
+
+abbrev pub answered : PlayerState → List ℕ → ActionKind → Stepped → Handled
+answered old id kind step = record {
+  printed = outcome_line old.machine.site.unit id kind step.outcome;
+  after = record old { machine = step.after };
+}
+
+-- a text is answered at once
+abbrev pub todo_handled : PlayerState → Todo → Handled
+todo_handled old todo.Nothing = record { printed = []; after = old }
+todo_handled old (todo.Answer id response) = record { printed = answer_line id response; after = old }
+todo_handled old (todo.Step id kind step) = answered old id kind (stepped_at_once old.machine step)
+
+-- ---- held asks
+
+abbrev pub with_held : PlayerState → MachineState → ℕ → List ℕ → PlayerState
+with_held old taken number id = record {
+  machine = taken;
+  held = old.held ++ (record { number = number; id = id }) ∷ [];
+}
+
+-- a request that is taken is held, and any other outcome is answered
+abbrev pub hold_answered : PlayerState → List ℕ → ActionKind → Result Reply Refusal → MachineState → Handled
+hold_answered old id kind (Ok (Taken number book ask)) taken =
+    record { printed = held_line number; after = with_held old taken number id }
+hold_answered old id kind outcome after =
+    answered old id kind (record { outcome = outcome; after = after })
+
+abbrev pub hold_stepped : PlayerState → List ℕ → ActionKind → Stepped → Handled
+hold_stepped old id kind step = hold_answered old id kind step.outcome step.after
+
+abbrev pub hold_handled : PlayerState → Todo → Handled
+hold_handled old (todo.Step id kind step) = hold_stepped old id kind (stepped_exactly old.machine step)
+hold_handled old other = todo_handled old other
+
+-- the request of this number is answered, and no longer held
+abbrev pub release_handled : PlayerState → ℕ → List ℕ → Handled
+release_handled old number id =
+    answered (record old { held = let_go number old.held }) id GetCompositeSchedule
+    (handed_out old.machine number)
+
+-- ---- lines
+
 -- what a line prints, whether it has a fault, and what is known after it
 pub record PlayedLine : Type 0 where
   pub printed : List ℕ
   pub is_fault : Bool
-  pub after : SystemState
+  pub after : PlayerState
 
-abbrev pub answer_played : Handled → PlayedLine
-answer_played text = record { printed = answer_line text.answer; is_fault = false; after = text.after }
+abbrev pub text_played : Handled → PlayedLine
+text_played text = record { printed = text.printed; is_fault = false; after = text.after }
 
-abbrev pub said_played : SystemState → ℕ → Result ScriptLine LineFault → PlayedLine
-said_played old number (Ok (Text text)) = answer_played (handled old text)
-said_played old number (Err fault) =
-    record { printed = fault_line number fault; is_fault = true; after = old }
+abbrev pub fault_played : PlayerState → ℕ → LineFault → PlayedLine
+fault_played old line fault =
+    record { printed = fault_line line fault; is_fault = true; after = old }
+
+abbrev pub hold_played : PlayerState → ℕ → Option Todo → PlayedLine
+hold_played old line None = fault_played old line NotComposite
+hold_played old line (Some todo) = text_played (hold_handled old todo)
+
+abbrev pub release_played : PlayerState → ℕ → ℕ → Option (List ℕ) → PlayedLine
+release_played old line number None = fault_played old line UnknownRequest
+release_played old line number (Some id) = text_played (release_handled old number id)
+
+-- the line of this number in its script
+abbrev pub said_played : PlayerState → ℕ → ScriptLine → PlayedLine
+said_played old line (Text text) = text_played (todo_handled old (todo_of text))
+said_played old line (Hold text) = hold_played old line (hold_of text)
+said_played old line (Release number) = release_played old line number (id_held number old.held)
+
+abbrev pub read_played : PlayerState → ℕ → Result ScriptLine LineFault → PlayedLine
+read_played old line (Ok said) = said_played old line said
+read_played old line (Err fault) = fault_played old line fault
 
 -- an empty line prints nothing
-abbrev pub line_played : SystemState → ℕ → List ℕ → PlayedLine
+abbrev pub line_played : PlayerState → ℕ → List ℕ → PlayedLine
 line_played old number line =
     if length line == 0 then record { printed = []; is_fault = false; after = old }
-    else said_played old number (line_of old.site line)
+    else read_played old number (line_of old.machine.site line)
 
 -- a line was played so
-abbrev pub IsPlayed : PlayedLine → Printed → SystemState → Type 0
+abbrev pub IsPlayed : PlayedLine → Printed → PlayerState → Type 0
 IsPlayed line printed new =
     line ≡ record { printed = string_bytes printed.text; is_fault = printed.is_fault; after = new }
 
--- after an error a line was not played, or only its answer is missing
-abbrev pub IsOneOf : SystemState → SystemState → SystemState → Type 0
-IsOneOf old after new = (new ≡ old) ⊎ (new ≡ after)
+-- a text was handled so
+abbrev pub IsHandled : Handled → List ℕ → PlayerState → Type 0
+IsHandled text printed new = text ≡ record { printed = printed; after = new }

@@ -7,7 +7,7 @@ use Rattle.replay.specs.declared.script.run.ReplayFault.{ReplayFault}
 use Rattle.replay.specs.declared.script.run.ReplayFault.TheVariants.{Read, ScriptTooLong, Write, OutOfMemory}
 use Rattle.replay.specs.Lines.{script_lines}
 use Rattle.site_rules.specs.Site.{SiteState}
-use Rattle.replay.specs.CentralSystem.{SystemState, first_state}
+use Rattle.replay.specs.Player.{PlayerState, first_state}
 use Rattle.replay.specs.Play.{PlayedLine, line_played}
 
 -- how far a script was played
@@ -18,8 +18,8 @@ pub record Played : Type 0 where
   pub faults : ℕ
   -- what the lines printed
   pub output : List ℕ
-  -- what the central system knows
-  pub state : SystemState
+  -- what is known
+  pub state : PlayerState
 
 abbrev pub first_played : SiteState → Played
 first_played site = record { number = 1; faults = 0; output = []; state = first_state site }

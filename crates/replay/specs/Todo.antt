@@ -12,6 +12,7 @@ use Rattle.transactions.specs.declared.begin.Begin.{Begin}
 use Rattle.messages.specs.declared.side.Side.{Side}
 use Rattle.messages.specs.declared.side.Side.TheVariants.{Operator, Point}
 use Rattle.messages.specs.declared.action.Action.{Action}
+use Rattle.messages.specs.declared.action.ScheduleRequest.{ScheduleRequest}
 use Rattle.messages.specs.declared.action.StartTransaction.{StartTransaction}
 use Rattle.messages.specs.declared.action.Action.TheVariants as actions
 use Rattle.messages.specs.declared.call_fault.CallFault.{CallFault}
@@ -19,12 +20,14 @@ use Rattle.messages.specs.declared.call_fault.CallFault.TheVariants.{FormationVi
 use Rattle.messages.specs.declared.response.Response.{Response}
 use Rattle.messages.specs.declared.response.Response.TheVariants.{Rejected, BootNotification, Heartbeat, Authorize, Empty, UnknownVendorId, Error}
 use Rattle.messages.specs.declared.action_kind.ActionKind.{ActionKind}
+use Rattle.messages.specs.declared.action_kind.ActionKind.TheVariants as kinds
 use Rattle.messages.specs.ActionKind.{action_named, side_of_kind}
 use Rattle.messages.specs.Action.{action_of_kind}
 use Rattle.replay.specs.declared.session.todo.Todo.{Todo}
 use Rattle.replay.specs.declared.session.todo.Todo.TheVariants as todo
-use Rattle.replay.specs.declared.system.step.Step.{Step}
-use Rattle.replay.specs.declared.system.step.Step.TheVariants.{Install, Clear, Start, Stop, Compose}
+use Rattle.site_core.specs.declared.step.Step.{Step}
+use Rattle.site_core.specs.declared.step.Step.TheVariants as steps
+use Rattle.site_core.specs.declared.step.Take.{Take}
 use Rattle.replay.specs.SentText.{Sent}
 
 -- ---- actions: a step, or the answer where there is none
@@ -34,39 +37,50 @@ abbrev pub not_implemented : Response
 not_implemented = Error NotImplemented
 
 -- the profile that the fields make, or why they make none
-abbrev pub step_of_made : ℕ → ℕ → Result Profile Refusal → Result Step Response
-step_of_made moment connector (Ok profile) =
-    Ok (Install (record { connector = connector; moment = moment; profile = profile }))
-step_of_made moment connector (Err refusal) = Err (Rejected refusal)
+abbrev pub step_of_made : Sent → ℕ → Result Profile Refusal → Result Step Response
+step_of_made text connector (Ok profile) =
+    Ok (steps.Install text.point (record { connector = connector; moment = text.moment; profile = profile }))
+step_of_made text connector (Err refusal) = Err (Rejected refusal)
 
 -- how the transaction began: as the CALL tells
 abbrev pub begin_of : StartTransaction → Begin
 begin_of start =
     record { id_tag = start.id_tag; meter_start = start.meter_start; timestamp = start.timestamp }
 
-abbrev pub step_of : ℕ → Action → Result Step Response
-step_of moment (actions.SetChargingProfile connector parts) =
-    step_of_made moment connector (profile_of_parts parts)
-step_of moment (actions.ClearChargingProfile criteria) = Ok (Clear criteria)
-step_of moment (actions.GetCompositeSchedule request) = Ok (Compose moment request)
-step_of moment actions.BootNotification = Err (BootNotification moment)
-step_of moment actions.Heartbeat = Err (Heartbeat moment)
-step_of moment actions.Authorize = Err Authorize
-step_of moment (actions.StartTransaction start) = Ok (Start start.connector (begin_of start))
-step_of moment (actions.StopTransaction transaction) = Ok (Stop transaction)
-step_of moment actions.StatusNotification = Err Empty
-step_of moment actions.MeterValues = Err Empty
-step_of moment actions.FirmwareStatusNotification = Err Empty
-step_of moment actions.DiagnosticsStatusNotification = Err Empty
-step_of moment actions.DataTransfer = Err UnknownVendorId
-step_of moment actions.NotACall = Err not_implemented
+-- what is asked from the moment of the text on, whatever versions were seen before
+abbrev pub take_of : Sent → ScheduleRequest → Take
+take_of text request = record {
+  point = text.point;
+  connector = request.connector;
+  start = text.moment;
+  duration = request.duration;
+  unit = request.unit;
+  seen = 0;
+}
+
+abbrev pub step_of : Sent → Action → Result Step Response
+step_of text (actions.SetChargingProfile connector parts) =
+    step_of_made text connector (profile_of_parts parts)
+step_of text (actions.ClearChargingProfile criteria) = Ok (steps.Clear text.point criteria)
+step_of text (actions.GetCompositeSchedule request) = Ok (steps.Take (take_of text request))
+step_of text actions.BootNotification = Err (BootNotification text.moment)
+step_of text actions.Heartbeat = Err (Heartbeat text.moment)
+step_of text actions.Authorize = Err Authorize
+step_of text (actions.StartTransaction start) = Ok (steps.Start text.point start.connector (begin_of start))
+step_of text (actions.StopTransaction transaction) = Ok (steps.Stop text.point transaction)
+step_of text actions.StatusNotification = Err Empty
+step_of text actions.MeterValues = Err Empty
+step_of text actions.FirmwareStatusNotification = Err Empty
+step_of text actions.DiagnosticsStatusNotification = Err Empty
+step_of text actions.DataTransfer = Err UnknownVendorId
+step_of text actions.NotACall = Err not_implemented
 
 -- ---- CALLs
 
 -- a CALL that can't be read is answered with its first fault
-abbrev pub step_of_reading : ℕ → Result Action CallFault → Result Step Response
-step_of_reading moment (Ok action) = step_of moment action
-step_of_reading moment (Err fault) = Err (Error fault)
+abbrev pub step_of_reading : Sent → Result Action CallFault → Result Step Response
+step_of_reading text (Ok action) = step_of text action
+step_of_reading text (Err fault) = Err (Error fault)
 
 abbrev pub side_eq : Side → Side → Bool
 side_eq Operator Operator = true
@@ -84,14 +98,14 @@ abbrev pub kind_of_sender : Side → Option ActionKind → Option ActionKind
 kind_of_sender sender None = None
 kind_of_sender sender (Some kind) = if side_eq (side_of_kind kind) sender then Some kind else None
 
-abbrev pub todo_of_kind : ℕ → List ℕ → Option ActionKind → Tree → Todo
-todo_of_kind moment id None payload = todo.Answer id not_implemented
-todo_of_kind moment id (Some kind) payload =
-    todo_with id kind (step_of_reading moment (action_of_kind kind payload))
+abbrev pub todo_of_kind : Sent → List ℕ → Option ActionKind → Tree → Todo
+todo_of_kind text id None payload = todo.Answer id not_implemented
+todo_of_kind text id (Some kind) payload =
+    todo_with id kind (step_of_reading text (action_of_kind kind payload))
 
 abbrev pub todo_of_call : Sent → List ℕ → List ℕ → Tree → Todo
 todo_of_call text id name payload =
-    todo_of_kind text.moment id (kind_of_sender text.sender (action_named name)) payload
+    todo_of_kind text id (kind_of_sender text.sender (action_named name)) payload
 
 -- ---- texts
 
@@ -103,3 +117,18 @@ todo_of_message text _ = todo.Nothing
 
 unfoldable pub todo_of : Sent → Todo
 todo_of text = todo_of_message text (message_of_text text.frame)
+
+-- ---- held texts
+
+abbrev pub is_schedule_kind : Option ActionKind → Bool
+is_schedule_kind (Some kinds.GetCompositeSchedule) = true
+is_schedule_kind _ = false
+
+-- whether a message is a CALL of GetCompositeSchedule
+abbrev pub asks_schedule : Result Message FrameFault → Bool
+asks_schedule (Ok (call id name payload)) = is_schedule_kind (action_named name)
+asks_schedule _ = false
+
+-- what a held text asks for, where it is a CALL of GetCompositeSchedule
+abbrev pub hold_of : Sent → Option Todo
+hold_of text = if asks_schedule (message_of_text text.frame) then Some (todo_of text) else None

@@ -2,9 +2,9 @@
 //! the central system, and answered. What a replay writes is the output of its script.
 #![tactic(auto)]
 
+mod player;
 mod script;
 mod session;
-mod system;
 #[cfg(test)]
 mod tests;
 

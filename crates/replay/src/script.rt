@@ -1,5 +1,6 @@
 //! A script: its lines, what each says and prints, and the whole of it from a reader to a writer.
 
+pub mod form;
 pub mod input;
 pub mod line;
 pub mod lines;

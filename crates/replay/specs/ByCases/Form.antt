@@ -1,12 +1,17 @@
 -- The form of a line, word by word. `read_line` has the law that this is the form that `IsOfForm` says.
-use Rattle.std.specs.Prelude.{ℕ, ◌==◌, ◌&&◌, Bool, nat_lt, if◌then◌else◌, List, length, codes, Option, Some, None}
+use Rattle.std.specs.Prelude.{ℕ, ◌==◌, ◌&&◌, Bool, nat_lt, nat_le, if◌then◌else◌, List, length, slice_index, codes, Option, Some, None}
+use Rattle.std.specs.Fmt.{decimal}
 use Rattle.std.specs.List.{position_or_len, before_first, after_first}
 use Rattle.std.specs.Str.{bytes_eq}
-use Rattle.ocpp_scalars.specs.Ascii.{space}
+use Rattle.std.specs.Str.Parse.{digits_value}
+use Rattle.ocpp_scalars.specs.Ascii.{space, digit_zero}
 use Rattle.ocpp_scalars.specs.OptionSteps.{◌>>=◌}
-use Rattle.messages.specs.declared.side.Side.{Side}
-use Rattle.messages.specs.declared.side.Side.TheVariants.{Operator, Point}
-use Rattle.replay.specs.Form.{Form, sent_text}
+use Rattle.replay.specs.declared.script.form.LineWord.{LineWord}
+use Rattle.replay.specs.declared.script.form.LineWord.TheVariants.{Operator, Point, Hold}
+use Rattle.replay.specs.declared.script.form.Words.{Words}
+use Rattle.replay.specs.declared.script.form.Words.TheVariants.{Text, Release}
+use Rattle.replay.specs.Limits.{max_request}
+use Rattle.replay.specs.Form.{Form, text_line, release_line}
 
 abbrev pub is_space : ℕ → Bool
 is_space b = b == space
@@ -18,20 +23,50 @@ word_at text =
     then Some (before_first is_space text, after_first is_space text)
     else None
 
--- the sender that the second word names
-abbrev pub sender_named : List ℕ → Option Side
-sender_named word =
+-- the line with a text whose second word this is
+abbrev pub word_named : List ℕ → Option LineWord
+word_named word =
     if bytes_eq word (codes "operator") then Some Operator
     else if bytes_eq word (codes "point") then Some Point
+    else if bytes_eq word (codes "hold") then Some Hold
     else None
 
-abbrev pub text_form : List ℕ → Side → List ℕ → List ℕ → Form
-text_form instant sender point frame = sent_text instant sender point frame
+-- whether a number is one of a request, and a word is its decimal text
+abbrev pub is_number : List ℕ → ℕ → Bool
+is_number word n = bytes_eq word (decimal n) && (nat_lt 0 n && nat_le n max_request)
+
+-- the digits above 0 are above this byte, and a plus is below it
+abbrev pub begins_above_zero : List ℕ → Bool
+begins_above_zero word = nat_lt digit_zero (slice_index word 0)
+
+-- the number of a request that a word is
+unfoldable pub number_of : List ℕ → Option ℕ
+number_of word = if is_number word (digits_value 10 word) then Some (digits_value 10 word) else None
+
+abbrev pub release_form : List ℕ → List ℕ → Option Form
+release_form instant rest = do
+  number ← number_of rest
+  Some (release_line instant number)
+
+abbrev pub text_form : List ℕ → List ℕ → List ℕ → Option Form
+text_form instant second rest = do
+  word ← word_named second
+  point ← word_at rest
+  Some (text_line instant word point.0 point.1)
+
+-- by the second word and what follows it
+abbrev pub second_form : List ℕ → List ℕ → List ℕ → Option Form
+second_form instant second rest =
+    if bytes_eq second (codes "release") then release_form instant rest
+    else text_form instant second rest
 
 unfoldable pub form_of : List ℕ → Option Form
 form_of line = do
   instant ← word_at line
-  kind ← word_at instant.1
-  point ← word_at kind.1
-  sender ← sender_named kind.0
-  Some (text_form instant.0 sender point.0 point.1)
+  second ← word_at instant.1
+  second_form instant.0 second.0 second.1
+
+-- the words that the code has, as a form
+abbrev pub words_view : Words → Form
+words_view (Text instant word point frame) = text_line instant.now word point.now frame.now
+words_view (Release instant number) = release_line instant.now number

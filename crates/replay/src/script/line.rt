@@ -1,13 +1,14 @@
 //! What a line of a script says.
 
-ghost use Rattle.std.specs.Prelude.{◌≡◌, ◌↔◌, Some, option_map};
+ghost use Rattle.std.specs.Prelude.{◌≡◌, ◌↔◌, Some};
 ghost use Rattle.replay.specs.Form.{Form, IsOfForm};
-ghost use Rattle.replay.specs.ByCases.Form.{word_at, sender_named, form_of, text_form};
-ghost use Rattle.replay.specs.Line.{is_stranger, line_of_form, line_of, fault_name};
+ghost use Rattle.replay.specs.ByCases.Form.{form_of, words_view};
+ghost use Rattle.replay.specs.Line.{instant_in, is_stranger, text_of, said_at, line_of_form, line_of, fault_name};
 
+use crate::script::form::{LineWord, Words, split_words};
 use crate::session::sent_text::SentText;
 use messages::Side;
-use ocpp_scalars::read_instant;
+use ocpp_scalars::{Instant, read_instant};
 use site_rules::Site;
 use std::fmt;
 
@@ -27,6 +28,10 @@ pub enum LineFault {
     BadInstant,
     /// The site has no point of the identity that a point's line names.
     UnknownPoint,
+    /// The frame of a `hold` is no CALL of GetCompositeSchedule.
+    NotComposite,
+    /// No request of this number is held.
+    UnknownRequest,
 }
 
 impl LineFault {
@@ -40,6 +45,8 @@ impl LineFault {
             LineFault::BadLine => "BadLine",
             LineFault::BadInstant => "BadInstant",
             LineFault::UnknownPoint => "UnknownPoint",
+            LineFault::NotComposite => "NotComposite",
+            LineFault::UnknownRequest => "UnknownRequest",
         }
     }
 }
@@ -57,6 +64,10 @@ impl fmt::Display for LineFault {
 pub enum ScriptLine<'a> {
     /// `INSTANT operator ID FRAME` or `INSTANT point ID FRAME`: a text that comes to the central system.
     Text(SentText<'a>),
+    /// `INSTANT hold ID FRAME`: an operator's text, an ask that is answered later.
+    Hold(SentText<'a>),
+    /// `INSTANT release N`: the held request of this number is answered.
+    Release(u64),
 }
 
 /// Reads a line of a script on a site.
@@ -79,62 +90,67 @@ pub fn read_line<'a>(line: &'a [u8], site: &Site) -> Result<ScriptLine<'a>, Line
 fn read_text<'a>(text: &'a str, site: &Site) -> Result<ScriptLine<'a>, LineFault>
     ensures { result ≡ line_of_form site.now (form_of text.entry.now) }
 {
-    let Some((instant, sender, point, frame)) = split_words(text) else {
+    let Some(words) = split_words(text) else {
         return Err(LineFault::BadLine);
     };
-    let Ok(moment) = read_instant(instant) else {
-        return Err(LineFault::BadInstant);
-    };
-    if is_stranger(site, sender, point) {
-        return Err(LineFault::UnknownPoint);
+    match read_instant(instant_of(&words)) {
+        Ok(moment) => read_words(words, moment, site),
+        Err(_) => Err(LineFault::BadInstant),
     }
-    let text = SentText::new(moment, sender, point, frame);
-    Ok(ScriptLine::Text(text))
+}
+
+/// The first word.
+fn instant_of<'a>(words: &Words<'a>) -> &'a str
+    ensures { result.now ≡ instant_in (words_view words.now) }
+{
+    match words {
+        Words::Text { instant, .. } | Words::Release { instant, .. } => instant,
+    }
+}
+
+/// What a line says at a moment.
+fn read_words<'a>(
+    words: Words<'a>,
+    moment: Instant,
+    site: &Site,
+) -> Result<ScriptLine<'a>, LineFault>
+    ensures { result ≡ said_at site.now moment (words_view words.entry) }
+{
+    match words {
+        Words::Text {
+            word,
+            point,
+            frame,
+            ..
+        } => {
+            if is_stranger(site, word, point) {
+                return Err(LineFault::UnknownPoint);
+            }
+            Ok(text_line(moment, word, point, frame))
+        }
+        Words::Release { number, .. } => Ok(ScriptLine::Release(number)),
+    }
 }
 
 /// Whether a point's own text names a point that the site lacks.
-fn is_stranger(site: &Site, sender: Side, point: &str) -> bool
-    ensures { result ≡ is_stranger site.now sender point.now }
+fn is_stranger(site: &Site, word: LineWord, point: &str) -> bool
+    ensures { result ≡ is_stranger site.now word point.now }
 {
-    match sender {
-        Side::Operator => false,
-        Side::Point => site.place_of(point).is_none(),
+    match word {
+        LineWord::Point => site.place_of(point).is_none(),
+        LineWord::Operator | LineWord::Hold => false,
     }
 }
 
-/// The instant's text, the sender, the point's identity and the frame of a line.
-#[tactic(auto, unfolding(crate::specs::ByCases::Form::form_of))]
-fn split_words(text: &str) -> Option<(&str, Side, &str, &str)>
-    ensures { option_map (λ words. text_form words.0.now words.1 words.2.now words.3.now) result
-        ≡ form_of text.now }
+/// The line with a text whose second word this is.
+fn text_line<'a>(moment: Instant, word: LineWord, point: &'a str, frame: &'a str) -> ScriptLine<'a>
+    ensures { result ≡ text_of moment word point.entry.now frame.entry.now }
 {
-    let (instant, text) = split_word(text)?;
-    let (kind, text) = split_word(text)?;
-    let (point, frame) = split_word(text)?;
-    let sender = sender_named(kind)?;
-    Some((instant, sender, point, frame))
-}
-
-/// The sender that the second word of a line names.
-fn sender_named(word: &str) -> Option<Side>
-    ensures { result ≡ sender_named word.now }
-{
-    if word == "operator" {
-        Some(Side::Operator)
-    } else if word == "point" {
-        Some(Side::Point)
-    } else {
-        None
+    match word {
+        LineWord::Operator => {
+            ScriptLine::Text(SentText::new(moment, Side::Operator, point, frame))
+        }
+        LineWord::Point => ScriptLine::Text(SentText::new(moment, Side::Point, point, frame)),
+        LineWord::Hold => ScriptLine::Hold(SentText::new(moment, Side::Operator, point, frame)),
     }
-}
-
-/// The word that a text begins with, and what follows the one space after it.
-fn split_word(text: &str) -> Option<(&str, &str)>
-    ensures { option_map (λ parts. (parts.0.now, parts.1.now)) result ≡ word_at text.now }
-{
-    let (word, rest) = text.split_once(' ')?;
-    if word.is_empty() {
-        return None;
-    }
-    Some((word, rest))
 }

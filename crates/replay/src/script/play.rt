@@ -1,15 +1,20 @@
-//! What a line of a script prints, and what the central system does at it.
+//! What a line of a script prints, and what its player does at it.
 
-ghost use Rattle.std.specs.Prelude.{◌≡◌, false, Some, IfOk, OnErr, string_bytes};
-ghost use Rattle.messages.specs.ResponseText.{response_text};
-ghost use Rattle.replay.specs.Play.{handled, answer_line, answer_played, line_played, IsPlayed, IsOneOf};
+ghost use Rattle.std.specs.Prelude.{◌≡◌, true, false, IfOk, string_bytes};
+ghost use Rattle.replay.specs.Play.{answer_line, outcome_line, held_line, fault_line, todo_handled, hold_handled, release_played, said_played, line_played, IsPlayed, IsHandled};
+ghost use Rattle.replay.specs.ByCases.Todo.{AsksNoCompile};
+ghost use Rattle.replay.specs.Held.{id_held};
 
-use crate::script::line::{ScriptLine, read_line};
+use crate::player::held::Held;
+use crate::player::machine_steps::StepOutcome;
+use crate::player::player::Player;
+use crate::script::line::{LineFault, ScriptLine, read_line};
 use crate::session::answer::response_of;
-use crate::session::sent_text::SentText;
-use crate::session::todo::{Todo, todo_of};
-use crate::system::central_system::CentralSystem;
-use messages::{Response, push_response};
+use crate::session::todo::{Todo, hold_of, todo_of};
+use messages::{ActionKind, Response, push_response};
+use ocppj_frame::MessageId;
+use profile::Unit;
+use site_core::Reply;
 use std::alloc::{AllocError, Global};
 
 /// What a line of the script prints.
@@ -21,62 +26,155 @@ pub struct Printed {
     pub is_fault: bool,
 }
 
-/// Plays the line of this number. After an error the line wasn't played, or only its answer is missing.
+/// Plays the line of this number. After an error the script can't go on.
 pub fn play_line(
     alloc: Global,
-    system: &mut CentralSystem,
+    player: &mut Player,
     number: u64,
     line: &[u8],
 ) -> Result<Printed, AllocError>
-    ensures played { IfOk result
-        (λ printed. IsPlayed (line_played system.old number line.now) printed system.new) }
-    ensures kept { OnErr result
-        (IsOneOf system.old (line_played system.old number line.now).after system.new) }
+    ensures { IfOk result
+        (λ printed. IsPlayed (line_played player.old number line.now) printed player.new) }
 {
     if line.is_empty() {
-        return Ok(Printed {
-            text: String::new(alloc),
-            is_fault: false,
-        });
+        return Ok(without_fault(String::new(alloc)));
     }
-    match read_line(line, system.site()) {
-        Ok(ScriptLine::Text(text)) => Ok(Printed {
-            text: answer_line(alloc, system, &text)?,
-            is_fault: false,
-        }),
-        Err(fault) => Ok(Printed {
-            text: format!(in alloc; "! {number} {fault}\n")?,
-            is_fault: true,
-        }),
+    match read_line(line, player.site()) {
+        Ok(said) => play_said(alloc, player, number, said),
+        Err(fault) => fault_printed(alloc, number, fault),
     }
 }
 
-/// The line with the answer to a text, if it has one.
-fn answer_line(
+/// Plays what a line says.
+fn play_said(
     alloc: Global,
-    system: &mut CentralSystem,
-    text: &SentText<'_>,
-) -> Result<String, AllocError>
-    ensures played { IfOk result (λ line. answer_played (handled system.old text.now)
-        ≡ record { printed = string_bytes line; is_fault = false; after = system.new }) }
-    ensures kept { OnErr result
-        (IsOneOf system.old (handled system.old text.now).after system.new) }
+    player: &mut Player,
+    number: u64,
+    said: ScriptLine<'_>,
+) -> Result<Printed, AllocError>
+    ensures { IfOk result
+        (λ printed. IsPlayed (said_played player.old number said.entry) printed player.new) }
 {
-    match todo_of(alloc, text)? {
+    match said {
+        ScriptLine::Text(text) => {
+            let todo = todo_of(alloc, &text)?;
+            Ok(without_fault(todo_line(alloc, player, todo)?))
+        }
+        ScriptLine::Hold(text) => match hold_of(alloc, &text)? {
+            Some(todo) => Ok(without_fault(hold_line(alloc, player, todo)?)),
+            None => fault_printed(alloc, number, LineFault::NotComposite),
+        },
+        ScriptLine::Release(request) => play_release(alloc, player, number, request),
+    }
+}
+
+/// Answers the held request of this number.
+fn play_release(
+    alloc: Global,
+    player: &mut Player,
+    number: u64,
+    request: u64,
+) -> Result<Printed, AllocError>
+    ensures { IfOk result (λ printed. IsPlayed
+        (release_played player.old number request (id_held request player.old.held))
+        printed player.new) }
+{
+    let Some(id) = player.let_go(request) else {
+        return fault_printed(alloc, number, LineFault::UnknownRequest);
+    };
+    let unit = player.site().unit();
+    let outcome = player.hand_out(request)?;
+    let kind = ActionKind::GetCompositeSchedule;
+    Ok(without_fault(outcome_line(alloc, unit, kind, &id, outcome)?))
+}
+
+/// Lines that aren't of a fault.
+fn without_fault(text: String) -> Printed
+    ensures { result ≡ record { text = text; is_fault = false } }
+{
+    Printed {
+        text,
+        is_fault: false,
+    }
+}
+
+/// The line with the fault of the script's line of this number.
+fn fault_printed(alloc: Global, number: u64, fault: LineFault) -> Result<Printed, AllocError>
+    ensures text { IfOk result
+        (λ printed. string_bytes printed.text ≡ fault_line number fault) }
+    ensures is { IfOk result (λ printed. printed.is_fault ≡ true) }
+{
+    Ok(Printed {
+        text: format!(in alloc; "! {number} {fault}\n")?,
+        is_fault: true,
+    })
+}
+
+/// The line with the answer to a text, if it has one.
+fn todo_line(alloc: Global, player: &mut Player, todo: Todo) -> Result<String, AllocError>
+    requires { AsksNoCompile todo }
+    ensures { IfOk result
+        (λ line. IsHandled (todo_handled player.old todo) (string_bytes line) player.new) }
+{
+    match todo {
         Todo::Nothing => Ok(String::new(alloc)),
         Todo::Answer { id, response } => response_line(alloc, id.as_str(), &response),
         Todo::Step { id, kind, step } => {
-            let unit = system.site().unit();
-            let reply = system.step(text.point(), step)?;
-            response_line(alloc, id.as_str(), &response_of(unit, kind, reply))
+            let unit = player.site().unit();
+            let outcome = player.step_at_once(step)?;
+            outcome_line(alloc, unit, kind, &id, outcome)
         }
+    }
+}
+
+/// The line with the number of the request that is held, or with the answer to a text whose ask isn't.
+fn hold_line(alloc: Global, player: &mut Player, todo: Todo) -> Result<String, AllocError>
+    requires { AsksNoCompile todo }
+    ensures { IfOk result
+        (λ line. IsHandled (hold_handled player.old todo) (string_bytes line) player.new) }
+{
+    match todo {
+        Todo::Step { id, kind, step } => {
+            let unit = player.site().unit();
+            match player.step(step)? {
+                Ok(Reply::Taken { number, .. }) => {
+                    player.hold(Held { number, id })?;
+                    held_line(alloc, number)
+                }
+                outcome => outcome_line(alloc, unit, kind, &id, outcome),
+            }
+        }
+        other => todo_line(alloc, player, other),
+    }
+}
+
+/// The line with the number of a held request.
+fn held_line(alloc: Global, number: u64) -> Result<String, AllocError>
+    ensures { IfOk result (λ line. string_bytes line ≡ held_line number) }
+{
+    format!(in alloc; "held {number}\n")
+}
+
+/// The line with the answer to the CALL of this id, if what came of its step is answered.
+fn outcome_line(
+    alloc: Global,
+    unit: Unit,
+    kind: ActionKind,
+    id: &MessageId,
+    outcome: StepOutcome,
+) -> Result<String, AllocError>
+    ensures { IfOk result
+        (λ line. string_bytes line ≡ outcome_line unit id.now kind outcome) }
+{
+    match response_of(unit, kind, outcome) {
+        Some(response) => response_line(alloc, id.as_str(), &response),
+        None => Ok(String::new(alloc)),
     }
 }
 
 /// The line with a response to the CALL of this id.
 fn response_line(alloc: Global, id: &str, response: &Response) -> Result<String, AllocError>
-    ensures { IfOk result
-        (λ line. string_bytes line ≡ answer_line (Some (response_text id.now response.now))) }
+    ensures { IfOk result (λ line. string_bytes line ≡ answer_line id.now response.now) }
 {
     // Room from the start for most answers, so that they aren't copied as they grow.
     let mut line = String::with_capacity(alloc, 128)?;

@@ -8,11 +8,11 @@ ghost use Rattle.replay.specs.Output.{AppendsPrefix, AppendsProperPrefix};
 ghost use Rattle.replay.specs.Play.{line_played};
 ghost use Rattle.replay.specs.Run.{output_of, fault_count, IsReading, IsWriting};
 
+use crate::player::player::Player;
 use crate::script::input::{InputFault, read_all};
 use crate::script::lines::split_line;
 use crate::script::output::{WriteFault, flush_all, write_text};
 use crate::script::play::play_line;
-use crate::system::central_system::CentralSystem;
 use site_rules::Site;
 use std::alloc::{AllocError, Global};
 use std::io::{Read, Write};
@@ -158,13 +158,13 @@ fn write_lines<W: Write>(
         (output_of site script.now) }
     ensures late { IfErr result IsWriting }
 {
-    let mut system = CentralSystem::new(alloc, site)?;
+    let mut player = Player::new(alloc, site)?;
     let mut rest = script;
     let mut number = 1;
     let mut script_faults = 0;
     while !rest.is_empty() {
         let (line, others) = split_line(rest);
-        match write_line(alloc, writer, &mut system, number, line) {
+        match write_line(alloc, writer, &mut player, number, line) {
             Ok(is_fault) => script_faults += u64::from(is_fault),
             Err(fault) => return Err(fault),
         }
@@ -178,25 +178,25 @@ fn write_lines<W: Write>(
 fn write_line<W: Write>(
     alloc: Global,
     writer: &mut W,
-    system: &mut CentralSystem,
+    player: &mut Player,
     number: u64,
     line: &[u8],
 ) -> Result<bool, ReplayFault>
     ensures whole { OnOk result
         (Appends (W.contents writer.old) (W.contents writer.new)
-        (line_played system.old number line.now).printed) }
+        (line_played player.old number line.now).printed) }
     ensures fault { IfOk result
-        (λ is_fault. is_fault ≡ (line_played system.old number line.now).is_fault) }
+        (λ is_fault. is_fault ≡ (line_played player.old number line.now).is_fault) }
     ensures after { OnOk result
-        (system.new ≡ (line_played system.old number line.now).after) }
+        (player.new ≡ (line_played player.old number line.now).after) }
     ensures prefix { AppendsPrefix (W.contents writer.old) (W.contents writer.new)
-        (line_played system.old number line.now).printed }
+        (line_played player.old number line.now).printed }
     ensures part { IsErrOf result ReplayFault.Write
         → AppendsProperPrefix (W.contents writer.old) (W.contents writer.new)
-        (line_played system.old number line.now).printed }
+        (line_played player.old number line.now).printed }
     ensures late { IfErr result IsWriting }
 {
-    let printed = play_line(alloc, system, number, line)?;
+    let printed = play_line(alloc, player, number, line)?;
     write_text(writer, printed.text.as_str())?;
     Ok(printed.is_fault)
 }

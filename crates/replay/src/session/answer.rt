@@ -1,33 +1,61 @@
-//! The answer to a CALL whose step was made.
+//! The answer to a CALL whose step was made or refused.
 
 ghost use Rattle.std.specs.Prelude.{◌≡◌};
-ghost use Rattle.replay.specs.Answer.{refused_response, response_of};
+ghost use Rattle.replay.specs.Answer.{refused_response, schedule_response, reply_response, response_of};
 
-use crate::system::step::Reply;
+use meaning::{Ask, Composite};
 use messages::{ActionKind, CallFault, Response, ScheduleResponse};
 use ocpp_scalars::Refusal;
 use profile::Unit;
+use site_core::Reply;
 
-/// What a step's reply is as a response to a CALL of this kind, on a site of this unit.
-pub fn response_of(unit: Unit, kind: ActionKind, reply: Reply) -> Response
-    ensures { result ≡ response_of unit kind reply }
+/// What came of a step as a response to a CALL of this kind, on a site of this unit. `None` where that isn't
+/// answered: a request that is taken or compiled has no answer yet.
+pub fn response_of(
+    unit: Unit,
+    kind: ActionKind,
+    outcome: Result<Reply, Refusal>,
+) -> Option<Response>
+    ensures { result ≡ response_of unit kind outcome }
+{
+    match outcome {
+        Ok(reply) => reply_response(unit, kind, reply),
+        Err(refusal) => Some(refused_response(kind, refusal)),
+    }
+}
+
+/// What a step's reply is as a response.
+fn reply_response(unit: Unit, kind: ActionKind, reply: Reply) -> Option<Response>
+    ensures { result ≡ reply_response unit kind reply }
 {
     match reply {
-        Reply::Installed | Reply::Cleared => Response::Accepted,
-        Reply::NothingCleared => Response::Unknown,
-        Reply::Started(transaction) => Response::StartTransaction { transaction },
-        Reply::Stopped => Response::Empty,
-        Reply::Composed {
-            connector,
-            start,
-            schedule,
-        } => Response::Schedule(ScheduleResponse {
-            connector,
-            start,
+        Reply::Accepted => Some(Response::Accepted),
+        Reply::Unknown => Some(Response::Unknown),
+        Reply::Started(transaction) => Some(Response::StartTransaction { transaction }),
+        Reply::Repeated(transaction) => Some(Response::StartTransaction { transaction }),
+        Reply::Ended | Reply::NoSuch => Some(Response::Empty),
+        Reply::Answered { ask, answer, .. } => Some(schedule_response(unit, kind, &ask, answer)),
+        Reply::Taken { .. } | Reply::Compiled | Reply::NotYet | Reply::Finished => None,
+    }
+}
+
+/// The answer to a request for a composite schedule.
+fn schedule_response(
+    unit: Unit,
+    kind: ActionKind,
+    ask: &Ask,
+    answer: Result<Composite, Refusal>,
+) -> Response
+    ensures { result ≡ schedule_response unit kind ask.now answer }
+{
+    match answer {
+        Ok(schedule) => Response::Schedule(ScheduleResponse {
+            connector: ask.connector,
+            start: ask.start,
             unit,
             schedule,
         }),
-        Reply::Refused(refusal) => refused_response(kind, refusal),
+        Err(refusal) => refused_response(kind, refusal),
     }
 }
 

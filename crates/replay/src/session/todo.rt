@@ -6,14 +6,16 @@ ghost use Rattle.ocppj_frame.specs.Payload.{tree_at};
 ghost use Rattle.profile.specs.Parts.{profile_of_parts};
 ghost use Rattle.messages.specs.Action.{action_of_kind};
 ghost use Rattle.messages.specs.ActionKind.{action_named};
-ghost use Rattle.replay.specs.Todo.{begin_of, side_eq, step_of, step_of_made, step_of_reading, kind_of_sender, todo_of_message, todo_of, todo_with};
+ghost use Rattle.replay.specs.Todo.{begin_of, take_of, side_eq, step_of, step_of_made, step_of_reading, kind_of_sender, todo_of_message, todo_of, todo_with, asks_schedule, is_schedule_kind, hold_of};
 
 use crate::session::sent_text::SentText;
-use crate::system::step::Step;
-use messages::{Action, ActionKind, CallFault, Response, Side, StartTransaction, read_fields};
-use ocpp_scalars::{Instant, Refusal};
+use messages::{
+    Action, ActionKind, CallFault, Response, ScheduleRequest, Side, StartTransaction, read_fields,
+};
+use ocpp_scalars::Refusal;
 use ocppj_frame::{Frame, FrameFault, MessageId, Node, read_frame};
 use profile::{Profile, ProfileParts, Row};
+use site_core::{PointId, Step, Take};
 use std::alloc::{AllocError, Global};
 use transactions::Begin;
 
@@ -54,6 +56,40 @@ pub fn todo_of(alloc: Global, text: &SentText<'_>) -> Result<Todo, AllocError>
     }
 }
 
+/// What a held text asks for: as [`todo_of`] has it, or `None` where the text is no CALL of
+/// GetCompositeSchedule.
+#[tactic(auto, unfolding(crate::specs::Todo::todo_of))]
+pub fn hold_of(alloc: Global, text: &SentText<'_>) -> Result<Option<Todo>, AllocError>
+    ensures { IfOk result (λ todo. todo ≡ hold_of text.now) }
+{
+    match read_frame(alloc, text.frame()) {
+        Ok(frame) => {
+            if !asks_schedule(&frame) {
+                return Ok(None);
+            }
+            Ok(Some(todo_of_message(alloc, text, frame)?))
+        }
+        Err(FrameFault::Formation { .. } | FrameFault::Dropped) => Ok(None),
+        Err(FrameFault::OutOfMemory) => Err(AllocError),
+    }
+}
+
+/// Whether a message is a CALL of GetCompositeSchedule.
+fn asks_schedule(frame: &Frame) -> bool
+    ensures { result ≡ asks_schedule (Ok (message_in frame.now)) }
+{
+    match frame {
+        Frame::Call { action, .. } => is_schedule_kind(ActionKind::named(action.as_str())),
+        Frame::Reply { .. } | Frame::Fault { .. } | Frame::Other => false,
+    }
+}
+
+fn is_schedule_kind(kind: Option<ActionKind>) -> bool
+    ensures { result ≡ is_schedule_kind kind }
+{
+    matches!(kind, Some(ActionKind::GetCompositeSchedule))
+}
+
 /// What a message asks for: only a CALL is answered.
 fn todo_of_message(alloc: Global, text: &SentText<'_>, frame: Frame) -> Result<Todo, AllocError>
     ensures { IfOk result (λ todo. todo ≡ todo_of_message text.now (Ok (message_in frame))) }
@@ -70,7 +106,7 @@ fn todo_of_message(alloc: Global, text: &SentText<'_>, frame: Frame) -> Result<T
                     response: NOT_IMPLEMENTED,
                 });
             };
-            let asked = step_of_fields(alloc, text.moment(), kind, payload.root())?;
+            let asked = step_of_fields(alloc, text, kind, payload.root())?;
             Ok(todo_with(id, kind, asked))
         }
         Frame::Reply { .. } | Frame::Fault { .. } | Frame::Other => Ok(Todo::Nothing),
@@ -111,75 +147,115 @@ fn is_same_side(first: Side, second: Side) -> bool
 /// The step that the fields of an action ask for, or the answer where they ask for none.
 fn step_of_fields(
     alloc: Global,
-    moment: Instant,
+    text: &SentText<'_>,
     kind: ActionKind,
     payload: Node<'_>,
 ) -> Result<Result<Step, Response>, AllocError>
-    ensures { IfOk result
-        (λ asked. asked ≡ step_of_reading moment (action_of_kind kind (tree_at payload.entry))) }
+    ensures { IfOk result (λ asked. asked
+        ≡ step_of_reading text.now (action_of_kind kind (tree_at payload.entry))) }
 {
     match read_fields(alloc, kind, payload) {
-        Ok(action) => Ok(step_of(moment, action)),
+        Ok(action) => step_of(alloc, text, action),
         Err(CallFault::Refused(Refusal::OutOfMemory)) => Err(AllocError),
         Err(fault) => Ok(Err(Response::Error(fault))),
     }
 }
 
-/// The step that an action asks for at a moment, or the answer where it asks for none.
-fn step_of(moment: Instant, action: Action) -> Result<Step, Response>
-    ensures { result ≡ step_of moment action }
+/// The step that an action asks for, or the answer where it asks for none.
+fn step_of(
+    alloc: Global,
+    text: &SentText<'_>,
+    action: Action,
+) -> Result<Result<Step, Response>, AllocError>
+    ensures { IfOk result (λ asked. asked ≡ step_of text.now action) }
 {
-    match action {
+    let current_time = text.moment();
+    let response = match action {
         Action::SetChargingProfile { connector, profile } => {
-            step_of_parts(moment, connector, profile)
+            return step_of_parts(alloc, text, connector, profile);
         }
-        Action::ClearChargingProfile(criteria) => Ok(Step::Clear(criteria)),
-        Action::GetCompositeSchedule(request) => Ok(Step::Compose {
-            start: moment,
-            request,
-        }),
-        Action::StartTransaction(start) => Ok(step_of_start(start)),
-        Action::StopTransaction(transaction) => Ok(Step::Stop(transaction)),
-        Action::BootNotification => Err(Response::BootNotification {
-            current_time: moment,
-        }),
-        Action::Heartbeat => Err(Response::Heartbeat {
-            current_time: moment,
-        }),
-        Action::Authorize => Err(Response::Authorize),
+        Action::ClearChargingProfile(criteria) => {
+            let point = PointId::copied(alloc, text.point())?;
+            return Ok(Ok(Step::Clear { point, criteria }));
+        }
+        Action::GetCompositeSchedule(request) => return Ok(Ok(step_of_ask(alloc, text, &request)?)),
+        Action::StartTransaction(start) => return Ok(Ok(step_of_start(alloc, text, start)?)),
+        Action::StopTransaction(transaction) => {
+            let point = PointId::copied(alloc, text.point())?;
+            return Ok(Ok(Step::Stop { point, transaction }));
+        }
+        Action::BootNotification => Response::BootNotification { current_time },
+        Action::Heartbeat => Response::Heartbeat { current_time },
+        Action::Authorize => Response::Authorize,
         Action::StatusNotification
         | Action::MeterValues
         | Action::FirmwareStatusNotification
-        | Action::DiagnosticsStatusNotification => Err(Response::Empty),
-        Action::DataTransfer => Err(Response::UnknownVendorId),
-        Action::NotACall => Err(NOT_IMPLEMENTED),
-    }
+        | Action::DiagnosticsStatusNotification => Response::Empty,
+        Action::DataTransfer => Response::UnknownVendorId,
+        Action::NotACall => NOT_IMPLEMENTED,
+    };
+    Ok(Err(response))
+}
+
+/// The request for a schedule that these fields make.
+fn step_of_ask(
+    alloc: Global,
+    text: &SentText<'_>,
+    request: &ScheduleRequest,
+) -> Result<Step, AllocError>
+    ensures { IfOk result (λ step. step ≡ Step.Take (take_of text.now request.now)) }
+{
+    Ok(Step::Take(Take {
+        point: PointId::copied(alloc, text.point())?,
+        connector: request.connector,
+        start: text.moment(),
+        duration: request.duration,
+        unit: request.unit,
+        seen: 0,
+    }))
 }
 
 /// The start that these fields make.
-fn step_of_start(start: StartTransaction) -> Step
-    ensures { result ≡ Step.Start start.connector (begin_of start) }
+fn step_of_start(
+    alloc: Global,
+    text: &SentText<'_>,
+    start: StartTransaction,
+) -> Result<Step, AllocError>
+    ensures { IfOk result
+        (λ step. step ≡ Step.Start text.now.point start.connector (begin_of start)) }
 {
-    Step::Start {
+    Ok(Step::Start {
+        point: PointId::copied(alloc, text.point())?,
         connector: start.connector,
         begin: Begin {
             id_tag: start.id_tag,
             meter_start: start.meter_start,
             timestamp: start.timestamp,
         },
-    }
+    })
 }
 
 /// The install of the profile that these fields make.
-fn step_of_parts(moment: Instant, connector: u32, parts: ProfileParts) -> Result<Step, Response>
-    ensures { result ≡ step_of_made moment connector (profile_of_parts parts) }
+fn step_of_parts(
+    alloc: Global,
+    text: &SentText<'_>,
+    connector: u32,
+    parts: ProfileParts,
+) -> Result<Result<Step, Response>, AllocError>
+    ensures { IfOk result (λ asked. asked
+        ≡ step_of_made text.now connector (profile_of_parts parts)) }
 {
     match Profile::try_new(parts) {
-        Ok(profile) => Ok(Step::Install(Row {
-            connector,
-            moment,
-            profile,
-        })),
-        Err((refusal, _)) => Err(Response::Rejected(refusal)),
+        Ok(profile) => {
+            let point = PointId::copied(alloc, text.point())?;
+            let moment = text.moment();
+            let row = Row {
+                connector,
+                moment,
+                profile,
+            };
+            Ok(Ok(Step::Install { point, row }))
+        }
+        Err((refusal, _)) => Ok(Err(Response::Rejected(refusal))),
     }
 }

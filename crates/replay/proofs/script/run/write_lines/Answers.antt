@@ -4,7 +4,7 @@ use Rattle.std.specs.List.{fold}
 use Rattle.std.specs.Io.KnownBytes.{Appends}
 use Rattle.std.proofs.KnownBytes.{Appends-trans}
 use Rattle.replay.specs.Lines.{script_lines}
-use Rattle.replay.specs.CentralSystem.{SystemState}
+use Rattle.replay.specs.Player.{PlayerState}
 use Rattle.replay.specs.Play.{line_played}
 use Rattle.replay.specs.Run.{Played, played, played_more}
 use Rattle.replay.proofs.OutputLemmas.{output_grows, next_line, no_line, one_fault, bool_le, prefix_after, prefix_whole}
@@ -16,7 +16,7 @@ loop-rest-init g c = record {
   played = (
     [],
     search rules,
-    ap (λ (state : SystemState). fold played_more (record { number = 1; faults = 0; output = []; state = state }) (script_lines c.args.script.now)) c.in_ok-system.ensures,
+    ap (λ (state : PlayerState). fold played_more (record { number = 1; faults = 0; output = []; state = state }) (script_lines c.args.script.now)) c.in_ok-player.ensures,
   );
   few = (lit≤ tt, omega arith);
 }
@@ -26,8 +26,8 @@ loop-rest-preserved g c =
     let before = c.loop-rest.invariant.played in
     let line = c.split_line.result.0.now in
     let others = c.split_line.result.1.now in
-    let was = line_played c.loop-rest.system c.loop-rest.number line in
-    let sofar : Played = record { number = c.loop-rest.number; faults = c.loop-rest.script_faults; output = before.0; state = c.loop-rest.system } in
+    let was = line_played c.loop-rest.player c.loop-rest.number line in
+    let sofar : Played = record { number = c.loop-rest.number; faults = c.loop-rest.script_faults; output = before.0; state = c.loop-rest.player } in
     let next = next_line sofar (played c.args.site c.args.script.now) c.loop-rest.rest.now line others c.split_line.ensures.lines before.2 in
     let faults : c.from-script_faults.result ≡ cond was.is_fault 1 0 =
     one_fault c.from-script_faults.result c.in-Ok.is_fault was.is_fault c.from-script_faults.ensures c.in-Ok.ensures.fault in
@@ -44,10 +44,10 @@ returns-in-Err-clause-prefix g c =
     let line = c.split_line.result.0.now in
     let others = c.split_line.result.1.now in
     let all = played site c.args.script.now in
-    let sofar : Played = record { number = c.loop-rest.number; faults = c.loop-rest.script_faults; output = before.0; state = c.loop-rest.system } in
+    let sofar : Played = record { number = c.loop-rest.number; faults = c.loop-rest.script_faults; output = before.0; state = c.loop-rest.player } in
     let next = next_line sofar all c.loop-rest.rest.now line others c.split_line.ensures.lines before.2 in
     let grown = output_grows (played_more sofar line) (script_lines others) in
-    prefix_after _ _ _ before.0 (line_played c.loop-rest.system c.loop-rest.number line).printed grown.0 all.output before.1 c.in-Err.ensures.prefix
+    prefix_after _ _ _ before.0 (line_played c.loop-rest.player c.loop-rest.number line).printed grown.0 all.output before.1 c.in-Err.ensures.prefix
     (ap (λ (p : Played). p.output) (sym next) ∙ grown.1)
 
 pub returns-clause-prefix : goal.returns-clause-prefix
@@ -55,6 +55,6 @@ returns-clause-prefix g c =
     let site = c.args.site in
     let before = c.loop-rest.invariant.played in
     let all = played site c.args.script.now in
-    let sofar : Played = record { number = c.loop-rest.number; faults = c.loop-rest.script_faults; output = before.0; state = c.loop-rest.system } in
+    let sofar : Played = record { number = c.loop-rest.number; faults = c.loop-rest.script_faults; output = before.0; state = c.loop-rest.player } in
     let end = no_line sofar all c.loop-rest.rest.now (eqb-true _ _ (sym c.is_empty.ensures ∙ c.loop-rest-test.false)) before.2 in
     prefix_whole _ _ all.output (subst (Appends _ _) (ap (λ (p : Played). p.output) end) before.1)

@@ -9,7 +9,7 @@ use Rattle.replay.proofs.script.run.write_lines.Given as goal
 abbrev pub invariant-loop-rest : goal.invariant-loop-rest
 invariant-loop-rest g l = record {
   played : (done : List ℕ) × Appends (g.W.Write.contents l.fn.writer) (g.W.Write.contents l.writer) done
-      × (fold played_more (record { number = l.number; faults = l.script_faults; output = done; state = l.system }) (script_lines l.rest)
+      × (fold played_more (record { number = l.number; faults = l.script_faults; output = done; state = l.player }) (script_lines l.rest)
       ≡ played l.fn.site l.script);
   few : (l.script_faults + 1 ≤ l.number) × (l.number + length l.rest ≤ length l.script + 1);
 }

@@ -1,0 +1,6 @@
+-- The test of a held request for its number. Of private clauses.
+use Rattle.std.specs.Prelude.{ℕ, ◌==◌, Bool}
+use Rattle.replay.specs.declared.player.held.Held.{Held}
+
+abbrev pub has_number : ℕ → Held → Bool
+has_number number held = held.number == number

@@ -1,0 +1,50 @@
+-- What comes of the steps that a text asks for, where each compile gives the exact schedule or ResultTooLong.
+use Rattle.std.specs.Prelude.{ℕ, Option, Some, None, Result, Ok, Err}
+use Rattle.ocpp_scalars.specs.declared.refusal.Refusal.{Refusal}
+use Rattle.meaning.specs.Limit.{limit_asked}
+use Rattle.meaning.specs.ByCases.Exact.{exact_schedule}
+use Rattle.point_book.specs.Book.{state_of}
+use Rattle.site_core.specs.declared.step.Step.{Step}
+use Rattle.site_core.specs.declared.step.Step.TheVariants as steps
+use Rattle.site_core.specs.declared.reply.Reply.{Reply}
+use Rattle.site_core.specs.declared.reply.Reply.TheVariants.{Taken}
+use Rattle.site_core.specs.State.{MachineState, Kept, ScheduleAnswer}
+use Rattle.site_core.specs.Requests.{request_of}
+use Rattle.site_core.specs.Step.{Made, stepped, no_answer}
+
+-- what comes of a step: what it replies and the state after it, or why it is refused and the state as it was
+pub record Stepped : Type 0 where
+  pub outcome : Result Reply Refusal
+  pub after : MachineState
+
+abbrev pub made_or_refused : MachineState → Result Made Refusal → Stepped
+made_or_refused old (Ok made) = record { outcome = Ok made.reply; after = made.after }
+made_or_refused old (Err refusal) = record { outcome = Err refusal; after = old }
+
+-- what a compile answers: the exact schedule of what the request's point had when it was taken, or that it
+-- is too long (OCPP 1.6, 5.7)
+abbrev pub exact_answer : Option Kept → ScheduleAnswer
+exact_answer None = no_answer
+exact_answer (Some kept) =
+    exact_schedule (limit_asked (state_of kept.book) kept.ask.connector kept.ask.start) kept.ask.duration
+
+abbrev pub answer_given : MachineState → Step → ScheduleAnswer
+answer_given old (steps.Compile number) = exact_answer (request_of number old.requests)
+answer_given old step = no_answer
+
+-- one step of the central system
+unfoldable pub stepped_exactly : MachineState → Step → Stepped
+stepped_exactly old step = made_or_refused old (stepped (answer_given old step) old step)
+
+-- a request is compiled, and then answered
+abbrev pub handed_out : MachineState → ℕ → Stepped
+handed_out taken number =
+    stepped_exactly (stepped_exactly taken (steps.Compile number)).after (steps.Answer number)
+
+abbrev pub at_once : Result Reply Refusal → MachineState → Stepped
+at_once (Ok (Taken number book ask)) taken = handed_out taken number
+at_once outcome after = record { outcome = outcome; after = after }
+
+-- one step, and where that takes a request, it is compiled and answered at once
+abbrev pub stepped_at_once : MachineState → Step → Stepped
+stepped_at_once old step = at_once (stepped_exactly old step).outcome (stepped_exactly old step).after

@@ -1,0 +1,34 @@
+//! The held requests of a script: those whose answers no line has asked for yet.
+
+ghost use Rattle.std.specs.Prelude.{◌≡◌, None};
+ghost use Rattle.std.specs.List.{position};
+ghost use Rattle.replay.specs.Held.{id_held, let_go};
+ghost use Rattle.replay.specs.ByCases.Held.{has_number};
+
+use ocppj_frame::MessageId;
+
+/// A request for a composite schedule that is held, and the CALL that it answers.
+#[derive(Drop)]
+pub struct Held {
+    /// The number of the request.
+    pub number: u64,
+    /// The id of the CALL.
+    pub id: MessageId,
+}
+
+/// Takes the held request of a number out, if there is one. Returns the id of its CALL.
+pub fn let_go(held: &mut Vec<Held>, number: u64) -> Option<MessageId>
+    ensures id { result ≡ id_held number held.old.items }
+    ensures left { held.new.items ≡ let_go number held.old.items }
+    ensures kept { result ≡ None → held.new.items ≡ held.old.items }
+{
+    let place = place_of(held, number)?;
+    Some(held.remove(place).id)
+}
+
+/// The place of the held request of a number.
+fn place_of(held: &Vec<Held>, number: u64) -> Option<usize>
+    ensures { result ≡ position (has_number number) held.now.items }
+{
+    held.iter().position(|held| held.number == number)
+}

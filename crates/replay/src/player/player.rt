@@ -1,0 +1,98 @@
+//! The player of a script: the central system's machine, and the asks that are held.
+
+ghost use Rattle.std.specs.Prelude.{◌≡◌, ◌∷◌, [], ◌++◌, None, IfOk, OnOk};
+ghost use Rattle.replay.specs.Held.{id_held, let_go};
+ghost use Rattle.replay.specs.MachineSteps.{stepped_exactly, handed_out, stepped_at_once};
+ghost use Rattle.replay.specs.ByCases.MachineSteps.{IsAsked};
+
+use crate::player::held::{Held, let_go};
+use crate::player::machine_steps::{StepOutcome, hand_out, step_at_once, step_exactly};
+use ocppj_frame::MessageId;
+use site_core::{Machine, Step};
+use site_rules::Site;
+use std::alloc::{AllocError, Global};
+use std::marker::Model;
+
+/// The player of a script.
+#[derive(Drop)]
+pub struct Player {
+    machine: Machine,
+    /// In the order of their lines.
+    held: Vec<Held>,
+}
+
+impl Model for Player {
+    ghost use Rattle.replay.specs.Player.{PlayerState};
+
+    ghost Value = { PlayerState };
+
+    ghost view = { λ p. record {
+      machine = p.machine;
+      held = p.held.items;
+    } };
+}
+
+impl Player {
+    ghost use Rattle.replay.specs.Player.{first_state};
+    ghost use Rattle.replay.specs.ByCases.Player.{ComesTo};
+
+    /// Before the first line of a script on a site.
+    pub fn new(alloc: Global, site: Site) -> Result<Player, AllocError>
+        ensures { IfOk result (λ player. player ≡ first_state site) }
+    {
+        Ok(Player {
+            machine: Machine::new(alloc, site)?,
+            held: Vec::new(alloc),
+        })
+    }
+
+    /// The site.
+    pub fn site(&self) -> &Site
+        ensures { result.now ≡ self.now.machine.site }
+    {
+        self.machine.site()
+    }
+
+    /// Makes a step that a text asks for.
+    pub fn step(&mut self, step: Step) -> Result<StepOutcome, AllocError>
+        requires { IsAsked step }
+        ensures { IfOk result
+            (λ outcome. ComesTo self.old (stepped_exactly self.old.machine step) outcome self.new) }
+    {
+        step_exactly(&mut self.machine, step)
+    }
+
+    /// Makes a step that a text asks for. A request that it takes is answered at once.
+    pub fn step_at_once(&mut self, step: Step) -> Result<StepOutcome, AllocError>
+        requires { IsAsked step }
+        ensures { IfOk result
+            (λ outcome. ComesTo self.old (stepped_at_once self.old.machine step) outcome self.new) }
+    {
+        step_at_once(&mut self.machine, step)
+    }
+
+    /// Answers the request of a number.
+    pub fn hand_out(&mut self, number: u64) -> Result<StepOutcome, AllocError>
+        ensures { IfOk result
+            (λ outcome. ComesTo self.old (handed_out self.old.machine number) outcome self.new) }
+    {
+        hand_out(&mut self.machine, number)
+    }
+
+    /// Holds a request.
+    pub fn hold(&mut self, held: Held) -> Result<(), AllocError>
+        ensures { OnOk result (self.new ≡ record self.old { held = self.old.held ++ held ∷ [] }) }
+    {
+        self.held.push(held)?;
+        Ok(())
+    }
+
+    /// The id of the CALL whose request has this number, which is no longer held.
+    pub fn let_go(&mut self, number: u64) -> Option<MessageId>
+        ensures id { result ≡ id_held number self.old.held }
+        ensures after { self.new ≡ record self.old { held = let_go number self.old.held } }
+        ensures kept { result ≡ None → self.new ≡ self.old }
+    {
+        let_go(&mut self.held, number)
+    }
+}

@@ -1,0 +1,108 @@
+//! The forms of a line of a script: its words with one space between them.
+
+ghost use Rattle.std.specs.Prelude.{◌≡◌, option_map};
+ghost use Rattle.replay.specs.ByCases.Form.{word_at, word_named, begins_above_zero, number_of, words_view, form_of};
+
+/// The highest number of a request.
+const MAX_REQUEST: u64 = 1_000_000_000_000;
+
+/// Which line that brings a text it is, by its second word.
+#[derive(Clone, Copy, Debug, PartialEq, Eq)]
+pub enum LineWord {
+    /// `operator`: an operator's text for a point.
+    Operator,
+    /// `point`: a point's own text.
+    Point,
+    /// `hold`: an operator's ask whose answer is held.
+    Hold,
+}
+
+/// The words of a line, by its form.
+#[derive(Drop)]
+pub enum Words<'a> {
+    /// `INSTANT operator ID FRAME`, `INSTANT point ID FRAME` or `INSTANT hold ID FRAME`.
+    Text {
+        instant: &'a str,
+        word: LineWord,
+        point: &'a str,
+        frame: &'a str,
+    },
+    /// `INSTANT release N`.
+    Release {
+        instant: &'a str,
+        number: u64,
+    },
+}
+
+/// The words of a line, if it is of one of the forms.
+#[tactic(auto, unfolding(crate::specs::ByCases::Form::form_of))]
+pub fn split_words(text: &str) -> Option<Words<'_>>
+    ensures { option_map words_view result ≡ form_of text.now }
+{
+    let (instant, text) = split_word(text)?;
+    let (word, text) = split_word(text)?;
+    if word == "release" {
+        let number = number_of(text)?;
+        return Some(Words::Release { instant, number });
+    }
+    let word = word_named(word)?;
+    let (point, frame) = split_word(text)?;
+    Some(Words::Text {
+        instant,
+        word,
+        point,
+        frame,
+    })
+}
+
+/// The line with a text whose second word this is.
+fn word_named(word: &str) -> Option<LineWord>
+    ensures { result ≡ word_named word.now }
+{
+    if word == "operator" {
+        Some(LineWord::Operator)
+    } else if word == "point" {
+        Some(LineWord::Point)
+    } else if word == "hold" {
+        Some(LineWord::Hold)
+    } else {
+        None
+    }
+}
+
+/// The word that a text begins with, and what follows the one space after it.
+fn split_word(text: &str) -> Option<(&str, &str)>
+    ensures { option_map (λ parts. (parts.0.now, parts.1.now)) result ≡ word_at text.now }
+{
+    let (word, rest) = text.split_once(' ')?;
+    if word.is_empty() {
+        return None;
+    }
+    Some((word, rest))
+}
+
+/// The number of a request that a word is, in decimal without leading zeros.
+fn number_of(word: &str) -> Option<u64>
+    ensures { result ≡ number_of word.now }
+{
+    if !begins_above_zero(word) {
+        return None;
+    }
+    let Ok(number) = word.parse::<u64>() else {
+        return None;
+    };
+    if number > MAX_REQUEST {
+        return None;
+    }
+    Some(number)
+}
+
+/// Whether a word begins with a byte above the digit 0. `parse` takes a plus and zeros before a number.
+fn begins_above_zero(word: &str) -> bool
+    ensures { result ≡ begins_above_zero word.now }
+{
+    match word.as_bytes().first() {
+        Some(first) => *first > b'0',
+        None => false,
+    }
+}
