@@ -1,10 +1,12 @@
 //! The answers to the actions that the benchmark's scripts have.
 use crate::instant::Instant;
+use crate::outbox::{Body, Criteria};
 use crate::profile::{count, name, needed, object, purpose, read_profile, started_at, text, whole, Fault, Object, Profile};
 use crate::schedule::compose;
 use crate::{Point, Row, Side, Site};
 use serde_json::Value;
 use std::fmt::Write;
+use std::rc::Rc;
 
 pub enum Answer {
     Result(String),
@@ -59,7 +61,12 @@ fn install(at: Option<&mut Point>, now: Instant, fields: &Object) -> Result<Answ
     if point.rows.iter().filter(|row| !is_replaced(row)).count() >= 100 {
         return Ok(rejected("TooManyProfiles"));
     }
+    if point.outbox.is_full() {
+        return Ok(rejected("OutboxFull"));
+    }
     point.rows.retain(|row| !is_replaced(row));
+    let profile = Rc::new(profile);
+    point.outbox.add(Body::Set { connector, profile: Rc::clone(&profile) });
     point.rows.push(Row { connector, moment: now.seconds(), profile });
     Ok(accepted())
 }
@@ -88,17 +95,20 @@ fn clear(at: Option<&mut Point>, fields: &Object) -> Result<Answer, Fault> {
     let Some(point) = at else {
         return Ok(Answer::Fault(Fault { code: "InternalError", field: "UnknownPoint" }));
     };
-    let before = point.rows.len();
-    point.rows.retain(|row| {
-        let is_met = id.is_none_or(|id| row.profile.id == id)
+    let is_met = |row: &Row| {
+        id.is_none_or(|id| row.profile.id == id)
             && connector.is_none_or(|connector| row.connector == connector)
             && purpose.is_none_or(|purpose| row.profile.purpose == purpose)
-            && level.is_none_or(|level| row.profile.level == level);
-        !is_met
-    });
-    if point.rows.len() == before {
+            && level.is_none_or(|level| row.profile.level == level)
+    };
+    if !point.rows.iter().any(is_met) {
         return Ok(Answer::Result(r#"{"status":"Unknown"}"#.to_string()));
     }
+    if point.outbox.is_full() {
+        return Ok(Answer::Fault(Fault { code: "InternalError", field: "OutboxFull" }));
+    }
+    point.rows.retain(|row| !is_met(row));
+    point.outbox.add(Body::Clear(Criteria { id, connector, purpose, level }));
     Ok(accepted())
 }
 

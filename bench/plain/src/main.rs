@@ -2,15 +2,18 @@
 //! central system costs without marked texts, exact fractions and proofs.
 mod action;
 mod instant;
+mod outbox;
 mod profile;
 mod schedule;
 
 use action::{answer, Answer};
 use instant::{read_instant, Instant};
+use outbox::Outbox;
 use profile::Profile;
 use serde_json::Value;
 use std::collections::HashMap;
 use std::io::{self, BufWriter, Read, Write};
+use std::rc::Rc;
 
 const LONGEST_SCRIPT: usize = 16_777_216;
 const LONGEST_LINE: usize = 1_048_576;
@@ -26,16 +29,17 @@ pub enum Side {
 pub struct Row {
     pub connector: i32,
     pub moment: i64,
-    pub profile: Profile,
+    pub profile: Rc<Profile>,
 }
 
 /// A charge point: ceilings in tenths, for each connector the start of its transaction, and the profiles in the order of
-/// their installs.
+/// their installs. The calls to it, too.
 pub struct Point {
     pub ceiling: u64,
     pub ceilings: Vec<u64>,
     pub started: Vec<Option<i64>>,
     pub rows: Vec<Row>,
+    pub outbox: Outbox,
 }
 
 /// The points of the site by their identities, and how many transactions began; all limits are in amperes.
@@ -53,7 +57,7 @@ fn read_site(path: &str) -> Option<Site> {
     for point in file["points"].as_array()? {
         let ceilings: Vec<u64> = point["connectors"].as_array()?.iter().map(tenths).collect::<Option<_>>()?;
         let started = vec![None; ceilings.len()];
-        let entry = Point { ceiling: tenths(&point["ceiling"])?, ceilings, started, rows: Vec::new() };
+        let entry = Point { ceiling: tenths(&point["ceiling"])?, ceilings, started, rows: Vec::new(), outbox: Outbox::new() };
         site.points.insert(point["id"].as_str()?.to_string(), entry);
     }
     Some(site)
@@ -74,8 +78,7 @@ fn main() -> io::Result<()> {
             continue;
         }
         match play(&mut site, line) {
-            Ok(Some(text)) => writeln!(output, "> {text}")?,
-            Ok(None) => {}
+            Ok(played) => played.write(&mut output)?,
             Err(name) => writeln!(output, "! {} {name}", index + 1)?,
         }
     }
@@ -83,8 +86,26 @@ fn main() -> io::Result<()> {
     output.flush()
 }
 
-/// One line's answer, or the name of its fault.
-fn play(site: &mut Site, line: &[u8]) -> Result<Option<String>, &'static str> {
+/// What a line prints: the answer to its text, and a call with its point.
+struct Played<'a> {
+    answer: Option<String>,
+    call: Option<(&'a str, String)>,
+}
+
+impl Played<'_> {
+    fn write(&self, output: &mut impl Write) -> io::Result<()> {
+        if let Some(answer) = &self.answer {
+            writeln!(output, "> {answer}")?;
+        }
+        if let Some((point, call)) = &self.call {
+            writeln!(output, "* {point} {call}")?;
+        }
+        Ok(())
+    }
+}
+
+/// What a line prints, or the name of its fault.
+fn play<'a>(site: &mut Site, line: &'a [u8]) -> Result<Played<'a>, &'static str> {
     if line.len() > LONGEST_LINE {
         return Err("TooLong");
     }
@@ -103,18 +124,24 @@ fn play(site: &mut Site, line: &[u8]) -> Result<Option<String>, &'static str> {
     if side == Side::Point && !site.points.contains_key(point) {
         return Err("UnknownPoint");
     }
-    Ok(take_frame(site, point, side, now, frame))
+    let answer = take_frame(site, point, side, now, frame);
+    let linked = site.points.get_mut(point).filter(|_| side == Side::Point);
+    let call = linked.and_then(|linked| linked.outbox.send()).map(|call| (point, call));
+    Ok(Played { answer, call })
 }
 
-/// The answer to a text; what isn't a CALL has none.
+/// The answer to a text; what isn't a CALL has none. A point's reply may be to the call in flight.
 fn take_frame(site: &mut Site, point: &str, side: Side, now: Instant, text: &str) -> Option<String> {
     let frame: Value = serde_json::from_str(text).ok()?;
     let parts = frame.as_array()?;
-    if parts.first()?.as_i64()? != 2 {
-        return None;
-    }
+    let kind = parts.first()?.as_i64()?;
     let id = parts.get(1)?.as_str()?;
     if id.chars().count() > 36 {
+        return None;
+    }
+    if kind != 2 {
+        let linked = site.points.get_mut(point).filter(|_| side == Side::Point && (kind == 3 || kind == 4));
+        linked?.outbox.confirm(id);
         return None;
     }
     let id = serde_json::to_string(id).ok()?;
