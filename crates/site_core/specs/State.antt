@@ -87,6 +87,14 @@ link_at state (Some place) = (outbox_at state place).link
 abbrev pub link_of : MachineState → List ℕ → Option ℕ
 link_of state point = link_at state (place_of state.site point)
 
+-- how many calls of the point aren't confirmed; a stranger has none
+abbrev pub outbox_len_at : MachineState → Option ℕ → ℕ
+outbox_len_at state None = 0
+outbox_len_at state (Some place) = length (outbox_at state place).calls
+
+abbrev pub outbox_len : MachineState → List ℕ → ℕ
+outbox_len state point = outbox_len_at state (place_of state.site point)
+
 -- ---- what is always so
 
 -- the connectors of a point by the site file, and by its book

@@ -2,7 +2,7 @@
 
 ghost use Rattle.std.specs.Prelude.{◌≡◌, ◌<◌, ◌≤◌, Some, IfOk, IfErr, MatchResult, Ok, Err, length};
 ghost use Rattle.site_rules.specs.Site.{place_of};
-ghost use Rattle.site_core.specs.State.{AreNumbers, link_of, opening, opening_at};
+ghost use Rattle.site_core.specs.State.{AreNumbers, link_of, opening, opening_at, outbox_len};
 ghost use Rattle.site_core.specs.Step.{Steps, IsRefused, first_refusal, NeedsNoMemory};
 ghost use Rattle.site_core.specs.Run.{HasOutcome, Runs};
 ghost use Rattle.site_core.specs.ByCases.Made.{place_in};
@@ -125,6 +125,16 @@ impl Machine {
     {
         let place = self.site.place_of(point)?;
         outbox_at(&self.outboxes, place).link()
+    }
+
+    /// How many calls of the point of an identity aren't confirmed, 0 where the site has no such point.
+    pub fn outbox_len(&self, point: &str) -> usize
+        ensures { result ≡ outbox_len self.now point.now }
+    {
+        match self.site.place_of(point) {
+            Some(place) => outbox_at(&self.outboxes, place).len(),
+            None => 0,
+        }
     }
 
     /// Makes a step, or says why not: then nothing has changed, and the step comes back. Compiling, answering
