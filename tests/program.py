@@ -136,10 +136,12 @@ def limit_cases(good):
     yield "a line that is no text", good, b"\xff\n", b"! 1 BadText\n", b"", 2
     prefix, end = b'2025-01-01T00:00:00Z point CP1 [2,"1","Heartbeat",{"pad":"', b'"}]'
     answer = b'> [3,"1",{"currentTime":"2025-01-01T00:00:00Z"}]\n'
+    call = b'* CP1 [2,"0","ClearChargingProfile",{}]\n'
     room = 1_048_576 - len(prefix) - len(end)
-    yield "a frame on a line of the limit", good, prefix + b"x" * room + end + b"\n", answer, b"", 0
+    yield "a frame on a line of the limit", good, prefix + b"x" * room + end + b"\n", answer + call, b"", 0
     yield "a frame on a line past the limit", good, prefix + b"x" * (room + 1) + end + b"\n", b"! 1 TooLong\n", b"", 2
-    yield "a script of frames of the limit", good, (prefix + b"x" * (room - 1) + end + b"\n") * 16, answer * 16, b"", 0
+    frames = (prefix + b"x" * (room - 1) + end + b"\n") * 16
+    yield "a script of frames of the limit", good, frames, answer + call + answer * 15, b"", 0
 
 
 def run(program, arguments, given, stdout=subprocess.PIPE):
