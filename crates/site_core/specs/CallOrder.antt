@@ -1,7 +1,7 @@
 -- What the laws of outboxes and of points that obey say of the machine: the calls and the profiles of a
 -- point along a history.
-use Rattle.std.specs.Prelude.{ℕ, ◌≡◌, ◌==◌, Bool, false, List, [], ◌∷◌, ◌++◌, length, map, filter, Option, None, Some}
-use Rattle.std.specs.List.{flat_map}
+use Rattle.std.specs.Prelude.{ℕ, ◌≡◌, ◌==◌, Bool, false, List, [], ◌∷◌, ◌++◌, length, map, filter, slice_get, Option, None, Some}
+use Rattle.std.specs.List.{flat_map, AllByRecursion}
 use Rattle.profile.specs.declared.row.Row.{Row}
 use Rattle.profile.specs.Changes.{installed, cleared, without_transaction_profiles}
 use Rattle.transactions.specs.declared.transaction.Transaction.{Transaction}
@@ -105,6 +105,15 @@ OutboxesFollowHistories = OfEachPoint (λ site place history state.
 abbrev pub CallsAreSentInOrder : Type 0
 CallsAreSentInOrder = OfEachPoint (λ site place history state.
     AreInSendingOrder (numbers_of_calls (calls_sent site place history)))
+
+-- a call is the one of its number
+abbrev pub IsOneOf : List Call → Call → Type 0
+IsOneOf calls call = slice_get calls call.number ≡ Some call
+
+-- each call that Send replies is the one of its number among all calls
+abbrev pub CallsAreSentAsMade : Type 0
+CallsAreSentAsMade = OfEachPoint (λ site place history state.
+    AllByRecursion (IsOneOf (calls_made site place history)) (calls_sent site place history))
 
 -- the calls of an outbox are all calls without the confirmed ones, and those were confirmed in order
 abbrev pub CallsAreLeftUnlessConfirmed : Type 0
