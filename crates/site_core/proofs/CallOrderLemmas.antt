@@ -1,7 +1,8 @@
 -- What each step is to the outbox of the point that it names, and outboxes along histories.
-use Rattle.std.proofs.Common.{◌≡◌, ℕ, zero, suc, ◌<◌, ◌==◌, Bool, true, false, cond, List, [], ◌∷◌, ◌++◌, length, map, flat_map, slice_index_or, slice_set, ℤ, ◌+◌, ◌||◌, is_some, nat_lt, Option, Some, None, Result, Ok, Err, refl, sym, ap, ap₂, ◌∙◌, subst, arith, append_assoc, slice_get, length-append}
+use Rattle.std.proofs.Common.{◌≡◌, ℕ, zero, suc, ◌<◌, ◌==◌, Bool, true, false, cond, List, [], ◌∷◌, ◌++◌, length, map, flat_map, slice_index_or, slice_set, ℤ, ◌+◌, ◌||◌, is_some, nat_lt, Option, Some, None, Result, Ok, Err, refl, sym, ap, ap₂, ◌∙◌, subst, arith, append_assoc, slice_get, length-append, append-nil, ◌≤◌, ◌-◌}
 use Rattle.std.proofs.lemmas.Bool.{eqb-true, eqb-false}
 use Rattle.std.proofs.lemmas.List.{length-set, length-map, map-append, get_or-set_same, get_or-set_other}
+use Rattle.std.proofs.lemmas.Grind.{flat_map-append}
 use Rattle.std.proofs.lemmas.List.Quantifiers.{position-Some}
 use Rattle.std.proofs.lemmas.List.Elements.{filter-append, filter_map-append}
 use Rattle.std.specs.Prelude.{IfOk}
@@ -35,12 +36,12 @@ use Rattle.site_core.specs.Requests.{request_of, answered, all_stopped}
 use Rattle.site_core.specs.State.{MachineState, Kept, ScheduleAnswer, opening_at, opening_book, opening_outbox_of, book_in, book_at, outbox_at}
 use Rattle.site_core.specs.Outbox.{numbered, OutboxState, opening_outbox, clear_all, lost, sent, confirmed, sendable, is_number_in_flight}
 use Rattle.site_core.specs.OutboxOrder.{Traffic, Attach, Lose, Add, Send, Confirm, after, after_all, sent_at, numbers_sent, number_of, calls_confirmed, added_at, bodies_added, AreInSendingOrder}
-use Rattle.site_core.specs.Obey.{Change, Installs, Clears, Ends, call_of, calls_of, last_number, obeyed, lasting, rows_after_call}
+use Rattle.site_core.specs.Obey.{Change, Installs, Clears, Ends, call_of, calls_of, last_number, obeyed, lasting, rows_after_call, Obeying, numbers_of}
 use Rattle.site_core.specs.Step.{next_transaction, with_transaction, refusal_to_start, refusal_to_install}
 use Rattle.site_core.specs.Step.{Made, Steps, at_link, at_linked_place, is_present, attaches, sends, sends_call, confirms, loses, with_outbox, changed, changed_by_call, refusal_to_call, unless, version_refusal, installs, clears, starts, starts_as, stops, takes, takes_ask, compiles_kept, answers_kept, answers_with, finishes, unchanged, stepped, no_answer}
 use Rattle.site_core.specs.History.{Event, Legal}
 use Rattle.site_core.specs.CallOrder.{is_place, is_at, names, events_at, traffic_by, traffic_of, traffic_by_event, calls_by, calls_by_event, calls_sent, numbers_of_calls, OutboxesFollowHistories, calls_made, IsOneOf, CallsAreSentInOrder, CallsAreSentAsMade, CallsAreLeftUnlessConfirmed}
-use Rattle.site_core.specs.CallOrder.{slots_after, end_at, changes_by, changes_from, changes_of, opening_slots, rows_after_all, bodies_of, RowsFollowHistories, PointsStayInStep}
+use Rattle.site_core.specs.CallOrder.{slots_after, end_at, changes_by, changes_from, changes_of, opening_slots, rows_after_all, bodies_of, RowsFollowHistories, PointsStayInStep, accepted, Moment, EachCallHasItsMoment}
 use Rattle.site_core.proofs.StepLemmas.{at_point_made, unless_made, either_made}
 use Rattle.site_core.proofs.ObeyLemmas.{lasting_end, stays_in_step}
 use Rattle.site_core.proofs.OutboxOrderLemmas.{outbox, sent_in_order, left_unless_confirmed}
@@ -208,11 +209,20 @@ record Acts (place : ℕ) (named : Bool) (old : MachineState) (step : Step) (mad
   site : made.after.site ≡ old.site
   many : length made.after.outboxes ≡ length old.outboxes
   outbox : outbox_at made.after place ≡ cond named (after_all (outbox_at old place) (traffic_by step made.reply)) (outbox_at old place)
+  few : length (bodies_added (traffic_by step made.reply)) ≤ 1
   sent : named ≡ true → calls_by step made.reply ≡ calls_along (outbox_at old place) (traffic_by step made.reply)
   book : OnBook place named old step made
 
 abbrev ActsAt : ℕ → MachineState → Step → Made → Type 0
 ActsAt place old step made = Acts place (names old.site place step) old step made
+
+-- no traffic adds more than one call
+one_at_most : (one : Traffic) → length (bodies_added (one ∷ [])) ≤ 1
+one_at_most (Attach link) = omega arith
+one_at_most Lose = omega arith
+one_at_most (Add body) = omega arith
+one_at_most Send = omega arith
+one_at_most (Confirm number) = omega arith
 
 -- no outbox is changed
 quiet : (place : ℕ) (named : Bool) (old : MachineState) (step : Step) (made : Made) → made.after.site ≡ old.site → made.after.outboxes ≡ old.outboxes
@@ -222,6 +232,7 @@ quiet place named old step made site same none no_call book = record {
   many = ap (λ (os : List OutboxState). length os) same;
   outbox = ap (λ (os : List OutboxState). slice_index_or os place opening_outbox) same ∙ either_way named (outbox_at old place)
       ∙ ap (λ (ts : List Traffic). cond named (after_all (outbox_at old place) ts) (outbox_at old place)) (sym none);
+  few = rw none (omega arith);
   sent = λ is. no_call ∙ ap (λ (ts : List Traffic). calls_along (outbox_at old place) ts) (sym none);
   book = book;
 }
@@ -246,6 +257,7 @@ moved place there old point step made one many here site new is sends book =
       outbox = ap (λ (os : List OutboxState). slice_index_or os place opening_outbox) new
           ∙ changed_in old.outboxes there place (λ outbox. after outbox one) opening_outbox within
           ∙ ap (λ (ts : List Traffic). cond (there == place) (after_all (outbox_at old place) ts) (outbox_at old place)) (sym is);
+      few = subst (λ (ts : List Traffic). length (bodies_added ts) ≤ 1) (sym is) (one_at_most one);
       sent = λ same. sends (eqb-true there place same) ∙ ap (λ (ts : List Traffic). calls_along (outbox_at old place) ts) (sym is);
       book = subst (λ (o : Option ℕ). OnBook place (is_place place o) old step made) here book;
     })
@@ -441,6 +453,12 @@ record Follows (place : ℕ) (old : MachineState) (history : List Event) (new : 
   outbox : outbox_at new place ≡ after_all (outbox_at old place) (traffic_of old.site place history)
   sent : calls_sent old.site place history ≡ calls_along (outbox_at old place) (traffic_of old.site place history)
 
+places_still : (place : ℕ) (old : MachineState) (step : Step) (made : Made) → HasPlaces old → ActsAt place old step made → HasPlaces made.after
+places_still place old step made many act = record {
+  outboxes = act.many ∙ many.outboxes ∙ ap (λ (s : SiteState). length s.points) (sym act.site);
+  books = act.book.many ∙ many.books ∙ ap (λ (s : SiteState). length s.points) (sym act.site);
+}
+
 follows_more : (place : ℕ) (old middle : MachineState) (event : Event) (later : List Event) (new : MachineState) → ActsAt place old event.step (record { reply = event.reply; after = middle })
     → Follows place middle later new → Follows place old (event ∷ later) new
 follows_more place old middle event later new act rest = by (names old.site place event.step) refl
@@ -536,10 +554,7 @@ follows_outbox place old [] new many legal = record {
 }
 follows_outbox place old (event ∷ later) new many legal =
     let act : ActsAt place old event.step (record { reply = event.reply; after = legal.0 }) = acts place old event.step event.reply legal.0 many legal.1 in
-    let still : HasPlaces legal.0 = record {
-      outboxes = act.many ∙ many.outboxes ∙ ap (λ (s : SiteState). length s.points) (sym act.site);
-      books = act.book.many ∙ many.books ∙ ap (λ (s : SiteState). length s.points) (sym act.site);
-    } in
+    let still : HasPlaces legal.0 = places_still place old event.step (record { reply = event.reply; after = legal.0 }) many act in
     follows_more place old legal.0 event later new act (follows_outbox place legal.0 later new still legal.2)
 
 -- ---- from the opening
@@ -549,11 +564,14 @@ opening_of_each [] place = refl
 opening_of_each (point ∷ points) zero = refl
 opening_of_each (point ∷ points) (suc place) = opening_of_each points place
 
+opening_places : (site : SiteState) (numbers : Numbers) → HasPlaces (opening_at site numbers)
+opening_places site numbers =
+    record { outboxes = length-map site.points opening_outbox_of; books = length-map site.points opening_book }
+
 from_opening : (site : SiteState) (numbers : Numbers) (history : List Event) (state : MachineState) (place : ℕ) → Legal (opening_at site numbers) history state
     → Follows place (opening_at site numbers) history state
 from_opening site numbers history state place legal =
-    follows_outbox place (opening_at site numbers) history state
-    (record { outboxes = length-map site.points opening_outbox_of; books = length-map site.points opening_book }) legal
+    follows_outbox place (opening_at site numbers) history state (opening_places site numbers) legal
 
 pub outboxes_follow : OutboxesFollowHistories
 outboxes_follow site numbers history state legal point place here =
@@ -625,8 +643,12 @@ rows_at_call (Ends connector ∷ one) more rows zero is =
     sym (lasting_end rows connector) ∙ rows_at_call one more (without_transaction_profiles rows connector) zero is
 rows_at_call (Ends connector ∷ one) more rows (suc before) is = rows_at_call one more (without_transaction_profiles rows connector) (suc before) is
 
-pub stay_in_step : PointsStayInStep
-stay_in_step site numbers earlier later middle state legal then_legal point place here first others rows order last =
+in_step_after : (site : SiteState) (numbers : Numbers) (earlier later : List Event) (middle state : MachineState)
+    → Legal (opening_at site numbers) earlier middle → Legal middle later state → (point : List ℕ) (place : ℕ) → place_of site point ≡ Some place
+    → (first : Obeying) (others : List Obeying) (rows : List Row) → AreInSendingOrder (numbers_of (first ∷ others))
+    → last_number first.number others ≡ length (accepted site place earlier)
+    → lasting (obeyed (bodies_of site place (earlier ++ later)) (first ∷ others) rows) ≡ lasting (book_at middle place).rows
+in_step_after site numbers earlier later middle state legal then_legal point place here first others rows order last =
     let opening_state = opening_at site numbers in
     let all = changes_of site place (earlier ++ later) in
     let so_far = changes_of site place earlier in
@@ -644,3 +666,56 @@ stay_in_step site numbers earlier later middle state legal then_legal point plac
     ∙ ap (λ (cs : List Change). lasting (rows_after_call number cs [])) split
     ∙ rows_at_call so_far more.0 [] number count
     ∙ ap lasting (sym (rows_follow site numbers earlier middle legal point place here))
+
+pub stay_in_step : PointsStayInStep
+stay_in_step site numbers history state point place here first others rows order moment =
+    ap (λ (events : List Event). lasting (obeyed (bodies_of site place events) (first ∷ others) rows)) moment.parts
+    ∙ in_step_after site numbers moment.earlier moment.later moment.state state moment.before moment.since point place here first others rows order (sym moment.many)
+
+-- ---- the moments of its calls
+
+accepted-append : (site : SiteState) (place : ℕ) (one other : List Event) → accepted site place (one ++ other) ≡ accepted site place one ++ accepted site place other
+accepted-append site place one other =
+    ap (λ (es : List Event). bodies_added (flat_map traffic_by_event es)) (filter-append (λ (event : Event). names site place event.step) one other)
+    ∙ ap bodies_added (flat_map-append traffic_by_event (events_at site place one) (events_at site place other))
+    ∙ bodies_added-append (traffic_of site place one) (traffic_of site place other)
+
+few_accepted : (site : SiteState) (place : ℕ) (event : Event) → length (bodies_added (traffic_by_event event)) ≤ 1 → length (accepted site place (event ∷ [])) ≤ 1
+few_accepted site place event few = go (names site place event.step)
+  where
+    go : (named : Bool) → length (bodies_added (flat_map traffic_by_event (cond named (event ∷ []) []))) ≤ 1
+    go true = subst (λ (ts : List Traffic). length (bodies_added ts) ≤ 1) (sym (append-nil (traffic_by_event event))) few
+    go false = omega arith
+
+moment : (place : ℕ) (old : MachineState) (history : List Event) (new : MachineState) → HasPlaces old → Legal old history new
+    → (number : ℕ) → number ≤ length (accepted old.site place history) → Moment old history new place number
+moment place old history new many legal zero within =
+    record { earlier = []; later = history; state = old; parts = refl; before = refl; since = legal; many = refl }
+moment place old [] new many legal (suc number) within = absurd (omega arith)
+moment place old (event ∷ later) new many legal (suc number) within =
+    let act : ActsAt place old event.step (record { reply = event.reply; after = legal.0 }) = acts place old event.step event.reply legal.0 many legal.1 in
+    let still : HasPlaces legal.0 = places_still place old event.step (record { reply = event.reply; after = legal.0 }) many act in
+    let first = length (accepted old.site place (event ∷ [])) in
+    let few : first ≤ 1 = few_accepted old.site place event act.few in
+    let join = λ (events : List Event). ap (λ (bs : List CallBody). length bs) (accepted-append old.site place (event ∷ []) events)
+    ∙ length-append (accepted old.site place (event ∷ [])) (accepted old.site place events) in
+    let all : length (accepted old.site place (event ∷ later)) ≡ first + length (accepted old.site place later) = join later in
+    let left : suc number - first ≤ length (accepted old.site place later) = omega (arith, all, few, within) in
+    let there : suc number - first ≤ length (accepted legal.0.site place later) =
+    subst (λ (s : SiteState). suc number - first ≤ length (accepted s place later)) (sym act.site) left in
+    let rest = moment place legal.0 later new still legal.2 (suc number - first) there in
+    let counted : length (accepted old.site place rest.earlier) ≡ suc number - first =
+    subst (λ (s : SiteState). length (accepted s place rest.earlier) ≡ suc number - first) act.site rest.many in
+    record {
+      earlier = event ∷ rest.earlier;
+      later = rest.later;
+      state = rest.state;
+      parts = ap (λ (es : List Event). event ∷ es) rest.parts;
+      before = (legal.0, legal.1, rest.before);
+      since = rest.since;
+      many = omega (arith, join rest.earlier, counted, few);
+    }
+
+pub moments : EachCallHasItsMoment
+moments site numbers history state legal point place here number within =
+    moment place (opening_at site numbers) history state (opening_places site numbers) legal number within
