@@ -23,8 +23,8 @@ pub fn histories_send_calls_in_order()
 /// none. Each call has its moments in the history: call k those from when the k-th Install or Clear of
 /// the point was accepted, up to the next one, and call 0 those before the first. And a point that does
 /// as the calls tell it, in the order of sending, is in step with the machine: its
-/// ChargePointMaxProfiles and TxDefaultProfiles are, but for the moments of their installs, those that
-/// the machine had for it at each moment of the last of these calls.
+/// ChargePointMaxProfiles and TxDefaultProfiles are, but for when they were installed, those that the
+/// machine had for it at each moment of the last of these calls.
 pub fn histories_keep_points_in_step()
     ensures rows { RowsFollowHistories }
     ensures moments { EachCallHasItsMoment }
