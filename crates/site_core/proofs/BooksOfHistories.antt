@@ -7,11 +7,11 @@ use Rattle.site_core.specs.History.{Event, Legal}
 use Rattle.site_core.proofs.StepLemmas.{books_after, Does, does, leaves, takes_one, compiles_one, hands_one, finishes_all}
 
 -- a step leaves the site, and its event says what it makes of the books
-pub record Follows (old : MachineState) (step : Step) (made : Made) : Type 0 where
-  pub site : made.after.site ≡ old.site
-  pub books : made.after.books ≡ books_after old.site old.books step made.reply
+record Follows (old : MachineState) (step : Step) (made : Made) : Type 0 where
+  site : made.after.site ≡ old.site
+  books : made.after.books ≡ books_after old.site old.books step made.reply
 
-pub follows : (old : MachineState) (step : Step) (made : Made) → Does old step made → Follows old step made
+follows : (old : MachineState) (step : Step) (made : Made) → Does old step made → Follows old step made
 follows old step made (leaves _ _ is) = record { site = is.site; books = is.books }
 follows old step made (takes_one take place ask point asks going) = record { site = refl; books = refl }
 follows old step made (compiles_one number kept answer found unanswered right) = record { site = refl; books = refl }

@@ -1,11 +1,12 @@
 -- What each step is to the outbox of the point that it names, and outboxes along histories.
-use Rattle.std.proofs.Common.{◌≡◌, ℕ, zero, suc, ◌<◌, ◌==◌, Bool, true, false, cond, List, [], ◌∷◌, ◌++◌, length, map, flat_map, slice_index_or, slice_set, ℤ, ◌+◌, ◌||◌, is_some, nat_lt, Option, Some, None, Result, Ok, Err, refl, sym, ap, ap₂, ◌∙◌, subst, arith, append_assoc}
+use Rattle.std.proofs.Common.{◌≡◌, ℕ, zero, suc, ◌<◌, ◌==◌, Bool, true, false, cond, List, [], ◌∷◌, ◌++◌, length, map, flat_map, slice_index_or, slice_set, ℤ, ◌+◌, ◌||◌, is_some, nat_lt, Option, Some, None, Result, Ok, Err, refl, sym, ap, ap₂, ◌∙◌, subst, arith, append_assoc, slice_get, length-append, append-nil, ◌≤◌, ◌-◌}
 use Rattle.std.proofs.lemmas.Bool.{eqb-true, eqb-false}
 use Rattle.std.proofs.lemmas.List.{length-set, length-map, map-append, get_or-set_same, get_or-set_other}
+use Rattle.std.proofs.lemmas.Grind.{flat_map-append}
 use Rattle.std.proofs.lemmas.List.Quantifiers.{position-Some}
 use Rattle.std.proofs.lemmas.List.Elements.{filter-append, filter_map-append}
 use Rattle.std.specs.Prelude.{IfOk}
-use Rattle.std.specs.List.{list_any, filter_map}
+use Rattle.std.specs.List.{list_any, filter_map, AllByRecursion}
 use Rattle.std.specs.Str.{bytes_eq}
 use Rattle.profile.specs.Changes.{matches, installed, cleared, without_transaction_profiles}
 use Rattle.transactions.specs.declared.transaction.Transaction.{Transaction}
@@ -33,17 +34,17 @@ use Rattle.meaning.specs.declared.ask.Ask.{Ask}
 use Rattle.site_core.specs.Ask.{ask_at}
 use Rattle.site_core.specs.Requests.{request_of, answered, all_stopped}
 use Rattle.site_core.specs.State.{MachineState, Kept, ScheduleAnswer, opening_at, opening_book, opening_outbox_of, book_in, book_at, outbox_at}
-use Rattle.site_core.specs.Outbox.{OutboxState, opening_outbox, clear_all, lost, sent, confirmed, sendable, is_number_in_flight}
+use Rattle.site_core.specs.Outbox.{numbered, OutboxState, opening_outbox, clear_all, lost, sent, confirmed, sendable, is_number_in_flight}
 use Rattle.site_core.specs.OutboxOrder.{Traffic, Attach, Lose, Add, Send, Confirm, after, after_all, sent_at, numbers_sent, number_of, calls_confirmed, added_at, bodies_added, AreInSendingOrder}
-use Rattle.site_core.specs.Obey.{Change, Installs, Clears, Ends, call_of, calls_of, last_number, obeyed, lasting, rows_after_call}
+use Rattle.site_core.specs.Obey.{Change, Installs, Clears, Ends, call_of, calls_of, last_number, obeyed, lasting, rows_after_call, Obeying, numbers_of}
 use Rattle.site_core.specs.Step.{next_transaction, with_transaction, refusal_to_start, refusal_to_install}
 use Rattle.site_core.specs.Step.{Made, Steps, at_link, at_linked_place, is_present, attaches, sends, sends_call, confirms, loses, with_outbox, changed, changed_by_call, refusal_to_call, unless, version_refusal, installs, clears, starts, starts_as, stops, takes, takes_ask, compiles_kept, answers_kept, answers_with, finishes, unchanged, stepped, no_answer}
 use Rattle.site_core.specs.History.{Event, Legal}
-use Rattle.site_core.specs.CallOrder.{is_place, is_at, names, events_at, traffic_by, traffic_of, traffic_by_event, calls_by, calls_by_event, calls_sent, numbers_of_calls, OutboxesFollowHistories, CallsAreSentInOrder, CallsAreLeftUnlessConfirmed}
-use Rattle.site_core.specs.CallOrder.{slots_after, end_at, changes_by, changes_from, changes_of, opening_slots, rows_after_all, bodies_of, RowsFollowHistories, PointsStayInStep}
+use Rattle.site_core.specs.CallOrder.{is_place, is_at, names, events_at, traffic_by, traffic_of, traffic_by_event, calls_by, calls_by_event, calls_sent, numbers_of_calls, OutboxesFollowHistories, calls_made, IsOneOf, CallsAreSentInOrder, CallsAreSentAsMade, CallsAreLeftUnlessConfirmed}
+use Rattle.site_core.specs.CallOrder.{slots_after, end_at, changes_by, changes_from, changes_of, opening_slots, rows_after_all, bodies_of, RowsFollowHistories, PointsStayInStep, accepted, Moment, EachCallHasItsMoment}
 use Rattle.site_core.proofs.StepLemmas.{at_point_made, unless_made, either_made}
 use Rattle.site_core.proofs.ObeyLemmas.{lasting_end, stays_in_step}
-use Rattle.site_core.proofs.OutboxOrderLemmas.{sent_in_order, left_unless_confirmed}
+use Rattle.site_core.proofs.OutboxOrderLemmas.{outbox, sent_in_order, left_unless_confirmed}
 
 -- ---- places
 
@@ -69,6 +70,77 @@ pub place_within : (site : SiteState) (point : List ℕ) (place : ℕ) → place
 place_within site point place here =
     let blank : PointEntry = record { id = []; ceiling = 0; ceilings = [] } in
     (position-Some (λ (p : PointEntry). bytes_eq point p.id) site.points place blank here).0
+
+-- ---- the calls that an outbox sends
+
+abbrev call_list : Option Call → List Call
+call_list None = []
+call_list (Some call) = call ∷ []
+
+abbrev calls_at : OutboxState → Traffic → List Call
+calls_at old Send = call_list (sendable old)
+calls_at old other = []
+
+abbrev calls_along : OutboxState → List Traffic → List Call
+calls_along old [] = []
+calls_along old (event ∷ later) = calls_at old event ++ calls_along (after old event) later
+
+numbers_at : (old : OutboxState) (event : Traffic) → numbers_of_calls (calls_at old event) ≡ sent_at old event
+numbers_at old (Attach link) = refl
+numbers_at old Lose = refl
+numbers_at old (Add body) = refl
+numbers_at old Send = go (sendable old)
+  where
+    go : (call : Option Call) → numbers_of_calls (call_list call) ≡ number_of call
+    go None = refl
+    go (Some call) = refl
+numbers_at old (Confirm number) = refl
+
+numbers_along : (old : OutboxState) (traffic : List Traffic) → numbers_of_calls (calls_along old traffic) ≡ numbers_sent old traffic
+numbers_along old [] = refl
+numbers_along old (event ∷ later) =
+    map-append (λ (call : Call). call.number) (calls_at old event) (calls_along (after old event) later)
+    ∙ ap₂ (λ (one other : List ℕ). one ++ other) (numbers_at old event) (numbers_along (after old event) later)
+
+-- what holds of each call that waits or is added holds of each that is sent
+each_along : (P : Call → Type 0) (traffic : List Traffic) (link : Option ℕ) (calls : List Call) (next : ℕ) (is_in_flight : Bool)
+    → AllByRecursion P (calls ++ numbered next (bodies_added traffic)) → AllByRecursion P (calls_along (outbox link calls next is_in_flight) traffic)
+each_along P [] link calls next is_in_flight each = tt
+each_along P (Attach number ∷ later) link calls next is_in_flight each = each_along P later (Some number) calls next false each
+each_along P (Lose ∷ later) link calls next is_in_flight each = each_along P later None calls next false each
+each_along P (Add body ∷ later) link calls next is_in_flight each =
+    let call : Call = record { number = next; body = body } in
+    each_along P later link (calls ++ call ∷ []) (next + 1) is_in_flight
+    (subst (AllByRecursion P) (sym (append_assoc calls (call ∷ []) (numbered (next + 1) (bodies_added later)))) each)
+each_along P (Send ∷ later) None calls next is_in_flight each = each_along P later None calls next is_in_flight each
+each_along P (Send ∷ later) (Some link) calls next true each = each_along P later (Some link) calls next true each
+each_along P (Send ∷ later) (Some link) [] next false each = each_along P later (Some link) [] next false each
+each_along P (Send ∷ later) (Some link) (call ∷ calls) next false each = (each.0, each_along P later (Some link) (call ∷ calls) next true each)
+each_along P (Confirm number ∷ later) link calls next false each = each_along P later link calls next false each
+each_along P (Confirm number ∷ later) link [] next true each = each_along P later link [] next true each
+each_along P (Confirm number ∷ later) link (call ∷ calls) next true each =
+    go (call.number == number) (each_along P later link calls next false each.1) (each_along P later link (call ∷ calls) next true each)
+  where
+    go : (b : Bool) → AllByRecursion P (calls_along (outbox link calls next false) later) → AllByRecursion P (calls_along (outbox link (call ∷ calls) next true) later)
+        → AllByRecursion P (calls_along (cond b (outbox link calls next false) (outbox link (call ∷ calls) next true)) later)
+    go true gone kept = gone
+    go false gone kept = kept
+
+at_seam : (before : List Call) (call : Call) (later : List Call) → slice_get (before ++ call ∷ later) (length before) ≡ Some call
+at_seam [] call later = refl
+at_seam (first ∷ before) call later = at_seam before call later
+
+-- each of the numbered calls stands at its number
+each_at_its_number : (told : List CallBody) (number : ℕ) (before : List Call) → length before ≡ number
+    → AllByRecursion (IsOneOf (before ++ numbered number told)) (numbered number told)
+each_at_its_number [] number before many = tt
+each_at_its_number (body ∷ later) number before many =
+    let call : Call = record { number = number; body = body } in
+    let longer : length (before ++ call ∷ []) ≡ number + 1 = omega (arith, length-append before (call ∷ [])) in
+    let rest = each_at_its_number later (number + 1) (before ++ call ∷ []) longer in (
+      subst (λ (n : ℕ). slice_get (before ++ call ∷ numbered (number + 1) later) n ≡ Some call) many (at_seam before call (numbered (number + 1) later)),
+      subst (λ (all : List Call). AllByRecursion (IsOneOf all) (numbered (number + 1) later)) (append_assoc before (call ∷ []) (numbered (number + 1) later)) rest,
+    )
 
 -- ---- one step
 
@@ -137,11 +209,20 @@ record Acts (place : ℕ) (named : Bool) (old : MachineState) (step : Step) (mad
   site : made.after.site ≡ old.site
   many : length made.after.outboxes ≡ length old.outboxes
   outbox : outbox_at made.after place ≡ cond named (after_all (outbox_at old place) (traffic_by step made.reply)) (outbox_at old place)
-  sent : named ≡ true → numbers_of_calls (calls_by step made.reply) ≡ numbers_sent (outbox_at old place) (traffic_by step made.reply)
+  few : length (bodies_added (traffic_by step made.reply)) ≤ 1
+  sent : named ≡ true → calls_by step made.reply ≡ calls_along (outbox_at old place) (traffic_by step made.reply)
   book : OnBook place named old step made
 
 abbrev ActsAt : ℕ → MachineState → Step → Made → Type 0
 ActsAt place old step made = Acts place (names old.site place step) old step made
+
+-- no traffic adds more than one call
+one_at_most : (one : Traffic) → length (bodies_added (one ∷ [])) ≤ 1
+one_at_most (Attach link) = omega arith
+one_at_most Lose = omega arith
+one_at_most (Add body) = omega arith
+one_at_most Send = omega arith
+one_at_most (Confirm number) = omega arith
 
 -- no outbox is changed
 quiet : (place : ℕ) (named : Bool) (old : MachineState) (step : Step) (made : Made) → made.after.site ≡ old.site → made.after.outboxes ≡ old.outboxes
@@ -151,7 +232,8 @@ quiet place named old step made site same none no_call book = record {
   many = ap (λ (os : List OutboxState). length os) same;
   outbox = ap (λ (os : List OutboxState). slice_index_or os place opening_outbox) same ∙ either_way named (outbox_at old place)
       ∙ ap (λ (ts : List Traffic). cond named (after_all (outbox_at old place) ts) (outbox_at old place)) (sym none);
-  sent = λ is. ap numbers_of_calls no_call ∙ ap (λ (ts : List Traffic). numbers_sent (outbox_at old place) ts) (sym none);
+  few = rw none (omega arith);
+  sent = λ is. no_call ∙ ap (λ (ts : List Traffic). calls_along (outbox_at old place) ts) (sym none);
   book = book;
 }
 
@@ -166,7 +248,7 @@ idle place named old step made site outboxes books none no_call no_change kept =
 -- the outbox of one point is changed
 moved : (place there : ℕ) (old : MachineState) (point : List ℕ) (step : Step) (made : Made) (one : Traffic) → HasPlaces old → place_of old.site point ≡ Some there
     → made.after.site ≡ old.site → made.after.outboxes ≡ slice_set old.outboxes there (after (outbox_at old there) one) → traffic_by step made.reply ≡ one ∷ []
-    → (there ≡ place → numbers_of_calls (calls_by step made.reply) ≡ numbers_sent (outbox_at old place) (one ∷ []))
+    → (there ≡ place → calls_by step made.reply ≡ calls_along (outbox_at old place) (one ∷ []))
     → OnBook place (is_at old.site place point) old step made → Acts place (is_at old.site place point) old step made
 moved place there old point step made one many here site new is sends book =
     subst (λ (o : Option ℕ). Acts place (is_place place o) old step made) (sym here) (record {
@@ -175,7 +257,8 @@ moved place there old point step made one many here site new is sends book =
       outbox = ap (λ (os : List OutboxState). slice_index_or os place opening_outbox) new
           ∙ changed_in old.outboxes there place (λ outbox. after outbox one) opening_outbox within
           ∙ ap (λ (ts : List Traffic). cond (there == place) (after_all (outbox_at old place) ts) (outbox_at old place)) (sym is);
-      sent = λ same. sends (eqb-true there place same) ∙ ap (λ (ts : List Traffic). numbers_sent (outbox_at old place) ts) (sym is);
+      few = subst (λ (ts : List Traffic). length (bodies_added ts) ≤ 1) (sym is) (one_at_most one);
+      sent = λ same. sends (eqb-true there place same) ∙ ap (λ (ts : List Traffic). calls_along (outbox_at old place) ts) (sym is);
       book = subst (λ (o : Option ℕ). OnBook place (is_place place o) old step made) here book;
     })
   where
@@ -300,7 +383,7 @@ sends_acts place old point link many =
     by there here None first = idle place _ old (steps.Send point link) (unchanged old replies.Nothing) refl refl refl refl refl (λ slots. refl) (λ slots. refl)
     by there here (Some call) first =
         moved place there old point (steps.Send point link) (record { reply = replies.Sent call; after = with_outbox old there (sent (outbox_at old there)) }) Send many here refl refl refl (λ same.
-        ap (λ (c : Option Call). number_of c ++ []) (sym first ∙ ap (λ (p : ℕ). sendable (outbox_at old p)) same))
+        ap (λ (c : Option Call). call_list c ++ []) (sym first ∙ ap (λ (p : ℕ). sendable (outbox_at old p)) same))
         (same_book place _ old (steps.Send point link) _ refl (λ slots. refl) (λ slots. refl) refl)
 
 confirms_acts : (place : ℕ) (old : MachineState) (point : List ℕ) (link number : ℕ) → HasPlaces old → IfOk (stepped no_answer old (steps.Confirm point link number)) (ActsAt place old (steps.Confirm point link number))
@@ -342,11 +425,11 @@ after_all-append : (outbox : OutboxState) (one other : List Traffic) → after_a
 after_all-append outbox [] other = refl
 after_all-append outbox (first ∷ one) other = after_all-append (after outbox first) one other
 
-numbers_sent-append : (outbox : OutboxState) (one other : List Traffic) → numbers_sent outbox (one ++ other) ≡ numbers_sent outbox one ++ numbers_sent (after_all outbox one) other
-numbers_sent-append outbox [] other = refl
-numbers_sent-append outbox (first ∷ one) other =
-    ap (λ (ns : List ℕ). sent_at outbox first ++ ns) (numbers_sent-append (after outbox first) one other)
-    ∙ sym (append_assoc (sent_at outbox first) (numbers_sent (after outbox first) one) (numbers_sent (after_all (after outbox first) one) other))
+calls_along-append : (outbox : OutboxState) (one other : List Traffic) → calls_along outbox (one ++ other) ≡ calls_along outbox one ++ calls_along (after_all outbox one) other
+calls_along-append outbox [] other = refl
+calls_along-append outbox (first ∷ one) other =
+    ap (λ (cs : List Call). calls_at outbox first ++ cs) (calls_along-append (after outbox first) one other)
+    ∙ sym (append_assoc (calls_at outbox first) (calls_along (after outbox first) one) (calls_along (after_all (after outbox first) one) other))
 
 rows_after_all-append : (one other : List Change) (rows : List Row) → rows_after_all (one ++ other) rows ≡ rows_after_all other (rows_after_all one rows)
 rows_after_all-append [] other rows = refl
@@ -368,7 +451,13 @@ record Follows (place : ℕ) (old : MachineState) (history : List Event) (new : 
   rows : (book_at new place).rows ≡ rows_after_all (changes_from (book_at old place).transactions (events_at old.site place history)) (book_at old place).rows
   calls : (slots : List (Option Transaction)) → filter_map call_of (changes_from slots (events_at old.site place history)) ≡ bodies_added (traffic_of old.site place history)
   outbox : outbox_at new place ≡ after_all (outbox_at old place) (traffic_of old.site place history)
-  sent : numbers_of_calls (calls_sent old.site place history) ≡ numbers_sent (outbox_at old place) (traffic_of old.site place history)
+  sent : calls_sent old.site place history ≡ calls_along (outbox_at old place) (traffic_of old.site place history)
+
+places_still : (place : ℕ) (old : MachineState) (step : Step) (made : Made) → HasPlaces old → ActsAt place old step made → HasPlaces made.after
+places_still place old step made many act = record {
+  outboxes = act.many ∙ many.outboxes ∙ ap (λ (s : SiteState). length s.points) (sym act.site);
+  books = act.book.many ∙ many.books ∙ ap (λ (s : SiteState). length s.points) (sym act.site);
+}
 
 follows_more : (place : ℕ) (old middle : MachineState) (event : Event) (later : List Event) (new : MachineState) → ActsAt place old event.step (record { reply = event.reply; after = middle })
     → Follows place middle later new → Follows place old (event ∷ later) new
@@ -383,8 +472,8 @@ follows_more place old middle event later new act rest = by (names old.site plac
     rest_outbox : outbox_at new place ≡ after_all (outbox_at middle place) traffic
     rest_outbox = rest.outbox ∙ ap (λ (s : SiteState). after_all (outbox_at middle place) (traffic_of s place later)) act.site
 
-    rest_sent : numbers_of_calls calls ≡ numbers_sent (outbox_at middle place) traffic
-    rest_sent = subst (λ (s : SiteState). numbers_of_calls (calls_sent s place later) ≡ numbers_sent (outbox_at middle place) (traffic_of s place later)) act.site rest.sent
+    rest_sent : calls ≡ calls_along (outbox_at middle place) traffic
+    rest_sent = subst (λ (s : SiteState). calls_sent s place later ≡ calls_along (outbox_at middle place) (traffic_of s place later)) act.site rest.sent
 
     before : Book
     before = book_at old place
@@ -411,7 +500,7 @@ follows_more place old middle event later new act rest = by (names old.site plac
         let slots : between.transactions ≡ after_slots = act.book.slots ∙ ap (λ (b : Bool). cond b after_slots before.transactions) is in
         let after_rows : List Row = rows_after_all (changes_by before.transactions event.step event.reply) before.rows in
         let rows : between.rows ≡ after_rows = act.book.rows ∙ ap (λ (b : Bool). cond b after_rows before.rows) is in
-        let one : numbers_of_calls (calls_by_event event) ≡ numbers_sent (outbox_at old place) (traffic_by_event event) = act.sent is in
+        let one : calls_by_event event ≡ calls_along (outbox_at old place) (traffic_by_event event) = act.sent is in
         record {
           site = rest.site ∙ act.site;
           many = rest.many;
@@ -425,12 +514,11 @@ follows_more place old middle event later new act rest = by (names old.site plac
               ∙ ap (λ (es : List Event). bodies_added (flat_map traffic_by_event es)) (sym events);
           outbox = rest_outbox ∙ ap (λ (o : OutboxState). after_all o traffic) here ∙ sym (after_all-append (outbox_at old place) (traffic_by_event event) traffic)
               ∙ ap (λ (es : List Event). after_all (outbox_at old place) (flat_map traffic_by_event es)) (sym events);
-          sent = ap (λ (es : List Event). numbers_of_calls (flat_map calls_by_event es)) events
-              ∙ map-append (λ (call : Call). call.number) (calls_by_event event) calls
-              ∙ ap (λ (ns : List ℕ). ns ++ numbers_of_calls calls) one
-              ∙ ap (λ (ns : List ℕ). numbers_sent (outbox_at old place) (traffic_by_event event) ++ ns) (rest_sent ∙ ap (λ (o : OutboxState). numbers_sent o traffic) here)
-              ∙ sym (numbers_sent-append (outbox_at old place) (traffic_by_event event) traffic)
-              ∙ ap (λ (es : List Event). numbers_sent (outbox_at old place) (flat_map traffic_by_event es)) (sym events);
+          sent = ap (λ (es : List Event). flat_map calls_by_event es) events
+              ∙ ap (λ (cs : List Call). cs ++ calls) one
+              ∙ ap (λ (cs : List Call). calls_along (outbox_at old place) (traffic_by_event event) ++ cs) (rest_sent ∙ ap (λ (o : OutboxState). calls_along o traffic) here)
+              ∙ sym (calls_along-append (outbox_at old place) (traffic_by_event event) traffic)
+              ∙ ap (λ (es : List Event). calls_along (outbox_at old place) (flat_map traffic_by_event es)) (sym events);
         }
     by false is =
         let here : outbox_at middle place ≡ outbox_at old place =
@@ -450,9 +538,9 @@ follows_more place old middle event later new act rest = by (names old.site plac
               ∙ ap (λ (es : List Event). bodies_added (flat_map traffic_by_event es)) (sym events);
           outbox = rest_outbox ∙ ap (λ (o : OutboxState). after_all o traffic) here
               ∙ ap (λ (es : List Event). after_all (outbox_at old place) (flat_map traffic_by_event es)) (sym events);
-          sent = ap (λ (es : List Event). numbers_of_calls (flat_map calls_by_event es)) events
-              ∙ rest_sent ∙ ap (λ (o : OutboxState). numbers_sent o traffic) here
-              ∙ ap (λ (es : List Event). numbers_sent (outbox_at old place) (flat_map traffic_by_event es)) (sym events);
+          sent = ap (λ (es : List Event). flat_map calls_by_event es) events
+              ∙ rest_sent ∙ ap (λ (o : OutboxState). calls_along o traffic) here
+              ∙ ap (λ (es : List Event). calls_along (outbox_at old place) (flat_map traffic_by_event es)) (sym events);
         }
 
 follows_outbox : (place : ℕ) (old : MachineState) (history : List Event) (new : MachineState) → HasPlaces old → Legal old history new → Follows place old history new
@@ -466,10 +554,7 @@ follows_outbox place old [] new many legal = record {
 }
 follows_outbox place old (event ∷ later) new many legal =
     let act : ActsAt place old event.step (record { reply = event.reply; after = legal.0 }) = acts place old event.step event.reply legal.0 many legal.1 in
-    let still : HasPlaces legal.0 = record {
-      outboxes = act.many ∙ many.outboxes ∙ ap (λ (s : SiteState). length s.points) (sym act.site);
-      books = act.book.many ∙ many.books ∙ ap (λ (s : SiteState). length s.points) (sym act.site);
-    } in
+    let still : HasPlaces legal.0 = places_still place old event.step (record { reply = event.reply; after = legal.0 }) many act in
     follows_more place old legal.0 event later new act (follows_outbox place legal.0 later new still legal.2)
 
 -- ---- from the opening
@@ -479,23 +564,37 @@ opening_of_each [] place = refl
 opening_of_each (point ∷ points) zero = refl
 opening_of_each (point ∷ points) (suc place) = opening_of_each points place
 
+opening_places : (site : SiteState) (numbers : Numbers) → HasPlaces (opening_at site numbers)
+opening_places site numbers =
+    record { outboxes = length-map site.points opening_outbox_of; books = length-map site.points opening_book }
+
 from_opening : (site : SiteState) (numbers : Numbers) (history : List Event) (state : MachineState) (place : ℕ) → Legal (opening_at site numbers) history state
     → Follows place (opening_at site numbers) history state
 from_opening site numbers history state place legal =
-    follows_outbox place (opening_at site numbers) history state
-    (record { outboxes = length-map site.points opening_outbox_of; books = length-map site.points opening_book }) legal
+    follows_outbox place (opening_at site numbers) history state (opening_places site numbers) legal
 
 pub outboxes_follow : OutboxesFollowHistories
 outboxes_follow site numbers history state legal point place here =
     (from_opening site numbers history state place legal).outbox
     ∙ ap (λ (o : OutboxState). after_all o (traffic_of site place history)) (opening_of_each site.points place)
 
+sent_along : (site : SiteState) (numbers : Numbers) (history : List Event) (state : MachineState) (place : ℕ) → Legal (opening_at site numbers) history state
+    → calls_sent site place history ≡ calls_along opening_outbox (traffic_of site place history)
+sent_along site numbers history state place legal =
+    (from_opening site numbers history state place legal).sent ∙ ap (λ (o : OutboxState). calls_along o (traffic_of site place history)) (opening_of_each site.points place)
+
 pub sent_by_history : CallsAreSentInOrder
 sent_by_history site numbers history state legal point place here =
     let traffic = traffic_of site place history in
     let same : numbers_of_calls (calls_sent site place history) ≡ numbers_sent opening_outbox traffic =
-    (from_opening site numbers history state place legal).sent ∙ ap (λ (o : OutboxState). numbers_sent o traffic) (opening_of_each site.points place) in
+    ap numbers_of_calls (sent_along site numbers history state place legal) ∙ numbers_along opening_outbox traffic in
     subst AreInSendingOrder (sym same) (sent_in_order traffic)
+
+pub sent_as_made : CallsAreSentAsMade
+sent_as_made site numbers history state legal point place here =
+    let traffic = traffic_of site place history in
+    subst (AllByRecursion (IsOneOf (calls_made site place history))) (sym (sent_along site numbers history state place legal))
+    (each_along (IsOneOf (calls_made site place history)) traffic None _ 1 false (each_at_its_number (clear_all ∷ bodies_added traffic) 0 [] refl))
 
 pub left_of_history : CallsAreLeftUnlessConfirmed
 left_of_history site numbers history state legal point place here =
@@ -544,8 +643,12 @@ rows_at_call (Ends connector ∷ one) more rows zero is =
     sym (lasting_end rows connector) ∙ rows_at_call one more (without_transaction_profiles rows connector) zero is
 rows_at_call (Ends connector ∷ one) more rows (suc before) is = rows_at_call one more (without_transaction_profiles rows connector) (suc before) is
 
-pub stay_in_step : PointsStayInStep
-stay_in_step site numbers earlier later middle state legal then_legal point place here first others rows order last =
+in_step_after : (site : SiteState) (numbers : Numbers) (earlier later : List Event) (middle state : MachineState)
+    → Legal (opening_at site numbers) earlier middle → Legal middle later state → (point : List ℕ) (place : ℕ) → place_of site point ≡ Some place
+    → (first : Obeying) (others : List Obeying) (rows : List Row) → AreInSendingOrder (numbers_of (first ∷ others))
+    → last_number first.number others ≡ length (accepted site place earlier)
+    → lasting (obeyed (bodies_of site place (earlier ++ later)) (first ∷ others) rows) ≡ lasting (book_at middle place).rows
+in_step_after site numbers earlier later middle state legal then_legal point place here first others rows order last =
     let opening_state = opening_at site numbers in
     let all = changes_of site place (earlier ++ later) in
     let so_far = changes_of site place earlier in
@@ -563,3 +666,56 @@ stay_in_step site numbers earlier later middle state legal then_legal point plac
     ∙ ap (λ (cs : List Change). lasting (rows_after_call number cs [])) split
     ∙ rows_at_call so_far more.0 [] number count
     ∙ ap lasting (sym (rows_follow site numbers earlier middle legal point place here))
+
+pub stay_in_step : PointsStayInStep
+stay_in_step site numbers history state point place here first others rows order moment =
+    ap (λ (events : List Event). lasting (obeyed (bodies_of site place events) (first ∷ others) rows)) moment.parts
+    ∙ in_step_after site numbers moment.earlier moment.later moment.state state moment.before moment.since point place here first others rows order (sym moment.many)
+
+-- ---- the moments of its calls
+
+accepted-append : (site : SiteState) (place : ℕ) (one other : List Event) → accepted site place (one ++ other) ≡ accepted site place one ++ accepted site place other
+accepted-append site place one other =
+    ap (λ (es : List Event). bodies_added (flat_map traffic_by_event es)) (filter-append (λ (event : Event). names site place event.step) one other)
+    ∙ ap bodies_added (flat_map-append traffic_by_event (events_at site place one) (events_at site place other))
+    ∙ bodies_added-append (traffic_of site place one) (traffic_of site place other)
+
+few_accepted : (site : SiteState) (place : ℕ) (event : Event) → length (bodies_added (traffic_by_event event)) ≤ 1 → length (accepted site place (event ∷ [])) ≤ 1
+few_accepted site place event few = go (names site place event.step)
+  where
+    go : (named : Bool) → length (bodies_added (flat_map traffic_by_event (cond named (event ∷ []) []))) ≤ 1
+    go true = subst (λ (ts : List Traffic). length (bodies_added ts) ≤ 1) (sym (append-nil (traffic_by_event event))) few
+    go false = omega arith
+
+moment : (place : ℕ) (old : MachineState) (history : List Event) (new : MachineState) → HasPlaces old → Legal old history new
+    → (number : ℕ) → number ≤ length (accepted old.site place history) → Moment old history new place number
+moment place old history new many legal zero within =
+    record { earlier = []; later = history; state = old; parts = refl; before = refl; since = legal; many = refl }
+moment place old [] new many legal (suc number) within = absurd (omega arith)
+moment place old (event ∷ later) new many legal (suc number) within =
+    let act : ActsAt place old event.step (record { reply = event.reply; after = legal.0 }) = acts place old event.step event.reply legal.0 many legal.1 in
+    let still : HasPlaces legal.0 = places_still place old event.step (record { reply = event.reply; after = legal.0 }) many act in
+    let first = length (accepted old.site place (event ∷ [])) in
+    let few : first ≤ 1 = few_accepted old.site place event act.few in
+    let join = λ (events : List Event). ap (λ (bs : List CallBody). length bs) (accepted-append old.site place (event ∷ []) events)
+    ∙ length-append (accepted old.site place (event ∷ [])) (accepted old.site place events) in
+    let all : length (accepted old.site place (event ∷ later)) ≡ first + length (accepted old.site place later) = join later in
+    let left : suc number - first ≤ length (accepted old.site place later) = omega (arith, all, few, within) in
+    let there : suc number - first ≤ length (accepted legal.0.site place later) =
+    subst (λ (s : SiteState). suc number - first ≤ length (accepted s place later)) (sym act.site) left in
+    let rest = moment place legal.0 later new still legal.2 (suc number - first) there in
+    let counted : length (accepted old.site place rest.earlier) ≡ suc number - first =
+    subst (λ (s : SiteState). length (accepted s place rest.earlier) ≡ suc number - first) act.site rest.many in
+    record {
+      earlier = event ∷ rest.earlier;
+      later = rest.later;
+      state = rest.state;
+      parts = ap (λ (es : List Event). event ∷ es) rest.parts;
+      before = (legal.0, legal.1, rest.before);
+      since = rest.since;
+      many = omega (arith, join rest.earlier, counted, few);
+    }
+
+pub moments : EachCallHasItsMoment
+moments site numbers history state legal point place here number within =
+    moment place (opening_at site numbers) history state (opening_places site numbers) legal number within

@@ -1,7 +1,7 @@
 -- What the laws of outboxes and of points that obey say of the machine: the calls and the profiles of a
 -- point along a history.
-use Rattle.std.specs.Prelude.{ℕ, ◌≡◌, ◌==◌, Bool, false, List, [], ◌∷◌, ◌++◌, length, map, filter, Option, None, Some}
-use Rattle.std.specs.List.{flat_map}
+use Rattle.std.specs.Prelude.{ℕ, ◌≤◌, ◌≡◌, ◌==◌, Bool, false, List, [], ◌∷◌, ◌++◌, length, map, filter, slice_get, Option, None, Some}
+use Rattle.std.specs.List.{flat_map, AllByRecursion}
 use Rattle.profile.specs.declared.row.Row.{Row}
 use Rattle.profile.specs.Changes.{installed, cleared, without_transaction_profiles}
 use Rattle.transactions.specs.declared.transaction.Transaction.{Transaction}
@@ -106,6 +106,15 @@ abbrev pub CallsAreSentInOrder : Type 0
 CallsAreSentInOrder = OfEachPoint (λ site place history state.
     AreInSendingOrder (numbers_of_calls (calls_sent site place history)))
 
+-- a call is the one of its number
+abbrev pub IsOneOf : List Call → Call → Type 0
+IsOneOf calls call = slice_get calls call.number ≡ Some call
+
+-- each call that Send replies is the one of its number among all calls
+abbrev pub CallsAreSentAsMade : Type 0
+CallsAreSentAsMade = OfEachPoint (λ site place history state.
+    AllByRecursion (IsOneOf (calls_made site place history)) (calls_sent site place history))
+
 -- the calls of an outbox are all calls without the confirmed ones, and those were confirmed in order
 abbrev pub CallsAreLeftUnlessConfirmed : Type 0
 CallsAreLeftUnlessConfirmed = OfEachPoint (λ site place history state.
@@ -168,16 +177,36 @@ abbrev pub RowsFollowHistories : Type 0
 RowsFollowHistories = OfEachPoint (λ site place history state.
     (book_at state place).rows ≡ rows_after_all (changes_of site place history) [])
 
--- A point has any rows, and then obeys calls in the order of sending, the last of them the one that was added
--- last in the earlier history (or call 0, where none was). Its lasting rows are then those that the machine had
--- for it in the state that the earlier history leads to, whatever comes later.
+-- the part of a history up to a moment when this many installs and clears of the point at a place had been
+-- accepted, the state then, and what came later
+pub record Moment (old : MachineState) (history : List Event) (new : MachineState) (place number : ℕ) : Type 0 where
+  pub earlier : List Event
+  pub later : List Event
+  pub state : MachineState
+  pub parts : history ≡ earlier ++ later
+  pub before : Legal old earlier state
+  pub since : Legal state later new
+  pub many : length (accepted old.site place earlier) ≡ number
+
+-- each number up to that of the installs and clears of a point that were accepted has its moment
+abbrev pub EachCallHasItsMoment : Type 0
+EachCallHasItsMoment =
+    (site : SiteState) (numbers : Numbers) (history : List Event) (state : MachineState)
+    → Legal (opening_at site numbers) history state
+    → (point : List ℕ) (place : ℕ) → place_of site point ≡ Some place
+    → (number : ℕ) → number ≤ length (accepted site place history)
+    → Moment (opening_at site numbers) history state place number
+
+-- A point has any rows, and then obeys calls in the order of sending. Its lasting rows are then those that the
+-- machine had for it at a moment of the last of these calls, whatever came later. The moments of call k are
+-- those from when the k-th install or clear was accepted, up to the next one; those of call 0 come before the
+-- first.
 abbrev pub PointsStayInStep : Type 0
 PointsStayInStep =
-    (site : SiteState) (numbers : Numbers) (earlier later : List Event) (middle state : MachineState)
-    → Legal (opening_at site numbers) earlier middle → Legal middle later state
-    → (point : List ℕ) (place : ℕ) → place_of site point ≡ Some place
+    (site : SiteState) (numbers : Numbers) (history : List Event) (state : MachineState)
+    (point : List ℕ) (place : ℕ) → place_of site point ≡ Some place
     → (first : Obeying) (others : List Obeying) (rows : List Row)
     → AreInSendingOrder (numbers_of (first ∷ others))
-    → last_number first.number others ≡ length (accepted site place earlier)
-    → lasting (obeyed (bodies_of site place (earlier ++ later)) (first ∷ others) rows)
-    ≡ lasting (book_at middle place).rows
+    → (moment : Moment (opening_at site numbers) history state place (last_number first.number others))
+    → lasting (obeyed (bodies_of site place history) (first ∷ others) rows)
+    ≡ lasting (book_at moment.state place).rows

@@ -2,27 +2,31 @@
 
 ghost use Rattle.site_core.specs.CallOrder.{OutboxesFollowHistories, CallsAreSentInOrder};
 ghost use Rattle.site_core.specs.CallOrder.{CallsAreLeftUnlessConfirmed, RowsFollowHistories};
-ghost use Rattle.site_core.specs.CallOrder.{PointsStayInStep};
+ghost use Rattle.site_core.specs.CallOrder.{PointsStayInStep, CallsAreSentAsMade};
+ghost use Rattle.site_core.specs.CallOrder.{EachCallHasItsMoment};
 
 /// The laws of the calls to each point of a site, along every legal history from an opening state. What
 /// the machine keeps of its calls to the point is what the point's own events make of the opening
 /// outbox. The numbers of the calls that Send replies for it begin with 0, and each later one equals
-/// the one before it or is one more. And the calls that are kept are calls 0, 1, .. without the
-/// confirmed ones, where call 0 clears all profiles and call k is the k-th Install or Clear of the
-/// point that was accepted.
+/// the one before it or is one more. Each call that is sent is the one of its number: call 0 clears
+/// all profiles, and call k is the k-th Install or Clear of the point that was accepted. And the
+/// calls that are kept are calls 0, 1, .. without the confirmed ones.
 pub fn histories_send_calls_in_order()
     ensures outbox { OutboxesFollowHistories }
     ensures order { CallsAreSentInOrder }
+    ensures sent { CallsAreSentAsMade }
     ensures calls { CallsAreLeftUnlessConfirmed }
 {}
 
 /// The laws of the profiles of each point of a site, along every legal history from an opening state.
 /// The rows that the machine has for the point are what the changes by the point's own events make of
-/// none. And a point that does as the calls tell it, in the order of sending, is in step with the
-/// machine: its ChargePointMaxProfiles and TxDefaultProfiles are, but for the moments of their
-/// installs, those that the machine had for it right after the event that added the last of these
-/// calls, and none after call 0.
+/// none. Each call has its moments in the history: call k those from when the k-th Install or Clear of
+/// the point was accepted, up to the next one, and call 0 those before the first. And a point that does
+/// as the calls tell it, in the order of sending, is in step with the machine: its
+/// ChargePointMaxProfiles and TxDefaultProfiles are, but for when they were installed, those that the
+/// machine had for it at each moment of the last of these calls.
 pub fn histories_keep_points_in_step()
     ensures rows { RowsFollowHistories }
+    ensures moments { EachCallHasItsMoment }
     ensures lasting { PointsStayInStep }
 {}
