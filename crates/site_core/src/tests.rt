@@ -529,7 +529,7 @@ fn a_run_goes_on_where_memory_was_refused(rt: HostRuntime) -> Result<(), Fail> {
     for outcome in outcomes {
         match outcome {
             Outcome::Done(reply) => {
-                taken += 1;
+                taken = taken.saturating_add(1);
                 assert_eq!(rt; reply_told(&reply), ("Taken", taken));
             }
             Outcome::Refused(refused) => {
