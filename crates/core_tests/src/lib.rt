@@ -1,0 +1,6 @@
+//! Tests of `site_core` from outside, by its public names alone. They stand here, since a crate with tests
+//! of its own is proved twice.
+#![tactic(auto)]
+
+#[cfg(test)]
+mod random_run;
