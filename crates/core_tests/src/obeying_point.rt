@@ -13,10 +13,8 @@ pub(crate) struct Dice {
 impl Dice {
     /// A number below `sides`.
     pub(crate) fn roll(&mut self, sides: u8) -> u8 {
-        self.state = self
-            .state
-            .wrapping_mul(1_664_525)
-            .wrapping_add(1_013_904_223);
+        let product = self.state.wrapping_mul(1_664_525);
+        self.state = product.wrapping_add(1_013_904_223);
         (self.state >> 24) as u8 % sides.max(1)
     }
 
@@ -35,22 +33,22 @@ impl Dice {
         }
     }
 
-    /// One criterion, mostly an id.
+    /// Criteria of such keys, each given one time of three.
     pub(crate) fn criteria(&mut self) -> Criteria {
         let keys = self.keys();
-        let mut criteria = Criteria {
-            id: None,
-            connector: None,
-            purpose: None,
-            stack_level: None,
-        };
-        match self.roll(8) {
-            0 => criteria.purpose = Some(keys.purpose),
-            1 => criteria.connector = Some(keys.connector),
-            2..=4 => criteria.stack_level = Some(keys.level),
-            _ => criteria.id = Some(keys.id),
+        Criteria {
+            id: self.maybe(keys.id),
+            connector: self.maybe(keys.connector),
+            purpose: self.maybe(keys.purpose),
+            stack_level: self.maybe(keys.level),
         }
-        criteria
+    }
+
+    fn maybe<T: Copy>(&mut self, value: T) -> Option<T> {
+        match self.roll(3) {
+            0 => Some(value),
+            _ => None,
+        }
     }
 }
 
@@ -75,17 +73,13 @@ impl Keys {
 
     /// Whether a point removes the row of these keys when it clears by criteria (chapter 5.5).
     fn is_cleared(self, criteria: &Criteria) -> bool {
-        criteria.id.is_none_or(|id| self.id == id)
-            && criteria
-                .connector
-                .is_none_or(|connector| self.connector == connector)
-            && criteria
-                .purpose
-                .is_none_or(|purpose| self.purpose == purpose)
-            && criteria.stack_level.is_none_or(|level| self.level == level)
+        criteria.id.unwrap_or(self.id) == self.id
+            && criteria.connector.unwrap_or(self.connector) == self.connector
+            && criteria.purpose.unwrap_or(self.purpose) == self.purpose
+            && criteria.stack_level.unwrap_or(self.level) == self.level
     }
 
-    /// Whether a row of new keys takes the place of this one (chapter 3.13).
+    /// Whether a row of new keys takes the place of the row of these (chapter 5.16).
     fn is_replaced(self, new: Keys) -> bool {
         self.id == new.id
             || self.connector == new.connector

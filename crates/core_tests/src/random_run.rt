@@ -1,13 +1,9 @@
-//! A seeded run in which sendings, replies and links are lost, beside a point that obeys the calls that
-//! reach it: after each confirmed call the point's lasting rows are those that the store had after its
-//! change.
+//! A seeded run in which sendings, replies and links are lost: after each confirmed call, a point that
+//! obeys has what the store had after the call's change.
 
 use crate::obeying_point::{Dice, Keys, lasting, obey};
-use messages::Call;
 use ocpp_scalars::{IdTag, Instant};
-use profile::{
-    Period, PeriodList, Profile, ProfileKind, ProfileParts, Purpose, Row, ScheduleParts, Unit,
-};
+use profile::{Period, PeriodList, Profile, ProfileKind, ProfileParts, Row, ScheduleParts, Unit};
 use site_core::{Machine, PointId, Reply, Step, Take};
 use site_rules::read_site;
 use std::alloc::{AllocError, Global};
@@ -30,10 +26,10 @@ struct Trial {
     obeyed: Option<u64>,
     /// What the point has that outlasts transactions.
     point: Vec<Keys>,
-    /// The like that the store had after the change of each call, by its number.
+    /// What the store had of that after the change of each call, by the call's number.
     stores: Vec<Vec<Keys>>,
-    lost_sendings: u32,
-    lost_replies: u32,
+    /// How many sendings and replies were lost.
+    losses: u32,
 }
 
 impl Trial {
@@ -45,31 +41,24 @@ impl Trial {
     /// A step by the dice.
     fn step(&mut self) -> Result<(), Fail> {
         match self.dice.roll(16) {
-            0..=3 => self.install(),
-            4 => self.clear(),
-            5 => self.start(),
-            6 => self.stop(),
-            7 => self.attach(),
-            8 => self.lose(),
+            0..=3 => self.change(),
+            4 => self.transact(),
+            5 => self.attach(),
+            6 => self.lose(),
             _ => self.exchange(),
         }
     }
 
-    fn install(&mut self) -> Result<(), Fail> {
-        let keys = self.dice.keys();
-        let row = row(self.alloc, keys)?;
-        let point = id(self.alloc)?;
-        self.change(Step::Install { point, row })
-    }
-
-    fn clear(&mut self) -> Result<(), Fail> {
-        let criteria = self.dice.criteria();
-        let point = id(self.alloc)?;
-        self.change(Step::Clear { point, criteria })
-    }
-
     /// Installs or clears, and keeps what the store has where a call comes of it.
-    fn change(&mut self, step: Step) -> Result<(), Fail> {
+    fn change(&mut self) -> Result<(), Fail> {
+        let point = id(self.alloc)?;
+        let step = if self.dice.roll(4) == 0 {
+            let criteria = self.dice.criteria();
+            Step::Clear { point, criteria }
+        } else {
+            let row = row(self.alloc, self.dice.keys())?;
+            Step::Install { point, row }
+        };
         if let Some(Reply::Accepted) = self.made(step) {
             let rows = self.store()?;
             self.stores.push(rows)?;
@@ -88,26 +77,15 @@ impl Trial {
         Ok(lasting(self.alloc, book.book().view().rows)?)
     }
 
-    /// Starts a transaction, or tells a start again.
-    fn start(&mut self) -> Result<(), Fail> {
-        let connector = u32::from(self.dice.roll(3));
-        let begin = begin(self.alloc, self.dice.roll(4))?;
-        let point = id(self.alloc)?;
-        let step = Step::Start {
-            point,
-            connector,
-            begin,
-        };
-        if let Some(Reply::Started(number)) = self.made(step) {
-            self.transaction = number;
-        }
-        Ok(())
-    }
-
-    fn stop(&mut self) -> Result<(), Fail> {
+    /// Begins a transaction, or else ends the one that began last.
+    fn transact(&mut self) -> Result<(), Fail> {
+        let start = start(self.alloc, u32::from(self.dice.roll(3)))?;
         let point = id(self.alloc)?;
         let transaction = self.transaction;
-        drop(self.made(Step::Stop { point, transaction }));
+        match self.made(start) {
+            Some(Reply::Started(number)) => self.transaction = number,
+            _ => drop(self.made(Step::Stop { point, transaction })),
+        }
         Ok(())
     }
 
@@ -119,10 +97,9 @@ impl Trial {
             return Err(Fail::new("no link"));
         };
         self.link = link;
-        let Some(call) = self.obeyed else {
+        let Some(call) = self.obeyed.take() else {
             return Ok(());
         };
-        self.obeyed = None;
         if self.is_confirmed(before, call)? {
             return Err(Fail::new("confirmed late"));
         }
@@ -144,29 +121,21 @@ impl Trial {
         }
         let point = id(self.alloc)?;
         let link = self.link;
-        match self.made(Step::Send { point, link }) {
-            Some(Reply::Sent(call)) => self.deliver(&call),
-            _ => self.attach(),
+        let Some(Reply::Sent(call)) = self.made(Step::Send { point, link }) else {
+            return self.attach();
+        };
+        if !self.is_lost() {
+            obey(&mut self.point, &call.body)?;
+            self.obeyed = Some(call.number);
         }
-    }
-
-    /// Has the point obey a call, unless its sending is lost, as one of six is.
-    fn deliver(&mut self, call: &Call) -> Result<(), Fail> {
-        if self.dice.roll(6) == 0 {
-            self.lost_sendings = self.lost_sendings.saturating_add(1);
-            return Ok(());
-        }
-        obey(&mut self.point, &call.body)?;
-        self.obeyed = Some(call.number);
         Ok(())
     }
 
-    /// The point's reply to a call, after which its lasting rows are those of the store after the call's
-    /// change. One of six is lost.
+    /// The point's reply to a call. Unless it is lost, it confirms the call, and the point has what the
+    /// store had after the call's change.
     fn reply(&mut self, call: u64) -> Result<(), Fail> {
         self.obeyed = None;
-        if self.dice.roll(6) == 0 {
-            self.lost_replies = self.lost_replies.saturating_add(1);
+        if self.is_lost() {
             return Ok(());
         }
         if !self.is_confirmed(self.link, call)? {
@@ -176,6 +145,15 @@ impl Trial {
             Some(store) if store.as_slice() == self.point.as_slice() => Ok(()),
             _ => Err(Fail::new("out of step")),
         }
+    }
+
+    /// One sending or reply of six is lost.
+    fn is_lost(&mut self) -> bool {
+        let is_lost = self.dice.roll(6) == 0;
+        if is_lost {
+            self.losses = self.losses.saturating_add(1);
+        }
+        is_lost
     }
 
     fn is_confirmed(&mut self, link: u64, call: u64) -> Result<bool, Fail> {
@@ -205,12 +183,16 @@ fn take(alloc: Global) -> Result<Step, Fail> {
     }))
 }
 
-fn begin(alloc: Global, meter: u8) -> Result<Begin, Fail> {
+fn start(alloc: Global, connector: u32) -> Result<Step, Fail> {
     let id_tag = IdTag::try_new(String::from_str(alloc, "ann")?);
-    Ok(Begin {
-        id_tag: id_tag.ok().ok_or("too long a tag")?,
-        meter_start: i32::from(meter),
-        timestamp: midnight()?,
+    Ok(Step::Start {
+        point: id(alloc)?,
+        connector,
+        begin: Begin {
+            id_tag: id_tag.ok().ok_or("too long a tag")?,
+            meter_start: 0,
+            timestamp: midnight()?,
+        },
     })
 }
 
@@ -248,28 +230,23 @@ fn row(alloc: Global, keys: Keys) -> Result<Row, Fail> {
     })
 }
 
-/// A machine whose point has a profile of before, which call 0 is to remove.
+/// A machine whose point has a row of before, which call 0 is to remove.
 fn opening(alloc: Global) -> Result<Trial, Fail> {
+    let mut dice = Dice { state: 20_261_123 };
     let mut point = Vec::new(alloc);
-    point.push(Keys {
-        id: 9,
-        connector: 0,
-        purpose: Purpose::TxDefaultProfile,
-        level: 9,
-    })?;
+    point.push(dice.keys())?;
     let mut stores = Vec::new(alloc);
     stores.push(Vec::new(alloc))?;
     Ok(Trial {
         alloc,
         machine: Machine::new(alloc, read_site(alloc, SITE.as_bytes())?)?,
-        dice: Dice { state: 20_261_123 },
+        dice,
         link: 0,
         transaction: 0,
         obeyed: None,
         point,
         stores,
-        lost_sendings: 0,
-        lost_replies: 0,
+        losses: 0,
     })
 }
 
@@ -279,15 +256,14 @@ fn a_point_that_obeys_stays_in_step(rt: HostRuntime) -> Result<(), Fail> {
     for _ in 0..400u32 {
         trial.step()?;
     }
-    // Until each call is confirmed.
     for _ in 0..400u32 {
         trial.exchange()?;
     }
+    // Each call is confirmed now.
     assert_eq!(rt; trial.machine.outbox_len("CP1"), 0);
     let store = trial.store()?;
     assert!(rt; trial.point.as_slice() == store.as_slice());
     assert!(rt; trial.stores.len() > 30);
-    assert!(rt; trial.lost_sendings > 10);
-    assert!(rt; trial.lost_replies > 5);
+    assert!(rt; trial.losses > 20);
     Ok(())
 }
