@@ -1,0 +1,120 @@
+//! The dice of a random run, and a charge point that does what its calls say.
+
+use messages::CallBody;
+use profile::{Criteria, Profile, Purpose, Row};
+use std::alloc::{AllocError, Global};
+
+/// A linear congruential generator.
+#[derive(Drop)]
+pub(crate) struct Dice {
+    pub(crate) state: u32,
+}
+
+impl Dice {
+    /// A number below `sides`.
+    pub(crate) fn roll(&mut self, sides: u8) -> u8 {
+        let product = self.state.wrapping_mul(1_664_525);
+        self.state = product.wrapping_add(1_013_904_223);
+        (self.state >> 24) as u8 % sides.max(1)
+    }
+
+    /// Keys of a few, some of which no point may have.
+    pub(crate) fn keys(&mut self) -> Keys {
+        let purpose = match self.roll(3) {
+            0 => Purpose::ChargePointMaxProfile,
+            1 => Purpose::TxProfile,
+            _ => Purpose::TxDefaultProfile,
+        };
+        Keys {
+            id: i32::from(self.roll(4)),
+            connector: u32::from(self.roll(3)),
+            purpose,
+            level: u32::from(self.roll(3)),
+        }
+    }
+
+    /// Criteria of such keys, each given one time of three.
+    pub(crate) fn criteria(&mut self) -> Criteria {
+        let keys = self.keys();
+        Criteria {
+            id: self.maybe(keys.id),
+            connector: self.maybe(keys.connector),
+            purpose: self.maybe(keys.purpose),
+            stack_level: self.maybe(keys.level),
+        }
+    }
+
+    fn maybe<T: Copy>(&mut self, value: T) -> Option<T> {
+        match self.roll(3) {
+            0 => Some(value),
+            _ => None,
+        }
+    }
+}
+
+/// What tells the rows of a point apart: all of a row but its moment and its limits.
+#[derive(Clone, Copy, PartialEq, Eq)]
+pub(crate) struct Keys {
+    pub(crate) id: i32,
+    pub(crate) connector: u32,
+    pub(crate) purpose: Purpose,
+    pub(crate) level: u32,
+}
+
+impl Keys {
+    fn of(connector: u32, profile: &Profile) -> Keys {
+        Keys {
+            id: profile.id,
+            connector,
+            purpose: profile.purpose,
+            level: profile.stack_level,
+        }
+    }
+
+    /// Whether a point removes the row of these keys when it clears by criteria (chapter 5.5).
+    fn is_cleared(self, criteria: &Criteria) -> bool {
+        criteria.id.unwrap_or(self.id) == self.id
+            && criteria.connector.unwrap_or(self.connector) == self.connector
+            && criteria.purpose.unwrap_or(self.purpose) == self.purpose
+            && criteria.stack_level.unwrap_or(self.level) == self.level
+    }
+
+    /// Whether a row of new keys takes the place of the row of these (chapter 5.16).
+    fn is_replaced(self, new: Keys) -> bool {
+        self.id == new.id
+            || self.connector == new.connector
+                && self.purpose == new.purpose
+                && self.level == new.level
+    }
+}
+
+/// Has a point obey a call. Of its rows those are kept here that outlast transactions.
+pub(crate) fn obey(rows: &mut Vec<Keys>, body: &CallBody) -> Result<(), AllocError> {
+    match body {
+        CallBody::Clear(criteria) => {
+            rows.retain(|keys| !keys.is_cleared(criteria));
+            Ok(())
+        }
+        CallBody::Set { connector, profile } => {
+            let new = Keys::of(*connector, profile);
+            rows.retain(|keys| !keys.is_replaced(new));
+            push_lasting(rows, new)
+        }
+    }
+}
+
+/// Of the rows of a store those that outlast transactions.
+pub(crate) fn lasting(alloc: Global, rows: &[Row]) -> Result<Vec<Keys>, AllocError> {
+    let mut kept = Vec::new(alloc);
+    for row in rows {
+        push_lasting(&mut kept, Keys::of(row.connector, &row.profile))?;
+    }
+    Ok(kept)
+}
+
+fn push_lasting(rows: &mut Vec<Keys>, new: Keys) -> Result<(), AllocError> {
+    if new.purpose != Purpose::TxProfile {
+        rows.push(new)?;
+    }
+    Ok(())
+}
