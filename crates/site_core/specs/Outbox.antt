@@ -1,7 +1,7 @@
 -- What the central system keeps of its calls to a charge point, and what changes it. A call is sent again
 -- until it is confirmed, and the next one only then. `record old { .. }` is the outbox with these fields
 -- changed and all else as it was.
-use Rattle.std.specs.Prelude.{ℕ, ◌+◌, ◌-◌, ◌<◌, ◌≤◌, ◌≡◌, nat_le, nat_lt, ◌==◌, Bool, true, false, ◌&&◌, List, [], ◌∷◌, ◌++◌, length, drop, map, Option, None, Some, IsSome, if◌then◌else◌}
+use Rattle.std.specs.Prelude.{ℕ, ◌+◌, ◌-◌, ◌<◌, ◌≤◌, ◌≡◌, nat_le, nat_lt, ◌==◌, Bool, true, false, ◌&&◌, List, [], ◌∷◌, ◌++◌, length, drop, map, Option, None, Some, IsSome, is_some, if◌then◌else◌}
 use Rattle.std.specs.List.{range_with_len}
 use Rattle.profile.specs.declared.criteria.Criteria.{Criteria}
 use Rattle.messages.specs.declared.call.Call.{Call}
@@ -88,6 +88,10 @@ sendable outbox = sendable_by outbox.link outbox.is_in_flight outbox.calls
 abbrev pub sent_by : Option Call → OutboxState → OutboxState
 sent_by None old = old
 sent_by (Some call) old = record old { is_in_flight = true }
+
+-- the link over which it is to be sent, where there is such a call
+abbrev pub sending_link : OutboxState → Option ℕ
+sending_link outbox = if is_some (sendable outbox) then outbox.link else None
 
 -- after a sending, what was sent is in flight
 abbrev pub sent : OutboxState → OutboxState

@@ -1,5 +1,5 @@
 -- The state of the central system: what it knows between two steps.
-use Rattle.std.specs.Prelude.{ℕ, ◌≡◌, ◌≤◌, Bool, false, List, [], map, length, slice_index_or, Option, None, Some, Result}
+use Rattle.std.specs.Prelude.{ℕ, ◌≡◌, ◌≤◌, Bool, false, List, [], map, length, slice_index_or, Option, None, Some, Result, if◌then◌else◌}
 use Rattle.ocpp_scalars.specs.declared.refusal.Refusal.{Refusal}
 use Rattle.meaning.specs.declared.ask.Ask.{Ask}
 use Rattle.meaning.specs.Composite.{Schedule}
@@ -7,7 +7,7 @@ use Rattle.site_rules.specs.Site.{PointEntry, SiteState, place_of}
 use Rattle.point_book.specs.Book.{Book, empty_book}
 use Rattle.site_core.specs.declared.numbers.Numbers.{Numbers}
 use Rattle.site_core.specs.Limits.{max_number, max_transaction, max_requests}
-use Rattle.site_core.specs.Outbox.{OutboxState, opening_outbox, IsOutbox}
+use Rattle.site_core.specs.Outbox.{OutboxState, opening_outbox, sending_link}
 
 -- the answer to a request for a composite schedule: that schedule, or why there is none
 abbrev pub ScheduleAnswer : Type 0
@@ -86,6 +86,16 @@ link_at state (Some place) = (outbox_at state place).link
 
 abbrev pub link_of : MachineState → List ℕ → Option ℕ
 link_of state point = link_at state (place_of state.site point)
+
+-- the link over which a call is to be sent now to the point at a place, and to the point of an identity, where
+-- there is such a call: a stranger has none, and nothing is sent once the central system is stopped
+abbrev pub link_to_send_at : MachineState → Option ℕ → Option ℕ
+link_to_send_at state None = None
+link_to_send_at state (Some place) = sending_link (outbox_at state place)
+
+abbrev pub link_to_send : MachineState → List ℕ → Option ℕ
+link_to_send state point =
+    if state.is_stopped then None else link_to_send_at state (place_of state.site point)
 
 -- how many calls of the point aren't confirmed; a stranger has none
 abbrev pub outbox_len_at : MachineState → Option ℕ → ℕ

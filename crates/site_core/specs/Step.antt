@@ -1,6 +1,6 @@
 -- One step of the central system: what it replies and what it changes, or the first cause why it is refused.
 -- All that a step doesn't name stays as it was, and a refused step changes nothing.
-use Rattle.std.specs.Prelude.{ℕ, ℤ, pos, ◌≡◌, ◌+◌, nat_lt, nat_le, ◌==◌, ◌||◌, Bool, false, true, List, [], ◌∷◌, ◌++◌, length, Option, Some, None, is_some, Result, Ok, Err, slice_set, if◌then◌else◌}
+use Rattle.std.specs.Prelude.{ℕ, ℤ, pos, ◌≡◌, ◌+◌, nat_lt, nat_le, ◌==◌, ◌||◌, Bool, false, true, List, [], ◌∷◌, ◌++◌, length, Option, Some, None, is_some, Result, Ok, Err, IfOk, slice_set, if◌then◌else◌}
 use Rattle.std.specs.List.{list_any}
 use Rattle.ocpp_scalars.specs.declared.refusal.Refusal.{Refusal}
 use Rattle.ocpp_scalars.specs.declared.refusal.Refusal.TheVariants.{UnknownPoint, UnknownConnector, OutboxFull, TooManyOpen, VersionsExhausted, TransactionsExhausted, Behind, OutOfMemory, UnknownRequest, AlreadyAnswered, Superseded, NothingInFlight}
@@ -303,6 +303,12 @@ cause_of (Err refusal) = Some refusal
 -- why a step is refused, the first cause in the order above
 abbrev pub first_refusal : MachineState → Step → Option Refusal
 first_refusal old step = cause_of (stepped no_answer old step)
+
+-- Send over this link sends nothing to the point of this identity: where it is made, it replies so and changes
+-- nothing.
+abbrev pub SendsNothing : MachineState → List ℕ → ℕ → Type 0
+SendsNothing old point link =
+    IfOk (stepped no_answer old (steps.Send point link)) (λ made. made ≡ unchanged old Nothing)
 
 -- A step is refused by its first cause, or else since memory ran out. Nothing has changed, and the step
 -- comes back.

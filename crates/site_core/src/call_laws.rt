@@ -1,5 +1,8 @@
 //! The laws of outboxes and of points that obey, of the machine itself.
 
+ghost use Rattle.std.specs.Prelude.{◌≡◌, ℕ, List, None, Some};
+ghost use Rattle.site_core.specs.State.{MachineState, link_of, link_to_send};
+ghost use Rattle.site_core.specs.Step.{SendsNothing};
 ghost use Rattle.site_core.specs.CallOrder.{OutboxesFollowHistories, CallsAreSentInOrder};
 ghost use Rattle.site_core.specs.CallOrder.{CallsAreLeftUnlessConfirmed, RowsFollowHistories};
 ghost use Rattle.site_core.specs.CallOrder.{PointsStayInStep, CallsAreSentAsMade};
@@ -29,4 +32,14 @@ pub fn histories_keep_points_in_step()
     ensures rows { RowsFollowHistories }
     ensures moments { EachCallHasItsMoment }
     ensures lasting { PointsStayInStep }
+{}
+
+/// The law that nothing is missed by who makes a Send only where `link_to_send` has a link, and over that
+/// one: it is the point's present link, and where there is none, a Send over whatever link is refused, or
+/// replies Nothing and changes nothing.
+pub fn skipped_sends_send_nothing()
+    ensures present { (state : MachineState) (point : List ℕ) (link : ℕ)
+        → link_to_send state point ≡ Some link → link_of state point ≡ Some link }
+    ensures nothing { (state : MachineState) (point : List ℕ) (link : ℕ)
+        → link_to_send state point ≡ None → SendsNothing state point link }
 {}

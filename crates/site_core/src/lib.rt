@@ -22,7 +22,9 @@ mod requests;
 mod shared_book;
 mod step;
 
-pub use call_laws::{histories_keep_points_in_step, histories_send_calls_in_order};
+pub use call_laws::{
+    histories_keep_points_in_step, histories_send_calls_in_order, skipped_sends_send_nothing,
+};
 pub use headline::{
     answered_schedules_are_right, answers_are_right, answers_follow_one_take, answers_stay,
     books_follow_events, requests_are_answered_once, runs_are_legal, runs_join,

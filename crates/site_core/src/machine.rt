@@ -2,7 +2,7 @@
 
 ghost use Rattle.std.specs.Prelude.{◌≡◌, ◌<◌, ◌≤◌, Some, IfOk, IfErr, MatchResult, Ok, Err, length};
 ghost use Rattle.site_rules.specs.Site.{place_of};
-ghost use Rattle.site_core.specs.State.{AreNumbers, link_of, opening, opening_at, outbox_len};
+ghost use Rattle.site_core.specs.State.{AreNumbers, link_of, link_to_send, opening, opening_at, outbox_len};
 ghost use Rattle.site_core.specs.Step.{Steps, IsRefused, first_refusal, NeedsNoMemory};
 ghost use Rattle.site_core.specs.Run.{HasOutcome, Runs};
 ghost use Rattle.site_core.specs.ByCases.Made.{place_in};
@@ -125,6 +125,17 @@ impl Machine {
     {
         let place = self.site.place_of(point)?;
         outbox_at(&self.outboxes, place).link()
+    }
+
+    /// The link over which a call is to be sent now to the point of an identity, if there is such a call:
+    /// none where the site has no such point, and none once the central system is stopped. Allocates nothing.
+    pub fn link_to_send(&self, point: &str) -> Option<u64>
+        ensures { result ≡ link_to_send self.now point.now }
+    {
+        match self.site.place_of(point) {
+            Some(place) if !self.is_stopped => outbox_at(&self.outboxes, place).sending_link(),
+            _ => None,
+        }
     }
 
     /// How many calls of the point of an identity aren't confirmed, 0 where the site has no such point.

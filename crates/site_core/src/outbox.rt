@@ -1,7 +1,7 @@
 //! What the central system keeps of its calls to a charge point.
 
 ghost use Rattle.std.specs.Prelude.{◌≡◌, ◌+◌, ◌-◌, ◌<◌, ◌≤◌, ◌^◌, ◌++◌, IfErr, IfOk, OnErr, OnOk, length};
-ghost use Rattle.site_core.specs.Outbox.{IsOutbox, added, attached, confirmed, is_exhausted, is_full, is_number_in_flight, last_call_number, lost, max_calls, opening_outbox, sendable, sent};
+ghost use Rattle.site_core.specs.Outbox.{IsOutbox, added, attached, confirmed, is_exhausted, is_full, is_number_in_flight, last_call_number, lost, max_calls, opening_outbox, sendable, sending_link, sent};
 
 use messages::{Call, CallBody};
 use profile::Criteria;
@@ -133,6 +133,16 @@ impl Outbox {
     pub fn link(&self) -> Option<u64>
         ensures { result ≡ self.now.link }
     {
+        self.link
+    }
+
+    /// The point's present link, where a call is to be sent over it now.
+    pub fn sending_link(&self) -> Option<u64>
+        ensures { result ≡ sending_link self.now }
+    {
+        if self.is_in_flight || self.bodies.is_empty() {
+            return None;
+        }
         self.link
     }
 
