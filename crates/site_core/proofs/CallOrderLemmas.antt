@@ -41,9 +41,11 @@ use Rattle.site_core.specs.Step.{next_transaction, with_transaction, refusal_to_
 use Rattle.site_core.specs.Step.{Made, Steps, at_link, at_linked_place, is_present, attaches, sends, sends_call, confirms, loses, with_outbox, changed, changed_by_call, refusal_to_call, unless, version_refusal, installs, clears, starts, starts_as, stops, takes, takes_ask, compiles_kept, answers_kept, answers_with, finishes, unchanged, stepped, no_answer}
 use Rattle.site_core.specs.History.{Event, Legal}
 use Rattle.site_core.specs.CallOrder.{is_place, is_at, names, events_at, traffic_by, traffic_of, traffic_by_event, calls_by, calls_by_event, calls_sent, numbers_of_calls, OutboxesFollowHistories, calls_made, IsOneOf, CallsAreSentInOrder, CallsAreSentAsMade, CallsAreLeftUnlessConfirmed}
-use Rattle.site_core.specs.CallOrder.{slots_after, end_at, changes_by, changes_from, changes_of, opening_slots, rows_after_all, bodies_of, RowsFollowHistories, PointsStayInStep, accepted, Moment, EachCallHasItsMoment}
+use Rattle.site_core.specs.CallOrder.{slots_after, end_at, changes_by, changes_from, changes_of, opening_slots, rows_after_all, bodies_of, RowsFollowHistories, PointsStayInStep, accepted, Moment, EachCallHasItsMoment, numbers_obeyed_at, ObeyingPointsStayInStep}
+use Rattle.site_core.specs.ObeyOrder.{obeyed_numbers, numbers_obeyed, IsObeyed}
 use Rattle.site_core.proofs.StepLemmas.{at_point_made, unless_made, either_made}
 use Rattle.site_core.proofs.ObeyLemmas.{lasting_end, stays_in_step}
+use Rattle.site_core.proofs.ObeyOrderLemmas.{obeyed_in_order}
 use Rattle.site_core.proofs.OutboxOrderLemmas.{outbox, sent_in_order, left_unless_confirmed}
 
 -- ---- places
@@ -583,12 +585,17 @@ sent_along : (site : SiteState) (numbers : Numbers) (history : List Event) (stat
 sent_along site numbers history state place legal =
     (from_opening site numbers history state place legal).sent ∙ ap (λ (o : OutboxState). calls_along o (traffic_of site place history)) (opening_of_each site.points place)
 
+numbers_by_history : (site : SiteState) (numbers : Numbers) (history : List Event) (state : MachineState) (place : ℕ)
+    → Legal (opening_at site numbers) history state
+    → numbers_of_calls (calls_sent site place history) ≡ numbers_sent opening_outbox (traffic_of site place history)
+numbers_by_history site numbers history state place legal =
+    ap numbers_of_calls (sent_along site numbers history state place legal)
+    ∙ numbers_along opening_outbox (traffic_of site place history)
+
 pub sent_by_history : CallsAreSentInOrder
 sent_by_history site numbers history state legal point place here =
-    let traffic = traffic_of site place history in
-    let same : numbers_of_calls (calls_sent site place history) ≡ numbers_sent opening_outbox traffic =
-    ap numbers_of_calls (sent_along site numbers history state place legal) ∙ numbers_along opening_outbox traffic in
-    subst AreInSendingOrder (sym same) (sent_in_order traffic)
+    subst AreInSendingOrder (sym (numbers_by_history site numbers history state place legal))
+    (sent_in_order (traffic_of site place history))
 
 pub sent_as_made : CallsAreSentAsMade
 sent_as_made site numbers history state legal point place here =
@@ -671,6 +678,17 @@ pub stay_in_step : PointsStayInStep
 stay_in_step site numbers history state point place here first others rows order moment =
     ap (λ (events : List Event). lasting (obeyed (bodies_of site place events) (first ∷ others) rows)) moment.parts
     ∙ in_step_after site numbers moment.earlier moment.later moment.state state moment.before moment.since point place here first others rows order (sym moment.many)
+
+pub obeying_stay_in_step : ObeyingPointsStayInStep
+obeying_stay_in_step site numbers history state legal point place here are_obeyed each first others rows is moment =
+    let traffic = traffic_of site place history in
+    let same = numbers_by_history site numbers history state place legal in
+    let each_sent : AllByRecursion (IsObeyed (numbers_obeyed traffic are_obeyed)) (calls_confirmed opening_outbox traffic) =
+    subst (λ (sent : List ℕ). AllByRecursion (IsObeyed (obeyed_numbers are_obeyed sent)) (calls_confirmed opening_outbox traffic)) same each in
+    let order : AreInSendingOrder (numbers_of (first ∷ others)) =
+    subst AreInSendingOrder (sym is)
+    (subst (λ (sent : List ℕ). AreInSendingOrder (obeyed_numbers are_obeyed sent)) (sym same) (obeyed_in_order traffic are_obeyed each_sent)) in
+    stay_in_step site numbers history state point place here first others rows order moment
 
 -- ---- the moments of its calls
 

@@ -18,6 +18,7 @@ use Rattle.site_core.specs.declared.reply.Reply.TheVariants as replies
 use Rattle.site_core.specs.Outbox.{opening_outbox, clear_all}
 use Rattle.site_core.specs.OutboxOrder.{Traffic, Attach, Lose, Add, Send, Confirm, after_all, calls_confirmed, calls_so_far, bodies_added, AreInSendingOrder}
 use Rattle.site_core.specs.Obey.{Change, Installs, Clears, Ends, Obeying, numbers_of, last_number, obeyed, lasting}
+use Rattle.site_core.specs.ObeyOrder.{obeyed_numbers, IsObeyed}
 use Rattle.site_core.specs.State.{MachineState, opening, opening_at, book_at, outbox_at}
 use Rattle.site_core.specs.History.{Event, Legal}
 
@@ -86,6 +87,10 @@ numbers_of_calls calls = map (λ (call : Call). call.number) calls
 abbrev pub calls_made : SiteState → ℕ → List Event → List Call
 calls_made site place history = calls_so_far (traffic_of site place history)
 
+-- the calls to the point at a place that are confirmed, in the order of their confirmations
+abbrev pub calls_confirmed_at : SiteState → ℕ → List Event → List Call
+calls_confirmed_at site place history = calls_confirmed opening_outbox (traffic_of site place history)
+
 -- ---- the laws of its calls
 
 -- In a legal history from the opening, along which a point of the site has this place.
@@ -118,7 +123,7 @@ CallsAreSentAsMade = OfEachPoint (λ site place history state.
 -- the calls of an outbox are all calls without the confirmed ones, and those were confirmed in order
 abbrev pub CallsAreLeftUnlessConfirmed : Type 0
 CallsAreLeftUnlessConfirmed = OfEachPoint (λ site place history state.
-    calls_confirmed opening_outbox (traffic_of site place history) ++ (outbox_at state place).calls
+    calls_confirmed_at site place history ++ (outbox_at state place).calls
     ≡ calls_made site place history)
 
 -- ---- its profiles
@@ -207,6 +212,29 @@ PointsStayInStep =
     (point : List ℕ) (place : ℕ) → place_of site point ≡ Some place
     → (first : Obeying) (others : List Obeying) (rows : List Row)
     → AreInSendingOrder (numbers_of (first ∷ others))
+    → (moment : Moment (opening_at site numbers) history state place (last_number first.number others))
+    → lasting (obeyed (bodies_of site place history) (first ∷ others) rows)
+    ≡ lasting (book_at moment.state place).rows
+
+-- the numbers of the calls that the point at a place obeys, where for each sending in turn it is said whether
+-- the point does; what is lost it doesn't
+abbrev pub numbers_obeyed_at : SiteState → ℕ → List Event → List Bool → List ℕ
+numbers_obeyed_at site place history are_obeyed =
+    obeyed_numbers are_obeyed (numbers_of_calls (calls_sent site place history))
+
+-- The same of a point that obeys what is sent to it, in the order of the sendings, though any of them may be
+-- lost: it obeys each call at least once that it confirms. Its lasting rows are then those that the machine had
+-- for it at a moment of the last call that it obeyed.
+abbrev pub ObeyingPointsStayInStep : Type 0
+ObeyingPointsStayInStep =
+    (site : SiteState) (numbers : Numbers) (history : List Event) (state : MachineState)
+    → Legal (opening_at site numbers) history state
+    → (point : List ℕ) (place : ℕ) → place_of site point ≡ Some place
+    → (are_obeyed : List Bool)
+    → AllByRecursion (IsObeyed (numbers_obeyed_at site place history are_obeyed))
+    (calls_confirmed_at site place history)
+    → (first : Obeying) (others : List Obeying) (rows : List Row)
+    → numbers_of (first ∷ others) ≡ numbers_obeyed_at site place history are_obeyed
     → (moment : Moment (opening_at site numbers) history state place (last_number first.number others))
     → lasting (obeyed (bodies_of site place history) (first ∷ others) rows)
     ≡ lasting (book_at moment.state place).rows

@@ -6,7 +6,7 @@ ghost use Rattle.site_core.specs.Step.{SendsNothing};
 ghost use Rattle.site_core.specs.CallOrder.{OutboxesFollowHistories, CallsAreSentInOrder};
 ghost use Rattle.site_core.specs.CallOrder.{CallsAreLeftUnlessConfirmed, RowsFollowHistories};
 ghost use Rattle.site_core.specs.CallOrder.{PointsStayInStep, CallsAreSentAsMade};
-ghost use Rattle.site_core.specs.CallOrder.{EachCallHasItsMoment};
+ghost use Rattle.site_core.specs.CallOrder.{EachCallHasItsMoment, ObeyingPointsStayInStep};
 
 /// The laws of the calls to each point of a site, along every legal history from an opening state. What
 /// the machine keeps of its calls to the point is what the point's own events make of the opening
@@ -27,11 +27,13 @@ pub fn histories_send_calls_in_order()
 /// the point was accepted, up to the next one, and call 0 those before the first. And a point that does
 /// as the calls tell it, in the order of sending, is in step with the machine: its
 /// ChargePointMaxProfiles and TxDefaultProfiles are, but for when they were installed, those that the
-/// machine had for it at each moment of the last of these calls.
+/// machine had for it at each moment of the last of these calls. So is a point that obeys what is sent
+/// to it, and each call at least once that it confirms, whatever sendings and replies are lost.
 pub fn histories_keep_points_in_step()
     ensures rows { RowsFollowHistories }
     ensures moments { EachCallHasItsMoment }
     ensures lasting { PointsStayInStep }
+    ensures obeying { ObeyingPointsStayInStep }
 {}
 
 /// The law that nothing is missed by who makes a Send only where `link_to_send` has a link, and over that

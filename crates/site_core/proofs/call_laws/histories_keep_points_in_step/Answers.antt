@@ -1,5 +1,5 @@
 -- The laws, by what follows along every history.
-use Rattle.site_core.proofs.CallOrderLemmas.{rows_follow, stay_in_step, moments}
+use Rattle.site_core.proofs.CallOrderLemmas.{rows_follow, stay_in_step, obeying_stay_in_step, moments}
 use Rattle.site_core.proofs.call_laws.histories_keep_points_in_step.Goals as goal
 
 pub returns-clause-rows : goal.returns-clause-rows
@@ -7,6 +7,9 @@ returns-clause-rows c = rows_follow
 
 pub returns-clause-lasting : goal.returns-clause-lasting
 returns-clause-lasting c = stay_in_step
+
+pub returns-clause-obeying : goal.returns-clause-obeying
+returns-clause-obeying c = obeying_stay_in_step
 
 pub returns-clause-moments : goal.returns-clause-moments
 returns-clause-moments c = moments
