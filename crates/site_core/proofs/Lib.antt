@@ -6,6 +6,7 @@ pub mod RequestLemmas
 pub mod MachineLemmas
 pub mod RunLemmas
 pub mod StepLemmas
+pub mod SendLemmas
 pub mod HistoryLemmas
 pub mod TakenRequests
 pub mod KeptRequests

@@ -1,9 +1,9 @@
 -- Bodies as numbered calls.
-use Rattle.std.proofs.Common.{◌≡◌, ℕ, ◌+◌, ◌-◌, ◌<◌, ◌≤◌, suc, refl, sym, ◌∙◌, ap, List, [], ◌∷◌, ◌++◌, length, drop, map, Bool, true, ◌&&◌, false, is_some, nat_eq, Option, Some, None, IsSome, slice_index_or, arith, length-append}
+use Rattle.std.proofs.Common.{◌≡◌, ℕ, ◌+◌, ◌-◌, ◌<◌, ◌≤◌, suc, refl, sym, ◌∙◌, ap, List, [], ◌∷◌, ◌++◌, length, drop, map, Bool, true, ◌&&◌, false, cond, is_some, nat_eq, Option, Some, None, IsSome, slice_index_or, arith, length-append}
 use Rattle.std.specs.List.{range_with_len}
 use Rattle.messages.specs.declared.call.Call.{Call}
 use Rattle.messages.specs.declared.call.CallBody.{CallBody}
-use Rattle.site_core.specs.Outbox.{OutboxState, IsOutbox, numbered, clear_all, max_calls, last_call_number, is_number_of_first, is_number_in_flight, confirmed, sendable}
+use Rattle.site_core.specs.Outbox.{OutboxState, IsOutbox, numbered, clear_all, max_calls, last_call_number, is_number_of_first, is_number_in_flight, confirmed, sendable, sendable_by, sending_link}
 
 pub numbered_length : (number : ℕ) (bodies : List CallBody) → length (numbered number bodies) ≡ length bodies
 numbered_length number [] = refl
@@ -65,6 +65,18 @@ sendable_is (Some link) (first ∷ later) next number false body linked waits at
 sendable_is (Some link) (first ∷ later) next number true body linked waits at some is = cc
 sendable_is (Some link) [] next number is_in_flight body linked waits at none is = absurd (omega arith)
 sendable_is None bodies next number is_in_flight body linked waits at some is = cc
+
+-- a call that waits is to be sent over the link, where there is one
+pub sends_over_link : (outbox : OutboxState) → outbox.is_in_flight ≡ false → 0 < length outbox.calls
+    → outbox.link ≡ sending_link outbox
+sends_over_link outbox waits some = by outbox.link outbox.is_in_flight outbox.calls waits some
+  where
+    by : (link : Option ℕ) (is_in_flight : Bool) (calls : List Call) → is_in_flight ≡ false → 0 < length calls
+        → link ≡ cond (is_some (sendable_by link is_in_flight calls)) link None
+    by None is_in_flight calls waits some = refl
+    by (Some link) true calls waits some = absurd (cc waits)
+    by (Some link) false [] waits none = absurd (omega arith)
+    by (Some link) false (call ∷ later) waits some = refl
 
 pub confirmed_is : (outbox : OutboxState) (number : ℕ) → is_number_in_flight outbox number ≡ true
     → record { link = outbox.link; calls = drop 1 outbox.calls; next = outbox.next; is_in_flight = false } ≡ confirmed outbox number

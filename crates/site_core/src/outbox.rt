@@ -137,10 +137,11 @@ impl Outbox {
     }
 
     /// The point's present link, where a call is to be sent over it now.
+    #[tactic(auto, using(crate::proofs::OutboxLemmas::sends_over_link))]
     pub fn sending_link(&self) -> Option<u64>
         ensures { result ≡ sending_link self.now }
     {
-        if self.is_in_flight || self.bodies.is_empty() {
+        if self.is_in_flight || self.len() == 0 {
             return None;
         }
         self.link
