@@ -3,7 +3,8 @@ use Rattle.std.proofs.Common.{◌≡◌, ℕ, ◌+◌, ◌-◌, ◌<◌, ◌≤�
 use Rattle.std.specs.List.{range_with_len}
 use Rattle.messages.specs.declared.call.Call.{Call}
 use Rattle.messages.specs.declared.call.CallBody.{CallBody}
-use Rattle.site_core.specs.Outbox.{OutboxState, IsOutbox, numbered, clear_all, max_calls, last_call_number, is_number_of_first, is_number_in_flight, confirmed, sendable, sendable_by, sending_link}
+use Rattle.site_core.specs.Limits.{max_number, max_calls}
+use Rattle.site_core.specs.Outbox.{OutboxState, IsOutbox, numbered, clear_all, is_number_of_first, is_number_in_flight, confirmed, sendable, sendable_by, sending_link}
 
 pub numbered_length : (number : ℕ) (bodies : List CallBody) → length (numbered number bodies) ≡ length bodies
 numbered_length number [] = refl
@@ -36,7 +37,7 @@ numbered_join next bodies (body ∷ (other ∷ later)) one drawn = absurd (omega
 
 -- what the bodies of an outbox show is an outbox
 pub outbox_is : (link : Option ℕ) (bodies : List CallBody) (next : ℕ) (is_in_flight : Bool)
-    → length bodies ≤ next → next ≤ last_call_number + 1 → length bodies ≤ max_calls
+    → length bodies ≤ next → next ≤ max_number + 1 → length bodies ≤ max_calls
     → (is_in_flight ≡ true → IsSome link × (0 < length bodies))
     → IsOutbox (record { link = link; calls = numbered (next - length bodies) bodies; next = next; is_in_flight = is_in_flight })
 outbox_is link bodies next is_in_flight drawn last few flies =

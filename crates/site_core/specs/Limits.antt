@@ -1,4 +1,4 @@
--- The limits of numbers and of kept requests. All are this system's choice but the highest transaction.
+-- The limits of numbers, of kept requests and of calls. All are this system's choice but the highest transaction.
 use Rattle.std.specs.Prelude.{ℕ}
 
 -- the highest version, request, link and call number
@@ -12,3 +12,7 @@ max_transaction = 2_147_483_647
 -- the most requests for schedules that are kept, answered or not
 abbrev pub max_requests : ℕ
 max_requests = 64
+
+-- the most calls of a point that aren't confirmed, the one in flight among them
+abbrev pub max_calls : ℕ
+max_calls = 256

@@ -7,16 +7,7 @@ use Rattle.profile.specs.declared.criteria.Criteria.{Criteria}
 use Rattle.messages.specs.declared.call.Call.{Call}
 use Rattle.messages.specs.declared.call.CallBody.{CallBody}
 use Rattle.messages.specs.declared.call.CallBody.TheVariants.{Clear}
-
--- The limits are this system's choice; the standard has none.
-
--- the most calls of a point that aren't confirmed, the one in flight among them
-abbrev pub max_calls : ℕ
-max_calls = 256
-
--- the highest number of a call
-abbrev pub last_call_number : ℕ
-last_call_number = 1000000000000
+use Rattle.site_core.specs.Limits.{max_number, max_calls}
 
 pub record OutboxState : Type 0 where
   -- the number of the connection to the point, where there is one
@@ -63,7 +54,7 @@ is_full outbox = nat_le max_calls (length outbox.calls)
 
 -- nor where the last number was drawn
 abbrev pub is_exhausted : OutboxState → Bool
-is_exhausted outbox = nat_lt last_call_number outbox.next
+is_exhausted outbox = nat_lt max_number outbox.next
 
 -- a new call is the last one
 abbrev pub added : OutboxState → CallBody → OutboxState
@@ -124,6 +115,6 @@ AreConsecutive outbox =
 pub record IsOutbox (outbox : OutboxState) : Type 0 where
   pub numbers : AreConsecutive outbox
   pub drawn : length outbox.calls ≤ outbox.next
-  pub last : outbox.next ≤ last_call_number + 1
+  pub last : outbox.next ≤ max_number + 1
   pub few : length outbox.calls ≤ max_calls
   pub in_flight : outbox.is_in_flight ≡ true → IsSome outbox.link × (0 < length outbox.calls)

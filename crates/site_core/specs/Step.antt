@@ -317,9 +317,13 @@ pub record IsRefused (old : MachineState) (step : Step) (refused : Refused) (new
   pub unchanged : new ≡ old
   pub back : refused.step ≡ step
 
--- compiling, answering and finishing are never refused for want of memory
+-- Compiling, answering and finishing, a new link, a link lost and a confirmation are never refused for want of
+-- memory.
 abbrev pub NeedsNoMemory : Step → Type 0
 NeedsNoMemory (steps.Compile number) = Unit {0}
 NeedsNoMemory (steps.Answer number) = Unit {0}
 NeedsNoMemory steps.Finish = Unit {0}
+NeedsNoMemory (steps.Attach point) = Unit {0}
+NeedsNoMemory (steps.Confirm point link number) = Unit {0}
+NeedsNoMemory (steps.Lost point link) = Unit {0}
 NeedsNoMemory step = ⊥

@@ -148,8 +148,9 @@ impl Machine {
         }
     }
 
-    /// Makes a step, or says why not: then nothing has changed, and the step comes back. Compiling, answering
-    /// and finishing are never refused for want of memory.
+    /// Makes a step, or says why not: then nothing has changed, and the step comes back. Compiling,
+    /// answering and finishing, a new link, a link lost and a confirmation are never refused for want of
+    /// memory.
     pub fn step(&mut self, step: Step) -> Result<Reply, Refused>
         ensures made { MatchResult result (λ reply. Steps self.old step reply self.new)
             (λ refused. IsRefused self.old step refused self.new) }
@@ -157,58 +158,34 @@ impl Machine {
             (λ refused. first_refusal self.old step ≡ Some refused.refusal) }
     {
         match step {
-            Step::Install { point, row } => match self.install(&point, row) {
-                Ok(reply) => Ok(reply),
-                Err((refusal, row)) => Err(Refused {
-                    refusal,
-                    step: Step::Install { point, row },
-                }),
-            },
-            Step::Clear { point, criteria } => {
-                let made = self.clear(&point, &criteria);
-                with_step(made, Step::Clear { point, criteria })
-            }
+            Step::Install { point, row } => self.install_step(point, row),
+            Step::Clear { point, criteria } => with_step(
+                self.clear(&point, &criteria),
+                Step::Clear { point, criteria },
+            ),
             Step::Start {
                 point,
                 connector,
                 begin,
-            } => match self.start(&point, connector, begin) {
-                Ok(reply) => Ok(reply),
-                Err((refusal, begin)) => Err(Refused {
-                    refusal,
-                    step: Step::Start {
-                        point,
-                        connector,
-                        begin,
-                    },
-                }),
-            },
-            Step::Stop { point, transaction } => {
-                let made = self.stop(&point, transaction);
-                with_step(made, Step::Stop { point, transaction })
-            }
-            Step::Take(take) => {
-                let made = self.take(&take);
-                with_step(made, Step::Take(take))
-            }
+            } => self.start_step(point, connector, begin),
+            Step::Stop { point, transaction } => with_step(
+                self.stop(&point, transaction),
+                Step::Stop { point, transaction },
+            ),
+            Step::Take(take) => with_step(self.take(&take), Step::Take(take)),
             Step::Compile(number) => with_step(self.compile(number), Step::Compile(number)),
             Step::Answer(number) => with_step(self.answer(number), Step::Answer(number)),
             Step::Finish => Ok(self.finish()),
-            Step::Attach(point) => {
-                let made = self.attach(&point);
-                with_step(made, Step::Attach(point))
-            }
+            Step::Attach(point) => with_step(self.attach(&point), Step::Attach(point)),
             Step::Send { point, link } => {
-                let made = self.send(&point, link);
-                with_step(made, Step::Send { point, link })
+                with_step(self.send(&point, link), Step::Send { point, link })
             }
-            Step::Confirm { point, link, call } => {
-                let made = self.confirm(&point, link, call);
-                with_step(made, Step::Confirm { point, link, call })
-            }
+            Step::Confirm { point, link, call } => with_step(
+                self.confirm(&point, link, call),
+                Step::Confirm { point, link, call },
+            ),
             Step::Lost { point, link } => {
-                let made = self.lose(&point, link);
-                with_step(made, Step::Lost { point, link })
+                with_step(self.lose(&point, link), Step::Lost { point, link })
             }
         }
     }

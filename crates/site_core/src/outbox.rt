@@ -1,8 +1,10 @@
 //! What the central system keeps of its calls to a charge point.
 
 ghost use Rattle.std.specs.Prelude.{◌≡◌, ◌+◌, ◌-◌, ◌<◌, ◌≤◌, ◌^◌, ◌++◌, IfErr, IfOk, OnErr, OnOk, length};
-ghost use Rattle.site_core.specs.Outbox.{IsOutbox, added, attached, confirmed, is_exhausted, is_full, is_number_in_flight, last_call_number, lost, max_calls, opening_outbox, sendable, sending_link, sent};
+ghost use Rattle.site_core.specs.Limits.{max_calls, max_number};
+ghost use Rattle.site_core.specs.Outbox.{IsOutbox, added, attached, confirmed, is_exhausted, is_full, is_number_in_flight, lost, opening_outbox, sendable, sending_link, sent};
 
+use crate::numbers::MAX_NUMBER;
 use messages::{Call, CallBody};
 use profile::Criteria;
 use std::alloc::{AllocError, Global};
@@ -11,9 +13,6 @@ use std::marker::Model;
 
 /// The most calls of a point that aren't confirmed, the one in flight among them.
 const MAX_CALLS: usize = 256;
-
-/// The highest number of a call.
-const LAST_CALL_NUMBER: u64 = 1_000_000_000_000;
 
 /// ClearChargingProfile without a criterion (chapter 5.5).
 const EVERY_PROFILE: Criteria = Criteria {
@@ -75,7 +74,8 @@ pub struct Outbox {
 
 impl Model for Outbox {
     ghost use Rattle.std.specs.Prelude.{◌+◌, ◌-◌, ◌<◌, ◌≤◌, ◌≡◌, true, IsSome, length};
-    ghost use Rattle.site_core.specs.Outbox.{OutboxState, numbered, max_calls, last_call_number};
+    ghost use Rattle.site_core.specs.Limits.{max_number, max_calls};
+    ghost use Rattle.site_core.specs.Outbox.{OutboxState, numbered};
 
     ghost Value = { OutboxState };
 
@@ -87,7 +87,7 @@ impl Model for Outbox {
     } };
 
     ghost invariant = { λ o. (length o.bodies ≤ o.next)
-        × (o.next ≤ last_call_number + 1)
+        × (o.next ≤ max_number + 1)
         × (length o.bodies ≤ max_calls)
         × (o.is_in_flight ≡ true → IsSome o.link × (0 < length o.bodies)) };
 }
@@ -126,7 +126,7 @@ impl Outbox {
     pub fn is_exhausted(&self) -> bool
         ensures { result ≡ is_exhausted self.now }
     {
-        LAST_CALL_NUMBER < self.next
+        MAX_NUMBER < self.next
     }
 
     /// The point's present link.
@@ -166,7 +166,7 @@ impl Outbox {
     /// Adds a call, which gets the next number. Allocates nothing.
     pub fn add(&mut self, call: PreparedCall)
         requires room { length self.old.calls < max_calls }
-        requires number { self.old.next ≤ last_call_number }
+        requires number { self.old.next ≤ max_number }
         ensures { self.new ≡ added self.old call }
     {
         join(&mut self.bodies, call.bodies);

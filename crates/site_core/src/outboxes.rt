@@ -2,7 +2,8 @@
 
 ghost use Rattle.std.specs.Prelude.{◌≡◌, ◌<◌, ◌≤◌, IfOk, OnErr, OnOk, length, map, slice_set};
 ghost use Rattle.site_core.specs.State.{opening_outbox_of, outbox_in};
-ghost use Rattle.site_core.specs.Outbox.{added, attached, confirmed, is_number_in_flight, last_call_number, lost, max_calls, sendable, sent};
+ghost use Rattle.site_core.specs.Limits.{max_calls, max_number};
+ghost use Rattle.site_core.specs.Outbox.{added, attached, confirmed, is_number_in_flight, lost, sendable, sent};
 
 use crate::outbox::{Outbox, PreparedCall};
 use messages::Call;
@@ -50,7 +51,7 @@ pub(crate) fn lose_at(outboxes: &mut Vec<Outbox>, place: usize)
 pub(crate) fn add_at(outboxes: &mut Vec<Outbox>, place: usize, call: PreparedCall)
     requires within { place < length outboxes.old.items }
     requires room { length (outbox_in outboxes.old.items place).calls < max_calls }
-    requires number { (outbox_in outboxes.old.items place).next ≤ last_call_number }
+    requires number { (outbox_in outboxes.old.items place).next ≤ max_number }
     ensures { outboxes.new.items
         ≡ slice_set outboxes.old.items place (added (outbox_in outboxes.old.items place) call) }
 {

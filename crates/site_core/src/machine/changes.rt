@@ -3,10 +3,11 @@
 ghost use Rattle.std.specs.Prelude.{◌≡◌, ◌<◌, ◌≤◌, None, Some, IfNone, IfOk, IfErr, MatchResult, length};
 ghost use Rattle.site_rules.specs.Site.{place_of};
 ghost use Rattle.transactions.specs.declared.active_table.Began.{Began};
+ghost use Rattle.site_core.specs.declared.step.Step.{Step};
 ghost use Rattle.site_core.specs.State.{book_at, outbox_at};
-ghost use Rattle.site_core.specs.Step.{at_point, version_refusal, refusal_to_call, refusal_to_install, installs, clears, refusal_to_start, starts_as, starts, stops};
+ghost use Rattle.site_core.specs.Step.{at_point, version_refusal, refusal_to_call, refusal_to_install, installs, clears, refusal_to_start, starts_as, starts, stops, Steps, IsRefused};
 ghost use Rattle.site_core.specs.ByCases.Made.{IsMade, IsNotMade};
-ghost use Rattle.site_core.specs.Outbox.{max_calls, last_call_number};
+ghost use Rattle.site_core.specs.Limits.{max_number, max_calls};
 ghost use Rattle.messages.specs.declared.call.CallBody.{CallBody};
 ghost use Rattle.point_book.specs.Changes.{install_refusal};
 
@@ -15,8 +16,10 @@ use crate::machine::Machine;
 use crate::numbers::{MAX_NUMBER, MAX_TRANSACTION};
 use crate::outbox::PreparedCall;
 use crate::outboxes::{add_at, outbox_at};
+use crate::outcome::Refused;
 use crate::point_id::PointId;
 use crate::reply::Reply;
+use crate::step::Step;
 use messages::CallBody;
 use ocpp_scalars::Refusal;
 use profile::{Criteria, Row};
@@ -25,8 +28,48 @@ use std::alloc::AllocError;
 use transactions::{Began, Begin};
 
 impl Machine {
+    /// Installs a row at a point. On a refusal the step comes back.
+    pub(super) fn install_step(&mut self, point: PointId, row: Row) -> Result<Reply, Refused>
+        ensures { MatchResult result
+            (λ reply. Steps self.old (Step.Install point row) reply self.new)
+            (λ refused. IsRefused self.old (Step.Install point row) refused self.new) }
+    {
+        match self.install(&point, row) {
+            Ok(reply) => Ok(reply),
+            Err((refusal, row)) => Err(Refused {
+                refusal,
+                step: Step::Install { point, row },
+            }),
+        }
+    }
+
+    /// Begins a transaction at a connector of a point, or answers a start that is told again. On a
+    /// refusal the step comes back.
+    pub(super) fn start_step(
+        &mut self,
+        point: PointId,
+        connector: u32,
+        begin: Begin,
+    ) -> Result<Reply, Refused>
+        ensures { MatchResult result
+            (λ reply. Steps self.old (Step.Start point connector begin) reply self.new)
+            (λ refused. IsRefused self.old (Step.Start point connector begin) refused self.new) }
+    {
+        match self.start(&point, connector, begin) {
+            Ok(reply) => Ok(reply),
+            Err((refusal, begin)) => Err(Refused {
+                refusal,
+                step: Step::Start {
+                    point,
+                    connector,
+                    begin,
+                },
+            }),
+        }
+    }
+
     /// Installs a row at a point. On a refusal the row comes back.
-    pub(super) fn install(&mut self, point: &PointId, row: Row) -> Result<Reply, (Refusal, Row)>
+    fn install(&mut self, point: &PointId, row: Row) -> Result<Reply, (Refusal, Row)>
         ensures made { IfOk result (λ reply.
             IsMade (at_point self.old point.now (installs self.old point.now row)) reply self.new) }
         ensures refused { IfErr result (λ refused. IsNotMade self.old
@@ -52,7 +95,7 @@ impl Machine {
 
     /// Begins a transaction at a connector of a point, or answers a start that is told again. On a refusal
     /// what began comes back.
-    pub(super) fn start(
+    fn start(
         &mut self,
         point: &PointId,
         connector: u32,
@@ -88,7 +131,7 @@ impl Machine {
         ensures refusal { result ≡ refusal_to_install self.now point.now row.now place }
         ensures allowed { IfNone result (install_refusal (book_at self.now place) row.now ≡ None) }
         ensures room { IfNone result (length (outbox_at self.now place).calls < max_calls) }
-        ensures number { IfNone result ((outbox_at self.now place).next ≤ last_call_number) }
+        ensures number { IfNone result ((outbox_at self.now place).next ≤ max_number) }
         ensures connector { IfNone result
             (row.now.connector ≤ length (book_at self.now place).ceilings) }
     {
@@ -106,7 +149,7 @@ impl Machine {
         requires { place < length self.now.outboxes }
         ensures refusal { result ≡ refusal_to_call self.now place }
         ensures room { IfNone result (length (outbox_at self.now place).calls < max_calls) }
-        ensures number { IfNone result ((outbox_at self.now place).next ≤ last_call_number) }
+        ensures number { IfNone result ((outbox_at self.now place).next ≤ max_number) }
     {
         let outbox = outbox_at(&self.outboxes, place);
         if outbox.is_full() {

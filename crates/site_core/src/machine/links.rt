@@ -1,7 +1,7 @@
 //! The steps of links to points, and of the calls that are sent over them.
 
-ghost use Rattle.std.specs.Prelude.{◌≡◌, ◌<◌, IfOk, IfErr, length};
-ghost use Rattle.site_core.specs.Step.{at_point, attaches, at_link, sends, confirms, loses};
+ghost use Rattle.std.specs.Prelude.{◌≡◌, ◌<◌, Some, IfOk, IfErr, length};
+ghost use Rattle.site_core.specs.Step.{at_point, attaches, at_link, sends, confirms, loses, cause_of};
 ghost use Rattle.site_core.specs.ByCases.Made.{IsMade, IsNotMade, linked_place_in};
 
 use crate::machine::Machine;
@@ -16,8 +16,9 @@ impl Machine {
     pub(super) fn attach(&mut self, point: &PointId) -> Result<Reply, Refusal>
         ensures made { IfOk result (λ reply.
             IsMade (at_point self.old point.now (attaches self.old)) reply self.new) }
-        ensures refused { IfErr result (λ refusal. IsNotMade self.old
-            (at_point self.old point.now (attaches self.old)) refusal self.new) }
+        ensures refused { IfErr result (λ refusal.
+            (cause_of (at_point self.old point.now (attaches self.old)) ≡ Some refusal)
+            × (self.new ≡ self.old)) }
     {
         let place = self.place_at(point)?;
         if self.numbers.link == MAX_NUMBER {
@@ -52,8 +53,9 @@ impl Machine {
     ) -> Result<Reply, Refusal>
         ensures made { IfOk result (λ reply.
             IsMade (at_link self.old point.now link (confirms self.old number)) reply self.new) }
-        ensures refused { IfErr result (λ refusal. IsNotMade self.old
-            (at_link self.old point.now link (confirms self.old number)) refusal self.new) }
+        ensures refused { IfErr result (λ refusal.
+            (cause_of (at_link self.old point.now link (confirms self.old number)) ≡ Some refusal)
+            × (self.new ≡ self.old)) }
     {
         let place = self.linked_place(point, link)?;
         if confirm_at(&mut self.outboxes, place, number) {
@@ -67,8 +69,9 @@ impl Machine {
     pub(super) fn lose(&mut self, point: &PointId, link: u64) -> Result<Reply, Refusal>
         ensures made { IfOk result (λ reply.
             IsMade (at_link self.old point.now link (loses self.old)) reply self.new) }
-        ensures refused { IfErr result (λ refusal. IsNotMade self.old
-            (at_link self.old point.now link (loses self.old)) refusal self.new) }
+        ensures refused { IfErr result (λ refusal.
+            (cause_of (at_link self.old point.now link (loses self.old)) ≡ Some refusal)
+            × (self.new ≡ self.old)) }
     {
         let place = self.linked_place(point, link)?;
         lose_at(&mut self.outboxes, place);
