@@ -13,8 +13,8 @@ abbrev pub is_other_unit : Option Unit → Unit → Bool
 is_other_unit None unit = false
 is_other_unit (Some asked) unit = not (unit_eq asked unit)
 
--- The ask of a Take at a point with this book, on a site with limits in this unit, or the first cause in this
--- order.
+-- The ask of a Take at a point with this book, on a site with limits in this unit, or the first
+-- cause in this order.
 abbrev pub ask_at : Unit → Book → Take → Result Ask Refusal
 ask_at unit book take =
     if nat_lt (length book.ceilings) take.connector then Err UnknownConnector

@@ -1,5 +1,5 @@
--- What the laws of outboxes and of points that obey say of the machine: the calls and the profiles of a
--- point along a history.
+-- What the laws of outboxes and of points that obey say of the machine: the calls and the profiles
+-- of a point along a history.
 use Rattle.std.specs.Prelude.{ℕ, ◌≤◌, ◌≡◌, ◌==◌, Bool, false, List, [], ◌∷◌, ◌++◌, length, map, filter, slice_get, Option, None, Some}
 use Rattle.std.specs.List.{flat_map, AllByRecursion}
 use Rattle.profile.specs.declared.row.Row.{Row}
@@ -53,7 +53,8 @@ events_at site place history = filter (λ (event : Event). names site place even
 
 -- what a step with its reply brings to the outbox of the point that it names
 abbrev pub traffic_by : Step → Reply → List Traffic
-traffic_by (steps.Install point row) replies.Accepted = Add (bodies.Set row.connector row.profile) ∷ []
+traffic_by (steps.Install point row) replies.Accepted =
+    Add (bodies.Set row.connector row.profile) ∷ []
 traffic_by (steps.Clear point criteria) replies.Accepted = Add (bodies.Clear criteria) ∷ []
 traffic_by (steps.Attach point) (replies.Attached link) = Attach link ∷ []
 traffic_by (steps.Send point link) (replies.Sent call) = Send ∷ []
@@ -75,21 +76,22 @@ calls_by step reply = []
 abbrev pub calls_by_event : Event → List Call
 calls_by_event event = calls_by event.step event.reply
 
--- the calls that are sent to the point at a place, in the order of their sendings, as Send replies them
+-- the calls that are sent to the point at a place, as Send replies them, in the order of sending
 abbrev pub calls_sent : SiteState → ℕ → List Event → List Call
 calls_sent site place history = flat_map calls_by_event (events_at site place history)
 
 abbrev pub numbers_of_calls : List Call → List ℕ
 numbers_of_calls calls = map (λ (call : Call). call.number) calls
 
--- Every call of the point at a place so far: call 0 clears all, and call k is the k-th of its installs and
--- clears that were accepted.
+-- Every call of the point at a place so far: call 0 clears all, and call k is the k-th of its
+-- installs and clears that were accepted.
 abbrev pub calls_made : SiteState → ℕ → List Event → List Call
 calls_made site place history = calls_so_far (traffic_of site place history)
 
 -- the calls to the point at a place that are confirmed, in the order of their confirmations
 abbrev pub calls_confirmed_at : SiteState → ℕ → List Event → List Call
-calls_confirmed_at site place history = calls_confirmed opening_outbox (traffic_of site place history)
+calls_confirmed_at site place history =
+    calls_confirmed opening_outbox (traffic_of site place history)
 
 -- ---- the laws of its calls
 
@@ -120,7 +122,7 @@ abbrev pub CallsAreSentAsMade : Type 0
 CallsAreSentAsMade = OfEachPoint (λ site place history state.
     AllByRecursion (IsOneOf (calls_made site place history)) (calls_sent site place history))
 
--- the calls of an outbox are all calls without the confirmed ones, and those were confirmed in order
+-- the calls of an outbox are all calls without the confirmed ones, which were confirmed in order
 abbrev pub CallsAreLeftUnlessConfirmed : Type 0
 CallsAreLeftUnlessConfirmed = OfEachPoint (λ site place history state.
     calls_confirmed_at site place history ++ (outbox_at state place).calls
@@ -130,7 +132,8 @@ CallsAreLeftUnlessConfirmed = OfEachPoint (λ site place history state.
 
 -- the active transactions, at connectors 1, 2, .., of the point that a step names, after the step
 abbrev pub slots_after : List (Option Transaction) → Step → Reply → List (Option Transaction)
-slots_after slots (steps.Start point connector begin) (replies.Started number) = started slots connector begin number
+slots_after slots (steps.Start point connector begin) (replies.Started number) =
+    started slots connector begin number
 slots_after slots (steps.Stop point number) replies.Ended = stopped slots number
 slots_after slots step reply = slots
 
@@ -138,8 +141,8 @@ abbrev pub end_at : Option ℕ → List Change
 end_at None = []
 end_at (Some connector) = Ends connector ∷ []
 
--- what a step with its reply changes of the profiles of the point that it names. A new transaction ends the
--- one before it at its connector (OCPP 1.6, 3.13).
+-- what a step with its reply changes of the profiles of the point that it names. A new transaction
+-- ends the one before it at its connector (OCPP 1.6, 3.13).
 abbrev pub changes_by : List (Option Transaction) → Step → Reply → List Change
 changes_by slots (steps.Install point row) replies.Accepted = Installs row ∷ []
 changes_by slots (steps.Clear point criteria) replies.Accepted = Clears criteria ∷ []
@@ -150,7 +153,8 @@ changes_by slots step reply = []
 abbrev pub changes_from : List (Option Transaction) → List Event → List Change
 changes_from slots [] = []
 changes_from slots (event ∷ later) =
-    changes_by slots event.step event.reply ++ changes_from (slots_after slots event.step event.reply) later
+    changes_by slots event.step event.reply
+    ++ changes_from (slots_after slots event.step event.reply) later
 
 -- no transaction is active at the opening
 abbrev pub opening_slots : SiteState → ℕ → List (Option Transaction)
@@ -158,14 +162,16 @@ opening_slots site place = (book_at (opening site) place).transactions
 
 -- all that changes the profiles of the point at a place
 abbrev pub changes_of : SiteState → ℕ → List Event → List Change
-changes_of site place history = changes_from (opening_slots site place) (events_at site place history)
+changes_of site place history =
+    changes_from (opening_slots site place) (events_at site place history)
 
 -- the rows after all these changes
 abbrev pub rows_after_all : List Change → List Row → List Row
 rows_after_all [] rows = rows
 rows_after_all (Installs row ∷ later) rows = rows_after_all later (installed rows row)
 rows_after_all (Clears criteria ∷ later) rows = rows_after_all later (cleared rows criteria)
-rows_after_all (Ends connector ∷ later) rows = rows_after_all later (without_transaction_profiles rows connector)
+rows_after_all (Ends connector ∷ later) rows =
+    rows_after_all later (without_transaction_profiles rows connector)
 
 -- the installs and clears of the point at a place that were accepted, as calls
 abbrev pub accepted : SiteState → ℕ → List Event → List CallBody
@@ -182,9 +188,10 @@ abbrev pub RowsFollowHistories : Type 0
 RowsFollowHistories = OfEachPoint (λ site place history state.
     (book_at state place).rows ≡ rows_after_all (changes_of site place history) [])
 
--- the part of a history up to a moment when this many installs and clears of the point at a place had been
--- accepted, the state then, and what came later
-pub record Moment (old : MachineState) (history : List Event) (new : MachineState) (place number : ℕ) : Type 0 where
+-- the part of a history up to a moment when this many installs and clears of the point at a place
+-- had been accepted, the state then, and what came later
+pub record Moment (old : MachineState) (history : List Event) (new : MachineState)
+    (place number : ℕ) : Type 0 where
   pub earlier : List Event
   pub later : List Event
   pub state : MachineState
@@ -202,29 +209,30 @@ EachCallHasItsMoment =
     → (number : ℕ) → number ≤ length (accepted site place history)
     → Moment (opening_at site numbers) history state place number
 
--- A point has any rows, and then obeys calls in the order of sending. Its lasting rows are then those that the
--- machine had for it at a moment of the last of these calls, whatever came later. The moments of call k are
--- those from when the k-th install or clear was accepted, up to the next one; those of call 0 come before the
--- first.
+-- A point has any rows, and then obeys calls in the order of sending. Its lasting rows are then
+-- those that the machine had for it at a moment of the last of these calls, whatever came later.
+-- The moments of call k are those from when the k-th install or clear was accepted, up to the next
+-- one; those of call 0 come before the first.
 abbrev pub PointsStayInStep : Type 0
 PointsStayInStep =
     (site : SiteState) (numbers : Numbers) (history : List Event) (state : MachineState)
     (point : List ℕ) (place : ℕ) → place_of site point ≡ Some place
     → (first : Obeying) (others : List Obeying) (rows : List Row)
     → AreInSendingOrder (numbers_of (first ∷ others))
-    → (moment : Moment (opening_at site numbers) history state place (last_number first.number others))
+    → (moment : Moment (opening_at site numbers) history state place
+    (last_number first.number others))
     → lasting (obeyed (bodies_of site place history) (first ∷ others) rows)
     ≡ lasting (book_at moment.state place).rows
 
--- the numbers of the calls that the point at a place obeys, where for each sending in turn it is said whether
--- the point does; what is lost it doesn't
+-- the numbers of the calls that the point at a place obeys, where for each sending in turn it is
+-- said whether the point does; what is lost it doesn't
 abbrev pub numbers_obeyed_at : SiteState → ℕ → List Event → List Bool → List ℕ
 numbers_obeyed_at site place history are_obeyed =
     obeyed_numbers are_obeyed (numbers_of_calls (calls_sent site place history))
 
--- The same of a point that obeys what is sent to it, in the order of the sendings, though any of them may be
--- lost: it obeys each call at least once that it confirms. Its lasting rows are then those that the machine had
--- for it at a moment of the last call that it obeyed.
+-- The same of a point that obeys what is sent to it, in the order of the sendings, though any of
+-- them may be lost: it obeys each call at least once that it confirms. Its lasting rows are then
+-- those that the machine had for it at a moment of the last call that it obeyed.
 abbrev pub ObeyingPointsStayInStep : Type 0
 ObeyingPointsStayInStep =
     (site : SiteState) (numbers : Numbers) (history : List Event) (state : MachineState)
@@ -235,6 +243,7 @@ ObeyingPointsStayInStep =
     (calls_confirmed_at site place history)
     → (first : Obeying) (others : List Obeying) (rows : List Row)
     → numbers_of (first ∷ others) ≡ numbers_obeyed_at site place history are_obeyed
-    → (moment : Moment (opening_at site numbers) history state place (last_number first.number others))
+    → (moment : Moment (opening_at site numbers) history state place
+    (last_number first.number others))
     → lasting (obeyed (bodies_of site place history) (first ∷ others) rows)
     ≡ lasting (book_at moment.state place).rows

@@ -1,5 +1,5 @@
--- The headline: after any steps, in any order, every schedule that is handed out is right for what its point
--- had when the schedule was asked, whatever was changed since (OCPP 1.6, 5.7).
+-- The headline: after any steps, in any order, every schedule that is handed out is right for what
+-- its point had when the schedule was asked, whatever was changed since (OCPP 1.6, 5.7).
 use Rattle.std.specs.Prelude.{ℕ, ◌≡◌, List, ◌∷◌, ◌++◌, take, slice_get, Some, Ok, Err}
 use Rattle.std.specs.List.{Contains}
 use Rattle.ocpp_scalars.specs.declared.refusal.Refusal.TheVariants.{Stopped}
@@ -17,10 +17,10 @@ use Rattle.site_core.specs.Ask.{ask_at}
 use Rattle.site_core.specs.Right.{IsRight}
 use Rattle.site_core.specs.History.{Event, Legal, history_of, taken_event, finish_event, takes_of}
 
--- An answer that is handed out to the request of a number, with a book and an ask, after these events from an
--- opening state, is right:
-pub record IsRightAfter (opening : MachineState) (events : List Event) (number : ℕ) (book : Book) (ask : Ask)
-    (answer : ScheduleAnswer) : Type 0 where
+-- An answer that is handed out to the request of a number, with a book and an ask, after these
+-- events from an opening state, is right:
+pub record IsRightAfter (opening : MachineState) (events : List Event) (number : ℕ) (book : Book)
+    (ask : Ask) (answer : ScheduleAnswer) : Type 0 where
   -- There were events before the request was taken,
   pub before : List Event
   -- there was its Take,
@@ -49,7 +49,8 @@ pub record IsRightAfter (opening : MachineState) (events : List Event) (number :
   -- It is the refusal Stopped only where the central system was stopped since.
   pub stopped : answer ≡ Err Stopped → Contains since finish_event
 
--- Each answer that a run hands out, wherever in the run, is right after the steps that were made before it.
+-- Each answer that a run hands out, wherever in the run, is right after the steps that were made
+-- before it.
 abbrev pub AnswersAreRight : MachineState → List Step → List Outcome → Type 0
 AnswersAreRight opening steps outcomes =
     (n number : ℕ) (book : Book) (ask : Ask) (answer : ScheduleAnswer)

@@ -18,15 +18,16 @@ pub record Event : Type 0 where
   pub step : Step
   pub reply : Reply
 
--- A history is legal where each event is a step from the state that the one before led to, the first from the
--- old state, and the last leads to the new one.
+-- A history is legal where each event is a step from the state that the one before led to, the
+-- first from the old state, and the last leads to the new one.
 abbrev pub Legal : MachineState → List Event → MachineState → Type 0
 Legal old [] new = new ≡ old
 Legal old (event ∷ later) new =
     (middle : MachineState) × Steps old event.step event.reply middle × Legal middle later new
 
--- The history of a run: its steps that were made, with their replies. A refused step is no event. A step
--- that is answered without a change (Unknown, Repeated, NoSuch, NotYet, a second Finish) is one.
+-- The history of a run: its steps that were made, with their replies. A refused step is no event. A
+-- step that is answered without a change (Unknown, Repeated, NoSuch, NotYet, a second Finish) is
+-- one.
 abbrev pub history_of : List Step → List Outcome → List Event
 history_of (step ∷ steps) (Done reply ∷ outcomes) =
     record { step = step; reply = reply } ∷ history_of steps outcomes

@@ -1,4 +1,5 @@
--- The limits of numbers, of kept requests and of calls. All are this system's choice but the highest transaction.
+-- The limits of numbers, of kept requests and of calls. All are this system's choice but the
+-- highest transaction.
 use Rattle.std.specs.Prelude.{ℕ}
 
 -- the highest version, request, link and call number

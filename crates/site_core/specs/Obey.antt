@@ -1,5 +1,5 @@
--- That a point which does as it is told stays in step: whatever is lost or sent again, the profiles that
--- outlast its transactions are those that the central system has for it.
+-- That a point which does as it is told stays in step: whatever is lost or sent again, the profiles
+-- that outlast its transactions are those that the central system has for it.
 use Rattle.std.specs.Prelude.{ℕ, ◌≡◌, not, List, [], ◌∷◌, filter, map, Option, None, Some, zero, suc, slice_get}
 use Rattle.std.specs.List.{filter_map}
 use Rattle.profile.specs.declared.row.Row.{Row}
@@ -22,13 +22,15 @@ pub data Change : Type 0 where
   -- the transaction at a connector ends (OCPP 1.6, 3.13)
   Ends : (connector : ℕ) → Change
 
--- what the central system has for a point once it has made as many installs and clears as this, having had
--- these rows before
+-- what the central system has for a point once it has made as many installs and clears as this,
+-- having had these rows before
 abbrev pub rows_after_call : ℕ → List Change → List Row → List Row
 rows_after_call zero changes rows = rows
 rows_after_call (suc before) [] rows = rows
-rows_after_call (suc before) (Installs row ∷ later) rows = rows_after_call before later (installed rows row)
-rows_after_call (suc before) (Clears criteria ∷ later) rows = rows_after_call before later (cleared rows criteria)
+rows_after_call (suc before) (Installs row ∷ later) rows =
+    rows_after_call before later (installed rows row)
+rows_after_call (suc before) (Clears criteria ∷ later) rows =
+    rows_after_call before later (cleared rows criteria)
 rows_after_call (suc before) (Ends connector ∷ later) rows =
     rows_after_call (suc before) later (without_transaction_profiles rows connector)
 
@@ -75,15 +77,15 @@ last_number number (obeying ∷ later) = last_number obeying.number later
 abbrev pub at_moment : ℕ → Row → Row
 at_moment moment row = record row { moment = moment }
 
--- The profiles that outlast transactions. Their moments are left out: the point installs later than the
--- central system.
+-- The profiles that outlast transactions. Their moments are left out: the point installs later than
+-- the central system.
 abbrev pub lasting : List Row → List Row
 lasting rows = map (at_moment 0) (filter (λ row. not (is_tx row.profile.purpose)) rows)
 
 -- ---- the law
 
--- A point has any rows, and then obeys calls in the order of sending. Its lasting rows are then those that
--- the central system had, which began with none, after the last of these calls.
+-- A point has any rows, and then obeys calls in the order of sending. Its lasting rows are then
+-- those that the central system had, which began with none, after the last of these calls.
 abbrev pub StaysInStep : Type 0
 StaysInStep =
     (changes : List Change) (first : Obeying) (later : List Obeying) (rows : List Row)

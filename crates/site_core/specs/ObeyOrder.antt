@@ -5,8 +5,8 @@ use Rattle.messages.specs.declared.call.Call.{Call}
 use Rattle.site_core.specs.Outbox.{opening_outbox}
 use Rattle.site_core.specs.OutboxOrder.{Traffic, AreInSendingOrder, numbers_sent, calls_confirmed}
 
--- the numbers of the sendings that are obeyed, where for each sending in turn it is said whether it is; one
--- that is lost isn't
+-- the numbers of the sendings that are obeyed, where for each sending in turn it is said whether it
+-- is; one that is lost isn't
 abbrev pub obeyed_numbers : List Bool → List ℕ → List ℕ
 obeyed_numbers [] sent = []
 obeyed_numbers (is_obeyed ∷ later) [] = []
@@ -21,10 +21,11 @@ IsObeyed obeyed call = Contains obeyed call.number
 abbrev pub numbers_obeyed : List Traffic → List Bool → List ℕ
 numbers_obeyed traffic are_obeyed = obeyed_numbers are_obeyed (numbers_sent opening_outbox traffic)
 
--- A point that obeys calls in the order of their sendings, and each that is confirmed at least once, obeys
--- them in sending order: it leaves none out, and goes back to none.
+-- A point that obeys calls in the order of their sendings, and each that is confirmed at least
+-- once, obeys them in sending order: it leaves none out, and goes back to none.
 abbrev pub AreObeyedInOrder : Type 0
 AreObeyedInOrder =
     (traffic : List Traffic) (are_obeyed : List Bool)
-    → AllByRecursion (IsObeyed (numbers_obeyed traffic are_obeyed)) (calls_confirmed opening_outbox traffic)
+    → AllByRecursion (IsObeyed (numbers_obeyed traffic are_obeyed))
+    (calls_confirmed opening_outbox traffic)
     → AreInSendingOrder (numbers_obeyed traffic are_obeyed)

@@ -1,6 +1,6 @@
--- What the central system keeps of its calls to a charge point, and what changes it. A call is sent again
--- until it is confirmed, and the next one only then. `record old { .. }` is the outbox with these fields
--- changed and all else as it was.
+-- What the central system keeps of its calls to a charge point, and what changes it. A call is sent
+-- again until it is confirmed, and the next one only then. `record old { .. }` is the outbox with
+-- these fields changed and all else as it was.
 use Rattle.std.specs.Prelude.{ℕ, ◌+◌, ◌-◌, ◌<◌, ◌≤◌, ◌≡◌, nat_le, nat_lt, ◌==◌, Bool, true, false, ◌&&◌, List, [], ◌∷◌, ◌++◌, length, drop, map, Option, None, Some, IsSome, is_some, if◌then◌else◌}
 use Rattle.std.specs.List.{range_with_len}
 use Rattle.profile.specs.declared.criteria.Criteria.{Criteria}
@@ -31,11 +31,17 @@ clear_all = Clear every_profile
 -- bodies as calls, numbered from here on
 abbrev pub numbered : ℕ → List CallBody → List Call
 numbered number [] = []
-numbered number (body ∷ later) = record { number = number; body = body } ∷ numbered (number + 1) later
+numbered number (body ∷ later) =
+    record { number = number; body = body } ∷ numbered (number + 1) later
 
 -- Call 0 clears what the point has from before: the central system starts with no profile of it.
 abbrev pub opening_outbox : OutboxState
-opening_outbox = record { link = None; calls = numbered 0 (clear_all ∷ []); next = 1; is_in_flight = false }
+opening_outbox = record {
+  link = None;
+  calls = numbered 0 (clear_all ∷ []);
+  next = 1;
+  is_in_flight = false;
+}
 
 -- ---- links
 
@@ -101,7 +107,9 @@ is_number_in_flight outbox number = outbox.is_in_flight && is_number_of_first ou
 -- The call in flight goes, whatever the point answered to it. Another number confirms nothing.
 abbrev pub confirmed : OutboxState → ℕ → OutboxState
 confirmed old number =
-    if is_number_in_flight old number then record old { calls = drop 1 old.calls; is_in_flight = false } else old
+    if is_number_in_flight old number
+    then record old { calls = drop 1 old.calls; is_in_flight = false }
+    else old
 
 -- ---- what is always so
 

@@ -11,8 +11,8 @@ abbrev pub GoesOn : ℕ → List ℕ → Type 0
 GoesOn before [] = Unit {0}
 GoesOn before (number ∷ later) = ((number ≡ before) ⊎ (number ≡ before + 1)) × GoesOn number later
 
--- The order of sending: call 0 is the first, and a call may be sent again before the next one. So no call
--- is left out, and no older one comes after a newer one.
+-- The order of sending: call 0 is the first, and a call may be sent again before the next one. So
+-- no call is left out, and no older one comes after a newer one.
 abbrev pub AreInSendingOrder : List ℕ → Type 0
 AreInSendingOrder [] = Unit {0}
 AreInSendingOrder (number ∷ later) = (number ≡ 0) × GoesOn number later
@@ -59,7 +59,8 @@ confirmed_at old other = []
 -- the calls that are confirmed, in the order of their confirmations
 abbrev pub calls_confirmed : OutboxState → List Traffic → List Call
 calls_confirmed old [] = []
-calls_confirmed old (event ∷ later) = confirmed_at old event ++ calls_confirmed (after old event) later
+calls_confirmed old (event ∷ later) =
+    confirmed_at old event ++ calls_confirmed (after old event) later
 
 abbrev pub added_at : Traffic → List CallBody
 added_at (Add body) = body ∷ []
@@ -79,8 +80,9 @@ calls_so_far traffic = numbered 0 (clear_all ∷ bodies_added traffic)
 abbrev pub AreSentInOrder : Type 0
 AreSentInOrder = (traffic : List Traffic) → AreInSendingOrder (numbers_sent opening_outbox traffic)
 
--- the calls of an outbox are all calls without the confirmed ones, and those were confirmed in order
+-- the calls of an outbox are all calls without the confirmed ones, which were confirmed in order
 abbrev pub AreLeftUnlessConfirmed : Type 0
 AreLeftUnlessConfirmed =
     (traffic : List Traffic)
-    → calls_confirmed opening_outbox traffic ++ (after_all opening_outbox traffic).calls ≡ calls_so_far traffic
+    → calls_confirmed opening_outbox traffic ++ (after_all opening_outbox traffic).calls
+    ≡ calls_so_far traffic

@@ -6,7 +6,8 @@ use Rattle.site_core.specs.State.{Kept, ScheduleAnswer}
 -- the request of a number: the first, if there were several
 abbrev pub request_of : ℕ → List Kept → Option Kept
 request_of number [] = None
-request_of number (kept ∷ others) = if kept.number == number then Some kept else request_of number others
+request_of number (kept ∷ others) =
+    if kept.number == number then Some kept else request_of number others
 
 abbrev pub with_answer : Kept → ScheduleAnswer → Kept
 with_answer kept answer = record kept { answer = Some answer }
@@ -21,7 +22,8 @@ answered number answer (kept ∷ others) =
 -- the request of a number is no longer kept
 abbrev pub without : ℕ → List Kept → List Kept
 without number [] = []
-without number (kept ∷ others) = if kept.number == number then others else kept ∷ without number others
+without number (kept ∷ others) =
+    if kept.number == number then others else kept ∷ without number others
 
 -- each request without an answer is answered that the central system is stopped
 abbrev pub stopped_request : Kept → Kept

@@ -7,10 +7,11 @@ use Rattle.meaning.specs.Compiled.{IsCompiled}
 use Rattle.point_book.specs.Book.{Book, state_of}
 use Rattle.site_core.specs.State.{ScheduleAnswer}
 
--- What a compiler may answer: the exact schedule of the limits that the book means for the ask, or that it
--- is too long, where it is, or that memory ran out.
+-- What a compiler may answer: the exact schedule of the limits that the book means for the ask, or
+-- that it is too long, where it is, or that memory ran out.
 abbrev pub IsCompiledFor : Book → Ask → ScheduleAnswer → Type 0
-IsCompiledFor book ask answer = IsCompiled (limit_asked (state_of book) ask.connector ask.start) ask.duration answer
+IsCompiledFor book ask answer =
+    IsCompiled (limit_asked (state_of book) ask.connector ask.start) ask.duration answer
 
 -- A right answer is one of these, or that the central system was stopped before it was compiled.
 abbrev pub IsRight : Book → Ask → ScheduleAnswer → Type 0

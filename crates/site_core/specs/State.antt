@@ -64,8 +64,8 @@ no_numbers = record { version = 0; request = 0; transaction = 0; link = 0 }
 abbrev pub opening : SiteState → MachineState
 opening site = opening_at site no_numbers
 
--- What the point at a place of the site file has. A site's places have their books, so none is read as the
--- empty one.
+-- What the point at a place of the site file has. A site's places have their books, so none is read
+-- as the empty one.
 abbrev pub book_in : List Book → ℕ → Book
 book_in books place = slice_index_or books place (empty_book 0 [])
 
@@ -87,8 +87,9 @@ link_at state (Some place) = (outbox_at state place).link
 abbrev pub link_of : MachineState → List ℕ → Option ℕ
 link_of state point = link_at state (place_of state.site point)
 
--- the link over which a call is to be sent now to the point at a place, and to the point of an identity, where
--- there is such a call: a stranger has none, and nothing is sent once the central system is stopped
+-- the link over which a call is to be sent now to the point at a place, and to the point of an
+-- identity, where there is such a call: a stranger has none, and nothing is sent once the central
+-- system is stopped
 abbrev pub link_to_send_at : MachineState → Option ℕ → Option ℕ
 link_to_send_at state None = None
 link_to_send_at state (Some place) = sending_link (outbox_at state place)

@@ -1,5 +1,5 @@
--- One step of the central system: what it replies and what it changes, or the first cause why it is refused.
--- All that a step doesn't name stays as it was, and a refused step changes nothing.
+-- One step of the central system: what it replies and what it changes, or the first cause why it is
+-- refused. All that a step doesn't name stays as it was, and a refused step changes nothing.
 use Rattle.std.specs.Prelude.{ℕ, ℤ, pos, ◌≡◌, ◌+◌, nat_lt, nat_le, ◌==◌, ◌||◌, Bool, false, true, List, [], ◌∷◌, ◌++◌, length, Option, Some, None, is_some, Result, Ok, Err, IfOk, slice_set, if◌then◌else◌}
 use Rattle.std.specs.List.{list_any}
 use Rattle.ocpp_scalars.specs.declared.refusal.Refusal.{Refusal}
@@ -70,7 +70,7 @@ changed old place book = record old {
   numbers = record old.numbers { version = old.numbers.version + 1 };
 }
 
--- An install and a clear are calls to the point too: each is added to those that wait, if there is room.
+-- An install and a clear are calls to the point too: each joins those that wait, if there is room.
 abbrev pub with_outbox : MachineState → ℕ → OutboxState → MachineState
 with_outbox old place outbox = record old { outboxes = slice_set old.outboxes place outbox }
 
@@ -93,7 +93,9 @@ refusal_to_install old point row place =
 abbrev pub installs : MachineState → List ℕ → Row → ℕ → Result Made Refusal
 installs old point row place = unless (refusal_to_install old point row place) (record {
   reply = Accepted;
-  after = changed_by_call old place (book_installed (book_at old place) row) (bodies.Set row.connector row.profile);
+  after = changed_by_call old place
+      (book_installed (book_at old place) row)
+      (bodies.Set row.connector row.profile);
 })
 
 -- Clear (OCPP 1.6, 5.5): where no profile matches, that is the answer, and nothing changes
@@ -102,12 +104,14 @@ clears old criteria place =
     if list_any (matches criteria) (book_at old place).rows
     then unless (refusal_to_call old place) (record {
       reply = Accepted;
-      after = changed_by_call old place (book_cleared (book_at old place) criteria) (bodies.Clear criteria);
+      after = changed_by_call old place
+          (book_cleared (book_at old place) criteria)
+          (bodies.Clear criteria);
     })
     else Ok (unchanged old Unknown)
 
--- Start (OCPP 1.6, 4.8): transactions are numbered over the whole site. A start that is told again changes
--- nothing. A transaction is at a connector of the point, and connector 0 is none.
+-- Start (OCPP 1.6, 4.8): transactions are numbered over the whole site. A start that is told again
+-- changes nothing. A transaction is at a connector of the point, and connector 0 is none.
 abbrev pub next_transaction : MachineState → ℤ
 next_transaction old = pos (old.numbers.transaction + 1)
 
@@ -117,7 +121,9 @@ refusal_to_start old =
     (if old.numbers.transaction == max_transaction then Some TransactionsExhausted else None)
 
 abbrev pub with_transaction : MachineState → MachineState
-with_transaction old = record old { numbers = record old.numbers { transaction = old.numbers.transaction + 1 } }
+with_transaction old = record old {
+  numbers = record old.numbers { transaction = old.numbers.transaction + 1 };
+}
 
 abbrev pub starts_as : Began → MachineState → ℕ → Begin → ℕ → Result Made Refusal
 starts_as (Repeat number) old connector begin place = Ok (unchanged old (Repeated number))
@@ -127,10 +133,15 @@ starts_as Fresh old connector begin place = unless (refusal_to_start old) (recor
       (changed old place (book_started (book_at old place) connector begin (next_transaction old)));
 })
 
+-- whether the point at a place has told of this start before
+abbrev pub began_at : MachineState → ℕ → ℕ → Begin → Began
+began_at old place connector begin = began (book_at old place).transactions connector begin
+
 abbrev pub starts : MachineState → ℕ → Begin → ℕ → Result Made Refusal
 starts old connector begin place =
-    if (connector == 0) || nat_lt (length (book_at old place).ceilings) connector then Err UnknownConnector
-    else starts_as (began (book_at old place).transactions connector begin) old connector begin place
+    if (connector == 0) || nat_lt (length (book_at old place).ceilings) connector
+    then Err UnknownConnector
+    else starts_as (began_at old place connector begin) old connector begin place
 
 -- Stop (OCPP 1.6, 4.10): only a transaction that is active at the point ends
 abbrev pub stops : MachineState → ℤ → ℕ → Result Made Refusal
@@ -142,7 +153,7 @@ stops old number place =
 
 -- ---- requests for composite schedules (OCPP 1.6, 5.7)
 
--- Take: the request is kept with what the point has now. `seen` is the version that the asker has seen.
+-- Take: the request is kept with what the point has now. `seen` is the version that its asker saw.
 abbrev pub refusal_to_take : MachineState → Take → Option Refusal
 refusal_to_take old take =
     if nat_le max_requests (length old.requests) then Some TooManyOpen
@@ -185,7 +196,8 @@ compiles_kept old number answer (Some kept) =
 abbrev pub compiles : MachineState → ℕ → ScheduleAnswer → Result Made Refusal
 compiles old number answer = compiles_kept old number answer (request_of number old.requests)
 
--- Answer: the answer is handed out with the book and the ask that it is for, and the request is no longer kept
+-- Answer: the answer is handed out with the book and the ask that it is for, and the request is no
+-- longer kept
 abbrev pub answers_with : MachineState → Kept → Option ScheduleAnswer → Made
 answers_with old kept None = unchanged old NotYet
 answers_with old kept (Some answer) = record {
@@ -216,20 +228,23 @@ abbrev pub refusal_to_attach : MachineState → Option Refusal
 refusal_to_attach old = if old.numbers.link == max_number then Some VersionsExhausted else None
 
 abbrev pub with_link : MachineState → ℕ → MachineState
-with_link old place = record (with_outbox old place (attached (outbox_at old place) (old.numbers.link + 1))) {
-  numbers = record old.numbers { link = old.numbers.link + 1 };
-}
+with_link old place =
+    record (with_outbox old place (attached (outbox_at old place) (old.numbers.link + 1))) {
+      numbers = record old.numbers { link = old.numbers.link + 1 };
+    }
 
 abbrev pub attaches : MachineState → ℕ → Result Made Refusal
 attaches old place = unless (refusal_to_attach old)
     (record { reply = Attached (old.numbers.link + 1); after = with_link old place })
 
--- what is made over a link, while it is the present one of its point and the central system isn't stopped
+-- what is made over a link, while it is the present one of its point and the central system isn't
+-- stopped
 abbrev pub is_present : ℕ → Option ℕ → Bool
 is_present link None = false
 is_present link (Some present) = link == present
 
-abbrev pub at_linked_place : MachineState → ℕ → Option ℕ → (ℕ → Result Made Refusal) → Result Made Refusal
+abbrev pub at_linked_place : MachineState → ℕ → Option ℕ → (ℕ → Result Made Refusal)
+    → Result Made Refusal
 at_linked_place old link None made_at = Err Superseded
 at_linked_place old link (Some place) made_at =
     if is_present link (outbox_at old place).link then made_at place else Err Superseded
@@ -252,7 +267,10 @@ sends old place = sends_call old place (sendable (outbox_at old place))
 abbrev pub confirms : MachineState → ℕ → ℕ → Result Made Refusal
 confirms old number place =
     if is_number_in_flight (outbox_at old place) number
-    then Ok (record { reply = Confirmed; after = with_outbox old place (confirmed (outbox_at old place) number) })
+    then Ok (record {
+      reply = Confirmed;
+      after = with_outbox old place (confirmed (outbox_at old place) number);
+    })
     else Err NothingInFlight
 
 -- Lost: the point has no link any more, and a call in flight waits again
@@ -266,7 +284,8 @@ loses old place =
 abbrev pub stepped : ScheduleAnswer → MachineState → Step → Result Made Refusal
 stepped answer old (steps.Install point row) = at_point old point (installs old point row)
 stepped answer old (steps.Clear point criteria) = at_point old point (clears old criteria)
-stepped answer old (steps.Start point connector begin) = at_point old point (starts old connector begin)
+stepped answer old (steps.Start point connector begin) =
+    at_point old point (starts old connector begin)
 stepped answer old (steps.Stop point number) = at_point old point (stops old number)
 stepped answer old (steps.Take take) = at_point old take.point (takes old take)
 stepped answer old (steps.Compile number) = compiles old number answer
@@ -282,7 +301,8 @@ abbrev pub no_answer : ScheduleAnswer
 no_answer = Err OutOfMemory
 
 -- Compile, with an answer that a compiler may give for the book and the ask of the request
-pub record Compiles (old : MachineState) (number : ℕ) (reply : Reply) (new : MachineState) : Type 0 where
+pub record Compiles (old : MachineState) (number : ℕ) (reply : Reply) (new : MachineState)
+    : Type 0 where
   pub kept : Kept
   pub is_kept : request_of number old.requests ≡ Some kept
   pub answer : ScheduleAnswer
@@ -304,21 +324,22 @@ cause_of (Err refusal) = Some refusal
 abbrev pub first_refusal : MachineState → Step → Option Refusal
 first_refusal old step = cause_of (stepped no_answer old step)
 
--- Send over this link sends nothing to the point of this identity: where it is made, it replies so and changes
--- nothing.
+-- Send over this link sends nothing to the point of this identity: where it is made, it replies so
+-- and changes nothing.
 abbrev pub SendsNothing : MachineState → List ℕ → ℕ → Type 0
 SendsNothing old point link =
     IfOk (stepped no_answer old (steps.Send point link)) (λ made. made ≡ unchanged old Nothing)
 
--- A step is refused by its first cause, or else since memory ran out. Nothing has changed, and the step
--- comes back.
-pub record IsRefused (old : MachineState) (step : Step) (refused : Refused) (new : MachineState) : Type 0 where
+-- A step is refused by its first cause, or else since memory ran out. Nothing has changed, and the
+-- step comes back.
+pub record IsRefused (old : MachineState) (step : Step) (refused : Refused) (new : MachineState)
+    : Type 0 where
   pub cause : IsCause (first_refusal old step) refused.refusal
   pub unchanged : new ≡ old
   pub back : refused.step ≡ step
 
--- Compiling, answering and finishing, a new link, a link lost and a confirmation are never refused for want of
--- memory.
+-- Compiling, answering and finishing, a new link, a link lost and a confirmation are never refused
+-- for want of memory.
 abbrev pub NeedsNoMemory : Step → Type 0
 NeedsNoMemory (steps.Compile number) = Unit {0}
 NeedsNoMemory (steps.Answer number) = Unit {0}

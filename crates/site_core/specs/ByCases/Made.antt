@@ -1,5 +1,5 @@
--- What a method makes of a step: what the step does, or nothing, for the first cause or for want of memory.
--- Of private clauses.
+-- What a method makes of a step: what the step does, or nothing, for the first cause or for want of
+-- memory. Of private clauses.
 use Rattle.std.specs.Prelude.{◌≡◌, ℕ, List, Option, Some, None, Result, Ok, Err, if◌then◌else◌}
 use Rattle.ocpp_scalars.specs.declared.refusal.Refusal.{Refusal}
 use Rattle.ocpp_scalars.specs.declared.refusal.Refusal.TheVariants.{Stopped, Superseded, UnknownPoint}
@@ -14,7 +14,8 @@ abbrev pub IsMade : Result Made Refusal → Reply → MachineState → Type 0
 IsMade made reply new = made ≡ Ok (record { reply = reply; after = new })
 
 -- not made, for this cause, and the state is as it was
-pub record IsNotMade (old : MachineState) (made : Result Made Refusal) (refusal : Refusal) (new : MachineState) : Type 0 where
+pub record IsNotMade (old : MachineState) (made : Result Made Refusal) (refusal : Refusal)
+    (new : MachineState) : Type 0 where
   pub cause : IsCause (cause_of made) refusal
   pub unchanged : new ≡ old
 
@@ -24,7 +25,8 @@ found_place None = Err UnknownPoint
 found_place (Some place) = Ok place
 
 abbrev pub place_in : MachineState → List ℕ → Result ℕ Refusal
-place_in state point = if state.is_stopped then Err Stopped else found_place (place_of state.site point)
+place_in state point =
+    if state.is_stopped then Err Stopped else found_place (place_of state.site point)
 
 -- the place of a point over a link, or why nothing is made over it
 abbrev pub found_linked : MachineState → ℕ → Option ℕ → Result ℕ Refusal

@@ -25,7 +25,8 @@ pub record IsCompiledIn (number : ℕ) (old new : List Kept) : Type 0 where
 -- the reply where the request of a number is asked for, and the requests that are kept then
 abbrev pub handed_with : Kept → Option ScheduleAnswer → List Kept → Reply × List Kept
 handed_with kept None requests = (NotYet, requests)
-handed_with kept (Some answer) requests = (Answered kept.book kept.ask answer, without kept.number requests)
+handed_with kept (Some answer) requests =
+    (Answered kept.book kept.ask answer, without kept.number requests)
 
 abbrev pub handed_kept : Option Kept → List Kept → Result (Reply × List Kept) Refusal
 handed_kept None requests = Err UnknownRequest
