@@ -1,6 +1,7 @@
 //! The texts of calls to a charge point, byte for byte.
-ghost use Rattle.std.specs.Prelude.{◌≡◌, ◌++◌, OnOk, Some, map, option_map, string_bytes};
+ghost use Rattle.std.specs.Prelude.{◌≡◌, ◌++◌, OnOk, OnErr, Some, map, option_map, string_bytes};
 ghost use Rattle.std.specs.Fmt.{signed_decimal};
+ghost use Rattle.ocpp_scalars.specs.Appending.{BeginsWith};
 ghost use Rattle.messages.specs.CallText.{action_name, call_text, clear_text, own_fields, payload_text, period_text, profile_text, schedule_text, set_text};
 ghost use Rattle.messages.specs.ObjectText.{fields_text, joined, list_text};
 ghost use Rattle.messages.specs.ByCases.FieldValue.{value_text};
@@ -15,8 +16,9 @@ use std::alloc::AllocError;
 /// Appends the text of a call, a CALL whose message id is the call's number in decimal. Its keys
 /// stand in a fixed order, without blanks and without those of absent fields.
 pub fn push_call(out: &mut String, call: &Call) -> Result<(), AllocError>
-    ensures { OnOk result
+    ensures text { OnOk result
         (string_bytes out.new ≡ string_bytes out.old ++ call_text call.now) }
+    ensures kept { OnErr result (BeginsWith (string_bytes out.new) (string_bytes out.old)) }
 {
     let number = call.number;
     let id = format!(in *out.allocator(); "{number}")?;
@@ -36,8 +38,9 @@ fn action_name(body: &CallBody) -> &'static str
 
 /// Appends the payload of a call.
 fn push_payload(out: &mut String, body: &CallBody) -> Result<(), AllocError>
-    ensures { OnOk result
+    ensures text { OnOk result
         (string_bytes out.new ≡ string_bytes out.old ++ payload_text body.now) }
+    ensures kept { OnErr result (BeginsWith (string_bytes out.new) (string_bytes out.old)) }
 {
     match body {
         CallBody::Clear(criteria) => push_clear(out, criteria),
@@ -47,8 +50,9 @@ fn push_payload(out: &mut String, body: &CallBody) -> Result<(), AllocError>
 
 /// Appends ClearChargingProfile.req (chapter 6).
 fn push_clear(out: &mut String, criteria: &Criteria) -> Result<(), AllocError>
-    ensures { OnOk result
+    ensures text { OnOk result
         (string_bytes out.new ≡ string_bytes out.old ++ clear_text criteria.now) }
+    ensures kept { OnErr result (BeginsWith (string_bytes out.new) (string_bytes out.old)) }
 {
     push_object(
         out,
@@ -64,8 +68,9 @@ fn push_clear(out: &mut String, criteria: &Criteria) -> Result<(), AllocError>
 
 /// Appends SetChargingProfile.req (chapter 6).
 fn push_set(out: &mut String, connector: u32, profile: &Profile) -> Result<(), AllocError>
-    ensures { OnOk result
+    ensures text { OnOk result
         (string_bytes out.new ≡ string_bytes out.old ++ set_text connector profile.now) }
+    ensures kept { OnErr result (BeginsWith (string_bytes out.new) (string_bytes out.old)) }
 {
     out.push_str("{")?;
     push_fields(out, &[("connectorId", Some(FieldValue::Whole(connector)))])?;
@@ -77,8 +82,9 @@ fn push_set(out: &mut String, connector: u32, profile: &Profile) -> Result<(), A
 
 /// Appends a profile (chapter 7, ChargingProfile).
 fn push_profile(out: &mut String, profile: &Profile) -> Result<(), AllocError>
-    ensures { OnOk result
+    ensures text { OnOk result
         (string_bytes out.new ≡ string_bytes out.old ++ profile_text profile.now) }
+    ensures kept { OnErr result (BeginsWith (string_bytes out.new) (string_bytes out.old)) }
 {
     out.push_str("{")?;
     push_own_fields(out, profile)?;
@@ -90,8 +96,9 @@ fn push_profile(out: &mut String, profile: &Profile) -> Result<(), AllocError>
 
 /// Appends the fields of a profile up to its schedule.
 fn push_own_fields(out: &mut String, profile: &Profile) -> Result<(), AllocError>
-    ensures { OnOk result (string_bytes out.new
+    ensures text { OnOk result (string_bytes out.new
         ≡ string_bytes out.old ++ fields_text (own_fields profile.now)) }
+    ensures kept { OnErr result (BeginsWith (string_bytes out.new) (string_bytes out.old)) }
 {
     push_fields(
         out,
@@ -123,8 +130,9 @@ fn profile_id(profile: &Profile) -> Option<FieldValue>
 
 /// Appends a schedule (chapter 7, ChargingSchedule).
 fn push_schedule(out: &mut String, schedule: &Schedule) -> Result<(), AllocError>
-    ensures { OnOk result
+    ensures text { OnOk result
         (string_bytes out.new ≡ string_bytes out.old ++ schedule_text schedule.now) }
+    ensures kept { OnErr result (BeginsWith (string_bytes out.new) (string_bytes out.old)) }
 {
     out.push_str("{")?;
     push_fields(
@@ -150,8 +158,9 @@ fn push_schedule(out: &mut String, schedule: &Schedule) -> Result<(), AllocError
 
 /// Appends a list of periods.
 fn push_periods(out: &mut String, periods: &[Period]) -> Result<(), AllocError>
-    ensures { OnOk result (string_bytes out.new
+    ensures text { OnOk result (string_bytes out.new
         ≡ string_bytes out.old ++ list_text (map period_text periods.now)) }
+    ensures kept { OnErr result (BeginsWith (string_bytes out.new) (string_bytes out.old)) }
 {
     out.push_str("[")?;
     push_joined(out, periods)?;
@@ -161,8 +170,9 @@ fn push_periods(out: &mut String, periods: &[Period]) -> Result<(), AllocError>
 
 /// Appends periods, with commas between them.
 fn push_joined(out: &mut String, periods: &[Period]) -> Result<(), AllocError>
-    ensures { OnOk result (string_bytes out.new
+    ensures text { OnOk result (string_bytes out.new
         ≡ string_bytes out.old ++ joined (map period_text periods.now)) }
+    ensures kept { OnErr result (BeginsWith (string_bytes out.new) (string_bytes out.old)) }
 {
     let Some((first, later)) = periods.split_first() else {
         return Ok(());
@@ -177,8 +187,9 @@ fn push_joined(out: &mut String, periods: &[Period]) -> Result<(), AllocError>
 
 /// Appends a period (chapter 7, ChargingSchedulePeriod).
 fn push_period(out: &mut String, period: &Period) -> Result<(), AllocError>
-    ensures { OnOk result
+    ensures text { OnOk result
         (string_bytes out.new ≡ string_bytes out.old ++ period_text period.now) }
+    ensures kept { OnErr result (BeginsWith (string_bytes out.new) (string_bytes out.old)) }
 {
     push_object(
         out,

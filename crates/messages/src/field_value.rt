@@ -1,13 +1,14 @@
 //! The values of a call's fields that are no object and no list.
-ghost use Rattle.std.specs.Prelude.{◌≡◌, ◌++◌, OnOk, option_map, string_bytes};
+ghost use Rattle.std.specs.Prelude.{◌≡◌, ◌++◌, OnOk, OnErr, option_map, string_bytes};
 ghost use Rattle.std.specs.Fmt.{decimal, signed_decimal};
+ghost use Rattle.ocpp_scalars.specs.Appending.{BeginsWith};
 ghost use Rattle.ocpp_scalars.specs.Writing.{tenths_text};
 ghost use Rattle.messages.specs.CallText.{kind_name, purpose_name, recurrency_name, recurrency_of, time_text};
 ghost use Rattle.messages.specs.ObjectText.{string_text};
 ghost use Rattle.messages.specs.ByCases.FieldValue.{value_text};
 
 use crate::response_text::unit_name;
-use ocpp_scalars::{Instant, push_instant, push_tenths};
+use ocpp_scalars::{Instant, push_instant, push_integer, push_tenths};
 use profile::{Kind, Purpose, Recurrency, Unit};
 use std::alloc::AllocError;
 
@@ -68,12 +69,13 @@ pub(crate) fn recurrency(kind: Kind) -> Option<FieldValue>
 
 /// Appends a value.
 pub(crate) fn push_value(out: &mut String, value: FieldValue) -> Result<(), AllocError>
-    ensures { OnOk result
+    ensures text { OnOk result
         (string_bytes out.new ≡ string_bytes out.old ++ value_text value) }
+    ensures kept { OnErr result (BeginsWith (string_bytes out.new) (string_bytes out.old)) }
 {
     match value {
-        FieldValue::Whole(number) => push_whole(out, number),
-        FieldValue::Signed(number) => push_signed(out, number),
+        FieldValue::Whole(number) => push_integer(out, number),
+        FieldValue::Signed(number) => push_integer(out, number),
         FieldValue::Tenths(tenths) => push_tenths(out, tenths),
         FieldValue::Time(instant) => push_time(out, instant),
         FieldValue::PurposeName(purpose) => push_string(out, purpose_name(purpose)),
@@ -83,25 +85,11 @@ pub(crate) fn push_value(out: &mut String, value: FieldValue) -> Result<(), Allo
     }
 }
 
-fn push_whole(out: &mut String, number: u32) -> Result<(), AllocError>
-    ensures { OnOk result (string_bytes out.new ≡ string_bytes out.old ++ decimal number) }
-{
-    write!(out, "{number}")?;
-    Ok(())
-}
-
-fn push_signed(out: &mut String, number: i32) -> Result<(), AllocError>
-    ensures { OnOk result
-        (string_bytes out.new ≡ string_bytes out.old ++ signed_decimal number) }
-{
-    write!(out, "{number}")?;
-    Ok(())
-}
-
 /// Appends an instant as a JSON string.
 fn push_time(out: &mut String, instant: Instant) -> Result<(), AllocError>
-    ensures { OnOk result
+    ensures text { OnOk result
         (string_bytes out.new ≡ string_bytes out.old ++ time_text instant) }
+    ensures kept { OnErr result (BeginsWith (string_bytes out.new) (string_bytes out.old)) }
 {
     out.push_str(r#"""#)?;
     push_instant(out, instant)?;
@@ -111,8 +99,9 @@ fn push_time(out: &mut String, instant: Instant) -> Result<(), AllocError>
 
 /// Appends a text without a character to escape as a JSON string.
 pub(crate) fn push_string(out: &mut String, text: &str) -> Result<(), AllocError>
-    ensures { OnOk result
+    ensures text { OnOk result
         (string_bytes out.new ≡ string_bytes out.old ++ string_text text.now) }
+    ensures kept { OnErr result (BeginsWith (string_bytes out.new) (string_bytes out.old)) }
 {
     out.push_str(r#"""#)?;
     out.push_str(text)?;

@@ -1,11 +1,12 @@
 //! The texts of answers, byte for byte.
-ghost use Rattle.std.specs.Prelude.{◌≡◌, ◌++◌, OnOk, IfOk, string_bytes};
+ghost use Rattle.std.specs.Prelude.{◌≡◌, ◌++◌, OnOk, OnErr, IfOk, string_bytes};
+ghost use Rattle.ocpp_scalars.specs.Appending.{BeginsWith};
 ghost use Rattle.ocppj_frame.specs.Write.{call_result_text};
 ghost use Rattle.messages.specs.ResponseText.{boot_notification_text, composite_text, current_time_text, heartbeat_text, is_out_of_memory, period_text, periods_text, refusal_text, rejected_text, response_text, schedule_text, start_transaction_text, unit_text};
 
 use crate::response::{Response, ScheduleResponse};
 use meaning::{Composite, CompositePeriod};
-use ocpp_scalars::{Instant, Refusal, push_instant, push_tenths};
+use ocpp_scalars::{Instant, Refusal, push_instant, push_integer, push_tenths};
 use ocppj_frame::{push_error, push_frame_end, push_result_head};
 use profile::Unit;
 use std::alloc::{AllocError, Global};
@@ -38,8 +39,9 @@ fn room(response: &Response) -> usize {
 
 /// Appends the text that answers the CALL of this id.
 pub fn push_response(out: &mut String, id: &str, response: &Response) -> Result<(), AllocError>
-    ensures { OnOk result
+    ensures text { OnOk result
         (string_bytes out.new ≡ string_bytes out.old ++ response_text id.now response.now) }
+    ensures kept { OnErr result (BeginsWith (string_bytes out.new) (string_bytes out.old)) }
 {
     match response {
         Response::Accepted => push_result(out, id, r#"{"status":"Accepted"}"#),
@@ -62,8 +64,9 @@ pub fn push_response(out: &mut String, id: &str, response: &Response) -> Result<
 
 /// Appends a CALLRESULT of this payload.
 fn push_result(out: &mut String, id: &str, payload: &str) -> Result<(), AllocError>
-    ensures { OnOk result
+    ensures text { OnOk result
         (string_bytes out.new ≡ string_bytes out.old ++ call_result_text id.now payload.now) }
+    ensures kept { OnErr result (BeginsWith (string_bytes out.new) (string_bytes out.old)) }
 {
     push_result_head(out, id)?;
     out.push_str(payload)?;
@@ -73,8 +76,9 @@ fn push_result(out: &mut String, id: &str, payload: &str) -> Result<(), AllocErr
 /// Appends the answer to a refused install or ask. Out of memory is an error, as it is for every
 /// action.
 fn push_rejected(out: &mut String, id: &str, refusal: Refusal) -> Result<(), AllocError>
-    ensures { OnOk result
+    ensures text { OnOk result
         (string_bytes out.new ≡ string_bytes out.old ++ refusal_text id.now refusal) }
+    ensures kept { OnErr result (BeginsWith (string_bytes out.new) (string_bytes out.old)) }
 {
     if is_out_of_memory(refusal) {
         return push_error(out, id, "InternalError", "OutOfMemory");
@@ -92,8 +96,9 @@ fn is_out_of_memory(refusal: Refusal) -> bool
 
 /// Appends the payload that rejects, with the refusal's name as the reason.
 fn push_rejection(out: &mut String, refusal: Refusal) -> Result<(), AllocError>
-    ensures { OnOk result
+    ensures text { OnOk result
         (string_bytes out.new ≡ string_bytes out.old ++ rejected_text refusal) }
+    ensures kept { OnErr result (BeginsWith (string_bytes out.new) (string_bytes out.old)) }
 {
     out.push_str(r#"{"status":"Rejected","reason":""#)?;
     out.push_str(refusal.name())?;
@@ -107,8 +112,9 @@ fn push_boot_notification(
     id: &str,
     current_time: Instant,
 ) -> Result<(), AllocError>
-    ensures { OnOk result (string_bytes out.new
+    ensures text { OnOk result (string_bytes out.new
         ≡ string_bytes out.old ++ call_result_text id.now (boot_notification_text current_time)) }
+    ensures kept { OnErr result (BeginsWith (string_bytes out.new) (string_bytes out.old)) }
 {
     push_result_head(out, id)?;
     push_current_time(out, current_time)?;
@@ -118,8 +124,9 @@ fn push_boot_notification(
 
 /// Appends Heartbeat's answer.
 fn push_heartbeat(out: &mut String, id: &str, current_time: Instant) -> Result<(), AllocError>
-    ensures { OnOk result (string_bytes out.new
+    ensures text { OnOk result (string_bytes out.new
         ≡ string_bytes out.old ++ call_result_text id.now (heartbeat_text current_time)) }
+    ensures kept { OnErr result (BeginsWith (string_bytes out.new) (string_bytes out.old)) }
 {
     push_result_head(out, id)?;
     push_current_time(out, current_time)?;
@@ -129,8 +136,9 @@ fn push_heartbeat(out: &mut String, id: &str, current_time: Instant) -> Result<(
 
 /// Appends an object's beginning with its first field, the present moment.
 fn push_current_time(out: &mut String, current_time: Instant) -> Result<(), AllocError>
-    ensures { OnOk result
+    ensures text { OnOk result
         (string_bytes out.new ≡ string_bytes out.old ++ current_time_text current_time) }
+    ensures kept { OnErr result (BeginsWith (string_bytes out.new) (string_bytes out.old)) }
 {
     out.push_str(r#"{"currentTime":""#)?;
     push_instant(out, current_time)?;
@@ -140,8 +148,9 @@ fn push_current_time(out: &mut String, current_time: Instant) -> Result<(), Allo
 
 /// Appends StartTransaction's answer.
 fn push_start_transaction(out: &mut String, id: &str, transaction: i32) -> Result<(), AllocError>
-    ensures { OnOk result (string_bytes out.new
+    ensures text { OnOk result (string_bytes out.new
         ≡ string_bytes out.old ++ call_result_text id.now (start_transaction_text transaction)) }
+    ensures kept { OnErr result (BeginsWith (string_bytes out.new) (string_bytes out.old)) }
 {
     push_result_head(out, id)?;
     push_transaction(out, transaction)?;
@@ -150,11 +159,12 @@ fn push_start_transaction(out: &mut String, id: &str, transaction: i32) -> Resul
 
 /// Appends StartTransaction.conf (chapter 6).
 fn push_transaction(out: &mut String, transaction: i32) -> Result<(), AllocError>
-    ensures { OnOk result
+    ensures text { OnOk result
         (string_bytes out.new ≡ string_bytes out.old ++ start_transaction_text transaction) }
+    ensures kept { OnErr result (BeginsWith (string_bytes out.new) (string_bytes out.old)) }
 {
     out.push_str(r#"{"idTagInfo":{"status":"Accepted"},"transactionId":"#)?;
-    write!(out, "{transaction}")?;
+    push_integer(out, transaction)?;
     out.push_str("}")?;
     Ok(())
 }
@@ -165,8 +175,9 @@ fn push_schedule_result(
     id: &str,
     response: &ScheduleResponse,
 ) -> Result<(), AllocError>
-    ensures { OnOk result (string_bytes out.new
+    ensures text { OnOk result (string_bytes out.new
         ≡ string_bytes out.old ++ call_result_text id.now (composite_text response.now)) }
+    ensures kept { OnErr result (BeginsWith (string_bytes out.new) (string_bytes out.old)) }
 {
     push_result_head(out, id)?;
     push_composite(out, response)?;
@@ -175,12 +186,12 @@ fn push_schedule_result(
 
 /// Appends GetCompositeSchedule.conf (chapter 6).
 fn push_composite(out: &mut String, response: &ScheduleResponse) -> Result<(), AllocError>
-    ensures { OnOk result
+    ensures text { OnOk result
         (string_bytes out.new ≡ string_bytes out.old ++ composite_text response.now) }
+    ensures kept { OnErr result (BeginsWith (string_bytes out.new) (string_bytes out.old)) }
 {
-    let connector = response.connector;
     out.push_str(r#"{"status":"Accepted","connectorId":"#)?;
-    write!(out, "{connector}")?;
+    push_integer(out, response.connector)?;
     out.push_str(r#","scheduleStart":""#)?;
     push_instant(out, response.start)?;
     out.push_str(r#"","chargingSchedule":"#)?;
@@ -191,12 +202,12 @@ fn push_composite(out: &mut String, response: &ScheduleResponse) -> Result<(), A
 
 /// Appends a schedule (chapter 7, ChargingSchedule).
 fn push_schedule(out: &mut String, unit: Unit, schedule: &Composite) -> Result<(), AllocError>
-    ensures { OnOk result
+    ensures text { OnOk result
         (string_bytes out.new ≡ string_bytes out.old ++ schedule_text unit schedule.now) }
+    ensures kept { OnErr result (BeginsWith (string_bytes out.new) (string_bytes out.old)) }
 {
-    let duration = schedule.duration();
     out.push_str(r#"{"duration":"#)?;
-    write!(out, "{duration}")?;
+    push_integer(out, schedule.duration())?;
     out.push_str(r#","chargingRateUnit":""#)?;
     out.push_str(unit_name(unit))?;
     out.push_str(r#"","chargingSchedulePeriod":["#)?;
@@ -216,8 +227,9 @@ pub(crate) fn unit_name(unit: Unit) -> &'static str
 
 /// Appends periods, with commas between them.
 fn push_periods(out: &mut String, periods: &[CompositePeriod]) -> Result<(), AllocError>
-    ensures { OnOk result
+    ensures text { OnOk result
         (string_bytes out.new ≡ string_bytes out.old ++ periods_text periods.now) }
+    ensures kept { OnErr result (BeginsWith (string_bytes out.new) (string_bytes out.old)) }
 {
     let Some((first, later)) = periods.split_first() else {
         return Ok(());
@@ -232,12 +244,12 @@ fn push_periods(out: &mut String, periods: &[CompositePeriod]) -> Result<(), All
 
 /// Appends a period (chapter 7, ChargingSchedulePeriod).
 fn push_period(out: &mut String, period: &CompositePeriod) -> Result<(), AllocError>
-    ensures { OnOk result
+    ensures text { OnOk result
         (string_bytes out.new ≡ string_bytes out.old ++ period_text period.now) }
+    ensures kept { OnErr result (BeginsWith (string_bytes out.new) (string_bytes out.old)) }
 {
-    let start = period.start;
     out.push_str(r#"{"startPeriod":"#)?;
-    write!(out, "{start}")?;
+    push_integer(out, period.start)?;
     out.push_str(r#","limit":"#)?;
     push_tenths(out, period.limit)?;
     out.push_str("}")?;

@@ -1,3 +1,4 @@
+pub mod Appending
 pub mod Ascii
 pub mod ByCases
 pub mod CalendarDay

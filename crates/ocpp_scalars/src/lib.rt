@@ -24,4 +24,4 @@ pub use moments::Moments;
 pub use number::{NumberFault, read_tenths, read_whole};
 pub use number_text::is_number_text;
 pub use refusal::Refusal;
-pub use writing::{push_instant, push_tenths, write_instant, write_tenths};
+pub use writing::{push_instant, push_integer, push_tenths, write_instant, write_tenths};

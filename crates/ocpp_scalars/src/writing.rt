@@ -1,6 +1,7 @@
 //! Instants and tenths, written.
-ghost use Rattle.std.specs.Prelude.{◌≡◌, ℕ, ◌+◌, ◌*◌, ◌/◌, ◌%◌, ◌≤◌, ◌<◌, ◌++◌, pos, Ok, IfOk, OnOk, IsErrOf, IsOkUnless, string_bytes};
+ghost use Rattle.std.specs.Prelude.{◌≡◌, ℕ, ◌+◌, ◌*◌, ◌/◌, ◌%◌, ◌≤◌, ◌<◌, ◌++◌, pos, Ok, IfOk, OnOk, OnErr, IsErrOf, IsOkUnless, string_bytes};
 ghost use Rattle.jiff_core.specs.Date.{epoch_day};
+ghost use Rattle.ocpp_scalars.specs.Appending.{BeginsWith};
 ghost use Rattle.ocpp_scalars.specs.CalendarDay.{calendar_day};
 ghost use Rattle.ocpp_scalars.specs.Digits.{two_digits, four_digits};
 ghost use Rattle.ocpp_scalars.specs.Limits.{last_day, last_second};
@@ -9,6 +10,7 @@ ghost use Rattle.ocpp_scalars.specs.InstantText.{clock_text};
 
 use crate::instant::Instant;
 use crate::refusal::Refusal;
+use itoa::Integer;
 use jiff_core::civil::Date;
 use std::alloc::{AllocError, Global};
 
@@ -24,7 +26,9 @@ pub fn write_instant(alloc: Global, instant: Instant) -> Result<String, Refusal>
 
 /// Appends the text of an instant, `YYYY-MM-DDThh:mm:ssZ`.
 pub fn push_instant(out: &mut String, instant: Instant) -> Result<(), AllocError>
-    ensures text { OnOk result (string_bytes out.new ≡ string_bytes out.old ++ instant_text instant) }
+    ensures text { OnOk result
+        (string_bytes out.new ≡ string_bytes out.old ++ instant_text instant) }
+    ensures kept { OnErr result (BeginsWith (string_bytes out.new) (string_bytes out.old)) }
 {
     push_seconds(out, instant.seconds())
 }
@@ -33,7 +37,9 @@ pub fn push_instant(out: &mut String, instant: Instant) -> Result<(), AllocError
 #[tactic(auto, unfolding(crate::specs::Writing::instant_text))]
 fn push_seconds(out: &mut String, seconds: u64) -> Result<(), AllocError>
     requires { seconds ≤ last_second }
-    ensures { OnOk result (string_bytes out.new ≡ string_bytes out.old ++ instant_text seconds) }
+    ensures text { OnOk result
+        (string_bytes out.new ≡ string_bytes out.old ++ instant_text seconds) }
+    ensures kept { OnErr result (BeginsWith (string_bytes out.new) (string_bytes out.old)) }
 {
     push_day(out, seconds / 86_400)?;
     out.push('T')?;
@@ -45,8 +51,9 @@ fn push_seconds(out: &mut String, seconds: u64) -> Result<(), AllocError>
 /// Appends the date of the day that comes so many days after 1 January 1970.
 fn push_day(out: &mut String, day: u64) -> Result<(), AllocError>
     requires { day ≤ last_day }
-    ensures { OnOk result (
-        string_bytes out.new ≡ string_bytes out.old ++ day_text (calendar_day day)) }
+    ensures text { OnOk result
+        (string_bytes out.new ≡ string_bytes out.old ++ day_text (calendar_day day)) }
+    ensures kept { OnErr result (BeginsWith (string_bytes out.new) (string_bytes out.old)) }
 {
     let (year, month, day) = civil_date(day);
     push_two(out, (year / 100) as u8)?;
@@ -72,8 +79,9 @@ fn civil_date(day: u64) -> (u16, u8, u8)
 /// Appends a time of day, `hh:mm:ss`.
 fn push_time(out: &mut String, seconds: u32) -> Result<(), AllocError>
     requires { seconds < 86_400 }
-    ensures { OnOk result (
-        string_bytes out.new ≡ string_bytes out.old ++ time_of_day_text seconds) }
+    ensures text { OnOk result
+        (string_bytes out.new ≡ string_bytes out.old ++ time_of_day_text seconds) }
+    ensures kept { OnErr result (BeginsWith (string_bytes out.new) (string_bytes out.old)) }
 {
     push_two(out, (seconds / 3600) as u8)?;
     out.push(':')?;
@@ -85,7 +93,8 @@ fn push_time(out: &mut String, seconds: u32) -> Result<(), AllocError>
 /// Appends a number below 100 in two digits.
 fn push_two(out: &mut String, number: u8) -> Result<(), AllocError>
     requires { number < 100 }
-    ensures { OnOk result (string_bytes out.new ≡ string_bytes out.old ++ two_digits number) }
+    ensures text { OnOk result (string_bytes out.new ≡ string_bytes out.old ++ two_digits number) }
+    ensures kept { OnErr result (BeginsWith (string_bytes out.new) (string_bytes out.old)) }
 {
     out.push((b'0' + number / 10) as char)?;
     out.push((b'0' + number % 10) as char)?;
@@ -106,9 +115,18 @@ pub fn write_tenths(alloc: Global, tenths: u32) -> Result<String, Refusal>
 #[tactic(auto, unfolding(crate::specs::Writing::tenths_text))]
 pub fn push_tenths(out: &mut String, tenths: u32) -> Result<(), AllocError>
     ensures text { OnOk result (string_bytes out.new ≡ string_bytes out.old ++ tenths_text tenths) }
+    ensures kept { OnErr result (BeginsWith (string_bytes out.new) (string_bytes out.old)) }
 {
-    let whole = tenths / 10;
-    let tenth = tenths % 10;
-    write!(out, "{whole}.{tenth}")?;
-    Ok(())
+    push_integer(out, tenths / 10)?;
+    out.push('.')?;
+    push_integer(out, tenths % 10)
+}
+
+/// Appends an integer in decimal. (`write!` says nothing of the text where memory runs out.)
+pub fn push_integer<I: Integer>(out: &mut String, integer: I) -> Result<(), AllocError>
+    ensures text { OnOk result (string_bytes out.new ≡ string_bytes out.old ++ I.text integer) }
+    ensures kept { OnErr result (BeginsWith (string_bytes out.new) (string_bytes out.old)) }
+{
+    let mut digits = itoa::Buffer::new();
+    out.push_str(digits.format(integer))
 }

@@ -2,8 +2,8 @@
 use Rattle.messages.specs.CallText.{clear_text}
 use Rattle.messages.proofs.call_text.push_clear.Goals as goal
 
-pub returns : goal.returns
+pub returns-clause-text : goal.returns-clause-text
 unfolding clear_text
-returns c =
-    let object = rw (c.signed.ensures, c.whole.ensures, c.purpose.ensures, c.whole-2.ensures) at c.in_ok-push_object.ensures in
+returns-clause-text c =
+    let object = rw (c.signed.ensures, c.whole.ensures, c.purpose.ensures, c.whole-2.ensures) at c.in_ok-push_object.ensures.text in
     search object

@@ -2,8 +2,8 @@
 use Rattle.messages.specs.CallText.{period_text}
 use Rattle.messages.proofs.call_text.push_period.Goals as goal
 
-pub returns : goal.returns
+pub returns-clause-text : goal.returns-clause-text
 unfolding period_text
-returns c =
-    let object = rw (c.whole.ensures) at c.in_ok-push_object.ensures in
+returns-clause-text c =
+    let object = rw (c.whole.ensures) at c.in_ok-push_object.ensures.text in
     search object

@@ -3,8 +3,8 @@ use Rattle.std.proofs.Common.{codes}
 use Rattle.messages.proofs.TextPieces.{three_pieces}
 use Rattle.messages.proofs.response_text.push_current_time.Goals as goal
 
-pub returns : goal.returns
-returns c =
+pub returns-clause-text : goal.returns-clause-text
+returns-clause-text c =
     three_pieces _ (codes "{\"currentTime\":\"") _ (codes "\"")
     _ _ _
     c.in_ok-push_str.ensures.bytes c.in_ok-push_instant.ensures.text c.in_ok-push_str-2.ensures.bytes

@@ -3,8 +3,8 @@ use Rattle.std.proofs.Common.{codes}
 use Rattle.messages.proofs.TextPieces.{three_pieces}
 use Rattle.messages.proofs.response_text.push_rejection.Goals as goal
 
-pub returns : goal.returns
-returns c =
+pub returns-clause-text : goal.returns-clause-text
+returns-clause-text c =
     rw (← c.name.ensures)
     (three_pieces _ (codes "{\"status\":\"Rejected\",\"reason\":\"") _ (codes "\"}")
     _ _ _

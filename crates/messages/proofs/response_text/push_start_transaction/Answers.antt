@@ -5,7 +5,7 @@ use Rattle.std.proofs.lemmas.Grind.{common_steps}
 use mir.Syntax.{w32}
 use Rattle.messages.proofs.response_text.push_start_transaction.Goals as goal
 
-pub returns : goal.returns
-returns c =
-    let text = rw (to_z-of_z w32 c.args.transaction c.ranges.transaction) at c.in_ok-push_transaction.ensures in
+pub returns-clause-text : goal.returns-clause-text
+returns-clause-text c =
+    let text = rw (to_z-of_z w32 c.args.transaction c.ranges.transaction) at c.in_ok-push_transaction.ensures.text in
     grind (arith, common_steps, text)

@@ -5,10 +5,10 @@ use mir.Syntax.{w32}
 use Rattle.messages.proofs.TextPieces.{three_pieces}
 use Rattle.messages.proofs.response_text.push_transaction.Goals as goal
 
-pub returns : goal.returns
-returns c =
+pub returns-clause-text : goal.returns-clause-text
+returns-clause-text c =
     three_pieces _ (codes "{\"idTagInfo\":{\"status\":\"Accepted\"},\"transactionId\":") _ (codes "}")
     _ _ _
     c.in_ok-push_str.ensures.bytes
-    (rw (to_z-of_z w32 c.args.transaction c.ranges.transaction) at c.in_ok-write.ensures.bytes)
+    (rw (to_z-of_z w32 c.args.transaction c.ranges.transaction) at c.in_ok-push_integer.ensures.text)
     c.in_ok-push_str-2.ensures.bytes

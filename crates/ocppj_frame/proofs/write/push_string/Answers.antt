@@ -24,8 +24,8 @@ from_utf8_unchecked-requires c =
     subst IsUtf8 (sym c.into_inner.ensures.items)
     (IsUtf8-append _ _ (subst IsUtf8 (sym bytes) old) c.into_inner.ensures.utf8)
 
-pub returns : goal.returns
-returns c =
+pub returns-clause-text : goal.returns-clause-text
+returns-clause-text c =
     on_ok c.string-written.result (λ tokens.
     let quotes : print c.string-written.new.self.tokens ≡ quoted c.args.text.now =
     print_string c.args.text.now _ (tokens ∙ ap (λ (ts : List Token). ts ++ (string c.args.text.now ∷ [])) c.new-writer.ensures.tokens) in
