@@ -18,23 +18,16 @@ use Rattle.replay.specs.declared.script.form.LineWord.{LineWord}
 use Rattle.replay.specs.declared.script.form.LineWord.TheVariants.{Operator, Point, Hold}
 use Rattle.site_core.specs.Limits.{max_number}
 use Rattle.replay.specs.Form.{Form, text_line, release_line, spelled, IsWord, IsOfForm}
+use Rattle.replay.specs.ByCases.Number.{number_of}
+use Rattle.replay.proofs.NumberLemmas.{either, number_is, number_made}
 use Rattle.ocpp_scalars.specs.OptionSteps.{◌>>=◌}
-use Rattle.replay.specs.ByCases.Form.{is_space, word_at, word_named, is_number, begins_above_zero, number_of, release_form, text_form, form_of}
+use Rattle.replay.specs.ByCases.Form.{is_space, word_at, word_named, release_form, text_form, form_of}
 
 -- both tests held where a choice gave its value
 both : {X : Type 0} (a b : Bool) (x y : X) → cond (a && b) (Some x) None ≡ Some y → (a ≡ true) × (b ≡ true) × (x ≡ y)
 both true true x y e = (refl, refl, cc)
 both true false x y e = absurd (cc)
 both false b x y e = absurd (cc)
-
-both_true : (a b : Bool) → (a && b) ≡ true → (a ≡ true) × (b ≡ true)
-both_true true b e = (refl, e)
-both_true false b e = absurd (cc)
-
--- one of some tests gave the value
-either : {X : Type 0} (a : Bool) (x z : X) (o : Option X) → cond a (Some x) o ≡ Some z → ((a ≡ true) × (x ≡ z)) ⊎ ((a ≡ false) × (o ≡ Some z))
-either true x z o e = inl (refl, cc)
-either false x z o e = inr (refl, e)
 
 -- a step that gave a value had one before it
 bound : {A B : Type 0} (f : A → Option B) (o : Option A) (y : B) → (o >>= f) ≡ Some y → (x : A) × (o ≡ Some x) × (f x ≡ Some y)
@@ -106,62 +99,6 @@ spelled_is_word Hold = (lit< tt, λ k below. eqb-false (get_or (codes "hold") k 
 release_is_word : IsWord (codes "release")
 release_is_word = (lit< tt, λ k below. eqb-false (get_or (codes "release") k 0) 32 (fails_before_first is_space (codes "release") k 0 below))
 
--- a word is the decimal text of the number that it is
-number_is : (word : List ℕ) (n : ℕ) → number_of word ≡ Some n → (word ≡ decimal n) × (1 ≤ n) × (n ≤ max_number)
-unfolding number_of
-number_is word n some =
-    let value = digits_value 10 word in
-    elim (either (is_number word value) value n None some) [
-      | inl test ↦
-          let parts = both_true (bytes_eq word (decimal value)) (nat_lt 0 value && nat_le value max_number) test.0 in
-          let bounds = both_true (nat_lt 0 value) (nat_le value max_number) parts.1 in
-          let same : value ≡ n = test.1 in (
-            (bytes_eq-Decides word (decimal value)).0 parts.0 ∙ ap decimal same,
-            omega (arith, same, ltb-true 0 value bounds.0),
-            omega (arith, same, leb-true value max_number bounds.1),
-          )
-      | inr none ↦ absurd (cc (none.1))
-    ]
-
--- the decimal text of a number is that number
-number_made : (n : ℕ) → 1 ≤ n → n ≤ max_number → number_of (decimal n) ≡ Some n
-unfolding number_of
-number_made n low high =
-    let value = (decimal_is_IsNumeral n (omega (arith, high))).1 in
-    let test : is_number (decimal n) n ≡ true = rw ((bytes_eq-Decides (decimal n) (decimal n)).1 refl, lt-ltb 0 n (omega (arith, low)), le-leb n max_number high) refl in
-    ap (λ v. cond (is_number (decimal n) v) (Some v) None) value ∙ rw test refl
-
--- a word that is no number of a request
-pub no_number : (word : List ℕ) → ((n : ℕ) → word ≡ decimal n → 1 ≤ n → n ≤ max_number → ⊥) → None ≡ number_of word
-no_number word none =
-    elim (number_of word) as (λ o. number_of word ≡ o → None ≡ o) [
-      | None ↦ λ here. refl
-      | Some n ↦ λ here. let is = number_is word n here in absurd (none n is.0 is.1 is.2)
-    ] refl
-
--- a number of a request begins with a digit above 0
-pub above_zero : (word : List ℕ) (n : ℕ) → word ≡ decimal n → 1 ≤ n → n ≤ max_number → begins_above_zero word ≡ true
-above_zero word n is low high = ap begins_above_zero is ∙ lt-ltb 48 (get_or (decimal n) 0 0) (first_decimal n (omega (arith, low)) (omega (arith, high)))
-
-digits_model : IsNumeralModel (λ ds. all_ascii_digits ds ≡ true) (digits_value 10)
-digits_model = numerals_by_value _ (search rules)
-
--- what is parsed and begins with a digit above 0 is a number of a request, up to the highest
-pub parsed : {E : Type 0} (word : List ℕ) (n : ℕ) (r : Result ℕ E) → ParsesUnsigned 64 10 word r → r ≡ Ok n → begins_above_zero word ≡ true → n ≤ max_number → Some n ≡ number_of word
-parsed word n r parses ok above high =
-    let first : 48 < get_or word 0 0 = ltb-true 48 (get_or word 0 0) above in
-    let plain = rw ok at (parse_plain digits_model 64 word r parses (λ plus. absurd (omega (arith, first, plus)))) in
-    let digits = plain.0 in
-    let value : n ≡ digits_value 10 word = plain.1 in
-    let text : decimal (digits_value 10 word) ≡ word =
-    decimal-digits_value digits_model word digits.0 digits.1 (λ zero. absurd (omega (arith, first, zero))) digits.2 in
-    let same : word ≡ decimal n = sym text ∙ ap decimal (sym value) in
-    let low : 1 ≤ n = elim n as (λ m. n ≡ m → 1 ≤ m) [
-      | zero ↦ λ none. absurd (omega (arith, first, ap (λ l. get_or l 0 0) (same ∙ ap decimal none ∙ decimal_digit 0 (lit< tt))))
-      | suc m ↦ λ some. omega arith
-    ] refl in
-    sym (number_made n low high) ∙ ap number_of (sym same)
-
 text_is : (line : List ℕ) (form : Form) (instant second : List ℕ × List ℕ) → word_at line ≡ Some instant → word_at instant.1 ≡ Some second
     → text_form instant.0 second.0 second.1 ≡ Some form → IsOfForm line form
 text_is line form instant second one two some =
@@ -185,7 +122,7 @@ release_is line form instant second one two test some =
     let next = word_is instant.1 second two in
     let number = number_is second.1 third.0 third.1 in
     subst (IsOfForm line) same
-    (first.0 ∙ ap (λ l. instant.0 ++ 32 ∷ l) (next.0 ∙ ap (λ k. k ++ 32 ∷ second.1) kind ∙ ap (λ l. codes "release" ++ 32 ∷ l) number.0), first.1, number.1, number.2)
+    (first.0 ∙ ap (λ l. instant.0 ++ 32 ∷ l) (next.0 ∙ ap (λ k. k ++ 32 ∷ second.1) kind ∙ ap (λ l. codes "release" ++ 32 ∷ l) number.0), first.1, number.1)
 
 form_is : (line : List ℕ) (form : Form) → form_of line ≡ Some form → IsOfForm line form
 unfolding form_of
@@ -209,7 +146,7 @@ form_made line (release_line instant number) form =
     let middle = codes "release" ++ 32 ∷ decimal number in
     ap form_of form.0
     ∙ rw (word_made instant middle form.1) (rw (word_made (codes "release") (decimal number) release_is_word)
-    (rw (number_made number form.2 form.3) refl))
+    (rw (number_made number form.2.0 form.2.1) refl))
 
 pub line_form : (line : List ℕ) (form : Form) → (form_of line ≡ Some form) ↔ IsOfForm line form
 line_form line form = (form_is line form, form_made line form)

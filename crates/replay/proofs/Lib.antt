@@ -2,6 +2,7 @@ pub mod FormLemmas
 pub mod HeldLemmas
 pub mod LineLemmas
 pub mod MachineLemmas
+pub mod NumberLemmas
 pub mod OutputLemmas
 pub mod PlayLemmas
 pub mod ScriptLemmas

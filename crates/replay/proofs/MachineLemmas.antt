@@ -1,5 +1,5 @@
 -- What comes of a step of the machine is what comes of it exactly, unless memory ran out.
-use Rattle.std.proofs.Common.{◌≡◌, ◌↔◌, ℕ, ◌<◌, ◌==◌, List, [], ◌∷◌, cond, Bool, true, false, is_some, Option, Some, None, Result, Ok, Err, refl, sym, ap, ◌∙◌}
+use Rattle.std.proofs.Common.{◌≡◌, ◌↔◌, ℕ, ◌<◌, ◌==◌, List, [], ◌∷◌, cond, Bool, true, false, is_some, Option, Some, None, Result, Ok, Err, IfOk, refl, sym, ap, ◌∙◌}
 use Rattle.ocpp_scalars.specs.declared.refusal.Refusal.{Refusal}
 use Rattle.ocpp_scalars.specs.declared.refusal.Refusal.TheVariants.{ResultTooLong, OutOfMemory, AlreadyAnswered}
 use Rattle.meaning.specs.declared.ask.Ask.{Ask}
@@ -11,12 +11,12 @@ use Rattle.point_book.specs.Book.{Book, state_of}
 use Rattle.site_core.specs.declared.step.Step.{Step}
 use Rattle.site_core.specs.declared.step.Step.TheVariants as steps
 use Rattle.site_core.specs.declared.reply.Reply.{Reply}
-use Rattle.site_core.specs.declared.reply.Reply.TheVariants.{Answered, Compiled}
+use Rattle.site_core.specs.declared.reply.Reply.TheVariants.{Answered, Compiled, Nothing}
 use Rattle.site_core.specs.State.{MachineState, Kept, ScheduleAnswer}
 use Rattle.site_core.specs.Requests.{request_of, answered, with_answer}
 use Rattle.site_core.specs.Right.{IsCompiledFor}
-use Rattle.site_core.specs.Step.{Made, compiles_kept, answers, answers_kept, answers_with, cause_of, first_refusal, Steps, Compiles, no_answer}
-use Rattle.replay.specs.MachineSteps.{Stepped, made_or_refused, exact_answer, stepped_exactly, handed_out}
+use Rattle.site_core.specs.Step.{Made, SendsNothing, unchanged, stepped, compiles_kept, answers, answers_kept, answers_with, cause_of, first_refusal, Steps, Compiles, no_answer}
+use Rattle.replay.specs.MachineSteps.{Stepped, sending_of, sent_over, made_or_refused, exact_answer, stepped_exactly, handed_out}
 use Rattle.replay.specs.ByCases.MachineSteps.{ComesOf, IsAsked, is_memory}
 
 -- a step that a text asks for and that is made
@@ -161,3 +161,18 @@ hands_out old mid new number (Err refusal) outcome compile made other law-answer
     ap (λ (s : Stepped). stepped_exactly s.after (steps.Answer number)) (refused_exactly old (steps.Compile number) refusal compile.0)
     ∙ ap (λ (s : MachineState). stepped_exactly s (steps.Answer number)) (sym compile.1)
     ∙ exactly mid (steps.Answer number) outcome new tt made
+
+-- ---- sending
+
+-- a Send that sends nothing, and one that isn't made
+nothing_sent : (old : MachineState) (made : Result Made Refusal) → IfOk made (λ made. made ≡ unchanged old Nothing)
+    → sending_of (made_or_refused old made) ≡ record { call = None; after = old }
+nothing_sent old (Ok made) nothing = ap (λ (m : Made). sending_of (made_or_refused old (Ok m))) nothing
+nothing_sent old (Err refusal) nothing = refl
+
+-- where a Send over any link sends nothing, there is no sending
+pub skipped : (old : MachineState) (point : List ℕ) (present : Option ℕ) → ((link : ℕ) → SendsNothing old point link)
+    → sent_over present old point ≡ record { call = None; after = old }
+unfolding stepped_exactly
+skipped old point None nothing = refl
+skipped old point (Some link) nothing = nothing_sent old (stepped no_answer old (steps.Send point link)) (nothing link)

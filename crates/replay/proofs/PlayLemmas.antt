@@ -1,14 +1,13 @@
 -- What the text of a point prints, from what its parts print.
-use Rattle.std.proofs.Common.{◌≡◌, ℕ, List, ◌++◌, Result, sym, ap, ◌∙◌, append_assoc}
-use Rattle.ocpp_scalars.specs.declared.refusal.Refusal.{Refusal}
-use Rattle.site_core.specs.declared.reply.Reply.{Reply}
+use Rattle.std.proofs.Common.{◌≡◌, ℕ, List, ◌++◌, Option, sym, ap, ◌∙◌, append_assoc}
+use Rattle.messages.specs.declared.call.Call.{Call}
 use Rattle.site_core.specs.State.{MachineState}
 use Rattle.replay.specs.declared.player.held.Held.{Held}
 use Rattle.replay.specs.SentText.{Sent}
 use Rattle.replay.specs.Todo.{todo_of}
 use Rattle.replay.specs.Player.{PlayerState, with_machine}
-use Rattle.replay.specs.MachineSteps.{Stepped, attached_once, sent_first}
-use Rattle.replay.specs.ByCases.Player.{ComesTo}
+use Rattle.replay.specs.MachineSteps.{Sending, attached_once, sent_first}
+use Rattle.replay.specs.ByCases.Player.{Sends}
 use Rattle.replay.specs.Play.{Handled, call_line, todo_handled, call_handled, with_call, point_handled, IsHandled}
 
 -- five texts, one after another
@@ -22,17 +21,17 @@ abbrev ending : PlayerState → MachineState → List ℕ → Handled
 ending was machine printed = record { printed = printed; after = with_machine was machine }
 
 -- a link, the answer, and a call
-pub point_made : (old linked answered new : PlayerState) (text : Sent) (first second third line printed : List ℕ) (outcome : Result Reply Refusal)
+pub point_made : (old linked answered new : PlayerState) (text : Sent) (first second third line printed : List ℕ) (call : Option Call)
     → first ≡ text.point → second ≡ text.point → third ≡ text.point
     → linked ≡ with_machine old (attached_once old.machine first)
     → IsHandled (todo_handled linked (todo_of text)) line answered
-    → ComesTo answered (sent_first answered.machine second) outcome new
-    → printed ≡ line ++ call_line third outcome
+    → Sends answered (sent_first answered.machine second) call new
+    → printed ≡ line ++ call_line third call
     → IsHandled (point_handled old text) printed new
-point_made old linked answered new text first second third line printed outcome one two three attach answer send push =
+point_made old linked answered new text first second third line printed call one two three attach answer send push =
     let start : linked ≡ with_machine old (attached_once old.machine text.point) = attach ∙ ap (λ p. with_machine old (attached_once old.machine p)) one in
-    let step : sent_first answered.machine text.point ≡ record { outcome = outcome; after = new.machine } = ap (sent_first answered.machine) (sym two) ∙ send.0 in
-    let all : line ++ call_line text.point outcome ≡ printed = ap (λ p. line ++ call_line p outcome) (sym three) ∙ sym push in
+    let step : sent_first answered.machine text.point ≡ record { call = call; after = new.machine } = ap (sent_first answered.machine) (sym two) ∙ send.0 in
+    let all : line ++ call_line text.point call ≡ printed = ap (λ p. line ++ call_line p call) (sym three) ∙ sym push in
     ap (λ (p : PlayerState). with_call text.point (todo_handled p (todo_of text))) (sym start)
     ∙ ap (with_call text.point) answer
     ∙ ap (call_handled (record { printed = line; after = answered }) text.point) step

@@ -2,12 +2,14 @@
 use Rattle.std.specs.Prelude.{ℕ, ◌==◌, if◌then◌else◌, List, [], ◌∷◌, Option, Some, None}
 use Rattle.replay.specs.declared.player.held.Held.{Held}
 
--- the id of the CALL whose request has this number, if that is held: the first, if there were several
+-- the id of the CALL whose request has this number, if that is held; of several, the first
 abbrev pub id_held : ℕ → List Held → Option (List ℕ)
 id_held number [] = None
-id_held number (held ∷ others) = if held.number == number then Some held.id else id_held number others
+id_held number (held ∷ others) =
+    if held.number == number then Some held.id else id_held number others
 
 -- the request of this number is no longer held
 abbrev pub let_go : ℕ → List Held → List Held
 let_go number [] = []
-let_go number (held ∷ others) = if held.number == number then others else held ∷ let_go number others
+let_go number (held ∷ others) =
+    if held.number == number then others else held ∷ let_go number others

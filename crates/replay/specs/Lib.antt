@@ -6,6 +6,7 @@ pub mod ByCases
 pub mod MachineSteps
 pub mod Todo
 pub mod Answer
+pub mod Number
 pub mod Form
 pub mod Line
 pub mod Lines

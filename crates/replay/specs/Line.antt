@@ -16,7 +16,8 @@ use Rattle.replay.specs.SentText.{sent}
 use Rattle.replay.specs.Form.{Form, text_line, release_line}
 use Rattle.replay.specs.ByCases.Form.{form_of}
 
--- a point's own text names a point of the site; whether an operator's does is the central system's to say
+-- A point's own text names a point of the site. Whether an operator's does is the central system's to
+-- say.
 abbrev pub is_stranger : SiteState → LineWord → List ℕ → Bool
 is_stranger site Operator point = false
 is_stranger site Point point = is_none (place_of site point)

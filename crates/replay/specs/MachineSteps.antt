@@ -1,19 +1,21 @@
--- What comes of the steps that a text asks for, where each compile gives the exact schedule or ResultTooLong,
--- and of those that its point's link and calls are for.
+-- What comes of the steps that a text asks for, where each compile gives the exact schedule or
+-- ResultTooLong, and of those that its point's link and calls are for.
 use Rattle.std.specs.Prelude.{ℕ, List, Option, Some, None, Result, Ok, Err}
 use Rattle.ocpp_scalars.specs.declared.refusal.Refusal.{Refusal}
+use Rattle.messages.specs.declared.call.Call.{Call}
 use Rattle.meaning.specs.Limit.{limit_asked}
 use Rattle.meaning.specs.ByCases.Exact.{exact_schedule}
 use Rattle.point_book.specs.Book.{state_of}
 use Rattle.site_core.specs.declared.step.Step.{Step}
 use Rattle.site_core.specs.declared.step.Step.TheVariants as steps
 use Rattle.site_core.specs.declared.reply.Reply.{Reply}
-use Rattle.site_core.specs.declared.reply.Reply.TheVariants.{Taken, Nothing}
+use Rattle.site_core.specs.declared.reply.Reply.TheVariants.{Taken, Sent}
 use Rattle.site_core.specs.State.{MachineState, Kept, ScheduleAnswer, link_of}
 use Rattle.site_core.specs.Requests.{request_of}
 use Rattle.site_core.specs.Step.{Made, stepped, no_answer}
 
--- what comes of a step: what it replies and the state after it, or why it is refused and the state as it was
+-- what comes of a step: what it replies and the state after it, or why it is refused and the state as
+-- it was
 pub record Stepped : Type 0 where
   pub outcome : Result Reply Refusal
   pub after : MachineState
@@ -22,12 +24,12 @@ abbrev pub made_or_refused : MachineState → Result Made Refusal → Stepped
 made_or_refused old (Ok made) = record { outcome = Ok made.reply; after = made.after }
 made_or_refused old (Err refusal) = record { outcome = Err refusal; after = old }
 
--- what a compile answers: the exact schedule of what the request's point had when it was taken, or that it
--- is too long (OCPP 1.6, 5.7)
+-- what a compile answers: the exact schedule of what the request's point had when it was taken, or
+-- that it is too long (OCPP 1.6, 5.7)
 abbrev pub exact_answer : Option Kept → ScheduleAnswer
 exact_answer None = no_answer
-exact_answer (Some kept) =
-    exact_schedule (limit_asked (state_of kept.book) kept.ask.connector kept.ask.start) kept.ask.duration
+exact_answer (Some kept) = exact_schedule
+    (limit_asked (state_of kept.book) kept.ask.connector kept.ask.start) kept.ask.duration
 
 abbrev pub answer_given : MachineState → Step → ScheduleAnswer
 answer_given old (steps.Compile number) = exact_answer (request_of number old.requests)
@@ -48,7 +50,8 @@ at_once outcome after = record { outcome = outcome; after = after }
 
 -- one step, and where that takes a request, it is compiled and answered at once
 abbrev pub stepped_at_once : MachineState → Step → Stepped
-stepped_at_once old step = at_once (stepped_exactly old step).outcome (stepped_exactly old step).after
+stepped_at_once old step =
+    at_once (stepped_exactly old step).outcome (stepped_exactly old step).after
 
 -- ---- links and calls (OCPP-J 1.6, 3 and 4)
 
@@ -60,18 +63,31 @@ attached_unless None old point = (stepped_exactly old (steps.Attach point)).afte
 abbrev pub attached_once : MachineState → List ℕ → MachineState
 attached_once old point = attached_unless (link_of old point) old point
 
--- the first call that waits for a point goes out over its link
-abbrev pub sent_over : Option ℕ → MachineState → List ℕ → Stepped
-sent_over None old point = record { outcome = Ok Nothing; after = old }
-sent_over (Some link) old point = stepped_exactly old (steps.Send point link)
+-- what a Send comes to: the call that goes out, if one does, and the state after it
+pub record Sending : Type 0 where
+  pub call : Option Call
+  pub after : MachineState
 
-abbrev pub sent_first : MachineState → List ℕ → Stepped
+abbrev pub call_sent : Result Reply Refusal → Option Call
+call_sent (Ok (Sent call)) = Some call
+call_sent outcome = None
+
+abbrev pub sending_of : Stepped → Sending
+sending_of step = record { call = call_sent step.outcome; after = step.after }
+
+-- a Send over a point's present link, if it has one, sends the first call that waits for it
+abbrev pub sent_over : Option ℕ → MachineState → List ℕ → Sending
+sent_over None old point = record { call = None; after = old }
+sent_over (Some link) old point = sending_of (stepped_exactly old (steps.Send point link))
+
+abbrev pub sent_first : MachineState → List ℕ → Sending
 sent_first old point = sent_over (link_of old point) old point
 
 -- a point has answered the call of a number; where that isn't in flight, nothing changes
 abbrev pub confirmed_over : Option ℕ → MachineState → List ℕ → ℕ → MachineState
 confirmed_over None old point number = old
-confirmed_over (Some link) old point number = (stepped_exactly old (steps.Confirm point link number)).after
+confirmed_over (Some link) old point number =
+    (stepped_exactly old (steps.Confirm point link number)).after
 
 abbrev pub confirmed_by : MachineState → List ℕ → ℕ → MachineState
 confirmed_by old point number = confirmed_over (link_of old point) old point number

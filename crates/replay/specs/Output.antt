@@ -8,4 +8,5 @@ AppendsPrefix old new text = (count : ℕ) × Appends old new (take count text)
 
 -- between the two states a writer took a prefix of the text, which is not the whole of it
 abbrev pub AppendsProperPrefix : Option (List ℕ) → Option (List ℕ) → List ℕ → Type 0
-AppendsProperPrefix old new text = (count : ℕ) × Appends old new (take count text) × (count < length text)
+AppendsProperPrefix old new text =
+    (count : ℕ) × Appends old new (take count text) × (count < length text)

@@ -12,7 +12,7 @@ use Rattle.messages.specs.ResponseText.{response_text}
 use Rattle.messages.specs.declared.side.Side.{Side}
 use Rattle.messages.specs.declared.side.Side.TheVariants as sides
 use Rattle.site_core.specs.declared.reply.Reply.{Reply}
-use Rattle.site_core.specs.declared.reply.Reply.TheVariants.{Taken, Sent}
+use Rattle.site_core.specs.declared.reply.Reply.TheVariants.{Taken}
 use Rattle.site_core.specs.State.{MachineState}
 use Rattle.replay.specs.declared.script.line.LineFault.{LineFault}
 use Rattle.replay.specs.declared.script.line.LineFault.TheVariants.{NotComposite, UnknownRequest}
@@ -24,7 +24,7 @@ use Rattle.replay.specs.declared.session.todo.Todo.TheVariants as todo
 use Rattle.replay.specs.Held.{id_held, let_go}
 use Rattle.replay.specs.Player.{PlayerState, with_machine}
 use Rattle.replay.specs.SentText as texts
-use Rattle.replay.specs.MachineSteps.{Stepped, stepped_exactly, handed_out, stepped_at_once, attached_once, sent_first, confirmed_by}
+use Rattle.replay.specs.MachineSteps.{Stepped, Sending, stepped_exactly, handed_out, stepped_at_once, attached_once, sent_first, confirmed_by}
 use Rattle.replay.specs.Todo.{todo_of, hold_of}
 use Rattle.replay.specs.Answer.{response_of}
 use Rattle.replay.specs.Line.{line_of, fault_name}
@@ -48,9 +48,9 @@ abbrev pub sent_line : List ℕ → Call → List ℕ
 sent_line point call = codes "* " ++ (point ++ (codes " " ++ (call_text call ++ codes "\n")))
 
 -- the call that goes out to a point, if one does
-abbrev pub call_line : List ℕ → Result Reply Refusal → List ℕ
-call_line point (Ok (Sent call)) = sent_line point call
-call_line point outcome = []
+abbrev pub call_line : List ℕ → Option Call → List ℕ
+call_line point None = []
+call_line point (Some call) = sent_line point call
 
 -- `held N`
 abbrev pub held_line : ℕ → List ℕ
@@ -58,7 +58,8 @@ held_line number = codes "held " ++ (decimal number ++ codes "\n")
 
 -- `! LINE NAME`
 abbrev pub fault_line : ℕ → LineFault → List ℕ
-fault_line number fault = codes "! " ++ (decimal number ++ (codes " " ++ (fault_name fault ++ codes "\n")))
+fault_line number fault =
+    codes "! " ++ (decimal number ++ (codes " " ++ (fault_name fault ++ codes "\n")))
 
 -- ---- texts
 
@@ -76,7 +77,8 @@ answered old id kind step = record {
 -- a text is answered at once
 abbrev pub todo_handled : PlayerState → Todo → Handled
 todo_handled old todo.Nothing = record { printed = []; after = old }
-todo_handled old (todo.Answer id response) = record { printed = answer_line id response; after = old }
+todo_handled old (todo.Answer id response) =
+    record { printed = answer_line id response; after = old }
 todo_handled old (todo.Step id kind step) = answered old id kind (stepped_at_once old.machine step)
 todo_handled old (todo.Confirm point number) =
     record { printed = []; after = with_machine old (confirmed_by old.machine point number) }
@@ -84,16 +86,16 @@ todo_handled old (todo.Confirm point number) =
 -- ---- texts of points
 
 -- after what was printed comes the call that goes out now
-abbrev pub call_handled : Handled → List ℕ → Stepped → Handled
-call_handled text point step = record {
-  printed = text.printed ++ call_line point step.outcome;
-  after = with_machine text.after step.after;
+abbrev pub call_handled : Handled → List ℕ → Sending → Handled
+call_handled text point sending = record {
+  printed = text.printed ++ call_line point sending.call;
+  after = with_machine text.after sending.after;
 }
 
 abbrev pub with_call : List ℕ → Handled → Handled
 with_call point text = call_handled text point (sent_first text.after.machine point)
 
--- the text of a point, which has a link then: its answer, and then a call
+-- the text of a point, which has a link then: its answer, and then a Send step
 abbrev pub point_handled : PlayerState → texts.Sent → Handled
 point_handled old text =
     with_call text.point
@@ -113,7 +115,8 @@ with_held old taken number id = record {
 }
 
 -- a request that is taken is held, and any other outcome is answered
-abbrev pub hold_answered : PlayerState → List ℕ → ActionKind → Result Reply Refusal → MachineState → Handled
+abbrev pub hold_answered : PlayerState → List ℕ → ActionKind → Result Reply Refusal → MachineState
+    → Handled
 hold_answered old id kind (Ok (Taken number book ask)) taken =
     record { printed = held_line number; after = with_held old taken number id }
 hold_answered old id kind outcome after =
@@ -123,7 +126,8 @@ abbrev pub hold_stepped : PlayerState → List ℕ → ActionKind → Stepped �
 hold_stepped old id kind step = hold_answered old id kind step.outcome step.after
 
 abbrev pub hold_handled : PlayerState → Todo → Handled
-hold_handled old (todo.Step id kind step) = hold_stepped old id kind (stepped_exactly old.machine step)
+hold_handled old (todo.Step id kind step) =
+    hold_stepped old id kind (stepped_exactly old.machine step)
 hold_handled old other = todo_handled old other
 
 -- the request of this number is answered, and no longer held

@@ -29,7 +29,7 @@ use Rattle.replay.specs.declared.session.todo.Todo.TheVariants as todo
 use Rattle.site_core.specs.declared.step.Step.{Step}
 use Rattle.site_core.specs.declared.step.Step.TheVariants as steps
 use Rattle.site_core.specs.declared.step.Take.{Take}
-use Rattle.replay.specs.ByCases.Form.{number_of}
+use Rattle.replay.specs.ByCases.Number.{number_of}
 use Rattle.replay.specs.SentText.{Sent}
 
 -- ---- actions: a step, or the answer where there is none
@@ -40,8 +40,8 @@ not_implemented = Error NotImplemented
 
 -- the profile that the fields make, or why they make none
 abbrev pub step_of_made : Sent → ℕ → Result Profile Refusal → Result Step Response
-step_of_made text connector (Ok profile) =
-    Ok (steps.Install text.point (record { connector = connector; moment = text.moment; profile = profile }))
+step_of_made text connector (Ok profile) = Ok (steps.Install text.point
+    (record { connector = connector; moment = text.moment; profile = profile }))
 step_of_made text connector (Err refusal) = Err (Rejected refusal)
 
 -- how the transaction began: as the CALL tells
@@ -68,7 +68,8 @@ step_of text (actions.GetCompositeSchedule request) = Ok (steps.Take (take_of te
 step_of text actions.BootNotification = Err (BootNotification text.moment)
 step_of text actions.Heartbeat = Err (Heartbeat text.moment)
 step_of text actions.Authorize = Err Authorize
-step_of text (actions.StartTransaction start) = Ok (steps.Start text.point start.connector (begin_of start))
+step_of text (actions.StartTransaction start) =
+    Ok (steps.Start text.point start.connector (begin_of start))
 step_of text (actions.StopTransaction transaction) = Ok (steps.Stop text.point transaction)
 step_of text actions.StatusNotification = Err Empty
 step_of text actions.MeterValues = Err Empty

@@ -2,6 +2,7 @@
 //! the central system, and answered. What a replay writes is the output of its script.
 #![tactic(auto)]
 
+mod number;
 mod player;
 mod script;
 mod session;

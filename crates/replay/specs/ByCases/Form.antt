@@ -1,17 +1,16 @@
--- The form of a line, word by word. `read_line` has the law that this is the form that `IsOfForm` says.
-use Rattle.std.specs.Prelude.{ℕ, ◌==◌, ◌&&◌, Bool, nat_lt, nat_le, if◌then◌else◌, List, length, slice_index, codes, Option, Some, None}
-use Rattle.std.specs.Fmt.{decimal}
+-- The form of a line, word by word. `read_line` has the law that this is the form that `IsOfForm`
+-- says.
+use Rattle.std.specs.Prelude.{ℕ, ◌==◌, ◌&&◌, Bool, nat_lt, if◌then◌else◌, List, length, codes, Option, Some, None}
 use Rattle.std.specs.List.{position_or_len, before_first, after_first}
 use Rattle.std.specs.Str.{bytes_eq}
-use Rattle.std.specs.Str.Parse.{digits_value}
-use Rattle.ocpp_scalars.specs.Ascii.{space, digit_zero}
+use Rattle.ocpp_scalars.specs.Ascii.{space}
 use Rattle.ocpp_scalars.specs.OptionSteps.{◌>>=◌}
 use Rattle.replay.specs.declared.script.form.LineWord.{LineWord}
 use Rattle.replay.specs.declared.script.form.LineWord.TheVariants.{Operator, Point, Hold}
 use Rattle.replay.specs.declared.script.form.Words.{Words}
 use Rattle.replay.specs.declared.script.form.Words.TheVariants.{Text, Release}
-use Rattle.site_core.specs.Limits.{max_number}
 use Rattle.replay.specs.Form.{Form, text_line, release_line}
+use Rattle.replay.specs.ByCases.Number.{number_of}
 
 abbrev pub is_space : ℕ → Bool
 is_space b = b == space
@@ -19,7 +18,8 @@ is_space b = b == space
 -- the word that a text begins with, of at least one byte, and what follows the one space after it
 abbrev pub word_at : List ℕ → Option (List ℕ × List ℕ)
 word_at text =
-    if nat_lt 0 (position_or_len is_space text) && nat_lt (position_or_len is_space text) (length text)
+    if nat_lt 0 (position_or_len is_space text)
+        && nat_lt (position_or_len is_space text) (length text)
     then Some (before_first is_space text, after_first is_space text)
     else None
 
@@ -30,18 +30,6 @@ word_named word =
     else if bytes_eq word (codes "point") then Some Point
     else if bytes_eq word (codes "hold") then Some Hold
     else None
-
--- whether a number is one of a request, and a word is its decimal text
-abbrev pub is_number : List ℕ → ℕ → Bool
-is_number word n = bytes_eq word (decimal n) && (nat_lt 0 n && nat_le n max_number)
-
--- the digits above 0 are above this byte, and a plus is below it
-abbrev pub begins_above_zero : List ℕ → Bool
-begins_above_zero word = nat_lt digit_zero (slice_index word 0)
-
--- the number of a request that a word is
-unfoldable pub number_of : List ℕ → Option ℕ
-number_of word = if is_number word (digits_value 10 word) then Some (digits_value 10 word) else None
 
 abbrev pub release_form : List ℕ → List ℕ → Option Form
 release_form instant rest = do

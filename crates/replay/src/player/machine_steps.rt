@@ -1,12 +1,13 @@
 //! Steps of the central system's machine, those on a point's link and calls among them.
 
 ghost use Rattle.std.specs.Prelude.{◌≡◌, IfOk, OnOk};
-ghost use Rattle.replay.specs.MachineSteps.{stepped_exactly, handed_out, stepped_at_once, attached_once, sent_first, confirmed_by};
+ghost use Rattle.replay.specs.MachineSteps.{stepped_exactly, handed_out, stepped_at_once, attached_once, call_sent, sent_first, confirmed_by};
 ghost use Rattle.replay.specs.ByCases.MachineSteps.{ComesOf, IsAsked, is_memory};
 
 use meaning::exact_schedules;
+use messages::Call;
 use ocpp_scalars::Refusal;
-use site_core::{Machine, PointId, Reply, Step};
+use site_core::{Machine, PointId, Reply, Step, skipped_sends_send_nothing};
 use std::alloc::{AllocError, Global};
 
 /// What comes of a step: its reply, or why it is refused.
@@ -62,21 +63,34 @@ pub fn attach_once(alloc: Global, machine: &mut Machine, point: &str) -> Result<
     }
 }
 
-/// Sends the first call that waits for a point over its link.
+/// Sends the first call that waits for a point over its link. Returns that call, if one goes out.
 pub fn send_first(
     alloc: Global,
     machine: &mut Machine,
     point: &str,
-) -> Result<StepOutcome, AllocError>
-    ensures { IfOk result (λ outcome. sent_first machine.old point.now
-        ≡ record { outcome = outcome; after = machine.new }) }
+) -> Result<Option<Call>, AllocError>
+    ensures { IfOk result (λ call. sent_first machine.old point.now
+        ≡ record { call = call; after = machine.new }) }
 {
-    match machine.link_of(point) {
+    skipped_sends_send_nothing();
+    // Most often there is nothing to send, and then no step is made.
+    match machine.link_to_send(point) {
         Some(link) => {
             let point = PointId::copied(alloc, point)?;
-            step_exactly(machine, Step::Send { point, link })
+            let outcome = step_exactly(machine, Step::Send { point, link })?;
+            Ok(call_sent(outcome))
         }
-        None => Ok(Ok(Reply::Nothing)),
+        None => Ok(None),
+    }
+}
+
+/// The call that a Send of this outcome sent, if it did.
+fn call_sent(outcome: StepOutcome) -> Option<Call>
+    ensures { result ≡ call_sent outcome }
+{
+    match outcome {
+        Ok(Reply::Sent(call)) => Some(call),
+        _ => None,
     }
 }
 

@@ -9,6 +9,7 @@ use crate::player::held::{Held, let_go};
 use crate::player::machine_steps::{
     StepOutcome, attach_once, confirm_call, hand_out, send_first, step_at_once, step_exactly,
 };
+use messages::Call;
 use ocppj_frame::MessageId;
 use site_core::{Machine, PointId, Step};
 use site_rules::Site;
@@ -36,7 +37,7 @@ impl Model for Player {
 
 impl Player {
     ghost use Rattle.replay.specs.Player.{first_state, with_machine};
-    ghost use Rattle.replay.specs.ByCases.Player.{ComesTo};
+    ghost use Rattle.replay.specs.ByCases.Player.{ComesTo, Sends};
 
     /// Before the first line of a script on a site.
     pub fn new(alloc: Global, site: Site) -> Result<Player, AllocError>
@@ -89,13 +90,12 @@ impl Player {
         attach_once(alloc, &mut self.machine, point)
     }
 
-    /// Sends the first call that waits for a point over its link.
-    pub fn send_first(&mut self, alloc: Global, point: &str) -> Result<StepOutcome, AllocError>
+    /// Sends the first call that waits for a point over its link. Returns that call, if one goes out.
+    pub fn send_first(&mut self, alloc: Global, point: &str) -> Result<Option<Call>, AllocError>
         ensures { IfOk result
-            (λ outcome. ComesTo self.old (sent_first self.old.machine point.now) outcome self.new) }
+            (λ call. Sends self.old (sent_first self.old.machine point.now) call self.new) }
     {
-        let outcome = send_first(alloc, &mut self.machine, point)?;
-        Ok(outcome)
+        send_first(alloc, &mut self.machine, point)
     }
 
     /// Confirms the call of a number to a point, if it is in flight.

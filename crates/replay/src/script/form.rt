@@ -1,9 +1,9 @@
 //! The forms of a line of a script: its words with one space between them.
 
 ghost use Rattle.std.specs.Prelude.{◌≡◌, option_map};
-ghost use Rattle.replay.specs.ByCases.Form.{word_at, word_named, begins_above_zero, number_of, words_view, form_of};
+ghost use Rattle.replay.specs.ByCases.Form.{word_at, word_named, words_view, form_of};
 
-use site_core::MAX_NUMBER;
+use crate::number::number_of;
 
 /// Which line that brings a text it is, by its second word.
 #[derive(Clone, Copy, Debug, PartialEq, Eq)]
@@ -78,30 +78,4 @@ fn split_word(text: &str) -> Option<(&str, &str)>
         return None;
     }
     Some((word, rest))
-}
-
-/// The number from 1 to 1,000,000,000,000 that a word is, in decimal without leading zeros.
-pub fn number_of(word: &str) -> Option<u64>
-    ensures { result ≡ number_of word.now }
-{
-    if !begins_above_zero(word) {
-        return None;
-    }
-    let Ok(number) = word.parse::<u64>() else {
-        return None;
-    };
-    if number > MAX_NUMBER {
-        return None;
-    }
-    Some(number)
-}
-
-/// Whether a word begins with a byte above the digit 0. `parse` takes a plus and zeros before a number.
-fn begins_above_zero(word: &str) -> bool
-    ensures { result ≡ begins_above_zero word.now }
-{
-    match word.as_bytes().first() {
-        Some(first) => *first > b'0',
-        None => false,
-    }
 }

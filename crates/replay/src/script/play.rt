@@ -131,19 +131,19 @@ fn point_lines(
 {
     player.attach_once(alloc, text.point())?;
     let mut lines = text_line(alloc, player, text)?;
-    let outcome = player.send_first(alloc, text.point())?;
-    push_call_line(&mut lines, text.point(), &outcome)?;
+    let call = player.send_first(alloc, text.point())?;
+    push_call_line(&mut lines, text.point(), &call)?;
     Ok(lines)
 }
 
 /// Appends the line with the call that goes out to a point, if one does.
-fn push_call_line(lines: &mut String, point: &str, outcome: &StepOutcome) -> Result<(), AllocError>
+fn push_call_line(lines: &mut String, point: &str, call: &Option<Call>) -> Result<(), AllocError>
     ensures { OnOk result
-        (string_bytes lines.new ≡ string_bytes lines.old ++ call_line point.now outcome.now) }
+        (string_bytes lines.new ≡ string_bytes lines.old ++ call_line point.now call.now) }
 {
-    match outcome {
-        Ok(Reply::Sent(call)) => push_sent(lines, point, call),
-        _ => Ok(()),
+    match call {
+        Some(call) => push_sent(lines, point, call),
+        None => Ok(()),
     }
 }
 

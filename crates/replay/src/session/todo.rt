@@ -8,7 +8,7 @@ ghost use Rattle.messages.specs.Action.{action_of_kind};
 ghost use Rattle.messages.specs.ActionKind.{action_named};
 ghost use Rattle.replay.specs.Todo.{begin_of, take_of, side_eq, step_of, step_of_made, step_of_reading, kind_of_sender, call_numbered, todo_confirm, todo_of_reply, todo_of_message, todo_of, todo_with, asks_schedule, is_schedule_kind, hold_of};
 
-use crate::script::form::number_of;
+use crate::number::number_of;
 use crate::session::sent_text::SentText;
 use messages::{
     Action, ActionKind, CallFault, Response, ScheduleRequest, Side, StartTransaction, read_fields,
