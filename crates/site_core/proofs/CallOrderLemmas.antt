@@ -41,7 +41,7 @@ use Rattle.site_core.specs.Step.{next_transaction, with_transaction, refusal_to_
 use Rattle.site_core.specs.Step.{Made, Steps, at_link, at_linked_place, is_present, attaches, sends, sends_call, confirms, loses, with_outbox, changed, changed_by_call, refusal_to_call, unless, version_refusal, installs, clears, starts, starts_as, stops, takes, takes_ask, compiles_kept, answers_kept, answers_with, finishes, unchanged, stepped, no_answer}
 use Rattle.site_core.specs.History.{Event, Legal}
 use Rattle.site_core.specs.CallOrder.{is_place, is_at, names, events_at, traffic_by, traffic_of, traffic_by_event, calls_by, calls_by_event, calls_sent, numbers_of_calls, OutboxesFollowHistories, calls_made, IsOneOf, CallsAreSentInOrder, CallsAreSentAsMade, CallsAreLeftUnlessConfirmed}
-use Rattle.site_core.specs.CallOrder.{slots_after, end_at, changes_by, changes_from, changes_of, opening_slots, rows_after_all, bodies_of, RowsFollowHistories, PointsStayInStep, accepted, Moment, EachCallHasItsMoment, numbers_obeyed_at, ObeyingPointsStayInStep}
+use Rattle.site_core.specs.CallOrder.{slots_after, end_at, changes_by, changes_from, changes_of, opening_slots, rows_after_all, bodies_of, RowsFollowHistories, PointsStayInStep, accepted, Moment, EachCallHasItsMoment, ObeyingPointsStayInStep}
 use Rattle.site_core.specs.ObeyOrder.{obeyed_numbers, numbers_obeyed, IsObeyed}
 use Rattle.site_core.proofs.StepLemmas.{at_point_made, unless_made, either_made}
 use Rattle.site_core.proofs.ObeyLemmas.{lasting_end, stays_in_step}

@@ -3,7 +3,7 @@ use Rattle.std.proofs.Common.{◌≡◌, ℕ, ◌+◌, ◌≤◌, ◌==◌, true
 use Rattle.std.proofs.lemmas.Bool.{eqb-false}
 use Rattle.std.proofs.lemmas.List.{length-set}
 use Rattle.ocpp_scalars.specs.declared.refusal.Refusal.{Refusal}
-use Rattle.ocpp_scalars.specs.declared.refusal.Refusal.TheVariants.{Stopped, Superseded, UnknownPoint, OutboxFull, VersionsExhausted, TransactionsExhausted}
+use Rattle.ocpp_scalars.specs.declared.refusal.Refusal.TheVariants.{Stopped, UnknownPoint, OutboxFull, VersionsExhausted, TransactionsExhausted}
 use Rattle.profile.specs.declared.row.Row.{Row}
 use Rattle.site_rules.specs.Site.{place_of}
 use Rattle.site_rules.specs.Admission.{admission_refusal}

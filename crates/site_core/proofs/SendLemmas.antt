@@ -1,5 +1,5 @@
 -- Where a call is to be sent, and what a Send does where none is.
-use Rattle.std.proofs.Common.{◌≡◌, ℕ, ◌==◌, Bool, true, false, cond, List, Option, Some, None, is_some, Result, Ok, Err, refl}
+use Rattle.std.proofs.Common.{◌≡◌, ℕ, ◌==◌, Bool, true, false, cond, List, Option, Some, None, is_some, Ok, Err, refl}
 use Rattle.std.specs.Prelude.{IfOk}
 use Rattle.ocpp_scalars.specs.declared.refusal.Refusal.TheVariants.{Stopped, Superseded}
 use Rattle.site_rules.specs.Site.{place_of}
