@@ -411,6 +411,25 @@ fn a_new_link_sends_what_was_in_flight(rt: HostRuntime) -> Result<(), Fail> {
 
 /// As many calls wait as may be, call 0 among them. A start adds none.
 #[test]
+fn a_call_that_waits_has_a_link_to_be_sent_over(rt: HostRuntime) -> Result<(), Fail> {
+    let alloc = rt.alloc();
+    let mut machine = Machine::new(alloc, site(alloc)?)?;
+    let steps = [
+        (Told::Attach("CP1"), ("Attached", 1), Some(1)),
+        (Told::Send("CP1", 1), ("Sent", 0), None),
+        (Told::Confirm("CP1", 1, 0), ("Confirmed", 0), None),
+        (Told::Install("CP1", 70), ("Accepted", 0), Some(1)),
+        (Told::Finish, ("Finished", 0), None),
+    ];
+    for (told, outcome, link) in steps {
+        run(&rt, alloc, &mut machine, &[(told, outcome)])?;
+        assert_eq!(rt; machine.link_to_send("CP1"), link);
+        assert_eq!(rt; machine.link_to_send("CP2"), None);
+    }
+    Ok(())
+}
+
+#[test]
 fn an_outbox_is_full_after_255_installs(rt: HostRuntime) -> Result<(), Fail> {
     let alloc = rt.alloc();
     let mut machine = Machine::new(alloc, site(alloc)?)?;
