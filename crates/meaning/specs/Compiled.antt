@@ -15,7 +15,9 @@ pub record IsExactAnswer (limit : ℕ → ℕ) (duration : ℕ) (schedule : Sche
 
 -- the exact schedule has more periods than an answer may have
 pub record IsTooLong (limit : ℕ → ℕ) (duration : ℕ) : Type 0 where
-  pub more : (periods : List CompositePeriod) → IsExact limit duration periods → max_composite_periods < length periods
+  pub more :
+      (periods : List CompositePeriod)
+      → IsExact limit duration periods → max_composite_periods < length periods
 
 abbrev pub IsPermitted : (ℕ → ℕ) → ℕ → Refusal → Type 0
 IsPermitted limit duration ResultTooLong = IsTooLong limit duration

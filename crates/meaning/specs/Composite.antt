@@ -33,4 +33,5 @@ last (p ∷ (q ∷ ps)) = last (q ∷ ps)
 -- the limit that periods give at a second: that of the last one that has started by then
 abbrev pub at : List CompositePeriod → ℕ → Option ℕ
 at periods second =
-    option_map (λ (p : CompositePeriod). p.limit) (last (filter (λ (p : CompositePeriod). nat_le p.start second) periods))
+    option_map (λ (p : CompositePeriod). p.limit)
+    (last (filter (λ (p : CompositePeriod). nat_le p.start second) periods))

@@ -16,29 +16,37 @@ at_most limit (Some other) = min limit other
 -- the limit of the prevailing TxProfile, or else of the prevailing TxDefaultProfile (OCPP 1.6, 3.13)
 abbrev pub transaction_limit : PointState → ℕ → ℕ → ℕ → Option ℕ
 transaction_limit state connector asked instant =
-    or_else (prevailing TxProfile state connector asked instant) (prevailing TxDefaultProfile state connector asked instant)
+    or_else
+    (prevailing TxProfile state connector asked instant)
+    (prevailing TxDefaultProfile state connector asked instant)
 
 -- the least of the connector's ceiling and its transaction limit
 abbrev pub own_limit : PointState → ℕ → ℕ → ℕ → ℕ
-own_limit state connector asked instant = at_most (ceiling_of state connector) (transaction_limit state connector asked instant)
+own_limit state connector asked instant =
+    at_most (ceiling_of state connector) (transaction_limit state connector asked instant)
 
 -- the least of the point's ceiling and the prevailing ChargePointMaxProfile
 abbrev pub point_limit : PointState → ℕ → ℕ → ℕ
-point_limit state asked instant = at_most state.ceiling (prevailing ChargePointMaxProfile state 0 asked instant)
+point_limit state asked instant =
+    at_most state.ceiling (prevailing ChargePointMaxProfile state 0 asked instant)
 
 -- the connectors with an active transaction
 abbrev pub active_connectors : PointState → List ℕ
-active_connectors state = filter (λ connector. is_some (active_since state connector)) (range_with_len 1 (length state.ceilings))
+active_connectors state =
+    filter (λ connector. is_some (active_since state connector)) (range_with_len 1 (length state.ceilings))
 
 -- what the active connectors may draw together, a whole number without bound
 abbrev pub shared_limit : PointState → ℕ → ℕ → ℕ
-shared_limit state asked instant = sum_by (λ connector. own_limit state connector asked instant) (active_connectors state)
+shared_limit state asked instant =
+    sum_by (λ connector. own_limit state connector asked instant) (active_connectors state)
 
 -- Connector 0 is the whole point, and its limit bounds what the active connectors draw together (this
 -- system's choice); any other connector has its own limit below the point's (OCPP 1.6, 3.13).
 abbrev pub limit_by : Bool → PointState → ℕ → ℕ → ℕ → ℕ
-limit_by true state connector asked instant = min (point_limit state asked instant) (shared_limit state asked instant)
-limit_by false state connector asked instant = min (point_limit state asked instant) (own_limit state connector asked instant)
+limit_by true state connector asked instant =
+    min (point_limit state asked instant) (shared_limit state asked instant)
+limit_by false state connector asked instant =
+    min (point_limit state asked instant) (own_limit state connector asked instant)
 
 -- the limit of a connector at an instant, in tenths, in a schedule asked from `asked` on
 abbrev pub limit : PointState → ℕ → ℕ → ℕ → ℕ

@@ -19,12 +19,15 @@ has_its_transaction TxProfile started = is_some started
 -- the rows that count for a connector among the profiles of a purpose: its candidates
 abbrev pub counted : Purpose → PointState → ℕ → List Row
 counted purpose state connector =
-    if has_its_transaction purpose (active_since state connector) then candidates purpose state.rows connector else []
+    if has_its_transaction purpose (active_since state connector)
+    then candidates purpose state.rows connector
+    else []
 
 -- a row's stack level and its limit at an instant, where it has one
 abbrev pub level_and_limit : PointState → ℕ → ℕ → ℕ → Row → Option (ℕ × ℕ)
 level_and_limit state connector asked instant row =
-    option_map (λ (limit : ℕ). (row.profile.stack_level, limit)) (rate row.profile (base row (active_since state connector) asked) instant)
+    option_map (λ (limit : ℕ). (row.profile.stack_level, limit))
+    (rate row.profile (base row (active_since state connector) asked) instant)
 
 -- Of the profiles of one purpose the one with the highest stack level prevails, among those that have
 -- a limit at the instant (OCPP 1.6, 3.13): its limit.

@@ -15,7 +15,12 @@ pub record PointState : Type 0 where
   pub rows : List Row
 
 abbrev pub point_state : View → PointState
-point_state view = record { ceiling = view.ceiling; ceilings = view.ceilings.now; starts = view.starts.now; rows = view.rows.now }
+point_state view = record {
+  ceiling = view.ceiling;
+  ceilings = view.ceilings.now;
+  starts = view.starts.now;
+  rows = view.rows.now;
+}
 
 -- the ceiling of a connector above 0
 abbrev pub ceiling_of : PointState → ℕ → ℕ

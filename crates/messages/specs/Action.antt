@@ -28,14 +28,14 @@ action_of_kind kinds.FirmwareStatusNotification payload = Ok FirmwareStatusNotif
 action_of_kind kinds.DiagnosticsStatusNotification payload = Ok DiagnosticsStatusNotification
 action_of_kind kinds.DataTransfer payload = Ok DataTransfer
 
--- A CALL for an action that isn't supported is NotImplemented.
-abbrev pub action_if_supported : Option ActionKind → Tree → Result Action CallFault
-action_if_supported None payload = Err NotImplemented
-action_if_supported (Some kind) payload = action_of_kind kind payload
+-- A CALL for an action that isn't known is NotImplemented.
+abbrev pub action_if_known : Option ActionKind → Tree → Result Action CallFault
+action_if_known None payload = Err NotImplemented
+action_if_known (Some kind) payload = action_of_kind kind payload
 
 -- What a CALL of this name and payload asks for, or its first fault.
 abbrev pub action_of : List ℕ → Tree → Result Action CallFault
-action_of name payload = action_if_supported (action_named name) payload
+action_of name payload = action_if_known (action_named name) payload
 
 -- What a message asks for; nothing where it is no CALL.
 abbrev pub action_in : Message → Result Action CallFault
@@ -44,7 +44,7 @@ action_in _ = Ok NotACall
 
 -- ---- memory
 
--- The action that a message asks for by its name, where it is supported.
+-- The action that a message asks for by its name, where it is known.
 abbrev pub kind_asked : Message → Option ActionKind
 kind_asked (call id name payload) = action_named name
 kind_asked _ = None

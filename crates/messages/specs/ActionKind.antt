@@ -1,4 +1,4 @@
--- The names of the actions that are supported, and who sends each (OCPP 1.6, chapters 4 and 5).
+-- The names of the actions that are known, and who sends each (OCPP 1.6, chapters 4 and 5).
 use Rattle.std.specs.Prelude.{ℕ, List, [], ◌∷◌, Option, codes, option_map}
 use Rattle.profile.specs.Names.{named_in}
 use Rattle.messages.specs.declared.action_kind.ActionKind.{ActionKind}

@@ -7,8 +7,8 @@ use Rattle.messages.specs.declared.call_fault.CallFault.{CallFault}
 use Rattle.messages.specs.declared.call_fault.CallFault.TheVariants.{FormationViolation, NotImplemented, OccurenceConstraintViolation, TypeConstraintViolation, PropertyConstraintViolation, Refused}
 use Rattle.messages.specs.FieldName.{fault_field_text}
 
--- Of a refused ClearChargingProfile, StartTransaction or StopTransaction, and of any CALL where memory runs out.
--- The first is never refused for its connector.
+-- Of a refused ClearChargingProfile, StartTransaction or StopTransaction, and of any CALL where
+-- memory runs out. The first is never refused for its connector.
 abbrev pub refused_code : Refusal → List ℕ
 refused_code refusals.UnknownConnector = codes "PropertyConstraintViolation"
 refused_code _ = codes "InternalError"

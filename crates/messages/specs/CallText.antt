@@ -1,5 +1,5 @@
--- What calls to a charge point look like, byte for byte: the keys in the order of OCPP 1.6, chapters 6 and 7, without
--- those of absent fields, no blanks, limits with one decimal.
+-- What calls to a charge point look like, byte for byte: the keys in the order of OCPP 1.6,
+-- chapters 6 and 7, without those of absent fields, no blanks, limits with one decimal.
 use Rattle.std.specs.Prelude.{ℕ, List, [], ◌∷◌, ◌++◌, map, Option, Some, None, option_map, codes}
 use Rattle.std.specs.Fmt.{decimal, signed_decimal}
 use Rattle.ocpp_scalars.specs.Writing.{instant_text, tenths_text}
@@ -79,7 +79,8 @@ own_fields profile =
 
 unfoldable pub profile_text : Profile → List ℕ
 profile_text profile =
-    object_text (own_fields profile ++ ((codes "chargingSchedule", Some (schedule_text profile.schedule)) ∷ []))
+    object_text (own_fields profile
+    ++ ((codes "chargingSchedule", Some (schedule_text profile.schedule)) ∷ []))
 
 -- OCPP 1.6, chapter 6, SetChargingProfile.req
 unfoldable pub set_text : ℕ → Profile → List ℕ

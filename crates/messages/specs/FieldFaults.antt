@@ -1,6 +1,6 @@
--- The fields of each action, in the order in which they are checked, each with its fault where it has one (OCPP 1.6,
--- chapters 6 and 7). By the law `first_faults` an action is read exactly where none has one, and else its fault is the
--- first.
+-- The fields of each action, in the order in which they are checked, each with its fault where it
+-- has one (OCPP 1.6, chapters 6 and 7). By the law `first_faults` an action is read exactly where
+-- none has one, and else its fault is the first.
 use Rattle.std.specs.Prelude.{◌≡◌, List, [], ◌∷◌, ◌++◌, Option, Some, None}
 use Rattle.std.specs.List.{AllByRecursion, flat_map}
 use Rattle.std.specs.Result.{result_err}
@@ -31,7 +31,8 @@ abbrev pub value_or : {A : Type 0} → A → Field A → A
 value_or default (Value x) = x
 value_or default _ = default
 
--- The object and the entries of a field; where the field has a fault, that comes before those of what stands in it.
+-- The object and the entries of a field; where the field has a fault, that comes before those of
+-- what stands in it.
 abbrev pub object_at : Tree → FieldName → Tree
 object_at fields name = value_or null (object fields name).field
 

@@ -1,5 +1,6 @@
--- The names of fields: as they are read from payloads, and as the descriptions of faults write them (OCPP 1.6,
--- chapters 6 and 7). Two tables, so that what is read and what is written share no definition.
+-- The names of fields: as they are read from payloads, and as the descriptions of faults write them
+-- (OCPP 1.6, chapters 6 and 7). Two tables, so that what is read and what is written share no
+-- definition.
 use Rattle.std.specs.Prelude.{ℕ, List, codes}
 use Rattle.messages.specs.declared.field_name.FieldName.{FieldName}
 use Rattle.messages.specs.declared.field_name.FieldName.TheVariants.{ChargingProfileId, ChargingProfileKind, ChargingProfilePurpose, ChargingRateUnit, ChargingSchedule, ChargingSchedulePeriod, ConnectorId, CsChargingProfiles, Duration, Id, IdTag, Limit, MeterStart, MinChargingRate, NumberPhases, RecurrencyKind, StackLevel, StartPeriod, StartSchedule, Timestamp, TransactionId, ValidFrom, ValidTo}

@@ -44,7 +44,8 @@ from_zero (Value (pos n)) = Value n
 from_zero (Value (negsuc n)) = WrongValue
 
 unfoldable pub whole_from_zero : Tree → FieldName → NamedField ℕ
-whole_from_zero fields name = record { name = name; field = from_zero (whole_field_of (field_name name) fields) }
+whole_from_zero fields name =
+    record { name = name; field = from_zero (whole_field_of (field_name name) fields) }
 
 -- tenths of A or W
 unfoldable pub tenths : Tree → FieldName → NamedField ℕ
@@ -66,7 +67,8 @@ one_of named (Value text) = value_or_wrong (named text)
 
 -- a text that names one of a few values
 unfoldable pub one_name_of : {A : Type 0} → (List ℕ → Option A) → Tree → FieldName → NamedField A
-one_name_of named fields name = record { name = name; field = one_of named (text_field_of (field_name name) fields) }
+one_name_of named fields name =
+    record { name = name; field = one_of named (text_field_of (field_name name) fields) }
 
 unfoldable pub list : Tree → FieldName → NamedField (List Tree)
 list fields name = record { name = name; field = list_field_of (field_name name) fields }

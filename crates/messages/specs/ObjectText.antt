@@ -1,5 +1,5 @@
--- What JSON objects look like whose fields may be absent: the fields that are present in a given order, without blanks
--- (RFC 8259, section 4).
+-- What JSON objects look like whose fields may be absent: the fields that are present in a given
+-- order, without blanks (RFC 8259, section 4).
 use Rattle.std.specs.Prelude.{ℕ, List, [], ◌∷◌, ◌++◌, Option, option_map, codes}
 use Rattle.std.specs.List.{filter_map}
 

@@ -25,7 +25,8 @@ clear_charging_profile_of payload = do
   connector ← optional (whole_from_zero payload ConnectorId)
   purpose ← optional (one_name_of purpose_named payload ChargingProfilePurpose)
   stack_level ← optional (whole_from_zero payload StackLevel)
-  Ok (ClearChargingProfile (record { id = id; connector = connector; purpose = purpose; stack_level = stack_level }))
+  Ok (ClearChargingProfile (record
+      { id = id; connector = connector; purpose = purpose; stack_level = stack_level }))
 
 -- GetCompositeSchedule.req
 unfoldable pub get_composite_schedule_of : Tree → Result Action CallFault

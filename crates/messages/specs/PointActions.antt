@@ -1,4 +1,5 @@
--- The fields of a point's actions that this system uses, in the order in which they are checked (OCPP 1.6, chapter 6).
+-- The fields of a point's actions that this system uses, in the order in which they are checked
+-- (OCPP 1.6, chapter 6).
 use Rattle.std.specs.Prelude.{ℕ, nat_le, List, length, Result, Ok, Err, if◌then◌else◌}
 use Rattle.std.specs.Str.{chars}
 use Rattle.ocpp_scalars.specs.ResultSteps.{◌>>=◌}
@@ -14,7 +15,8 @@ use Rattle.messages.specs.Fields.{required, whole, whole_from_zero, instant, tex
 -- An idTag is a text of at most so many characters (chapter 7, IdToken).
 abbrev pub as_id_tag : List ℕ → Result (List ℕ) CallFault
 as_id_tag tag =
-    if nat_le (length (chars tag)) max_id_tag_characters then Ok tag else Err (PropertyConstraintViolation IdTag)
+    if nat_le (length (chars tag)) max_id_tag_characters then Ok tag
+    else Err (PropertyConstraintViolation IdTag)
 
 unfoldable pub id_tag_of : Tree → Result (List ℕ) CallFault
 id_tag_of payload = do

@@ -51,8 +51,13 @@ schedule_of fields = do
   entries ← required (list fields ChargingSchedulePeriod)
   periods ← periods_of entries
   min_charging_rate ← optional (tenths fields MinChargingRate)
-  Ok (record
-      { duration = duration; start = start; unit = unit; periods = periods; min_charging_rate = min_charging_rate })
+  Ok (record {
+    duration = duration;
+    start = start;
+    unit = unit;
+    periods = periods;
+    min_charging_rate = min_charging_rate;
+  })
 
 -- ChargingProfile
 unfoldable pub profile_of : Tree → Result ProfileParts CallFault

@@ -43,7 +43,8 @@ authorize_text = codes "{\"idTagInfo\":{\"status\":\"Accepted\"}}"
 -- StartTransaction.conf, with the number of the transaction
 abbrev pub start_transaction_text : ℤ → List ℕ
 start_transaction_text transaction =
-    codes "{\"idTagInfo\":{\"status\":\"Accepted\"},\"transactionId\":" ++ signed_decimal transaction ++ codes "}"
+    codes "{\"idTagInfo\":{\"status\":\"Accepted\"},\"transactionId\":" ++ signed_decimal transaction
+    ++ codes "}"
 
 -- DataTransfer.conf
 abbrev pub unknown_vendor_text : List ℕ
@@ -59,7 +60,8 @@ unit_text W = codes "W"
 
 abbrev pub period_text : CompositePeriod → List ℕ
 period_text period =
-    codes "{\"startPeriod\":" ++ decimal period.start ++ codes ",\"limit\":" ++ tenths_text period.limit ++ codes "}"
+    codes "{\"startPeriod\":" ++ decimal period.start
+    ++ codes ",\"limit\":" ++ tenths_text period.limit ++ codes "}"
 
 -- each behind a comma
 abbrev pub later_periods_text : List CompositePeriod → List ℕ
@@ -94,8 +96,8 @@ refusal_text id refusal =
     if is_out_of_memory refusal then call_error_text id (codes "InternalError") (codes "OutOfMemory")
     else call_result_text id (rejected_text refusal)
 
--- the text that answers the CALL of an id (OCPP-J 1.6, 4.2): a CALLRESULT, or a CALLERROR with the code and the
--- description that name why
+-- the text that answers the CALL of an id (OCPP-J 1.6, 4.2): a CALLRESULT, or a CALLERROR with the
+-- code and the description that name why
 abbrev pub response_text : List ℕ → Response → List ℕ
 response_text id Accepted = call_result_text id accepted_text
 response_text id (Rejected refusal) = refusal_text id refusal

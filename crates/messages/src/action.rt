@@ -63,7 +63,7 @@ pub struct StartTransaction {
 }
 
 /// Reads what a message asks for, or names the first fault of its CALL: `NotImplemented` for an
-/// action that this system doesn't support, else as [`read_fields`]. Who sends the action
+/// action that isn't known, else as [`read_fields`]. Who sends the action
 /// ([`ActionKind::side`]) is asked before.
 pub fn read_action(alloc: Global, frame: &Frame) -> Result<Action, CallFault>
     ensures value { ReadsUnless is_memory (λ action. action) result

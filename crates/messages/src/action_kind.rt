@@ -5,7 +5,7 @@ ghost use Rattle.messages.specs.ActionKind.{action_named, side_of_kind};
 use crate::side::Side;
 use profile::named_in;
 
-/// The actions that this system supports (chapters 4.1 to 4.10 and 5), without their fields.
+/// The actions that are known (chapters 4.1 to 4.10 and 5), without their fields.
 #[derive(Clone, Copy, Debug, PartialEq, Eq)]
 pub enum ActionKind {
     SetChargingProfile,

@@ -11,7 +11,7 @@ use std::alloc::{AllocError, AllocFailed};
 pub enum CallFault {
     /// The action or the payload is malformed (`ocppj_frame::FrameFault::Formation`).
     FormationViolation,
-    /// The action isn't supported, or isn't accepted from this side.
+    /// The action isn't known, or comes from the other side.
     NotImplemented,
     /// A required field is absent, or a required list empty.
     OccurenceConstraintViolation(FieldName),

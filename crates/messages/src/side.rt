@@ -14,8 +14,7 @@ pub enum Side {
     Point,
 }
 
-/// The side that the action of a name comes from, or `None` where this system doesn't support it.
-/// Needs no memory.
+/// The side that the action of a name comes from, or `None` where it isn't known. Needs no memory.
 pub fn side_of(action: &str) -> Option<Side>
     ensures { result ≡ side_of action.now }
 {

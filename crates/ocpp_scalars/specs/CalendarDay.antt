@@ -14,7 +14,8 @@ first_of_next_month d =
 
 abbrev pub next_day : CalendarDay → CalendarDay
 next_day d =
-    if nat_lt d.day (days_in_month (pos d.year) d.month) then record { year = d.year; month = d.month; day = d.day + 1 }
+    if nat_lt d.day (days_in_month (pos d.year) d.month)
+    then record { year = d.year; month = d.month; day = d.day + 1 }
     else first_of_next_month d
 
 -- the day that comes so many days after 1 January 1970

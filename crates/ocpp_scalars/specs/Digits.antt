@@ -11,7 +11,8 @@ abbrev pub AreDigits : List ℕ → Type 0
 AreDigits [] = Unit {0}
 AreDigits (b ∷ bs) = IsDigit b × AreDigits bs
 
--- the number that digits write after others of this value: each digit makes those before it worth ten times as much
+-- the number that digits write after others of this value: each digit makes those before it worth
+-- ten times as much
 abbrev pub value_after : ℕ → List ℕ → ℕ
 value_after n [] = n
 value_after n (b ∷ bs) = value_after (n * 10 + (b - digit_zero)) bs

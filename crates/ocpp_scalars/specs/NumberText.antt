@@ -31,9 +31,11 @@ pub data IsExponent : ℤ → List ℕ → Type 0 where
   unsigned_exponent :
       (e : ℕ) (ds : List ℕ) → IsE e → AreSomeDigits ds → IsExponent (pos (decimal_value ds)) (e ∷ ds)
   plus_exponent :
-      (e : ℕ) (ds : List ℕ) → IsE e → AreSomeDigits ds → IsExponent (pos (decimal_value ds)) (e ∷ (plus ∷ ds))
+      (e : ℕ) (ds : List ℕ) → IsE e → AreSomeDigits ds
+      → IsExponent (pos (decimal_value ds)) (e ∷ (plus ∷ ds))
   minus_exponent :
-      (e : ℕ) (ds : List ℕ) → IsE e → AreSomeDigits ds → IsExponent (neg_ℤ (pos (decimal_value ds))) (e ∷ (minus ∷ ds))
+      (e : ℕ) (ds : List ℕ) → IsE e → AreSomeDigits ds
+      → IsExponent (neg_ℤ (pos (decimal_value ds))) (e ∷ (minus ∷ ds))
 
 -- `number = [ minus ] int [ frac ] [ exp ]`: a sign, the digits before and after the point as one whole
 -- number, and the power of ten that they are multiplied by

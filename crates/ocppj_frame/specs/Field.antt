@@ -31,7 +31,8 @@ value_or_fault (Ok a) = Value a
 value_or_fault (Err e) = WrongValue
 
 -- a field that must be of one kind and read as a scalar
-abbrev pub of_scalar : {A E : Type 0} → (Tree → Option (List ℕ)) → (List ℕ → Result A E) → Option Tree → Field A
+abbrev pub of_scalar : {A E : Type 0} → (Tree → Option (List ℕ)) → (List ℕ → Result A E)
+    → Option Tree → Field A
 of_scalar kind read None = Absent
 of_scalar kind read (Some tree) = option_map_or (λ bytes. value_or_fault (read bytes)) (kind tree) WrongKind
 

@@ -1,6 +1,7 @@
--- The marked text: a JSON text (RFC 8259) in which each number has become a string, so that a reader of JSON keeps its
--- digits. From left to right, a string has the letter `s` after its opening quote, a number has become a string that
--- begins with the letter `n`, and every other byte is copied.
+-- The marked text: a JSON text (RFC 8259) in which each number has become a string, so that a
+-- reader of JSON keeps its digits. From left to right, a string has the letter `s` after its
+-- opening quote, a number has become a string that begins with the letter `n`, and every other byte
+-- is copied.
 use Rattle.std.specs.Prelude.{◌≡◌, ◌≢◌, ℕ, List, [], ◌∷◌, ◌++◌, Bool, true, false, ◌==◌, ◌||◌, ◌&&◌, nat_le, Option, Some, None, if◌then◌else◌}
 use Rattle.json.specs.Ascii.{backslash}
 use Rattle.ocpp_scalars.specs.Ascii.{digit_nine, digit_zero, dot, lower_e, lower_n, minus, plus, quote, upper_e}
@@ -51,7 +52,8 @@ pub data IsMarked : List ℕ → List ℕ → Type 0 where
       → IsMarked (quote ∷ (content ++ (quote ∷ rest))) (quote ∷ (text_mark ∷ (content ++ (quote ∷ out))))
   unclosed_string : (content : List ℕ) → IsUnclosed content
       → IsMarked (quote ∷ content) (quote ∷ (text_mark ∷ content))
-  number : (b : ℕ) (bs rest out : List ℕ) → begins_number b ≡ true → AreNumberBytes bs → EndsNumber rest → IsMarked rest out
+  number : (b : ℕ) (bs rest out : List ℕ)
+      → begins_number b ≡ true → AreNumberBytes bs → EndsNumber rest → IsMarked rest out
       → IsMarked (b ∷ (bs ++ rest)) (quote ∷ (number_mark ∷ (b ∷ (bs ++ (quote ∷ out)))))
   other_byte : (b : ℕ) (rest out : List ℕ) → b ≢ quote → begins_number b ≡ false → IsMarked rest out
       → IsMarked (b ∷ rest) (b ∷ out)

@@ -95,5 +95,6 @@ pub data IsFrame : List Tree → Result Message FrameFault → Type 0 where
 
 -- a tree, and the message or the fault
 pub data IsMessage : Tree → Result Message FrameFault → Type 0 where
-  of_list : (elements : Trees) (result : Result Message FrameFault) → IsFrame (entries elements) result → IsMessage (list elements) result
+  of_list : (elements : Trees) (result : Result Message FrameFault)
+      → IsFrame (entries elements) result → IsMessage (list elements) result
   no_list : (tree : Tree) → as_list tree ≡ None → IsMessage tree (Err Dropped)

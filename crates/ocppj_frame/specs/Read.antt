@@ -1,5 +1,6 @@
--- The tree of a text: `serde_json`'s reading of the marked text, with the marks removed. Of members with one name it
--- keeps the last, so that a value before that one is never looked at: only what is kept has to be a tree.
+-- The tree of a text: `serde_json`'s reading of the marked text, with the marks removed. Of members
+-- with one name it keeps the last, so that a value before that one is never looked at: only what is
+-- kept has to be a tree.
 use Rattle.std.specs.Prelude.{ℕ, List, Option, Some, None, option_map, if◌then◌else◌}
 use Rattle.ocpp_scalars.specs.ByCases.NumberText.{is_number_text}
 use Rattle.ocpp_scalars.specs.OptionSteps.{◌>>=◌}

@@ -1,5 +1,5 @@
--- The texts of written messages (OCPP-J 1.6, section 4.2), without blanks. A payload comes as its text, between a head
--- and an end.
+-- The texts of written messages (OCPP-J 1.6, section 4.2), without blanks. A payload comes as its
+-- text, between a head and an end.
 use Rattle.std.specs.Prelude.{ℕ, List, ◌++◌, codes}
 use Rattle.json.specs.Print.{quoted}
 

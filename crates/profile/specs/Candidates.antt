@@ -10,7 +10,10 @@ use Rattle.profile.specs.Purpose.{is_charge_point_max, is_tx_default, is_tx}
 -- of the same stack level, and also at seconds that it doesn't cover (both are this system's choice).
 abbrev pub is_replaced_at : List Row → ℕ → ℕ → Bool
 is_replaced_at rows connector level =
-    list_any (λ (r : Row). is_tx_default r.profile.purpose && (r.connector == connector) && (r.profile.stack_level == level)) rows
+    list_any
+    (λ (row : Row). is_tx_default row.profile.purpose
+    && (row.connector == connector) && (row.profile.stack_level == level))
+    rows
 
 -- whether a row of a purpose speaks for a connector (OCPP 1.6, 3.13): ChargePointMaxProfile rows stand at
 -- connector 0 and speak for all, TxDefaultProfile rows at 0 for those that have none of their level

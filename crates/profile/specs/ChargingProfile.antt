@@ -38,4 +38,6 @@ rate_within profile offset =
 -- the profile's limit at an instant, in tenths, counted from a base; none where it has none
 abbrev pub rate : Profile → ℕ → ℕ → Option ℕ
 rate profile base instant =
-    if is_valid_at profile instant then option_and_then (rate_within profile) (offset profile base instant) else None
+    if is_valid_at profile instant
+    then option_and_then (rate_within profile) (offset profile base instant)
+    else None

@@ -15,7 +15,8 @@ is_at n (Some bound) = n == bound
 abbrev pub is_turn : Schedule → ℕ → Bool
 is_turn schedule offset =
     (offset == 0)
-    || (list_any (λ (period : Period). offset == period.start) schedule.periods || is_at offset schedule.duration)
+    || (list_any (λ (period : Period). offset == period.start) schedule.periods
+    || is_at offset schedule.duration)
 
 -- the same of an offset that there may be: there is none before the anchor, and so no turn
 abbrev pub is_turn_at : Schedule → Option ℕ → Bool

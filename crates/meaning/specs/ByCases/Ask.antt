@@ -5,7 +5,8 @@ use Rattle.ocpp_scalars.specs.Limits.{last_second}
 use Rattle.meaning.specs.declared.ask.Ask.{Ask}
 use Rattle.meaning.specs.Limits.{max_duration}
 
-abbrev pub ask_with : (connector start duration : ℕ) → nat_lt 0 duration ≡ true → nat_le duration max_duration ≡ true
+abbrev pub ask_with : (connector start duration : ℕ)
+    → nat_lt 0 duration ≡ true → nat_le duration max_duration ≡ true
     → nat_le (start + duration) (last_second + 1) ≡ true → Ask
 ask_with connector start duration some most within = record {
   connector = connector;

@@ -19,7 +19,8 @@ period_from limit second = record { start = second; limit = limit second }
 
 -- the exact periods of a limit over so many seconds
 abbrev pub exact_periods : (ℕ → ℕ) → ℕ → List CompositePeriod
-exact_periods limit duration = map (period_from limit) (filter (begins_period limit) (range_with_len 0 duration))
+exact_periods limit duration =
+    map (period_from limit) (filter (begins_period limit) (range_with_len 0 duration))
 
 -- the exact schedule of a limit over so many seconds, or that it is too long to be an answer
 abbrev pub exact_schedule : (ℕ → ℕ) → ℕ → Result Schedule Refusal

@@ -51,7 +51,8 @@ is_day year month day =
 
 -- the number of the calendar's day, 0 for 1 January 1970
 abbrev pub day_number : ℕ → ℕ → ℕ → Option ℤ
-day_number year month day = if is_day year month day then Some (days_from_civil (pos year) month day) else None
+day_number year month day =
+    if is_day year month day then Some (days_from_civil (pos year) month day) else None
 
 -- `YYYY-MM-DD`, as the number of the day
 unfoldable pub date_at : List ℕ → Part ℤ

@@ -1,5 +1,5 @@
--- What a number's text is worth in tenths and as a whole number, or the fault. By the law `number_texts` it is what
--- `Number` says.
+-- What a number's text is worth in tenths and as a whole number, or the fault. By the law
+-- `number_texts` it is what `Number` says.
 use Rattle.std.specs.Prelude.{ℕ, suc, ◌*◌, ◌/◌, ◌%◌, ◌^◌, Bool, true, false, ◌==◌, nat_le, nat_lt, if◌then◌else◌, List, length, ℤ, pos, negsuc, ◌+ℤ◌, ◌-ℤ◌, Option, Some, None, option_map, ok_or, Result, Ok, Err}
 use Rattle.ocpp_scalars.specs.declared.number.NumberFault.{NumberFault}
 use Rattle.ocpp_scalars.specs.declared.number.NumberFault.TheVariants.{Form, TooLong, Range}
@@ -56,7 +56,9 @@ most_whole false = max_whole
 
 abbrev pub whole_of_number : Result Number NumberFault → Result ℤ NumberFault
 whole_of_number (Ok n) =
-    ok_or (option_map (with_sign n.negative) (at_most (most_whole n.negative) (times_power n.digits n.power))) Range
+    ok_or
+    (option_map (with_sign n.negative) (at_most (most_whole n.negative) (times_power n.digits n.power)))
+    Range
 whole_of_number (Err e) = Err e
 
 -- the whole number that a text is worth, from -2,147,483,648 to 2,147,483,647

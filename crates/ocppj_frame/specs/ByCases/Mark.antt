@@ -4,7 +4,8 @@ use Rattle.json.specs.Ascii.{backslash}
 use Rattle.ocpp_scalars.specs.Ascii.{quote}
 use Rattle.ocppj_frame.specs.Mark.{text_mark, number_mark, begins_number, continues_number}
 
--- where a byte stands: outside strings and numbers, inside a string, inside a string after a backslash, or in a number
+-- where a byte stands: outside strings and numbers, inside a string, inside a string after a
+-- backslash, or in a number
 pub data Place : Type 0 where
   outside : Place
   inside : Place
@@ -15,8 +16,8 @@ pub data Place : Type 0 where
 abbrev pub place_outside : ℕ → Place
 place_outside b = if b == quote then inside else if begins_number b then in_number else outside
 
--- where the text goes on after a byte: a backslash takes the next byte along, a quote that it did not take ends the
--- string, and a number is the longest stretch of its bytes
+-- where the text goes on after a byte: a backslash takes the next byte along, a quote that it did
+-- not take ends the string, and a number is the longest stretch of its bytes
 abbrev pub place_after : Place → ℕ → Place
 place_after outside b = place_outside b
 place_after inside b = if b == backslash then escaped else if b == quote then outside else inside
@@ -25,7 +26,10 @@ place_after in_number b = if continues_number b then in_number else place_outsid
 
 -- outside strings an opening quote gets its mark, and a number its quote and its mark
 abbrev pub marked_outside : ℕ → List ℕ
-marked_outside b = if b == quote then quote ∷ text_mark ∷ [] else if begins_number b then quote ∷ number_mark ∷ b ∷ [] else b ∷ []
+marked_outside b =
+    if b == quote then quote ∷ text_mark ∷ []
+    else if begins_number b then quote ∷ number_mark ∷ b ∷ []
+    else b ∷ []
 
 -- what is written for a byte; the first byte after a number closes the number's quote
 abbrev pub marked_byte : Place → ℕ → List ℕ

@@ -1,5 +1,6 @@
--- What a tree is as a message, element by element: a CALL `[2, id, action, payload]`, a CALLRESULT `[3, id, payload]` or
--- a CALLERROR `[4, id, code, description, details]`. Equal to the table of `Message` by the law `frame_messages`.
+-- What a tree is as a message, element by element: a CALL `[2, id, action, payload]`, a CALLRESULT
+-- `[3, id, payload]` or a CALLERROR `[4, id, code, description, details]`. Equal to the table of
+-- `Message` by the law `frame_messages`.
 use Rattle.std.specs.Prelude.{ℕ, ℤ, pos, negsuc, ◌==◌, length, List, Option, Some, None, option_map, option_and_then, unwrap_or, nat_le, nat_lt, slice_get, Result, Ok, Err, if◌then◌else◌}
 use Rattle.std.specs.Option.{option_map_or}
 use Rattle.std.specs.Result.{result_ok}
@@ -16,7 +17,11 @@ use Rattle.ocppj_frame.specs.declared.message.MessageType.TheVariants.{Call, Cal
 
 -- the message types by number (section 4.1.3)
 abbrev pub type_of_number : ℤ → MessageType
-type_of_number (pos n) = if n == 2 then Call else if n == 3 then CallResult else if n == 4 then CallError else Other
+type_of_number (pos n) =
+    if n == 2 then Call
+    else if n == 3 then CallResult
+    else if n == 4 then CallError
+    else Other
 type_of_number (negsuc n) = Other
 
 -- the first element is a number with a whole value
@@ -45,19 +50,25 @@ call_of id (Some action) None = Err (Formation id)
 call_of id None payload = Err (Formation id)
 
 -- the message by its type, its id, and its third and fourth elements
-abbrev pub message_by : Option MessageType → Option (List ℕ) → Option Tree → Option Tree → Result Message FrameFault
+abbrev pub message_by : Option MessageType → Option (List ℕ) → Option Tree → Option Tree
+    → Result Message FrameFault
 message_by None id third fourth = Err Dropped
 message_by (Some Other) id third fourth = Ok other
 message_by (Some Call) None third fourth = Err Dropped
 message_by (Some CallResult) None third fourth = Err Dropped
 message_by (Some CallError) None third fourth = Err Dropped
 message_by (Some Call) (Some id) third fourth = call_of id (option_and_then as_text third) (payload_of fourth)
-message_by (Some CallResult) (Some id) third fourth = Ok (call_result id (unwrap_or (payload_of third) empty_object))
+message_by (Some CallResult) (Some id) third fourth =
+    Ok (call_result id (unwrap_or (payload_of third) empty_object))
 message_by (Some CallError) (Some id) third fourth = Ok (call_error id)
 
 abbrev pub message_of_elements : List Tree → Result Message FrameFault
 message_of_elements elements =
-    message_by (message_type (slice_get elements 0)) (message_id (slice_get elements 1)) (slice_get elements 2) (slice_get elements 3)
+    message_by
+    (message_type (slice_get elements 0))
+    (message_id (slice_get elements 1))
+    (slice_get elements 2)
+    (slice_get elements 3)
 
 -- a tree that is no list is dropped
 abbrev pub message_of_tree : Tree → Result Message FrameFault
@@ -65,4 +76,6 @@ message_of_tree tree = option_map_or message_of_elements (as_list tree) (Err Dro
 
 -- a text of too many bytes is dropped, as is one that is refused
 abbrev pub message_of_text : List ℕ → Result Message FrameFault
-message_of_text text = if nat_lt max_frame_bytes (length text) then Err Dropped else option_map_or message_of_tree (tree_of_text text) (Err Dropped)
+message_of_text text =
+    if nat_lt max_frame_bytes (length text) then Err Dropped
+    else option_map_or message_of_tree (tree_of_text text) (Err Dropped)

@@ -12,18 +12,21 @@ use Rattle.profile.specs.Kind.{start_of}
 use Rattle.profile.specs.Purpose.{transaction_of}
 
 -- what is dropped once stays dropped
-pub transaction_of_again : (purpose : Purpose) (transaction : Option ℤ) → transaction_of purpose (transaction_of purpose transaction) ≡ transaction_of purpose transaction
+pub transaction_of_again : (purpose : Purpose) (transaction : Option ℤ)
+    → transaction_of purpose (transaction_of purpose transaction) ≡ transaction_of purpose transaction
 transaction_of_again ChargePointMaxProfile transaction = refl
 transaction_of_again TxDefaultProfile transaction = refl
 transaction_of_again TxProfile transaction = refl
 
-pub start_of_again : (kind : Kind) (start : Option ℕ) → start_of kind (start_of kind start) ≡ start_of kind start
+pub start_of_again : (kind : Kind) (start : Option ℕ)
+    → start_of kind (start_of kind start) ≡ start_of kind start
 start_of_again Absolute start = refl
 start_of_again (Recurring recurrency) start = refl
 start_of_again Relative start = refl
 
 -- the profile of these fields, of a kind, where their level is low enough
-abbrev pub profile_with : (parts : ProfileParts) → Kind → nat_le parts.stack_level max_stack_level ≡ true → Profile
+abbrev pub profile_with : (parts : ProfileParts) → Kind
+    → nat_le parts.stack_level max_stack_level ≡ true → Profile
 profile_with parts kind low = record {
   id = parts.id;
   transaction = transaction_of parts.purpose parts.transaction;
