@@ -232,6 +232,7 @@ def memory_problems(program, folder):
         ("examples/first-schedule", 20),
         ("examples/point-messages", 60),
         ("examples/ordinary-day", 200),
+        ("examples/calls-to-a-point", 100),
         ("tests/replay/holds-released-in-another-order", 100),
     ):
         name = os.path.basename(case)
