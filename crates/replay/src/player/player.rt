@@ -19,6 +19,7 @@ use std::marker::Model;
 /// The player of a script.
 #[derive(Drop)]
 pub struct Player {
+    alloc: Global,
     machine: Machine,
     /// In the order of their lines.
     held: Vec<Held>,
@@ -44,9 +45,15 @@ impl Player {
         ensures { IfOk result (λ player. player ≡ first_state site) }
     {
         Ok(Player {
+            alloc,
             machine: Machine::new(alloc, site)?,
             held: Vec::new(alloc),
         })
+    }
+
+    /// The allocator that it was made with.
+    pub fn alloc(&self) -> Global {
+        self.alloc
     }
 
     /// The site.
@@ -83,19 +90,19 @@ impl Player {
     }
 
     /// Gives a point a link, if it has none.
-    pub fn attach_once(&mut self, alloc: Global, point: &str) -> Result<(), AllocError>
+    pub fn attach_once(&mut self, point: &str) -> Result<(), AllocError>
         ensures { OnOk result
             (self.new ≡ with_machine self.old (attached_once self.old.machine point.now)) }
     {
-        attach_once(alloc, &mut self.machine, point)
+        attach_once(self.alloc, &mut self.machine, point)
     }
 
     /// Sends the first call that waits for a point over its link. Returns that call, if one goes out.
-    pub fn send_first(&mut self, alloc: Global, point: &str) -> Result<Option<Call>, AllocError>
+    pub fn send_first(&mut self, point: &str) -> Result<Option<Call>, AllocError>
         ensures { IfOk result
             (λ call. Sends self.old (sent_first self.old.machine point.now) call self.new) }
     {
-        send_first(alloc, &mut self.machine, point)
+        send_first(self.alloc, &mut self.machine, point)
     }
 
     /// Confirms the call of a number to a point, if it is in flight.

@@ -29,27 +29,21 @@ pub struct Printed {
 }
 
 /// Plays the line of this number. After an error the script can't go on.
-pub fn play_line(
-    alloc: Global,
-    player: &mut Player,
-    number: u64,
-    line: &[u8],
-) -> Result<Printed, AllocError>
+pub fn play_line(player: &mut Player, number: u64, line: &[u8]) -> Result<Printed, AllocError>
     ensures { IfOk result
         (λ printed. IsPlayed (line_played player.old number line.now) printed player.new) }
 {
     if line.is_empty() {
-        return Ok(without_fault(String::new(alloc)));
+        return Ok(without_fault(String::new(player.alloc())));
     }
     match read_line(line, player.site()) {
-        Ok(said) => play_said(alloc, player, number, said),
-        Err(fault) => fault_printed(alloc, number, fault),
+        Ok(said) => play_said(player, number, said),
+        Err(fault) => fault_printed(player.alloc(), number, fault),
     }
 }
 
 /// Plays what a line says.
 fn play_said(
-    alloc: Global,
     player: &mut Player,
     number: u64,
     said: ScriptLine<'_>,
@@ -58,33 +52,28 @@ fn play_said(
         (λ printed. IsPlayed (said_played player.old number said.entry) printed player.new) }
 {
     match said {
-        ScriptLine::Text(text) => Ok(without_fault(text_lines(alloc, player, &text)?)),
-        ScriptLine::Hold(text) => match hold_of(alloc, &text)? {
-            Some(todo) => Ok(without_fault(hold_line(alloc, player, todo)?)),
-            None => fault_printed(alloc, number, LineFault::NotComposite),
+        ScriptLine::Text(text) => Ok(without_fault(text_lines(player, &text)?)),
+        ScriptLine::Hold(text) => match hold_of(player.alloc(), &text)? {
+            Some(todo) => Ok(without_fault(hold_line(player, todo)?)),
+            None => fault_printed(player.alloc(), number, LineFault::NotComposite),
         },
-        ScriptLine::Release(request) => play_release(alloc, player, number, request),
+        ScriptLine::Release(request) => play_release(player, number, request),
     }
 }
 
 /// Answers the held request of this number.
-fn play_release(
-    alloc: Global,
-    player: &mut Player,
-    number: u64,
-    request: u64,
-) -> Result<Printed, AllocError>
+fn play_release(player: &mut Player, number: u64, request: u64) -> Result<Printed, AllocError>
     ensures { IfOk result (λ printed. IsPlayed
         (release_played player.old number request (id_held request player.old.held))
         printed player.new) }
 {
     let Some(id) = player.let_go(request) else {
-        return fault_printed(alloc, number, LineFault::UnknownRequest);
+        return fault_printed(player.alloc(), number, LineFault::UnknownRequest);
     };
     let unit = player.site().unit();
     let outcome = player.hand_out(request)?;
     let kind = ActionKind::GetCompositeSchedule;
-    Ok(without_fault(outcome_line(alloc, unit, kind, &id, outcome)?))
+    Ok(without_fault(outcome_line(player.alloc(), unit, kind, &id, outcome)?))
 }
 
 /// Lines that aren't of a fault.
@@ -110,28 +99,24 @@ fn fault_printed(alloc: Global, number: u64, fault: LineFault) -> Result<Printed
 }
 
 /// The lines with the answer to a text and the call that goes out to its sender.
-fn text_lines(alloc: Global, player: &mut Player, text: &SentText<'_>) -> Result<String, AllocError>
+fn text_lines(player: &mut Player, text: &SentText<'_>) -> Result<String, AllocError>
     ensures { IfOk result (λ lines. IsHandled
         (text_handled player.old text.now.sender text.now) (string_bytes lines) player.new) }
 {
     match text.sender() {
-        Side::Operator => text_line(alloc, player, text),
-        Side::Point => point_lines(alloc, player, text),
+        Side::Operator => text_line(player, text),
+        Side::Point => point_lines(player, text),
     }
 }
 
 /// The lines with the answer to a point's text and the call that goes out to the point, which has a link then.
-fn point_lines(
-    alloc: Global,
-    player: &mut Player,
-    text: &SentText<'_>,
-) -> Result<String, AllocError>
+fn point_lines(player: &mut Player, text: &SentText<'_>) -> Result<String, AllocError>
     ensures { IfOk result
         (λ lines. IsHandled (point_handled player.old text.now) (string_bytes lines) player.new) }
 {
-    player.attach_once(alloc, text.point())?;
-    let mut lines = text_line(alloc, player, text)?;
-    let call = player.send_first(alloc, text.point())?;
+    player.attach_once(text.point())?;
+    let mut lines = text_line(player, text)?;
+    let call = player.send_first(text.point())?;
     push_call_line(&mut lines, text.point(), &call)?;
     Ok(lines)
 }
@@ -161,20 +146,21 @@ fn push_sent(lines: &mut String, point: &str, call: &Call) -> Result<(), AllocEr
 }
 
 /// The line with the answer to a text, if it has one.
-fn text_line(alloc: Global, player: &mut Player, text: &SentText<'_>) -> Result<String, AllocError>
+fn text_line(player: &mut Player, text: &SentText<'_>) -> Result<String, AllocError>
     ensures { IfOk result (λ line. IsHandled
         (todo_handled player.old (todo_of text.now)) (string_bytes line) player.new) }
 {
-    let todo = todo_of(alloc, text)?;
-    todo_line(alloc, player, todo)
+    let todo = todo_of(player.alloc(), text)?;
+    todo_line(player, todo)
 }
 
 /// The line with the answer to what a text asks for, if it has one.
-fn todo_line(alloc: Global, player: &mut Player, todo: Todo) -> Result<String, AllocError>
+fn todo_line(player: &mut Player, todo: Todo) -> Result<String, AllocError>
     requires { AsksNoCompile todo }
     ensures { IfOk result
         (λ line. IsHandled (todo_handled player.old todo) (string_bytes line) player.new) }
 {
+    let alloc = player.alloc();
     match todo {
         Todo::Nothing => Ok(String::new(alloc)),
         Todo::Answer { id, response } => response_line(alloc, id.as_str(), &response),
@@ -191,7 +177,7 @@ fn todo_line(alloc: Global, player: &mut Player, todo: Todo) -> Result<String, A
 }
 
 /// The line with the number of the request that is held, or with the answer to a text whose ask isn't.
-fn hold_line(alloc: Global, player: &mut Player, todo: Todo) -> Result<String, AllocError>
+fn hold_line(player: &mut Player, todo: Todo) -> Result<String, AllocError>
     requires { AsksNoCompile todo }
     ensures { IfOk result
         (λ line. IsHandled (hold_handled player.old todo) (string_bytes line) player.new) }
@@ -202,12 +188,12 @@ fn hold_line(alloc: Global, player: &mut Player, todo: Todo) -> Result<String, A
             match player.step(step)? {
                 Ok(Reply::Taken { number, .. }) => {
                     player.hold(Held { number, id })?;
-                    held_line(alloc, number)
+                    held_line(player.alloc(), number)
                 }
-                outcome => outcome_line(alloc, unit, kind, &id, outcome),
+                outcome => outcome_line(player.alloc(), unit, kind, &id, outcome),
             }
         }
-        other => todo_line(alloc, player, other),
+        other => todo_line(player, other),
     }
 }
 

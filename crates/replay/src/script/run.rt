@@ -164,7 +164,7 @@ fn write_lines<W: Write>(
     let mut script_faults = 0;
     while !rest.is_empty() {
         let (line, others) = split_line(rest);
-        match write_line(alloc, writer, &mut player, number, line) {
+        match write_line(writer, &mut player, number, line) {
             Ok(is_fault) => script_faults += u64::from(is_fault),
             Err(fault) => return Err(fault),
         }
@@ -176,7 +176,6 @@ fn write_lines<W: Write>(
 
 /// Writes what the line of this number prints. Says whether it has a fault.
 fn write_line<W: Write>(
-    alloc: Global,
     writer: &mut W,
     player: &mut Player,
     number: u64,
@@ -196,7 +195,7 @@ fn write_line<W: Write>(
         (line_played player.old number line.now).printed }
     ensures late { IfErr result IsWriting }
 {
-    let printed = play_line(alloc, player, number, line)?;
+    let printed = play_line(player, number, line)?;
     write_text(writer, printed.text.as_str())?;
     Ok(printed.is_fault)
 }
