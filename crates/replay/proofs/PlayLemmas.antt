@@ -6,7 +6,7 @@ use Rattle.replay.specs.declared.player.held.Held.{Held}
 use Rattle.replay.specs.SentText.{Sent}
 use Rattle.replay.specs.Todo.{todo_of}
 use Rattle.replay.specs.Player.{PlayerState, with_machine}
-use Rattle.replay.specs.MachineSteps.{Sending, attached_once, sent_first}
+use Rattle.replay.specs.MachineSteps.{attached_once, sent_first}
 use Rattle.replay.specs.ByCases.Player.{Sends}
 use Rattle.replay.specs.Play.{Handled, call_line, todo_handled, call_handled, with_call, point_handled, IsHandled}
 

@@ -19,7 +19,7 @@ is_space b = b == space
 abbrev pub word_at : List ℕ → Option (List ℕ × List ℕ)
 word_at text =
     if nat_lt 0 (position_or_len is_space text)
-        && nat_lt (position_or_len is_space text) (length text)
+    && nat_lt (position_or_len is_space text) (length text)
     then Some (before_first is_space text, after_first is_space text)
     else None
 

@@ -43,11 +43,7 @@ pub fn play_line(player: &mut Player, number: u64, line: &[u8]) -> Result<Printe
 }
 
 /// Plays what a line says.
-fn play_said(
-    player: &mut Player,
-    number: u64,
-    said: ScriptLine<'_>,
-) -> Result<Printed, AllocError>
+fn play_said(player: &mut Player, number: u64, said: ScriptLine<'_>) -> Result<Printed, AllocError>
     ensures { IfOk result
         (λ printed. IsPlayed (said_played player.old number said.entry) printed player.new) }
 {

@@ -3,7 +3,7 @@ use Rattle.std.proofs.Common.{◌≡◌, ◌∙◌, ap, sym, List, ℕ, Option, 
 use Rattle.messages.specs.declared.call.Call.{Call}
 use Rattle.site_core.specs.declared.step.Step.TheVariants as steps
 use Rattle.site_core.specs.State.{link_of}
-use Rattle.replay.specs.MachineSteps.{Sending, stepped_exactly, sending_of, sent_over}
+use Rattle.replay.specs.MachineSteps.{stepped_exactly, sending_of, sent_over}
 use Rattle.replay.proofs.MachineLemmas.{skipped}
 use Rattle.replay.proofs.player.machine_steps.send_first.Goals as goal
 
