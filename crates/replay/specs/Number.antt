@@ -1,9 +1,9 @@
--- The numbers of requests and calls in a text.
+-- The numbers of requests and calls in a text, from 1 on. Call 0 is read apart.
 use Rattle.std.specs.Prelude.{ℕ, ◌≡◌, ◌≤◌, List}
 use Rattle.std.specs.Fmt.{decimal}
 use Rattle.site_core.specs.Limits.{max_number}
 
--- they begin at 1
+-- a number from 1 to the highest
 abbrev pub IsNumber : ℕ → Type 0
 IsNumber number = (1 ≤ number) × (number ≤ max_number)
 

@@ -1,4 +1,4 @@
-//! The numbers of requests and calls in a text, in decimal without leading zeros.
+//! The numbers of requests and calls in a text, from 1 on, in decimal without leading zeros.
 
 ghost use Rattle.std.specs.Prelude.{◌≡◌, ◌↔◌, ℕ, Some};
 ghost use Rattle.replay.specs.Number.{IsDecimalOf};

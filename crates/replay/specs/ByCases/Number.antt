@@ -7,7 +7,7 @@ use Rattle.std.specs.Str.Parse.{digits_value}
 use Rattle.ocpp_scalars.specs.Ascii.{digit_zero}
 use Rattle.site_core.specs.Limits.{max_number}
 
--- whether a word is the decimal text of a number, which is one of a request or a call
+-- whether a word is the decimal text of a number, and that is from 1 to the highest
 abbrev pub is_number : List ℕ → ℕ → Bool
 is_number word n = bytes_eq word (decimal n) && (nat_lt 0 n && nat_le n max_number)
 
