@@ -51,7 +51,8 @@ pub fn answered_schedules_are_right()
 
 /// The law that a run after a run is one run of the steps of both: a machine may be run in parts.
 pub fn runs_join()
-    ensures { (old middle new : MachineState) (steps more : List Step) (outcomes others : List Outcome)
+    ensures { (old middle new : MachineState) (steps more : List Step)
+        (outcomes others : List Outcome)
         → Runs old steps outcomes middle → Runs middle more others new
         → Runs old (steps ++ more) (outcomes ++ others) new }
 {}
@@ -66,10 +67,12 @@ pub fn books_follow_events()
 /// The law that no request is lost and none is answered twice: in every legal history from an opening state
 /// a number is taken once at most, and then it is answered or still kept.
 pub fn requests_are_answered_once()
-    ensures once { (site : SiteState) (numbers : Numbers) (events : List Event) (state : MachineState)
-        → Legal (opening_at site numbers) events state → (number : ℕ) → takes_of number events ≤ 1 }
-    ensures kept { (site : SiteState) (numbers : Numbers) (events : List Event) (state : MachineState)
-        → Legal (opening_at site numbers) events state → (number : ℕ)
+    ensures once { (site : SiteState) (numbers : Numbers) (events : List Event)
+        (state : MachineState) → Legal (opening_at site numbers) events state
+        → (number : ℕ) → takes_of number events ≤ 1 }
+    ensures kept { (site : SiteState) (numbers : Numbers) (events : List Event)
+        (state : MachineState) → Legal (opening_at site numbers) events state
+        → (number : ℕ)
         → takes_of number events ≡ answers_of number events + kept_of number state.requests }
 {}
 

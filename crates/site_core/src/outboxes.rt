@@ -74,8 +74,8 @@ pub(crate) fn send_at(outboxes: &mut Vec<Outbox>, place: usize) -> Result<Option
 pub(crate) fn confirm_at(outboxes: &mut Vec<Outbox>, place: usize, number: u64) -> bool
     requires { place < length outboxes.old.items }
     ensures answer { result ≡ is_number_in_flight (outbox_in outboxes.old.items place) number }
-    ensures outboxes { outboxes.new.items
-        ≡ slice_set outboxes.old.items place (confirmed (outbox_in outboxes.old.items place) number) }
+    ensures outboxes { outboxes.new.items ≡ slice_set outboxes.old.items place
+        (confirmed (outbox_in outboxes.old.items place) number) }
 {
     outboxes[place].confirm(number)
 }

@@ -27,7 +27,8 @@ pub(crate) fn compile_request(
     requests: &mut Vec<Request>,
     number: u64,
 ) -> Result<(), Refusal>
-    ensures made { MatchResult result (λ _. IsCompiledIn number requests.old.items requests.new.items)
+    ensures made { MatchResult result
+        (λ _. IsCompiledIn number requests.old.items requests.new.items)
         (λ refusal.
         (refusal_to_compile (request_of number requests.old.items) ≡ Some refusal)
         × (requests.new.items ≡ requests.old.items)) }

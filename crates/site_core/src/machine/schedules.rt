@@ -79,7 +79,8 @@ impl Machine {
     pub(super) fn compile(&mut self, number: u64) -> Result<Reply, Refusal>
         ensures made { IfOk result (λ reply. Compiles self.old number reply self.new) }
         ensures refused { IfErr result (λ refusal.
-            (cause_of (compiles self.old number no_answer) ≡ Some refusal) × (self.new ≡ self.old)) }
+            (cause_of (compiles self.old number no_answer) ≡ Some refusal)
+            × (self.new ≡ self.old)) }
     {
         compile_request(self.alloc, &mut self.requests, number)?;
         Ok(Reply::Compiled)
