@@ -5,7 +5,8 @@ ghost use Rattle.site_rules.specs.Site.{place_of};
 ghost use Rattle.site_core.specs.State.{AreNumbers, link_of, link_to_send, opening, opening_at, outbox_len};
 ghost use Rattle.site_core.specs.Step.{Steps, IsRefused, first_refusal, NeedsNoMemory};
 ghost use Rattle.site_core.specs.Run.{HasOutcome, Runs};
-ghost use Rattle.site_core.specs.ByCases.Made.{place_in};
+ghost use Rattle.site_core.specs.ByCases.Made.{place_in, KeepsNothing};
+ghost use Rattle.point_book.specs.Changes.{IsCause};
 
 mod changes;
 mod links;
@@ -159,34 +160,38 @@ impl Machine {
     {
         match step {
             Step::Install { point, row } => self.install_step(point, row),
-            Step::Clear { point, criteria } => with_step(
-                self.clear(&point, &criteria),
-                Step::Clear { point, criteria },
-            ),
             Step::Start {
                 point,
                 connector,
                 begin,
             } => self.start_step(point, connector, begin),
-            Step::Stop { point, transaction } => with_step(
-                self.stop(&point, transaction),
-                Step::Stop { point, transaction },
-            ),
-            Step::Take(take) => with_step(self.take(&take), Step::Take(take)),
-            Step::Compile(number) => with_step(self.compile(number), Step::Compile(number)),
-            Step::Answer(number) => with_step(self.answer(number), Step::Answer(number)),
+            other => with_step(self.lent_step(&other), other),
+        }
+    }
+
+    /// Makes a step of which nothing is kept.
+    // The method of each step is marked not to be inlined: with all of them in one function, each step
+    // would clear the stack that the others want.
+    fn lent_step(&mut self, step: &Step) -> Result<Reply, Refusal>
+        requires { KeepsNothing step.now }
+        ensures made { IfOk result (λ reply. Steps self.old step.now reply self.new) }
+        ensures refused { IfErr result (λ refusal.
+            IsCause (first_refusal self.old step.now) refusal × (self.new ≡ self.old)) }
+        ensures certain { NeedsNoMemory step.now → IfErr result
+            (λ refusal. first_refusal self.old step.now ≡ Some refusal) }
+    {
+        match step {
+            Step::Clear { point, criteria } => self.clear(point, criteria),
+            Step::Stop { point, transaction } => self.stop(point, *transaction),
+            Step::Take(take) => self.take(take),
+            Step::Compile(number) => self.compile(*number),
+            Step::Answer(number) => self.answer(*number),
             Step::Finish => Ok(self.finish()),
-            Step::Attach(point) => with_step(self.attach(&point), Step::Attach(point)),
-            Step::Send { point, link } => {
-                with_step(self.send(&point, link), Step::Send { point, link })
-            }
-            Step::Confirm { point, link, call } => with_step(
-                self.confirm(&point, link, call),
-                Step::Confirm { point, link, call },
-            ),
-            Step::Lost { point, link } => {
-                with_step(self.lose(&point, link), Step::Lost { point, link })
-            }
+            Step::Attach(point) => self.attach(point),
+            Step::Send { point, link } => self.send(point, *link),
+            Step::Confirm { point, link, call } => self.confirm(point, *link, *call),
+            Step::Lost { point, link } => self.lose(point, *link),
+            Step::Install { .. } | Step::Start { .. } => unreachable!(),
         }
     }
 

@@ -5,6 +5,8 @@ use Rattle.ocpp_scalars.specs.declared.refusal.Refusal.{Refusal}
 use Rattle.ocpp_scalars.specs.declared.refusal.Refusal.TheVariants.{Stopped, Superseded, UnknownPoint}
 use Rattle.site_rules.specs.Site.{place_of}
 use Rattle.point_book.specs.Changes.{IsCause}
+use Rattle.site_core.specs.declared.step.Step.{Step}
+use Rattle.site_core.specs.declared.step.Step.TheVariants as steps
 use Rattle.site_core.specs.declared.reply.Reply.{Reply}
 use Rattle.site_core.specs.State.{MachineState, outbox_at}
 use Rattle.site_core.specs.Step.{Made, cause_of, is_present}
@@ -37,3 +39,9 @@ found_linked state link (Some place) =
 abbrev pub linked_place_in : MachineState → List ℕ → ℕ → Result ℕ Refusal
 linked_place_in state point link =
     if state.is_stopped then Err Stopped else found_linked state link (place_of state.site point)
+
+-- a step of which nothing is kept: any but an install and a start
+abbrev pub KeepsNothing : Step → Type 0
+KeepsNothing (steps.Install point row) = ⊥
+KeepsNothing (steps.Start point connector begin) = ⊥
+KeepsNothing step = Unit {0}

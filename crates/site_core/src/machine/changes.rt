@@ -29,6 +29,7 @@ use transactions::{Began, Begin};
 
 impl Machine {
     /// Installs a row at a point. On a refusal the step comes back.
+    #[inline(never)]
     pub(super) fn install_step(&mut self, point: PointId, row: Row) -> Result<Reply, Refused>
         ensures { MatchResult result
             (λ reply. Steps self.old (Step.Install point row) reply self.new)
@@ -45,6 +46,7 @@ impl Machine {
 
     /// Begins a transaction at a connector of a point, or answers a start that is told again. On a
     /// refusal the step comes back.
+    #[inline(never)]
     pub(super) fn start_step(
         &mut self,
         point: PointId,
@@ -83,6 +85,7 @@ impl Machine {
     }
 
     /// Removes the profiles of a point that match each criterion that is given.
+    #[inline(never)]
     pub(super) fn clear(&mut self, point: &PointId, criteria: &Criteria) -> Result<Reply, Refusal>
         ensures made { IfOk result (λ reply.
             IsMade (at_point self.old point.now (clears self.old criteria.now)) reply self.new) }
@@ -114,6 +117,7 @@ impl Machine {
     }
 
     /// Ends the transaction of this number, where it is active at a point.
+    #[inline(never)]
     pub(super) fn stop(&mut self, point: &PointId, number: i32) -> Result<Reply, Refusal>
         ensures made { IfOk result (λ reply.
             IsMade (at_point self.old point.now (stops self.old number)) reply self.new) }

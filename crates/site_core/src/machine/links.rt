@@ -13,6 +13,7 @@ use ocpp_scalars::Refusal;
 
 impl Machine {
     /// Gives a point a new link.
+    #[inline(never)]
     pub(super) fn attach(&mut self, point: &PointId) -> Result<Reply, Refusal>
         ensures made { IfOk result (λ reply.
             IsMade (at_point self.old point.now (attaches self.old)) reply self.new) }
@@ -31,6 +32,7 @@ impl Machine {
     }
 
     /// Sends the first call that waits for a point over its link.
+    #[inline(never)]
     pub(super) fn send(&mut self, point: &PointId, link: u64) -> Result<Reply, Refusal>
         ensures made { IfOk result (λ reply.
             IsMade (at_link self.old point.now link (sends self.old)) reply self.new) }
@@ -45,6 +47,7 @@ impl Machine {
     }
 
     /// Takes note that a point has answered the call of this number.
+    #[inline(never)]
     pub(super) fn confirm(
         &mut self,
         point: &PointId,
@@ -66,6 +69,7 @@ impl Machine {
     }
 
     /// Takes note that a link to a point is lost.
+    #[inline(never)]
     pub(super) fn lose(&mut self, point: &PointId, link: u64) -> Result<Reply, Refusal>
         ensures made { IfOk result (λ reply.
             IsMade (at_link self.old point.now link (loses self.old)) reply self.new) }

@@ -19,6 +19,7 @@ use ocpp_scalars::Refusal;
 
 impl Machine {
     /// Keeps a request for a schedule of a point.
+    #[inline(never)]
     pub(super) fn take(&mut self, take: &Take) -> Result<Reply, Refusal>
         ensures made { IfOk result (λ reply.
             IsMade (at_point self.old take.now.point (takes self.old take.now)) reply self.new) }
@@ -76,6 +77,7 @@ impl Machine {
     }
 
     /// Compiles the schedule of the request of a number.
+    #[inline(never)]
     pub(super) fn compile(&mut self, number: u64) -> Result<Reply, Refusal>
         ensures made { IfOk result (λ reply. Compiles self.old number reply self.new) }
         ensures refused { IfErr result (λ refusal.
@@ -87,6 +89,7 @@ impl Machine {
     }
 
     /// Hands out the answer to the request of a number.
+    #[inline(never)]
     pub(super) fn answer(&mut self, number: u64) -> Result<Reply, Refusal>
         ensures made { IfOk result (λ reply. IsMade (answers self.old number) reply self.new) }
         ensures refused { IfErr result (λ refusal.
