@@ -6,6 +6,7 @@ standard output, standard error and the exit status; a folder without a site.jso
 tries command lines, site files, devices that fail and memory that is refused.
 """
 import os
+import re
 import subprocess
 import sys
 import tempfile
@@ -240,6 +241,25 @@ def memory_problems(program, folder):
         if refused < least:
             problems.append(f"only {refused} allocations were refused")
         yield f"{name}: each of {refused} allocations refused", problems
+    yield from step_problems(program, library)
+
+
+def step_problems(program, library):
+    """Tests of site_core's steps with each of their allocations refused in turn: each passes, unless it was set up without memory."""
+    tests = os.path.join(os.path.dirname(program), "..", "..", "site_core", "out", "site_core_tests")
+    no_memory = re.compile(rb"error: (OutOfMemory|AllocError|AllocFailed \{ \.\. \})\n")
+    for test in ("a_step_is_made_again_where_memory_was_refused", "a_run_goes_on_where_memory_was_refused"):
+        problems, unready, passed = [], 0, 0
+        for number in range(1, 151):
+            environment = {**os.environ, "LD_PRELOAD": library, "REFUSED_ALLOCATION": str(number)}
+            done = subprocess.run([tests, f"tests::{test}"], capture_output=True, timeout=120, env=environment)
+            if done.returncode == 0:
+                passed += 1
+            elif passed == 0 and no_memory.search(done.stdout + done.stderr):
+                unready += 1
+            else:
+                problems.append(f"allocation {number}: status {done.returncode}, {done.stdout!r}, {done.stderr!r}")
+        yield f"{test}: each allocation refused past the {unready} of its beginning", problems
 
 
 def refusals(program, library, case):

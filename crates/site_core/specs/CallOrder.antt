@@ -95,7 +95,7 @@ calls_confirmed_at site place history =
 
 -- ---- the laws of its calls
 
--- In a legal history from the opening, along which a point of the site has this place.
+-- what holds of each point of a site, at its place, along every legal history from an opening state
 abbrev pub OfEachPoint : (SiteState → ℕ → List Event → MachineState → Type 0) → Type 0
 OfEachPoint holds =
     (site : SiteState) (numbers : Numbers) (history : List Event) (state : MachineState)

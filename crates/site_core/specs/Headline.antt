@@ -53,7 +53,8 @@ pub record IsRightAfter (opening : MachineState) (events : List Event) (number :
 -- before it.
 abbrev pub AnswersAreRight : MachineState → List Step → List Outcome → Type 0
 AnswersAreRight opening steps outcomes =
-    (n number : ℕ) (book : Book) (ask : Ask) (answer : ScheduleAnswer)
-    → slice_get steps n ≡ Some (Answer number)
-    → slice_get outcomes n ≡ Some (Done (Answered book ask answer))
-    → IsRightAfter opening (history_of (take n steps) (take n outcomes)) number book ask answer
+    (position number : ℕ) (book : Book) (ask : Ask) (answer : ScheduleAnswer)
+    → slice_get steps position ≡ Some (Answer number)
+    → slice_get outcomes position ≡ Some (Done (Answered book ask answer))
+    → IsRightAfter opening (history_of (take position steps) (take position outcomes))
+    number book ask answer

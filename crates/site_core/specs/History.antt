@@ -43,7 +43,7 @@ abbrev pub answered_event : ℕ → Book → Ask → ScheduleAnswer → Event
 answered_event number book ask answer =
     record { step = steps.Answer number; reply = Answered book ask answer }
 
--- the central system is stopped
+-- a Finish, after which the central system is stopped
 abbrev pub finish_event : Event
 finish_event = record { step = steps.Finish; reply = Finished }
 

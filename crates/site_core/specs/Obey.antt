@@ -53,6 +53,8 @@ pub record Obeying : Type 0 where
   pub number : ℕ
   pub moment : ℕ
 
+-- what the point has once it has done at a moment as a call tells it; a number without a call tells it
+-- nothing
 abbrev pub obeyed_call : ℕ → Option CallBody → List Row → List Row
 obeyed_call moment None rows = rows
 obeyed_call moment (Some (Clear criteria)) rows = cleared rows criteria
@@ -68,6 +70,7 @@ obeyed calls (first ∷ later) rows =
 abbrev pub numbers_of : List Obeying → List ℕ
 numbers_of obeyings = map (λ (obeying : Obeying). obeying.number) obeyings
 
+-- the number of the last of the calls that are obeyed, this one being that of the first
 abbrev pub last_number : ℕ → List Obeying → ℕ
 last_number number [] = number
 last_number number (obeying ∷ later) = last_number obeying.number later

@@ -10,7 +10,7 @@ use Rattle.messages.specs.declared.call.CallBody.TheVariants.{Clear}
 use Rattle.site_core.specs.Limits.{max_number, max_calls}
 
 pub record OutboxState : Type 0 where
-  -- the number of the connection to the point, where there is one
+  -- the number of the present link to the point, where there is one
   pub link : Option ℕ
   -- the calls that aren't confirmed, in the order of their numbers
   pub calls : List Call
@@ -54,11 +54,11 @@ lost old = record old { link = None; is_in_flight = false }
 
 -- ---- calls
 
--- no more calls may be added
+-- no more calls may be added: as many aren't confirmed as may be
 abbrev pub is_full : OutboxState → Bool
 is_full outbox = nat_le max_calls (length outbox.calls)
 
--- nor where the last number was drawn
+-- no more calls may be added: the last number was drawn
 abbrev pub is_exhausted : OutboxState → Bool
 is_exhausted outbox = nat_lt max_number outbox.next
 
@@ -82,13 +82,13 @@ sendable_by (Some link) false calls = first_call calls
 abbrev pub sendable : OutboxState → Option Call
 sendable outbox = sendable_by outbox.link outbox.is_in_flight outbox.calls
 
-abbrev pub sent_by : Option Call → OutboxState → OutboxState
-sent_by None old = old
-sent_by (Some call) old = record old { is_in_flight = true }
-
 -- the link over which it is to be sent, where there is such a call
 abbrev pub sending_link : OutboxState → Option ℕ
 sending_link outbox = if is_some (sendable outbox) then outbox.link else None
+
+abbrev pub sent_by : Option Call → OutboxState → OutboxState
+sent_by None old = old
+sent_by (Some call) old = record old { is_in_flight = true }
 
 -- after a sending, what was sent is in flight
 abbrev pub sent : OutboxState → OutboxState
@@ -119,10 +119,10 @@ AreConsecutive outbox =
     map (λ (call : Call). call.number) outbox.calls
     ≡ range_with_len (outbox.next - length outbox.calls) (length outbox.calls)
 
--- a call is in flight only where there is one, and over a link
 pub record IsOutbox (outbox : OutboxState) : Type 0 where
   pub numbers : AreConsecutive outbox
   pub drawn : length outbox.calls ≤ outbox.next
   pub last : outbox.next ≤ max_number + 1
   pub few : length outbox.calls ≤ max_calls
+  -- a call is in flight only where there is one, and over a link
   pub in_flight : outbox.is_in_flight ≡ true → IsSome outbox.link × (0 < length outbox.calls)

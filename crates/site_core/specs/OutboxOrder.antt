@@ -19,6 +19,7 @@ AreInSendingOrder (number ∷ later) = (number ≡ 0) × GoesOn number later
 
 -- ---- what comes to an outbox
 
+-- a new link, its loss, a call that is added, a sending, and the reply to the call of a number
 pub data Traffic : Type 0 where
   Attach : (link : ℕ) → Traffic
   Lose : Traffic
@@ -26,6 +27,7 @@ pub data Traffic : Type 0 where
   Send : Traffic
   Confirm : (number : ℕ) → Traffic
 
+-- the outbox then
 abbrev pub after : OutboxState → Traffic → OutboxState
 after old (Attach link) = attached old link
 after old Lose = lost old

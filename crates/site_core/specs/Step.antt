@@ -70,16 +70,18 @@ changed old place book = record old {
   numbers = record old.numbers { version = old.numbers.version + 1 };
 }
 
--- An install and a clear are calls to the point too: each joins those that wait, if there is room.
+-- the point at a place has this link and these calls now
 abbrev pub with_outbox : MachineState → ℕ → OutboxState → MachineState
 with_outbox old place outbox = record old { outboxes = slice_set old.outboxes place outbox }
 
+-- why no call is added to those that wait for the point at a place
 abbrev pub refusal_to_call : MachineState → ℕ → Option Refusal
 refusal_to_call old place =
     if is_full (outbox_at old place) then Some OutboxFull
     else if is_exhausted (outbox_at old place) then Some VersionsExhausted
     else version_refusal old
 
+-- An install and a clear are calls to the point too: each joins those that wait.
 abbrev pub changed_by_call : MachineState → ℕ → Book → CallBody → MachineState
 changed_by_call old place book body =
     with_outbox (changed old place book) place (added (outbox_at old place) body)
@@ -237,8 +239,7 @@ abbrev pub attaches : MachineState → ℕ → Result Made Refusal
 attaches old place = unless (refusal_to_attach old)
     (record { reply = Attached (old.numbers.link + 1); after = with_link old place })
 
--- what is made over a link, while it is the present one of its point and the central system isn't
--- stopped
+-- whether a link is the present one
 abbrev pub is_present : ℕ → Option ℕ → Bool
 is_present link None = false
 is_present link (Some present) = link == present
@@ -249,6 +250,8 @@ at_linked_place old link None made_at = Err Superseded
 at_linked_place old link (Some place) made_at =
     if is_present link (outbox_at old place).link then made_at place else Err Superseded
 
+-- what is made over a link, while it is the present one of its point and the central system isn't
+-- stopped
 abbrev pub at_link : MachineState → List ℕ → ℕ → (ℕ → Result Made Refusal) → Result Made Refusal
 at_link old point link made_at =
     if old.is_stopped then Err refusals.Stopped
