@@ -259,6 +259,8 @@ def step_problems(program, library):
                 unready += 1
             else:
                 problems.append(f"allocation {number}: status {done.returncode}, {done.stdout!r}, {done.stderr!r}")
+        if passed < 80:
+            problems.append(f"only {passed} runs got past the beginning and passed")
         yield f"{test}: each allocation refused past the {unready} of its beginning", problems
 
 
