@@ -232,8 +232,8 @@ def memory_problems(program, folder):
     for case, least in (
         ("examples/first-schedule", 20),
         ("examples/point-messages", 60),
-        ("examples/ordinary-day", 200),
-        ("examples/calls-to-a-point", 100),
+        ("examples/ordinary-day", 150),
+        ("examples/calls-to-a-point", 80),
         ("tests/replay/holds-released-in-another-order", 100),
     ):
         name = os.path.basename(case)

@@ -87,7 +87,11 @@ pub fn read_action(alloc: Global, frame: &Frame) -> Result<Action, CallFault>
 
 /// Reads the fields of an action from the payload of its CALL, or names the first fault in the order
 /// in which they are checked. Only a SetChargingProfile or a StartTransaction can be out of memory.
-pub fn read_fields(alloc: Global, kind: ActionKind, payload: Node<'_>) -> Result<Action, CallFault>
+pub fn read_fields(
+    alloc: Global,
+    kind: ActionKind,
+    payload: Node<'_, '_>,
+) -> Result<Action, CallFault>
     ensures value { ReadsUnless is_memory (λ action. action) result
         (action_of_kind kind (tree_at payload.entry)) }
     ensures exact { NeedsNoMemory (Some kind)

@@ -51,7 +51,7 @@ impl<T: Drop> NamedField<T> {
 
 /// A whole number.
 #[tactic(auto, unfolding(crate::specs::Fields::whole))]
-pub fn whole(fields: Node<'_>, name: FieldName) -> NamedField<i32>
+pub fn whole(fields: Node<'_, '_>, name: FieldName) -> NamedField<i32>
     ensures { result ≡ whole (tree_at fields.entry) name }
 {
     NamedField {
@@ -62,7 +62,7 @@ pub fn whole(fields: Node<'_>, name: FieldName) -> NamedField<i32>
 
 /// A whole number from 0.
 #[tactic(auto, unfolding(crate::specs::Fields::whole_from_zero))]
-pub fn whole_from_zero(fields: Node<'_>, name: FieldName) -> NamedField<u32>
+pub fn whole_from_zero(fields: Node<'_, '_>, name: FieldName) -> NamedField<u32>
     ensures { result ≡ whole_from_zero (tree_at fields.entry) name }
 {
     NamedField {
@@ -84,7 +84,7 @@ fn from_zero(field: Field<i32>) -> Field<u32>
 
 /// Tenths of A or W.
 #[tactic(auto, unfolding(crate::specs::Fields::tenths))]
-pub fn tenths(fields: Node<'_>, name: FieldName) -> NamedField<u32>
+pub fn tenths(fields: Node<'_, '_>, name: FieldName) -> NamedField<u32>
     ensures { result ≡ tenths (tree_at fields.entry) name }
 {
     NamedField {
@@ -95,7 +95,7 @@ pub fn tenths(fields: Node<'_>, name: FieldName) -> NamedField<u32>
 
 /// An instant.
 #[tactic(auto, unfolding(crate::specs::Fields::instant))]
-pub fn instant(fields: Node<'_>, name: FieldName) -> NamedField<Instant>
+pub fn instant(fields: Node<'_, '_>, name: FieldName) -> NamedField<Instant>
     ensures { result ≡ instant (tree_at fields.entry) name }
 {
     NamedField {
@@ -106,7 +106,7 @@ pub fn instant(fields: Node<'_>, name: FieldName) -> NamedField<Instant>
 
 /// A value that is written as one of a few names.
 #[tactic(auto, unfolding(crate::specs::Fields::one_name_of))]
-pub fn one_name_of<T: Named + Drop>(fields: Node<'_>, name: FieldName) -> NamedField<T>
+pub fn one_name_of<T: Named + Drop>(fields: Node<'_, '_>, name: FieldName) -> NamedField<T>
     ensures { result ≡ one_name_of T.named (tree_at fields.entry) name }
 {
     NamedField {
@@ -137,7 +137,10 @@ fn value_or_wrong<T: Drop>(value: Option<T>) -> Field<T>
 
 /// The object of a field that has to be there.
 #[tactic(auto, unfolding(crate::specs::Fields::required, crate::specs::Fields::object))]
-pub fn required_object<'a>(fields: Node<'a>, name: FieldName) -> Result<Node<'a>, CallFault>
+pub fn required_object<'tree, 'text>(
+    fields: Node<'tree, 'text>,
+    name: FieldName,
+) -> Result<Node<'tree, 'text>, CallFault>
     ensures { MatchResult result
         (λ node. required (object (tree_at fields.entry) name) ≡ Ok (tree_at node))
         (λ fault. required (object (tree_at fields.entry) name) ≡ Err fault) }
@@ -151,7 +154,10 @@ pub fn required_object<'a>(fields: Node<'a>, name: FieldName) -> Result<Node<'a>
 
 /// The text of a field that has to be there.
 #[tactic(auto, unfolding(crate::specs::Fields::required, crate::specs::Fields::text))]
-pub fn required_text<'a>(fields: Node<'a>, name: FieldName) -> Result<&'a str, CallFault>
+pub fn required_text<'text>(
+    fields: Node<'_, 'text>,
+    name: FieldName,
+) -> Result<&'text str, CallFault>
     ensures { MatchResult result
         (λ found. required (text (tree_at fields.entry) name) ≡ Ok found.now)
         (λ fault. required (text (tree_at fields.entry) name) ≡ Err fault) }
@@ -165,7 +171,10 @@ pub fn required_text<'a>(fields: Node<'a>, name: FieldName) -> Result<&'a str, C
 
 /// The entries of a list that has to be there.
 #[tactic(auto, unfolding(crate::specs::Fields::required, crate::specs::Fields::list))]
-pub fn required_list<'a>(fields: Node<'a>, name: FieldName) -> Result<Entries<'a>, CallFault>
+pub fn required_list<'tree, 'text>(
+    fields: Node<'tree, 'text>,
+    name: FieldName,
+) -> Result<Entries<'tree, 'text>, CallFault>
     ensures { MatchResult result
         (λ items. required (list (tree_at fields.entry) name) ≡ Ok (entries_in items))
         (λ fault. required (list (tree_at fields.entry) name) ≡ Err fault) }

@@ -19,7 +19,7 @@ use std::alloc::Global;
 
 /// Chapter 6, SetChargingProfile.req.
 #[tactic(auto, unfolding(crate::specs::OperatorActions::set_charging_profile_of))]
-pub fn read_set_charging_profile(alloc: Global, payload: Node<'_>) -> Result<Action, CallFault>
+pub fn read_set_charging_profile(alloc: Global, payload: Node<'_, '_>) -> Result<Action, CallFault>
     ensures { ReadsUnless is_memory (λ action. action) result
         (set_charging_profile_of (tree_at payload.entry)) }
 {
@@ -31,7 +31,7 @@ pub fn read_set_charging_profile(alloc: Global, payload: Node<'_>) -> Result<Act
 
 /// Chapter 6, ClearChargingProfile.req.
 #[tactic(auto, unfolding(crate::specs::OperatorActions::clear_charging_profile_of))]
-pub fn read_clear_charging_profile(payload: Node<'_>) -> Result<Action, CallFault>
+pub fn read_clear_charging_profile(payload: Node<'_, '_>) -> Result<Action, CallFault>
     ensures { result ≡ clear_charging_profile_of (tree_at payload.entry) }
 {
     let id = whole(payload, Id).optional()?;
@@ -48,7 +48,7 @@ pub fn read_clear_charging_profile(payload: Node<'_>) -> Result<Action, CallFaul
 
 /// Chapter 6, GetCompositeSchedule.req.
 #[tactic(auto, unfolding(crate::specs::OperatorActions::get_composite_schedule_of))]
-pub fn read_get_composite_schedule(payload: Node<'_>) -> Result<Action, CallFault>
+pub fn read_get_composite_schedule(payload: Node<'_, '_>) -> Result<Action, CallFault>
     ensures { result ≡ get_composite_schedule_of (tree_at payload.entry) }
 {
     let connector = whole_from_zero(payload, ConnectorId).required()?;

@@ -15,7 +15,7 @@ use std::alloc::Global;
 
 /// Chapter 6, StartTransaction.req.
 #[tactic(auto, unfolding(crate::specs::PointActions::start_transaction_of))]
-pub fn read_start_transaction(alloc: Global, payload: Node<'_>) -> Result<Action, CallFault>
+pub fn read_start_transaction(alloc: Global, payload: Node<'_, '_>) -> Result<Action, CallFault>
     ensures { ReadsUnless is_memory (λ action. action) result
         (start_transaction_of (tree_at payload.entry)) }
 {
@@ -33,7 +33,7 @@ pub fn read_start_transaction(alloc: Global, payload: Node<'_>) -> Result<Action
 
 /// The idTag: a text of at most 20 characters (chapter 7, IdToken).
 #[tactic(auto, unfolding(crate::specs::PointActions::id_tag_of))]
-fn read_id_tag(alloc: Global, payload: Node<'_>) -> Result<IdTag, CallFault>
+fn read_id_tag(alloc: Global, payload: Node<'_, '_>) -> Result<IdTag, CallFault>
     ensures { ReadsUnless is_memory (λ id_tag. id_tag) result (id_tag_of (tree_at payload.entry)) }
 {
     let tag = required_text(payload, FieldName::IdTag)?;
@@ -45,7 +45,7 @@ fn read_id_tag(alloc: Global, payload: Node<'_>) -> Result<IdTag, CallFault>
 
 /// Chapter 6, StopTransaction.req, of which the transaction alone is looked at.
 #[tactic(auto, unfolding(crate::specs::PointActions::stop_transaction_of))]
-pub fn read_stop_transaction(payload: Node<'_>) -> Result<Action, CallFault>
+pub fn read_stop_transaction(payload: Node<'_, '_>) -> Result<Action, CallFault>
     ensures { result ≡ stop_transaction_of (tree_at payload.entry) }
 {
     let transaction = whole(payload, TransactionId).required()?;

@@ -20,7 +20,7 @@ use std::alloc::Global;
 
 /// Reads the fields of a profile (chapter 7, ChargingProfile), or names the first fault.
 #[tactic(auto, unfolding(crate::specs::ProfileFields::profile_of))]
-pub fn read_profile(alloc: Global, fields: Node<'_>) -> Result<ProfileParts, CallFault>
+pub fn read_profile(alloc: Global, fields: Node<'_, '_>) -> Result<ProfileParts, CallFault>
     ensures { ReadsUnless is_memory (λ parts. parts) result
         (profile_of (tree_at fields.entry)) }
 {
@@ -49,7 +49,7 @@ pub fn read_profile(alloc: Global, fields: Node<'_>) -> Result<ProfileParts, Cal
 
 /// Reads the fields of a schedule (chapter 7, ChargingSchedule), or names the first fault.
 #[tactic(auto, unfolding(crate::specs::ProfileFields::schedule_of))]
-fn read_schedule(alloc: Global, fields: Node<'_>) -> Result<ScheduleParts, CallFault>
+fn read_schedule(alloc: Global, fields: Node<'_, '_>) -> Result<ScheduleParts, CallFault>
     ensures { ReadsUnless is_memory (λ parts. parts) result
         (schedule_of (tree_at fields.entry)) }
 {
@@ -69,7 +69,7 @@ fn read_schedule(alloc: Global, fields: Node<'_>) -> Result<ScheduleParts, CallF
 }
 
 /// Reads the periods of a list, in order, or names the first fault.
-fn read_periods(alloc: Global, entries: Entries<'_>) -> Result<PeriodList, CallFault>
+fn read_periods(alloc: Global, entries: Entries<'_, '_>) -> Result<PeriodList, CallFault>
     ensures { ReadsUnless is_memory (λ periods. periods) result
         (periods_of (entries_in entries.entry)) }
 {
@@ -86,7 +86,7 @@ fn read_periods(alloc: Global, entries: Entries<'_>) -> Result<PeriodList, CallF
 
 /// Reads the fields of a period (chapter 7, ChargingSchedulePeriod), or names the first fault.
 #[tactic(auto, unfolding(crate::specs::ProfileFields::period_of))]
-fn read_period(fields: Node<'_>) -> Result<Period, CallFault>
+fn read_period(fields: Node<'_, '_>) -> Result<Period, CallFault>
     ensures { result ≡ period_of (tree_at fields.entry) }
 {
     if !fields.is_object() {

@@ -1,6 +1,9 @@
 pub mod MarkedText
 pub mod Markings
+pub mod NoNumbers
 pub mod AfterMark
+pub mod Views
+pub mod Reading
 pub mod TreeParts
 pub mod Elements
 pub mod Messages

@@ -1,16 +1,16 @@
 -- The parts of a tree are trees.
-use Rattle.std.proofs.Common.{◌≡◌, ℕ, zero, suc, ◌<◌, ◌≤◌, slice_get, List, [], ◌∷◌, length, get_or, map, Bool, true, false, cond, Option, Some, None, option_map, is_some, unwrap_or, refl, sym, ap, ◌∙◌, subst, String, Vec, BTreeMap, Global, arith}
+use Rattle.std.proofs.Common.{◌≡◌, ℕ, zero, suc, ◌<◌, ◌≤◌, slice_get, List, [], ◌∷◌, length, get_or, map, Bool, true, false, cond, Option, Some, None, option_map, is_some, unwrap_or, refl, sym, ap, ◌∙◌, subst, Bor, BTreeMap, arith}
 use Rattle.std.specs.Option.{option_map_or, option_and_then}
 use Rattle.std.specs.Str.{bytes_eq}
 use Rattle.serde_json.specs.Data as json
-use Rattle.serde_json.specs.View.{view, items_view, members_view}
-use Rattle.serde_json.specs.declared.value.Value.{Value, Array, Object}
-use Rattle.serde_json.proofs.Views.{view-Array, view-Object}
 use Rattle.ocpp_scalars.specs.OptionSteps.{◌>>=◌}
 use Rattle.ocppj_frame.specs.ByCases.Member.{is_key_of, member_named}
 use Rattle.ocppj_frame.specs.Payload.{value_tree}
 use Rattle.ocppj_frame.specs.Tree.{Tree, null, list, object, Trees, no_entries, entry, entries, Fields, field, field_at, field_of, as_list}
 use Rattle.ocppj_frame.specs.Read.{tree_of, trees_of, fields_of, name_of_key}
+use Rattle.ocppj_frame.specs.View.{view, items_view, members_view}
+use Rattle.ocppj_frame.specs.declared.marked_value.MarkedValue.{MarkedValue, Array, Object}
+use Rattle.ocppj_frame.proofs.Views.{Values, view-Array, view-Object}
 
 -- a list's first entry and the others
 abbrev entries_step : Option Tree → Option Trees → Option Trees
@@ -34,17 +34,17 @@ entries_stepped None p others e h = cc
 entries_stepped (Some t) None others e h = cc
 entries_stepped (Some t) (Some ts) others e h = ap (λ (l : List Tree). t ∷ l) e
 
-pub entries-trees_of : (vs : List Value) → is_some (trees_of (items_view vs)) ≡ true → entries (unwrap_or (trees_of (items_view vs)) no_entries) ≡ map value_tree vs
+pub entries-trees_of : (vs : List MarkedValue) → is_some (trees_of (items_view vs)) ≡ true → entries (unwrap_or (trees_of (items_view vs)) no_entries) ≡ map value_tree vs
 entries-trees_of [] h = refl
 entries-trees_of (v ∷ vs) h = entries_stepped (tree_of (view v)) (trees_of (items_view vs)) (map value_tree vs) (entries-trees_of vs (other_entries (tree_of (view v)) (trees_of (items_view vs)) h)) h
 
-pub first_is_tree : (v : Value) (vs : List Value) → is_some (trees_of (items_view (v ∷ vs))) ≡ true → is_some (tree_of (view v)) ≡ true
+pub first_is_tree : (v : MarkedValue) (vs : List MarkedValue) → is_some (trees_of (items_view (v ∷ vs))) ≡ true → is_some (tree_of (view v)) ≡ true
 first_is_tree v vs h = first_entry (tree_of (view v)) (trees_of (items_view vs)) h
 
-pub others_are_trees : (v : Value) (vs : List Value) → is_some (trees_of (items_view (v ∷ vs))) ≡ true → is_some (trees_of (items_view vs)) ≡ true
+pub others_are_trees : (v : MarkedValue) (vs : List MarkedValue) → is_some (trees_of (items_view (v ∷ vs))) ≡ true → is_some (trees_of (items_view vs)) ≡ true
 others_are_trees v vs h = other_entries (tree_of (view v)) (trees_of (items_view vs)) h
 
-pub entry_is_tree : (vs : List Value) (i : ℕ) (d : Value) → is_some (trees_of (items_view vs)) ≡ true → i < length vs → is_some (tree_of (view (get_or vs i d))) ≡ true
+pub entry_is_tree : (vs : List MarkedValue) (i : ℕ) (d : MarkedValue) → is_some (trees_of (items_view vs)) ≡ true → i < length vs → is_some (tree_of (view (get_or vs i d))) ≡ true
 entry_is_tree [] i d h l = absurd (omega arith)
 entry_is_tree (v ∷ vs) zero d h l = first_is_tree v vs h
 entry_is_tree (v ∷ vs) (suc i) d h l = entry_is_tree vs i d (others_are_trees v vs h) (omega arith)
@@ -127,34 +127,34 @@ pub member-field_of : (name : List ℕ) (ms : json.Members) → is_some (tree_of
 member-field_of name ms h = member_field name ms (are_fields (fields_of ms) h) ∙ fields_within name (fields_of ms) h
 
 -- the same of a value
-seen_object : (value : Value) (m : BTreeMap (String Global) Value) → value ≡ Object m → view value ≡ json.object (members_view m.entries)
+seen_object : (value : MarkedValue) (m : BTreeMap (Bor (List ℕ)) MarkedValue) → value ≡ Object m → view value ≡ json.object (members_view m.entries)
 seen_object value m same = ap view same ∙ view-Object m
 
-seen_array : (value : Value) (v : Vec Value Global) → value ≡ Array v → view value ≡ json.array (items_view v.items)
+seen_array : (value : MarkedValue) (v : Values) → value ≡ Array v → view value ≡ json.array (items_view v.items)
 seen_array value v same = ap view same ∙ view-Array v
 
-pub value_field : (name : List ℕ) (value : Value) (m : BTreeMap (String Global) Value) → value ≡ Object m → is_some (tree_of (view value)) ≡ true
+pub value_field : (name : List ℕ) (value : MarkedValue) (m : BTreeMap (Bor (List ℕ)) MarkedValue) → value ≡ Object m → is_some (tree_of (view value)) ≡ true
     → option_map data_tree (member_named name (members_view m.entries)) ≡ field_of name (value_tree value)
 value_field name value m same h = subst (λ (d : json.Data). option_map data_tree (member_named name (members_view m.entries)) ≡ field_of name (data_tree d)) (sym (seen_object value m same))
     (member-field_of name (members_view m.entries) (subst (λ (d : json.Data). is_some (tree_of d) ≡ true) (seen_object value m same) h))
 
-pub value_member : (name : List ℕ) (value : Value) (m : BTreeMap (String Global) Value) (e : json.Data) → value ≡ Object m → is_some (tree_of (view value)) ≡ true
+pub value_member : (name : List ℕ) (value : MarkedValue) (m : BTreeMap (Bor (List ℕ)) MarkedValue) (e : json.Data) → value ≡ Object m → is_some (tree_of (view value)) ≡ true
     → Some e ≡ member_named name (members_view m.entries) → is_some (tree_of e) ≡ true
 value_member name value m e same h found = member_is_tree name (members_view m.entries) e
     (are_fields _ (subst (λ (d : json.Data). is_some (tree_of d) ≡ true) (seen_object value m same) h)) (sym found)
 
-pub value_list : (value : Value) (v : Vec Value Global) → value ≡ Array v → is_some (tree_of (view value)) ≡ true → Some (map value_tree v.items) ≡ as_list (value_tree value)
+pub value_list : (value : MarkedValue) (v : Values) → value ≡ Array v → is_some (tree_of (view value)) ≡ true → Some (map value_tree v.items) ≡ as_list (value_tree value)
 value_list value v same h =
     let items : is_some (trees_of (items_view v.items)) ≡ true = are_trees _ (subst (λ (d : json.Data). is_some (tree_of d) ≡ true) (seen_array value v same) h) in
     subst (λ (d : json.Data). Some (map value_tree v.items) ≡ as_list (data_tree d)) (sym (seen_array value v same))
     (rw (list_entries (trees_of (items_view v.items)) items) (ap Some (sym (entries-trees_of v.items items))))
 
-pub entry_tree : (vs : List Value) (i : ℕ) (d : Value) → i < length vs → Some (value_tree (get_or vs i d)) ≡ slice_get (map value_tree vs) i
+pub entry_tree : (vs : List MarkedValue) (i : ℕ) (d : MarkedValue) → i < length vs → Some (value_tree (get_or vs i d)) ≡ slice_get (map value_tree vs) i
 entry_tree [] i d l = absurd (omega arith)
 entry_tree (v ∷ vs) zero d l = refl
 entry_tree (v ∷ vs) (suc i) d l = entry_tree vs i d (omega arith)
 
-pub entry_past : (vs : List Value) (i : ℕ) → length vs ≤ i → None ≡ slice_get (map value_tree vs) i
+pub entry_past : (vs : List MarkedValue) (i : ℕ) → length vs ≤ i → None ≡ slice_get (map value_tree vs) i
 entry_past [] i l = refl
 entry_past (v ∷ vs) zero l = absurd (omega arith)
 entry_past (v ∷ vs) (suc i) l = entry_past vs i (omega arith)

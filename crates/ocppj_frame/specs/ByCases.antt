@@ -2,3 +2,4 @@
 pub mod Mark
 pub mod Member
 pub mod Message
+pub mod Tokens

@@ -1,6 +1,7 @@
 pub mod ByCases
 pub mod Mark
 pub mod Tree
+pub mod View
 pub mod Read
 pub mod Payload
 pub mod Field

@@ -1,10 +1,10 @@
 -- The trees that a payload and its nodes stand for.
 use Rattle.std.specs.Prelude.{List, map, unwrap_or}
 use Rattle.std.specs.Vec.Iter.{into_iter_items}
-use Rattle.serde_json.specs.View.{view}
-use Rattle.serde_json.specs.declared.value.Value.{Value}
 use Rattle.ocppj_frame.specs.Tree.{Tree, null}
 use Rattle.ocppj_frame.specs.Read.{tree_of}
+use Rattle.ocppj_frame.specs.View.{view}
+use Rattle.ocppj_frame.specs.declared.marked_value.MarkedValue.{MarkedValue}
 use Rattle.ocppj_frame.specs.declared.payload.Payload.{Payload}
 use Rattle.ocppj_frame.specs.declared.payload.Node.{Node}
 use Rattle.ocppj_frame.specs.declared.payload.Entries.{Entries}
@@ -12,7 +12,7 @@ use Rattle.ocppj_frame.specs.declared.payload.elements.Elements.{Elements}
 use Rattle.ocppj_frame.specs.declared.payload.list.EntriesIter.{EntriesIter}
 
 -- the tree of a value whose strings are marked, which is the value of each payload and node
-abbrev pub value_tree : Value → Tree
+abbrev pub value_tree : MarkedValue → Tree
 value_tree value = unwrap_or (tree_of (view value)) null
 
 abbrev pub tree_in : Payload → Tree

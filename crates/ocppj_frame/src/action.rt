@@ -1,34 +1,34 @@
 //! The name of an action.
-ghost use Rattle.std.specs.Prelude.{◌≡◌, string_bytes};
+ghost use Rattle.std.specs.Prelude.{◌≡◌};
 
 use std::marker::Model;
 
 /// The name of a CALL's action, as it was written (OCPP-J 1.6, section 4.2.1).
 #[derive(Debug, Drop)]
-pub struct ActionName {
-    text: String,
+pub struct ActionName<'a> {
+    text: &'a str,
 }
 
-impl Model for ActionName {
-    ghost use Rattle.std.specs.Prelude.{List, ℕ, string_bytes};
+impl<'a> Model for ActionName<'a> {
+    ghost use Rattle.std.specs.Prelude.{List, ℕ};
 
     ghost Value = { List ℕ };
 
-    ghost view = { λ name. string_bytes name.text };
+    ghost view = { λ name. name.text.now };
 }
 
-impl ActionName {
+impl<'a> ActionName<'a> {
     /// The name of this text.
-    pub fn new(text: String) -> ActionName
-        ensures { result ≡ string_bytes text }
+    pub fn new(text: &'a str) -> ActionName<'a>
+        ensures { result ≡ text.now }
     {
         Self { text }
     }
 
     /// The name's text.
-    pub fn as_str(&self) -> &str
+    pub fn as_str(&self) -> &'a str
         ensures { result.now ≡ self.now }
     {
-        self.text.as_str()
+        self.text
     }
 }

@@ -20,7 +20,7 @@ pub enum Field<T> {
 }
 
 /// The text of a field. Never `WrongValue`.
-pub fn text_field<'a>(node: Node<'a>, name: &str) -> Field<&'a str>
+pub fn text_field<'text>(node: Node<'_, 'text>, name: &str) -> Field<&'text str>
     ensures { field_map (λ t. t.now) result ≡ text_field_of name.now (tree_at node.entry) }
 {
     let Some(field) = present_field(node, name) else {
@@ -33,7 +33,7 @@ pub fn text_field<'a>(node: Node<'a>, name: &str) -> Field<&'a str>
 }
 
 /// The whole number of a field, from -2,147,483,648 to 2,147,483,647.
-pub fn whole_field(node: Node<'_>, name: &str) -> Field<i32>
+pub fn whole_field(node: Node<'_, '_>, name: &str) -> Field<i32>
     ensures { result ≡ whole_field_of name.now (tree_at node.entry) }
 {
     let Some(field) = present_field(node, name) else {
@@ -46,7 +46,7 @@ pub fn whole_field(node: Node<'_>, name: &str) -> Field<i32>
 }
 
 /// The tenths of a field, from 0 to 1,000,000,000.
-pub fn tenths_field(node: Node<'_>, name: &str) -> Field<u32>
+pub fn tenths_field(node: Node<'_, '_>, name: &str) -> Field<u32>
     ensures { result ≡ tenths_field_of name.now (tree_at node.entry) }
 {
     let Some(field) = present_field(node, name) else {
@@ -59,7 +59,7 @@ pub fn tenths_field(node: Node<'_>, name: &str) -> Field<u32>
 }
 
 /// The instant of a field, which is written as a text.
-pub fn instant_field(node: Node<'_>, name: &str) -> Field<Instant>
+pub fn instant_field(node: Node<'_, '_>, name: &str) -> Field<Instant>
     ensures { result ≡ instant_field_of name.now (tree_at node.entry) }
 {
     let Some(field) = present_field(node, name) else {
@@ -72,7 +72,10 @@ pub fn instant_field(node: Node<'_>, name: &str) -> Field<Instant>
 }
 
 /// The entries of a field that is a list. Never `WrongValue`.
-pub fn list_field<'a>(node: Node<'a>, name: &str) -> Field<Entries<'a>>
+pub fn list_field<'tree, 'text>(
+    node: Node<'tree, 'text>,
+    name: &str,
+) -> Field<Entries<'tree, 'text>>
     ensures { field_map entries_in result ≡ list_field_of name.now (tree_at node.entry) }
 {
     let Some(field) = present_field(node, name) else {
@@ -85,7 +88,7 @@ pub fn list_field<'a>(node: Node<'a>, name: &str) -> Field<Entries<'a>>
 }
 
 /// The object of a field. Never `WrongValue`.
-pub fn object_field<'a>(node: Node<'a>, name: &str) -> Field<Node<'a>>
+pub fn object_field<'tree, 'text>(node: Node<'tree, 'text>, name: &str) -> Field<Node<'tree, 'text>>
     ensures { field_map tree_at result ≡ object_field_of name.now (tree_at node.entry) }
 {
     let Some(field) = present_field(node, name) else {
@@ -99,7 +102,7 @@ pub fn object_field<'a>(node: Node<'a>, name: &str) -> Field<Node<'a>>
 }
 
 /// The field, where it is there and not null.
-fn present_field<'a>(node: Node<'a>, name: &str) -> Option<Node<'a>>
+fn present_field<'tree, 'text>(node: Node<'tree, 'text>, name: &str) -> Option<Node<'tree, 'text>>
     ensures { option_map tree_at result ≡ present_field name.now (tree_at node.entry) }
 {
     match node.field(name) {

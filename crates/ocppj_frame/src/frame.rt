@@ -1,5 +1,5 @@
 //! From a text to a frame.
-ghost use Rattle.std.specs.Prelude.{◌≡◌, IfErr, IfOk, MatchResult, Err, None, Ok, Some, drop, option_and_then, option_map, slice_get};
+ghost use Rattle.std.specs.Prelude.{◌≡◌, IfOk, None, Ok, Some, drop, option_and_then, option_map, slice_get};
 ghost use Rattle.ocpp_scalars.specs.Reading.{ReadsUnless};
 ghost use Rattle.ocppj_frame.specs.Fault.{is_memory};
 ghost use Rattle.ocppj_frame.specs.Frame.{HasObject, message_in};
@@ -12,24 +12,27 @@ use crate::fault::FrameFault;
 use crate::message::{MessageType, message_id, message_type, payload_of};
 use crate::message_id::MessageId;
 use crate::payload::{Elements, Payload, read_tree};
+use crate::reading_memory::ReadingMemory;
+use bumpalo::Bump;
 use std::alloc::Global;
 
 /// The most bytes of a frame's text.
 pub const MAX_FRAME_BYTES: usize = 1_048_576;
 
-/// A message (OCPP-J 1.6, section 4.2).
+/// A message (OCPP-J 1.6, section 4.2). Its action and its payload stand in the memory that it was read
+/// into.
 #[derive(Drop)]
-pub enum Frame {
+pub enum Frame<'a> {
     /// A CALL. The payload is an object.
     Call {
         id: MessageId,
-        action: ActionName,
-        payload: Payload,
+        action: ActionName<'a>,
+        payload: Payload<'a>,
     },
     /// A CALLRESULT. The payload is an object.
     Reply {
         id: MessageId,
-        payload: Payload,
+        payload: Payload<'a>,
     },
     /// A CALLERROR.
     Fault {
@@ -39,81 +42,72 @@ pub enum Frame {
     Other,
 }
 
-/// Reads a text as a message.
-pub fn read_frame(alloc: Global, text: &str) -> Result<Frame, FrameFault>
+/// Reads a text as a message, into `memory`.
+pub fn read_frame<'a>(memory: &'a mut ReadingMemory, text: &str) -> Result<Frame<'a>, FrameFault>
     ensures message { ReadsUnless is_memory message_in result (message_of_text text.now) }
     ensures object { IfOk result HasObject }
 {
     if text.len() > MAX_FRAME_BYTES {
         return Err(FrameFault::Dropped);
     }
-    let tree = read_tree(alloc, text)?;
+    let alloc = memory.alloc;
+    let tree = read_tree(memory, text)?;
     frame_of_tree(alloc, tree)
 }
 
-fn frame_of_tree(alloc: Global, tree: Payload) -> Result<Frame, FrameFault>
-    ensures frame { IfOk result
-        (λ frame. message_of_tree (tree_in tree) ≡ Ok (message_in frame)) }
+fn frame_of_tree(alloc: Global, tree: Payload<'_>) -> Result<Frame<'_>, FrameFault>
+    ensures message { ReadsUnless is_memory message_in result (message_of_tree (tree_in tree.entry)) }
     ensures object { IfOk result HasObject }
-    ensures fault { IfErr result (λ e. message_of_tree (tree_in tree) ≡ Err e) }
 {
     let Some(mut elements) = tree.into_elements() else {
         return Err(FrameFault::Dropped);
     };
+    let arena = elements.arena();
     let kind = message_type(elements.next());
-    let id = message_id(elements.next());
+    let id = message_id(alloc, elements.next())?;
     let third = elements.next();
     let fourth = elements.next();
-    frame_by(alloc, kind, id, third, fourth)
+    frame_by(arena, kind, id, third, fourth)
 }
 
-fn frame_by(
-    alloc: Global,
+fn frame_by<'a>(
+    arena: &'a Bump,
     kind: Option<MessageType>,
     id: Option<MessageId>,
-    third: Option<Payload>,
-    fourth: Option<Payload>,
-) -> Result<Frame, FrameFault>
-    ensures frame { IfOk result
-        (λ frame. message_by kind id (option_map tree_in third) (option_map tree_in fourth)
-        ≡ Ok (message_in frame)) }
+    third: Option<Payload<'a>>,
+    fourth: Option<Payload<'a>>,
+) -> Result<Frame<'a>, FrameFault>
+    ensures message { ReadsUnless is_memory message_in result
+        (message_by kind id (option_map tree_in third.entry) (option_map tree_in fourth.entry)) }
     ensures object { IfOk result HasObject }
-    ensures fault { IfErr result
-        (λ e. message_by kind id (option_map tree_in third) (option_map tree_in fourth)
-        ≡ Err e) }
 {
     match (kind, id) {
         (Some(MessageType::Other), _) => Ok(Frame::Other),
-        (Some(MessageType::Call), Some(id)) => call_of(alloc, id, third, fourth),
+        (Some(MessageType::Call), Some(id)) => call_of(arena, id, third, fourth),
         (Some(MessageType::CallResult), Some(id)) => Ok(Frame::Reply {
             id,
-            payload: payload_of(alloc, third).unwrap_or(Payload::empty(alloc)),
+            payload: payload_of(arena, third).unwrap_or(Payload::empty(arena)),
         }),
         (Some(MessageType::CallError), Some(id)) => Ok(Frame::Fault { id }),
         _ => Err(FrameFault::Dropped),
     }
 }
 
-fn call_of(
-    alloc: Global,
+fn call_of<'a>(
+    arena: &'a Bump,
     id: MessageId,
-    third: Option<Payload>,
-    fourth: Option<Payload>,
-) -> Result<Frame, FrameFault>
-    ensures frame { IfOk result
-        (λ frame. call_of id (option_and_then as_text (option_map tree_in third))
-        (payload_of (option_map tree_in fourth))
-        ≡ Ok (message_in frame)) }
+    third: Option<Payload<'a>>,
+    fourth: Option<Payload<'a>>,
+) -> Result<Frame<'a>, FrameFault>
+    ensures message { ReadsUnless is_memory message_in result
+        (call_of id (option_and_then as_text (option_map tree_in third.entry))
+        (payload_of (option_map tree_in fourth.entry))) }
     ensures object { IfOk result HasObject }
-    ensures fault { IfErr result
-        (λ e. call_of id (option_and_then as_text (option_map tree_in third))
-        (payload_of (option_map tree_in fourth))
-        ≡ Err e) }
 {
     let Some(action) = action_of(third) else {
         return Err(FrameFault::Formation { id });
     };
-    let Some(payload) = payload_of(alloc, fourth) else {
+    let Some(payload) = payload_of(arena, fourth) else {
         return Err(FrameFault::Formation { id });
     };
     Ok(Frame::Call {
@@ -123,8 +117,8 @@ fn call_of(
     })
 }
 
-fn action_of(element: Option<Payload>) -> Option<ActionName>
-    ensures { result ≡ option_and_then as_text (option_map tree_in element) }
+fn action_of(element: Option<Payload<'_>>) -> Option<ActionName<'_>>
+    ensures { result ≡ option_and_then as_text (option_map tree_in element.entry) }
 {
     match element?.into_text() {
         Some(text) => Some(ActionName::new(text)),

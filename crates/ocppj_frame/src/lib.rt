@@ -8,9 +8,12 @@ mod field;
 mod frame;
 mod laws;
 mod mark;
+mod marked_value;
 mod message;
 mod message_id;
 mod payload;
+mod read_fault;
+mod reading_memory;
 mod tree;
 mod write;
 
@@ -23,6 +26,7 @@ pub use frame::{Frame, MAX_FRAME_BYTES, read_frame};
 pub use laws::{frame_messages, marked_texts};
 pub use message_id::{MAX_ID_CHARACTERS, MessageId};
 pub use payload::{Entries, EntriesIter, Node, Payload, read_tree};
+pub use reading_memory::ReadingMemory;
 pub use write::{
     push_call_head, push_error, push_frame_end, push_result_head, write_call, write_error,
     write_result,

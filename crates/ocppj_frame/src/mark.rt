@@ -1,32 +1,33 @@
 //! Marked texts. `serde_json` reads a number into 64 bits, which loses digits: so the text that it
 //! reads has no numbers, but strings in their place, and each string has a mark that says which of the
 //! two it was.
-ghost use Rattle.std.specs.Prelude.{◌≡◌, ◌<◌, ◌≤◌, ◌+◌, ◌*◌, ◌∷◌, ◌++◌, IfOk, length, option_map, string_bytes, vec_capacity, vec_len};
-ghost use Rattle.ocppj_frame.specs.Mark.{after_mark, begins_number, continues_number, text_mark};
+ghost use Rattle.std.specs.Prelude.{◌≡◌, ◌<◌, ◌≤◌, ◌+◌, ◌*◌, ◌∷◌, ◌++◌, IfOk, OnOk, length, option_map, vec_capacity, vec_len};
+ghost use Rattle.ocppj_frame.specs.Mark.{after_mark, begins_number, continues_number};
 ghost use Rattle.ocppj_frame.specs.ByCases.Mark.{in_number, inside, marked_from, marked_text, outside};
 
-use std::alloc::{AllocError, Global};
+use std::alloc::AllocError;
 
-/// The text with each string and each number marked, as a JSON text without numbers.
-pub(crate) fn mark_text(alloc: Global, text: &str) -> Result<String, AllocError>
-    ensures { IfOk result (λ out. string_bytes out ≡ marked_text text.now) }
+/// The text with each string and each number marked, as a JSON text without numbers. It is written
+/// to `room`, in the place of what was there.
+pub(crate) fn mark_text<'a>(text: &str, room: &'a mut Vec<u8>) -> Result<&'a str, AllocError>
+    ensures { IfOk result (λ marked. marked.now ≡ marked_text text.now) }
 {
-    let bytes = mark_bytes(alloc, text.as_bytes())?;
+    mark_bytes(text.as_bytes(), room)?;
     // Proved to be UTF-8, so that nobody has to look.
-    Ok(unsafe { String::from_utf8_unchecked(bytes) })
+    Ok(unsafe { std::str::from_utf8_unchecked(room.as_slice()) })
 }
 
-fn mark_bytes(alloc: Global, text: &[u8]) -> Result<Vec<u8>, AllocError>
-    ensures { IfOk result (λ out. out.items ≡ marked_text text.now) }
+fn mark_bytes(text: &[u8], out: &mut Vec<u8>) -> Result<(), AllocError>
+    ensures { OnOk result (out.new.items ≡ marked_text text.now) }
 {
+    out.clear();
     // A byte makes at most four. With the whole room from the start no push has to ask for more.
-    let room = text.len().checked_mul(4).ok_or(AllocError)?;
-    let mut out = Vec::with_capacity(alloc, room)?;
+    out.reserve(text.len().checked_mul(4).ok_or(AllocError)?)?;
     let mut left = text;
     while let Some((byte, others)) = left.split_first() {
-        left = push_outside(&mut out, *byte, others);
+        left = push_outside(out, *byte, others);
     }
-    Ok(out)
+    Ok(())
 }
 
 /// Appends a byte that stands outside strings and numbers, with the string or the number that it
@@ -126,18 +127,5 @@ pub(crate) fn after_mark(text: &str, mark: u8) -> Option<&str>
         Some(unsafe { std::str::from_utf8_unchecked(others) })
     } else {
         None
-    }
-}
-
-/// What follows the mark `s`, in the same memory.
-pub(crate) fn without_mark(mut marked: String) -> Option<String>
-    ensures { option_map string_bytes result ≡ after_mark text_mark (string_bytes marked) }
-{
-    match marked.as_bytes() {
-        [b's', ..] => {
-            marked.remove(0);
-            Some(marked)
-        }
-        _ => None,
     }
 }

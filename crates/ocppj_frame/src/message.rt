@@ -1,13 +1,14 @@
 //! The elements of a message.
-ghost use Rattle.std.specs.Prelude.{◌≡◌, IfSome, Some, option_map, true};
+ghost use Rattle.std.specs.Prelude.{◌≡◌, IfOk, IfSome, Some, option_map, true};
 ghost use Rattle.ocppj_frame.specs.ByCases.Message.{message_id, message_type, payload_of, type_of_number};
 ghost use Rattle.ocppj_frame.specs.Payload.{tree_in};
 ghost use Rattle.ocppj_frame.specs.Tree.{is_object};
 
 use crate::message_id::MessageId;
 use crate::payload::Payload;
+use bumpalo::Bump;
 use ocpp_scalars::read_whole;
-use std::alloc::Global;
+use std::alloc::{AllocError, Global};
 
 /// The types of a message (OCPP-J 1.6, section 4.1.3).
 #[derive(Clone, Copy)]
@@ -20,12 +21,11 @@ pub enum MessageType {
 }
 
 /// The type that the first element names, where that is a whole number.
-pub(crate) fn message_type(element: Option<Payload>) -> Option<MessageType>
-    ensures { result ≡ message_type (option_map tree_in element) }
+pub(crate) fn message_type(element: Option<Payload<'_>>) -> Option<MessageType>
+    ensures { result ≡ message_type (option_map tree_in element.entry) }
 {
     let element = element?;
-    let digits = element.root().number()?;
-    match read_whole(digits) {
+    match read_whole(element.root().number()?) {
         Ok(number) => Some(type_of_number(number)),
         Err(_) => None,
     }
@@ -42,27 +42,40 @@ fn type_of_number(number: i32) -> MessageType
     }
 }
 
-/// The id in the second element.
-pub(crate) fn message_id(element: Option<Payload>) -> Option<MessageId>
-    ensures { result ≡ message_id (option_map tree_in element) }
+/// A copy of the id in the second element.
+pub(crate) fn message_id(
+    alloc: Global,
+    element: Option<Payload<'_>>,
+) -> Result<Option<MessageId>, AllocError>
+    ensures { IfOk result (λ id. id ≡ message_id (option_map tree_in element.entry)) }
 {
-    let text = element?.into_text()?;
-    match MessageId::try_new(text) {
-        Ok(id) => Some(id),
-        Err(_) => None,
+    let Some(element) = element else {
+        return Ok(None);
+    };
+    let Some(text) = element.into_text() else {
+        return Ok(None);
+    };
+    match MessageId::try_new(String::from_str(alloc, text)?) {
+        Ok(id) => Ok(Some(id)),
+        Err(_) => Ok(None),
     }
 }
 
 /// The payload in an element: the empty object where it is absent or null, `None` where it is
 /// no object. Needs no memory.
-pub(crate) fn payload_of(alloc: Global, element: Option<Payload>) -> Option<Payload>
-    ensures value { option_map tree_in result ≡ payload_of (option_map tree_in element) }
+pub(crate) fn payload_of<'a>(arena: &'a Bump, element: Option<Payload<'a>>) -> Option<Payload<'a>>
+    ensures value { option_map tree_in result ≡ payload_of (option_map tree_in element.entry) }
     ensures object { IfSome result (λ payload. is_object (tree_in payload) ≡ true) }
 {
-    match element {
-        None => Some(Payload::empty(alloc)),
-        Some(payload) if payload.root().is_null() => Some(Payload::empty(alloc)),
-        Some(payload) if payload.root().is_object() => Some(payload),
-        Some(_) => None,
+    let Some(payload) = element else {
+        return Some(Payload::empty(arena));
+    };
+    if payload.root().is_null() {
+        return Some(Payload::empty(arena));
+    }
+    if payload.root().is_object() {
+        Some(payload)
+    } else {
+        None
     }
 }

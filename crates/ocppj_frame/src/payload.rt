@@ -1,35 +1,35 @@
-//! A JSON tree, owned, and its nodes, borrowed.
+//! A JSON tree and its nodes.
 ghost use Rattle.std.specs.Prelude.{◌≡◌, is_some, true};
-ghost use Rattle.serde_json.specs.View.{items_view, view};
 ghost use Rattle.ocppj_frame.specs.Read.{tree_of, trees_of};
+ghost use Rattle.ocppj_frame.specs.View.{items_view, view};
 
 mod elements;
 mod list;
 mod read;
 mod readers;
 
+use crate::marked_value::MarkedValue;
 pub(crate) use elements::Elements;
 pub use list::EntriesIter;
 pub use read::read_tree;
-use serde_json::Value;
 
-/// A JSON tree (RFC 8259) whose numbers keep their text.
+/// A JSON tree (RFC 8259) whose numbers keep their text, in the memory that it was read into.
 #[derive(Drop)]
-pub struct Payload {
-    value: Value,
+pub struct Payload<'text> {
+    value: MarkedValue<'text>,
     ghost marked: { is_some (tree_of (view value)) ≡ true },
 }
 
 /// A node of a tree with all that is below it, borrowed.
 #[derive(Clone, Copy)]
-pub struct Node<'a> {
-    value: &'a Value,
+pub struct Node<'tree, 'text> {
+    value: &'tree MarkedValue<'text>,
     ghost marked: { is_some (tree_of (view value.now)) ≡ true },
 }
 
 /// The entries of a list in a tree, borrowed.
 #[derive(Clone, Copy)]
-pub struct Entries<'a> {
-    values: &'a [Value],
+pub struct Entries<'tree, 'text> {
+    values: &'tree [MarkedValue<'text>],
     ghost marked: { is_some (trees_of (items_view values.now)) ≡ true },
 }

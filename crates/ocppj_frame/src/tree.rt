@@ -1,29 +1,30 @@
 //! Whether a value that was read from a marked text is a tree.
 ghost use Rattle.std.specs.Prelude.{◌≡◌, is_some};
-ghost use Rattle.serde_json.specs.View.{items_view, members_view, view};
 ghost use Rattle.ocppj_frame.specs.Read.{fields_of, name_of_key, tree_of, tree_of_string, trees_of};
+ghost use Rattle.ocppj_frame.specs.View.{items_view, members_view, view};
 
 use crate::mark::after_mark;
+use crate::marked_value::MarkedValue;
+use bumpalo::Bump;
 use ocpp_scalars::is_number_text;
-use serde_json::{Map, Value};
+use std::collections::BTreeMap;
 
 /// Whether each string and each key of the value is marked, and each number has RFC 8259's grammar.
 #[cycle(tree)]
-pub(crate) fn is_tree(value: &Value) -> bool
+pub(crate) fn is_tree(value: &MarkedValue<'_>) -> bool
     ensures { result ≡ is_some (tree_of (view value.now)) }
 {
     match value {
-        Value::Null | Value::Bool(_) => true,
-        Value::Number(_) => false,
-        Value::String(text) => is_marked(text.as_str()),
-        Value::Array(values) => are_trees(values),
-        Value::Object(members) => are_fields(members),
+        MarkedValue::Null | MarkedValue::Bool(_) => true,
+        MarkedValue::String(text) => is_marked(text),
+        MarkedValue::Array(values) => are_trees(values),
+        MarkedValue::Object(members) => are_fields(members),
     }
 }
 
 #[cycle(tree)]
-fn are_trees(values: &Vec<Value>) -> bool
-    ensures { result ≡ is_some (trees_of (items_view values.now.items)) }
+fn are_trees(values: &[MarkedValue<'_>]) -> bool
+    ensures { result ≡ is_some (trees_of (items_view values.now)) }
 {
     for item in values {
         if !is_tree(item) {
@@ -34,11 +35,11 @@ fn are_trees(values: &Vec<Value>) -> bool
 }
 
 #[cycle(tree)]
-fn are_fields(members: &Map<String, Value>) -> bool
+fn are_fields(members: &BTreeMap<&str, MarkedValue<'_>, &Bump>) -> bool
     ensures { result ≡ is_some (fields_of (members_view members.now.entries)) }
 {
     for (key, value) in members {
-        if !is_key(key.as_str()) || !is_tree(value) {
+        if !is_key(key) || !is_tree(value) {
             return false;
         }
     }

@@ -11,7 +11,7 @@ mod steps;
 
 use crate::fault::SiteFault;
 use crate::site::Site;
-use ocppj_frame::{Entries, FrameFault, Node, list_field, read_tree, text_field};
+use ocppj_frame::{Entries, FrameFault, Node, ReadingMemory, list_field, read_tree, text_field};
 use point::read_point;
 use profile::{Named, Unit};
 use std::alloc::Global;
@@ -41,7 +41,8 @@ pub fn read_site(alloc: Global, bytes: &[u8]) -> Result<Site, SiteFault>
 fn read_site_text(alloc: Global, text: &str) -> Result<Site, SiteFault>
     ensures { ReadsUnless is_memory (λ site. site) result (site_by (tree_of_text text.now)) }
 {
-    match read_tree(alloc, text) {
+    let mut memory = ReadingMemory::new(alloc);
+    match read_tree(&mut memory, text) {
         Ok(tree) => read_site_tree(alloc, tree.root()),
         Err(FrameFault::OutOfMemory) => Err(SiteFault::OutOfMemory),
         Err(_) => Err(SiteFault::NotJson),
@@ -49,7 +50,7 @@ fn read_site_text(alloc: Global, text: &str) -> Result<Site, SiteFault>
 }
 
 #[tactic(auto, unfolding(crate::specs::ByCases::SiteReading::site_of_tree))]
-fn read_site_tree(alloc: Global, tree: Node<'_>) -> Result<Site, SiteFault>
+fn read_site_tree(alloc: Global, tree: Node<'_, '_>) -> Result<Site, SiteFault>
     ensures { ReadsUnless is_memory (λ site. site) result (site_of_tree (tree_at tree.entry)) }
 {
     let fields = object_or(SiteFault::NotAnObject, tree)?;
@@ -61,7 +62,7 @@ fn read_site_tree(alloc: Global, tree: Node<'_>) -> Result<Site, SiteFault>
 }
 
 /// Reads the points, each in full before the next.
-fn read_points(alloc: Global, unit: Unit, entries: Entries<'_>) -> Result<Site, SiteFault>
+fn read_points(alloc: Global, unit: Unit, entries: Entries<'_, '_>) -> Result<Site, SiteFault>
     ensures { ReadsUnless is_memory (λ site. site) result
         (with_points (record { unit = unit; points = [] }) (entries_in entries.entry)) }
 {

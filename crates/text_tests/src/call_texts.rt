@@ -2,7 +2,7 @@
 //! and to copy the longest. Each call is made of what an operator asks for, with its fields in another
 //! order than they are written in.
 use messages::{Action, Call, CallBody, push_call, read_action};
-use ocppj_frame::read_frame;
+use ocppj_frame::{ReadingMemory, read_frame};
 use profile::Profile;
 use std::alloc::{AllocError, Global};
 use std::process::Abort;
@@ -29,7 +29,8 @@ const CALLS: &str = r#"[2,"a","ClearChargingProfile",{}]
 [2,"7","SetChargingProfile",{"connectorId":0,"csChargingProfiles":{"chargingProfileId":0,"stackLevel":10,"chargingProfilePurpose":"ChargePointMaxProfile","chargingProfileKind":"Recurring","recurrencyKind":"Daily","validTo":"2025-02-01T00:00:00Z","chargingSchedule":{"duration":86400,"chargingRateUnit":"W","chargingSchedulePeriod":[{"startPeriod":10,"limit":7360.2}],"minChargingRate":0.0}}}]"#;
 
 fn body_of(alloc: Global, text: &str) -> Result<CallBody, Fail> {
-    let Ok(frame) = read_frame(alloc, text) else {
+    let mut memory = ReadingMemory::new(alloc);
+    let Ok(frame) = read_frame(&mut memory, text) else {
         return Err(Fail::new("no message"));
     };
     match read_action(alloc, &frame) {

@@ -2,16 +2,16 @@
 //! fields by kind, and written frames. `tests/replay` at the top of the repository has the texts of
 //! JSON conformance suites.
 use ocppj_frame::{
-    Field, Frame, FrameFault, Node, instant_field, list_field, object_field, push_call_head,
-    push_error, push_frame_end, push_result_head, read_frame, read_tree, tenths_field, text_field,
-    whole_field, write_call, write_error, write_result,
+    Field, Frame, FrameFault, Node, ReadingMemory, instant_field, list_field, object_field,
+    push_call_head, push_error, push_frame_end, push_result_head, read_frame, read_tree,
+    tenths_field, text_field, whole_field, write_call, write_error, write_result,
 };
 use std::alloc::{AllocError, Global};
 use std::process::Abort;
 use std::test::Fail;
 
-fn outcome(alloc: Global, text: &str) -> &'static str {
-    match read_frame(alloc, text) {
+fn outcome(memory: &mut ReadingMemory, text: &str) -> &'static str {
+    match read_frame(memory, text) {
         Ok(Frame::Call { .. }) => "Call",
         Ok(Frame::Reply { .. }) => "Reply",
         Ok(Frame::Fault { .. }) => "Fault",
@@ -117,12 +117,14 @@ Dropped [2,"5","Heartbeat",{1:2}]"#;
 
 #[test]
 fn texts_are_frames_by_their_elements(rt: HostRuntime) -> Result<(), Fail> {
+    // One memory for all of them: what was read before leaves no trace.
+    let mut memory = ReadingMemory::new(rt.alloc());
     for line in FRAMES.lines() {
         let (wanted, text) = line.split_once(' ').ok_or("no text")?;
-        assert_eq!(rt; outcome(rt.alloc(), text), wanted, "{text}");
+        assert_eq!(rt; outcome(&mut memory, text), wanted, "{text}");
     }
-    assert_eq!(rt; outcome(rt.alloc(), " \t\r\n[7,\n\"5\"]\n\r\t "), "Other");
-    assert_eq!(rt; outcome(rt.alloc(), "[7,\"a\nb\"]"), "Dropped");
+    assert_eq!(rt; outcome(&mut memory, " \t\r\n[7,\n\"5\"]\n\r\t "), "Other");
+    assert_eq!(rt; outcome(&mut memory, "[7,\"a\nb\"]"), "Dropped");
     Ok(())
 }
 
@@ -139,16 +141,18 @@ fn frames_have_at_most_1048576_bytes(rt: HostRuntime) -> Result<(), AllocError> 
     let mut text = String::from_str(alloc, "[7,\"5\"]")?;
     push_times(&mut text, " ", 1_048_569)?;
     assert_eq!(rt; text.len(), 1_048_576);
-    assert_eq!(rt; outcome(alloc, text.as_str()), "Other");
+    let mut memory = ReadingMemory::new(alloc);
+    assert_eq!(rt; outcome(&mut memory, text.as_str()), "Other");
     text.push_str(" ")?;
-    assert_eq!(rt; outcome(alloc, text.as_str()), "Dropped");
-    assert!(rt; read_tree(alloc, text.as_str()).is_ok());
+    assert_eq!(rt; outcome(&mut memory, text.as_str()), "Dropped");
+    assert!(rt; read_tree(&mut memory, text.as_str()).is_ok());
     Ok(())
 }
 
 #[test]
 fn texts_nest_to_127_levels(rt: HostRuntime) -> Result<(), AllocError> {
     let alloc = rt.alloc();
+    let mut memory = ReadingMemory::new(alloc);
     for (open, inner, close, times, wanted) in [
         // the inner value is a level of its own
         ("[", "[]", "]", 126, true),
@@ -169,7 +173,7 @@ fn texts_nest_to_127_levels(rt: HostRuntime) -> Result<(), AllocError> {
         text.push_str(inner)?;
         push_times(&mut text, close, times)?;
         assert_eq!(rt;
-            read_tree(alloc, text.as_str()).is_ok(),
+            read_tree(&mut memory, text.as_str()).is_ok(),
             wanted,
             "{open}{inner}"
         );
@@ -180,13 +184,14 @@ fn texts_nest_to_127_levels(rt: HostRuntime) -> Result<(), AllocError> {
 #[test]
 fn a_call_has_its_parts(rt: HostRuntime) -> Result<(), Fail> {
     let text = "[2,\"\\u0041\\/é\",\"Data\\nTransfer\",{\"k\\\"1\":\"-5e\"},0]";
+    let mut memory = ReadingMemory::new(rt.alloc());
     let Ok(
         Frame::Call {
             id,
             action,
             payload,
         },
-    ) = read_frame(rt.alloc(), text)
+    ) = read_frame(&mut memory, text)
     else {
         return Err(Fail::new("no call"));
     };
@@ -208,21 +213,21 @@ instant time Value
 instant half WrongKind
 object list WrongKind";
 
-fn word<T>(field: &Field<T>) -> &'static str {
+fn is_called<T>(field: &Field<T>, word: &str) -> bool {
     match field {
-        Field::Absent => "Absent",
-        Field::WrongKind => "WrongKind",
-        Field::WrongValue => "WrongValue",
-        Field::Value(_) => "Value",
+        Field::Absent => word == "Absent",
+        Field::WrongKind => word == "WrongKind",
+        Field::WrongValue => word == "WrongValue",
+        Field::Value(_) => word == "Value",
     }
 }
 
-fn word_of(node: Node<'_>, kind: &str, name: &str) -> &'static str {
+fn reads_as(node: Node<'_, '_>, kind: &str, name: &str, word: &str) -> bool {
     match kind {
-        "whole" => word(&whole_field(node, name)),
-        "tenths" => word(&tenths_field(node, name)),
-        "instant" => word(&instant_field(node, name)),
-        _ => word(&object_field(node, name)),
+        "whole" => is_called(&whole_field(node, name), word),
+        "tenths" => is_called(&tenths_field(node, name), word),
+        "instant" => is_called(&instant_field(node, name), word),
+        _ => is_called(&object_field(node, name), word),
     }
 }
 
@@ -230,14 +235,15 @@ fn word_of(node: Node<'_>, kind: &str, name: &str) -> &'static str {
 fn fields_are_read_by_kind(rt: HostRuntime) -> Result<(), Fail> {
     let text =
         "{\"whole\":-2.0,\"half\":0.5,\"nothing\":null,\"time\":\"1970-01-01T00:00:10Z\",\"list\":[{},1],\"whole\":16e1}";
-    let Ok(payload) = read_tree(rt.alloc(), text) else {
+    let mut memory = ReadingMemory::new(rt.alloc());
+    let Ok(payload) = read_tree(&mut memory, text) else {
         return Err(Fail::new("no tree"));
     };
     let root = payload.root();
     for line in FIELDS.lines() {
         let (kind, rest) = line.split_once(' ').ok_or("no kind")?;
         let (name, wanted) = rest.split_once(' ').ok_or("no name")?;
-        assert_eq!(rt; word_of(root, kind, name), wanted, "{line}");
+        assert!(rt; reads_as(root, kind, name, wanted), "{line}");
     }
     assert!(rt; whole_field(root, "whole") == Field::Value(160));
     assert!(rt; tenths_field(root, "half") == Field::Value(5));
@@ -245,7 +251,7 @@ fn fields_are_read_by_kind(rt: HostRuntime) -> Result<(), Fail> {
     Ok(())
 }
 
-fn seconds_in(node: Node<'_>, name: &str) -> Option<u64> {
+fn seconds_in(node: Node<'_, '_>, name: &str) -> Option<u64> {
     match instant_field(node, name) {
         Field::Value(instant) => Some(instant.seconds()),
         _ => None,
@@ -254,7 +260,8 @@ fn seconds_in(node: Node<'_>, name: &str) -> Option<u64> {
 
 #[test]
 fn lists_have_their_entries(rt: HostRuntime) -> Result<(), Fail> {
-    let Ok(payload) = read_tree(rt.alloc(), "{\"list\":[{},1]}") else {
+    let mut memory = ReadingMemory::new(rt.alloc());
+    let Ok(payload) = read_tree(&mut memory, "{\"list\":[{},1]}") else {
         return Err(Fail::new("no tree"));
     };
     let Field::Value(entries) = list_field(payload.root(), "list") else {
@@ -306,6 +313,7 @@ fn frames_are_appended(rt: HostRuntime) -> Result<(), AllocError> {
 
 #[test]
 fn the_last_field_of_a_name_counts(rt: HostRuntime) -> Result<(), Fail> {
+    let mut memory = ReadingMemory::new(rt.alloc());
     for (text, name, wanted) in [
         ("{\"a\":1,\"a\":2}", "a", 2),
         (r#"{"a":1,"b":7,"\u0061":2}"#, "a", 2),
@@ -320,7 +328,7 @@ fn the_last_field_of_a_name_counts(rt: HostRuntime) -> Result<(), Fail> {
         (r#"{"\"\\\/":9}"#, "\"\\/", 9),
         ("{\"12\":10}", "12", 10),
     ] {
-        let Ok(payload) = read_tree(rt.alloc(), text) else {
+        let Ok(payload) = read_tree(&mut memory, text) else {
             return Err(Fail::new("no tree"));
         };
         assert_eq!(rt;

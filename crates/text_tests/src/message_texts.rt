@@ -6,7 +6,7 @@ use messages::{
     write_response,
 };
 use ocpp_scalars::{Instant, Refusal};
-use ocppj_frame::read_frame;
+use ocppj_frame::{ReadingMemory, read_frame};
 use profile::{Profile, ProfileParts, Unit};
 use std::alloc::{AllocError, Global};
 use std::process::Abort;
@@ -64,7 +64,8 @@ const PROFILE_TAIL: &str =
     r#"]},"validTo":"2025-01-02T00:00:00Z","validFrom":"2025-01-01T00:00:00Z","recurrencyKind":"Weekly","chargingProfileKind":"Recurring","chargingProfilePurpose":"TxProfile","stackLevel":5,"transactionId":-7,"chargingProfileId":-1},"connectorId":2}]"#;
 
 fn read(alloc: Global, text: &str) -> Result<Result<Action, CallFault>, Fail> {
-    match read_frame(alloc, text) {
+    let mut memory = ReadingMemory::new(alloc);
+    match read_frame(&mut memory, text) {
         Ok(frame) => Ok(read_action(alloc, &frame)),
         Err(_) => Err(Fail::new("no message")),
     }

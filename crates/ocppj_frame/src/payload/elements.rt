@@ -1,28 +1,36 @@
 //! The elements of a list, owned, as a frame is taken apart.
 ghost use Rattle.std.specs.Prelude.{◌≡◌, is_some, true};
 ghost use Rattle.std.specs.Vec.Iter.{into_iter_items};
-ghost use Rattle.serde_json.specs.View.{items_view};
 ghost use Rattle.ocppj_frame.specs.Read.{trees_of};
+ghost use Rattle.ocppj_frame.specs.View.{items_view};
 
 use super::Payload;
-use crate::mark::without_mark;
-use serde_json::{Map, Value};
-use std::alloc::Global;
+use crate::mark::after_mark;
+use crate::marked_value::MarkedValue;
+use bumpalo::Bump;
+use std::collections::BTreeMap;
 use std::vec::IntoIter;
 
 /// The elements of a list that are left to visit, in order.
 #[derive(Drop)]
-pub(crate) struct Elements {
-    values: IntoIter<Value>,
+pub(crate) struct Elements<'text> {
+    /// What the tree stands in.
+    arena: &'text Bump,
+    values: IntoIter<MarkedValue<'text>, &'text Bump>,
     ghost marked: { is_some (trees_of (items_view (into_iter_items values))) ≡ true },
 }
 
-impl Elements {
+impl<'text> Elements<'text> {
     ghost use Rattle.std.specs.Prelude.{◌≡◌, drop, option_map, slice_get};
     ghost use Rattle.ocppj_frame.specs.Payload.{elements_left, tree_in};
 
+    /// What the tree stands in.
+    pub(crate) fn arena(&self) -> &'text Bump {
+        self.arena
+    }
+
     /// Returns the next element, where there is one, and moves past it.
-    pub(crate) fn next(&mut self) -> Option<Payload>
+    pub(crate) fn next(&mut self) -> Option<Payload<'text>>
         ensures element { option_map tree_in result ≡ slice_get (elements_left self.old) 0 }
         ensures left { elements_left self.new ≡ drop 1 (elements_left self.old) }
     {
@@ -33,40 +41,41 @@ impl Elements {
     }
 }
 
-impl Payload {
-    ghost use Rattle.std.specs.Prelude.{◌≡◌, option_map, string_bytes};
+impl<'text> Payload<'text> {
+    ghost use Rattle.std.specs.Prelude.{◌≡◌, option_map};
     ghost use Rattle.ocppj_frame.specs.Payload.{elements_left, tree_in};
     ghost use Rattle.ocppj_frame.specs.Tree.{as_list, as_text, no_fields, object};
 
     /// The object without fields. Needs no memory.
-    pub(crate) fn empty(alloc: Global) -> Payload
+    pub(crate) fn empty(arena: &'text Bump) -> Payload<'text>
         ensures { tree_in result ≡ object no_fields }
     {
         Payload {
-            value: Value::Object(Map::new(alloc)),
+            value: MarkedValue::Object(BTreeMap::new(arena)),
         }
     }
 
     /// The elements, where the tree is a list.
-    pub(crate) fn into_elements(self) -> Option<Elements>
-        ensures { option_map elements_left result ≡ as_list (tree_in self) }
+    pub(crate) fn into_elements(self) -> Option<Elements<'text>>
+        ensures { option_map elements_left result ≡ as_list (tree_in self.entry) }
     {
         let Payload { value } = self;
         match value {
-            Value::Array(values) => Some(Elements {
+            MarkedValue::Array(values) => Some(Elements {
+                arena: *values.allocator(),
                 values: values.into_iter(),
             }),
             _ => None,
         }
     }
 
-    /// The text, where the tree is one. Needs no memory.
-    pub(crate) fn into_text(self) -> Option<String>
-        ensures { option_map string_bytes result ≡ as_text (tree_in self) }
+    /// The text, where the tree is one.
+    pub(crate) fn into_text(self) -> Option<&'text str>
+        ensures { option_map (λ t. t.now) result ≡ as_text (tree_in self.entry) }
     {
         let Payload { value } = self;
         match value {
-            Value::String(marked) => without_mark(marked),
+            MarkedValue::String(marked) => after_mark(marked, b's'),
             _ => None,
         }
     }

@@ -5,7 +5,7 @@ ghost use Rattle.ocppj_frame.specs.Payload.{entries_in, entries_left, tree_at};
 
 use super::{Entries, Node};
 
-impl<'a> Entries<'a> {
+impl<'tree, 'text> Entries<'tree, 'text> {
     /// How many entries there are.
     pub fn len(self) -> usize
         ensures { result ≡ length (entries_in self.entry) }
@@ -22,7 +22,7 @@ impl<'a> Entries<'a> {
 
     /// The entry at this index, from 0.
     #[tactic(auto, using(crate::proofs::TreeParts::entry_is_tree, crate::proofs::TreeParts::entry_tree, crate::proofs::TreeParts::entry_past))]
-    pub fn get(self, index: usize) -> Option<Node<'a>>
+    pub fn get(self, index: usize) -> Option<Node<'tree, 'text>>
         ensures { option_map tree_at result ≡ slice_get (entries_in self.entry) index }
     {
         let values = self.values;
@@ -35,7 +35,7 @@ impl<'a> Entries<'a> {
     }
 
     /// The entries in order.
-    pub fn iter(self) -> EntriesIter<'a>
+    pub fn iter(self) -> EntriesIter<'tree, 'text>
         ensures { entries_left result ≡ entries_in self.entry }
     {
         EntriesIter { left: self }
@@ -44,18 +44,18 @@ impl<'a> Entries<'a> {
 
 /// The entries of a list that are left to visit, in order.
 #[derive(Drop)]
-pub struct EntriesIter<'a> {
-    left: Entries<'a>,
+pub struct EntriesIter<'tree, 'text> {
+    left: Entries<'tree, 'text>,
 }
 
-impl<'a> Iterator for EntriesIter<'a> {
-    type Item = Node<'a>;
+impl<'tree, 'text> Iterator for EntriesIter<'tree, 'text> {
+    type Item = Node<'tree, 'text>;
 
     ghost next_gives = { YieldsFirstBy tree_at entries_left };
 
     ghost remaining = { item_count entries_left };
 
-    fn next(&mut self) -> Option<Node<'a>> {
+    fn next(&mut self) -> Option<Node<'tree, 'text>> {
         let (value, others) = self.left.values.split_first()?;
         self.left = Entries { values: others };
         Some(Node { value })

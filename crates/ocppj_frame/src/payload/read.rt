@@ -8,27 +8,24 @@ ghost use Rattle.ocppj_frame.specs.Read.{tree_of_text};
 use super::Payload;
 use crate::fault::FrameFault;
 use crate::mark::mark_text;
+use crate::marked_value::read_marked;
+use crate::read_fault::ReadFault;
+use crate::reading_memory::ReadingMemory;
 use crate::tree::is_tree;
-use serde_json::Value;
-use std::alloc::Global;
 
 /// Reads a JSON text of any length as a tree. A text that is refused is `Dropped`; there is never a
-/// `Formation`.
-pub fn read_tree(alloc: Global, text: &str) -> Result<Payload, FrameFault>
+/// `Formation`. The tree stands in `memory`, which is free again when the tree is gone.
+pub fn read_tree<'a>(memory: &'a mut ReadingMemory, text: &str) -> Result<Payload<'a>, FrameFault>
     ensures { ReadsUnless is_memory tree_in result
         (ok_or (tree_of_text text.now) FrameFault.Dropped) }
 {
-    let marked = mark_text(alloc, text)?;
-    let value = match Value::from_str(alloc, marked.as_str()) {
-        Ok(value) => value,
-        Err(error) if error.is_memory() => return Err(FrameFault::OutOfMemory),
-        Err(_) => return Err(FrameFault::Dropped),
-    };
-    // `serde_json` has read a text without numbers: whether each was one is tested only now, and of
-    // repeated keys only for the last.
-    if is_tree(&value) {
-        Ok(Payload { value })
-    } else {
-        Err(FrameFault::Dropped)
+    // Where it fails, the arena stays as it is and goes on growing.
+    let _ = memory.arena.reset();
+    let marked = mark_text(text, &mut memory.marked)?;
+    match read_marked(&memory.arena, marked, &mut memory.scratch) {
+        // Whether each number was one is tested only now, and of repeated keys only for the last.
+        Ok(value) if is_tree(&value) => Ok(Payload { value }),
+        Ok(_) | Err(ReadFault::NotJson) => Err(FrameFault::Dropped),
+        Err(ReadFault::OutOfMemory) => Err(FrameFault::OutOfMemory),
     }
 }

@@ -1,55 +1,57 @@
 //! What a node is and what it holds.
 ghost use Rattle.std.specs.Prelude.{◌≡◌, option_map};
-ghost use Rattle.serde_json.specs.View.{members_view, view};
 ghost use Rattle.ocppj_frame.specs.ByCases.Member.{is_key_of, member_named};
 ghost use Rattle.ocppj_frame.specs.Payload.{entries_in, tree_at, tree_in};
 ghost use Rattle.ocppj_frame.specs.Tree.{as_list, as_number, as_text, field_of, is_null, is_object};
+ghost use Rattle.ocppj_frame.specs.View.{members_view, view};
 
 use super::{Entries, Node, Payload};
 use crate::mark::after_mark;
-use serde_json::{Map, Value};
+use crate::marked_value::MarkedValue;
+use bumpalo::Bump;
+use std::collections::BTreeMap;
 
-impl Payload {
+impl<'text> Payload<'text> {
     /// The whole tree, borrowed.
-    pub fn root(&self) -> Node<'_>
+    pub fn root(&self) -> Node<'_, 'text>
         ensures { tree_at result ≡ tree_in self.now }
     {
         Node { value: &self.value }
     }
 }
 
-impl<'a> Node<'a> {
+impl<'tree, 'text> Node<'tree, 'text> {
     /// Whether the node is an object.
     pub fn is_object(self) -> bool
         ensures { result ≡ is_object (tree_at self.entry) }
     {
-        matches!(self.value, Value::Object(_))
+        matches!(self.value, MarkedValue::Object(_))
     }
 
     /// Whether the node is null.
     pub fn is_null(self) -> bool
         ensures { result ≡ is_null (tree_at self.entry) }
     {
-        matches!(self.value, Value::Null)
+        matches!(self.value, MarkedValue::Null)
     }
 
     /// The text, where the node is one.
-    pub fn text(self) -> Option<&'a str>
+    pub fn text(self) -> Option<&'text str>
         ensures { option_map (λ t. t.now) result ≡ as_text (tree_at self.entry) }
     {
-        if let Value::String(marked) = self.value {
-            after_mark(marked.as_str(), b's')
+        if let MarkedValue::String(marked) = self.value {
+            after_mark(marked, b's')
         } else {
             None
         }
     }
 
     /// The number's text, where the node is a number.
-    pub fn number(self) -> Option<&'a str>
+    pub fn number(self) -> Option<&'text str>
         ensures { option_map (λ t. t.now) result ≡ as_number (tree_at self.entry) }
     {
-        if let Value::String(marked) = self.value {
-            after_mark(marked.as_str(), b'n')
+        if let MarkedValue::String(marked) = self.value {
+            after_mark(marked, b'n')
         } else {
             None
         }
@@ -57,10 +59,10 @@ impl<'a> Node<'a> {
 
     /// The entries, where the node is a list.
     #[tactic(auto, using(crate::proofs::TreeParts::value_list))]
-    pub fn list(self) -> Option<Entries<'a>>
+    pub fn list(self) -> Option<Entries<'tree, 'text>>
         ensures { option_map entries_in result ≡ as_list (tree_at self.entry) }
     {
-        if let Value::Array(values) = self.value {
+        if let MarkedValue::Array(values) = self.value {
             Some(Entries {
                 values: values.as_slice(),
             })
@@ -70,10 +72,10 @@ impl<'a> Node<'a> {
     }
 
     /// The field of this name, where the node is an object that has it.
-    pub fn field(self, name: &str) -> Option<Node<'a>>
+    pub fn field(self, name: &str) -> Option<Node<'tree, 'text>>
         ensures { option_map tree_at result ≡ field_of name.now (tree_at self.entry) }
     {
-        let Value::Object(members) = self.value else {
+        let MarkedValue::Object(members) = self.value else {
             return None;
         };
         match find_member(members, name) {
@@ -83,14 +85,17 @@ impl<'a> Node<'a> {
     }
 }
 
-fn find_member<'a>(members: &'a Map<String, Value>, name: &str) -> Option<&'a Value>
+fn find_member<'tree, 'text>(
+    members: &'tree BTreeMap<&'text str, MarkedValue<'text>, &'text Bump>,
+    name: &str,
+) -> Option<&'tree MarkedValue<'text>>
     ensures { option_map (λ v. view v.now) result
         ≡ member_named name.now (members_view members.now.entries) }
 {
     // The keys are marked and the name isn't: a look-up in the map would need memory for a marked name.
     // Each call looks for few fields, among few members where the object is OCPP's.
     for (key, value) in members {
-        if is_key_of(name, key.as_str()) {
+        if is_key_of(name, key) {
             return Some(value);
         }
     }

@@ -1,6 +1,7 @@
 //! The player of a script: the central system's machine, and the asks that are held.
 
 ghost use Rattle.std.specs.Prelude.{◌≡◌, ◌∷◌, [], ◌++◌, None, IfOk, OnOk};
+ghost use Rattle.replay.specs.Todo.{hold_of, todo_of};
 ghost use Rattle.replay.specs.Held.{id_held, let_go};
 ghost use Rattle.replay.specs.MachineSteps.{stepped_exactly, handed_out, stepped_at_once, attached_once, sent_first, confirmed_by};
 ghost use Rattle.replay.specs.ByCases.MachineSteps.{IsAsked};
@@ -9,8 +10,10 @@ use crate::player::held::{Held, let_go};
 use crate::player::machine_steps::{
     StepOutcome, attach_once, confirm_call, hand_out, send_first, step_at_once, step_exactly,
 };
+use crate::session::sent_text::SentText;
+use crate::session::todo::{Todo, hold_of, todo_of};
 use messages::Call;
-use ocppj_frame::MessageId;
+use ocppj_frame::{MessageId, ReadingMemory};
 use site_core::{Machine, PointId, Step};
 use site_rules::Site;
 use std::alloc::{AllocError, Global};
@@ -23,6 +26,8 @@ pub struct Player {
     machine: Machine,
     /// In the order of their lines.
     held: Vec<Held>,
+    /// What texts are read into.
+    memory: ReadingMemory,
 }
 
 impl Model for Player {
@@ -48,6 +53,7 @@ impl Player {
             alloc,
             machine: Machine::new(alloc, site)?,
             held: Vec::new(alloc),
+            memory: ReadingMemory::new(alloc),
         })
     }
 
@@ -61,6 +67,22 @@ impl Player {
         ensures { result.now ≡ self.now.machine.site }
     {
         self.machine.site()
+    }
+
+    /// What a text asks for.
+    pub fn todo_of(&mut self, text: &SentText<'_>) -> Result<Todo, AllocError>
+        ensures todo { IfOk result (λ todo. todo ≡ todo_of text.now) }
+        ensures same { self.new ≡ self.old }
+    {
+        todo_of(self.alloc, &mut self.memory, text)
+    }
+
+    /// What a held text asks for, or `None` where the text is no CALL of GetCompositeSchedule.
+    pub fn hold_of(&mut self, text: &SentText<'_>) -> Result<Option<Todo>, AllocError>
+        ensures todo { IfOk result (λ todo. todo ≡ hold_of text.now) }
+        ensures same { self.new ≡ self.old }
+    {
+        hold_of(self.alloc, &mut self.memory, text)
     }
 
     /// Makes a step that a text asks for.

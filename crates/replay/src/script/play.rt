@@ -12,7 +12,7 @@ use crate::player::player::Player;
 use crate::script::line::{LineFault, ScriptLine, read_line};
 use crate::session::answer::response_of;
 use crate::session::sent_text::SentText;
-use crate::session::todo::{Todo, hold_of, todo_of};
+use crate::session::todo::Todo;
 use messages::{ActionKind, Call, Response, Side, push_call, push_response};
 use ocppj_frame::MessageId;
 use profile::Unit;
@@ -49,7 +49,7 @@ fn play_said(player: &mut Player, number: u64, said: ScriptLine<'_>) -> Result<P
 {
     match said {
         ScriptLine::Text(text) => Ok(without_fault(text_lines(player, &text)?)),
-        ScriptLine::Hold(text) => match hold_of(player.alloc(), &text)? {
+        ScriptLine::Hold(text) => match player.hold_of(&text)? {
             Some(todo) => Ok(without_fault(hold_line(player, todo)?)),
             None => fault_printed(player.alloc(), number, LineFault::NotComposite),
         },
@@ -146,7 +146,7 @@ fn text_line(player: &mut Player, text: &SentText<'_>) -> Result<String, AllocEr
     ensures { IfOk result (λ line. IsHandled
         (todo_handled player.old (todo_of text.now)) (string_bytes line) player.new) }
 {
-    let todo = todo_of(player.alloc(), text)?;
+    let todo = player.todo_of(text)?;
     todo_line(player, todo)
 }
 

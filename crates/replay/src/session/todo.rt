@@ -14,7 +14,7 @@ use messages::{
     Action, ActionKind, CallFault, Response, ScheduleRequest, Side, StartTransaction, read_fields,
 };
 use ocpp_scalars::Refusal;
-use ocppj_frame::{Frame, FrameFault, MessageId, Node, read_frame};
+use ocppj_frame::{Frame, FrameFault, MessageId, Node, ReadingMemory, read_frame};
 use profile::{Profile, ProfileParts, Row};
 use site_core::{PointId, Step, Take};
 use std::alloc::{AllocError, Global};
@@ -46,12 +46,16 @@ pub enum Todo {
     },
 }
 
-/// What a text asks for.
+/// What a text asks for. The text is read into `memory`.
 #[tactic(auto, unfolding(crate::specs::Todo::todo_of))]
-pub fn todo_of(alloc: Global, text: &SentText<'_>) -> Result<Todo, AllocError>
+pub fn todo_of(
+    alloc: Global,
+    memory: &mut ReadingMemory,
+    text: &SentText<'_>,
+) -> Result<Todo, AllocError>
     ensures { IfOk result (λ todo. todo ≡ todo_of text.now) }
 {
-    match read_frame(alloc, text.frame()) {
+    match read_frame(memory, text.frame()) {
         Ok(frame) => todo_of_message(alloc, text, frame),
         Err(FrameFault::Formation { id }) => Ok(Todo::Answer {
             id,
@@ -65,10 +69,14 @@ pub fn todo_of(alloc: Global, text: &SentText<'_>) -> Result<Todo, AllocError>
 /// What a held text asks for: as [`todo_of`] has it, or `None` where the text is no CALL of
 /// GetCompositeSchedule.
 #[tactic(auto, unfolding(crate::specs::Todo::todo_of))]
-pub fn hold_of(alloc: Global, text: &SentText<'_>) -> Result<Option<Todo>, AllocError>
+pub fn hold_of(
+    alloc: Global,
+    memory: &mut ReadingMemory,
+    text: &SentText<'_>,
+) -> Result<Option<Todo>, AllocError>
     ensures { IfOk result (λ todo. todo ≡ hold_of text.now) }
 {
-    match read_frame(alloc, text.frame()) {
+    match read_frame(memory, text.frame()) {
         Ok(frame) => {
             if !asks_schedule(&frame) {
                 return Ok(None);
@@ -81,7 +89,7 @@ pub fn hold_of(alloc: Global, text: &SentText<'_>) -> Result<Option<Todo>, Alloc
 }
 
 /// Whether a message is a CALL of GetCompositeSchedule.
-fn asks_schedule(frame: &Frame) -> bool
+fn asks_schedule(frame: &Frame<'_>) -> bool
     ensures { result ≡ asks_schedule (Ok (message_in frame.now)) }
 {
     match frame {
@@ -97,8 +105,9 @@ fn is_schedule_kind(kind: Option<ActionKind>) -> bool
 }
 
 /// What a message asks for: only a CALL is answered, and a reply may confirm a call.
-fn todo_of_message(alloc: Global, text: &SentText<'_>, frame: Frame) -> Result<Todo, AllocError>
-    ensures { IfOk result (λ todo. todo ≡ todo_of_message text.now (Ok (message_in frame))) }
+fn todo_of_message(alloc: Global, text: &SentText<'_>, frame: Frame<'_>) -> Result<Todo, AllocError>
+    ensures { IfOk result
+        (λ todo. todo ≡ todo_of_message text.now (Ok (message_in frame.entry))) }
 {
     match frame {
         Frame::Call {
@@ -188,7 +197,7 @@ fn step_of_fields(
     alloc: Global,
     text: &SentText<'_>,
     kind: ActionKind,
-    payload: Node<'_>,
+    payload: Node<'_, '_>,
 ) -> Result<Result<Step, Response>, AllocError>
     ensures { IfOk result (λ asked. asked
         ≡ step_of_reading text.now (action_of_kind kind (tree_at payload.entry))) }

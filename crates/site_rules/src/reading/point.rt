@@ -29,7 +29,7 @@ const MAX_ID_CHARACTERS: usize = 48;
 pub(crate) fn read_point(
     alloc: Global,
     site: &Site,
-    point: Node<'_>,
+    point: Node<'_, '_>,
 ) -> Result<(String, PointLimits), SiteFault>
     ensures point { ReadsUnless is_memory kept_entry result (point_of site.now (tree_at point.entry)) }
     ensures new { IfOk result (λ point. place_of site.now (string_bytes point.0) ≡ None) }
@@ -85,7 +85,7 @@ fn unused_id<'a>(site: &Site, id: &'a str) -> Result<&'a str, SiteFault>
 }
 
 #[tactic(auto, unfolding(crate::specs::ByCases::SiteReading::connectors_of))]
-fn read_connectors(alloc: Global, fields: Node<'_>) -> Result<Vec<u32>, SiteFault>
+fn read_connectors(alloc: Global, fields: Node<'_, '_>) -> Result<Vec<u32>, SiteFault>
     ensures ceilings { ReadsUnless is_memory (λ ceilings. ceilings.items) result
         (connectors_of (tree_at fields.entry)) }
     ensures few { IfOk result (λ ceilings. length ceilings.items ≤ max_connectors) }
@@ -95,7 +95,7 @@ fn read_connectors(alloc: Global, fields: Node<'_>) -> Result<Vec<u32>, SiteFaul
     read_ceilings(alloc, entries)
 }
 
-fn read_ceilings(alloc: Global, entries: Entries<'_>) -> Result<Vec<u32>, SiteFault>
+fn read_ceilings(alloc: Global, entries: Entries<'_, '_>) -> Result<Vec<u32>, SiteFault>
     ensures ceilings { ReadsUnless is_memory (λ ceilings. ceilings.items) result
         (ceilings_of (entries_in entries.entry)) }
     ensures count { IfOk result (λ ceilings. length ceilings.items ≡ length (entries_in entries.entry)) }
@@ -108,7 +108,7 @@ fn read_ceilings(alloc: Global, entries: Entries<'_>) -> Result<Vec<u32>, SiteFa
     Ok(ceilings)
 }
 
-fn read_ceiling(entry: Node<'_>) -> Result<u32, SiteFault>
+fn read_ceiling(entry: Node<'_, '_>) -> Result<u32, SiteFault>
     ensures { result ≡ ceiling_of (tree_at entry.entry) }
 {
     match entry.number() {

@@ -26,7 +26,10 @@ pub(crate) fn some_or<T: Drop>(fault: SiteFault, value: Option<T>) -> Result<T, 
     }
 }
 
-pub(crate) fn object_or(fault: SiteFault, part: Node<'_>) -> Result<Node<'_>, SiteFault>
+pub(crate) fn object_or<'tree, 'text>(
+    fault: SiteFault,
+    part: Node<'tree, 'text>,
+) -> Result<Node<'tree, 'text>, SiteFault>
     ensures { MatchResult result
         (λ object. object_or fault (tree_at part.entry) ≡ Ok (tree_at object))
         (λ found. object_or fault (tree_at part.entry) ≡ Err found) }
@@ -39,11 +42,11 @@ pub(crate) fn object_or(fault: SiteFault, part: Node<'_>) -> Result<Node<'_>, Si
 }
 
 /// A list of at least one entry and at most so many, or the fault.
-pub(crate) fn few_or(
+pub(crate) fn few_or<'tree, 'text>(
     fault: SiteFault,
     most: usize,
-    entries: Entries<'_>,
-) -> Result<Entries<'_>, SiteFault>
+    entries: Entries<'tree, 'text>,
+) -> Result<Entries<'tree, 'text>, SiteFault>
     ensures entries { MatchResult result
         (λ few. few_or fault most (entries_in entries.entry) ≡ Ok (entries_in few))
         (λ found. few_or fault most (entries_in entries.entry) ≡ Err found) }

@@ -1,5 +1,5 @@
 use Rattle.std.proofs.Common.{◌≡◌}
-use Rattle.serde_json.specs.View.{members_view}
+use Rattle.ocppj_frame.specs.View.{members_view}
 use Rattle.ocppj_frame.specs.ByCases.Member.{member_named}
 use Rattle.ocppj_frame.proofs.payload.readers.find_member.Given as goal
 

@@ -50,6 +50,22 @@ returns-in-Err-clause-prefix g c =
     prefix_after _ _ _ before.0 (line_played c.loop-rest.player c.loop-rest.number line).printed grown.0 all.output before.1 c.in-Err.ensures.prefix
     (ap (λ (p : Played). p.output) (sym next) ∙ grown.1)
 
+-- at the end no line is left
+
+pub returns-clause-whole : goal.returns-clause-whole
+returns-clause-whole g c =
+    let before = c.loop-rest.invariant.played in
+    let sofar : Played = record { number = c.loop-rest.number; faults = c.loop-rest.script_faults; output = before.0; state = c.loop-rest.player } in
+    let end = no_line sofar (played c.args.site c.args.script.now) c.loop-rest.rest.now (eqb-true _ _ (sym c.is_empty.ensures ∙ c.loop-rest-test.false)) before.2 in
+    subst (Appends _ _) (ap (λ (p : Played). p.output) end) before.1
+
+pub returns-clause-faults : goal.returns-clause-faults
+returns-clause-faults g c =
+    let before = c.loop-rest.invariant.played in
+    let sofar : Played = record { number = c.loop-rest.number; faults = c.loop-rest.script_faults; output = before.0; state = c.loop-rest.player } in
+    let end = no_line sofar (played c.args.site c.args.script.now) c.loop-rest.rest.now (eqb-true _ _ (sym c.is_empty.ensures ∙ c.loop-rest-test.false)) before.2 in
+    ap (λ (p : Played). p.faults) end
+
 pub returns-clause-prefix : goal.returns-clause-prefix
 returns-clause-prefix g c =
     let site = c.args.site in
