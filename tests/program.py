@@ -3,7 +3,7 @@
 
 It replays each folder of examples/ and tests/replay/ (site.json, script, stdout, status) and compares the bytes of
 standard output, standard error and the exit status; a folder without a site.json has that of tests/replay. Then it
-tries command lines, site files, devices that fail and memory that is refused.
+tries command lines, site files, devices that fail, how memory grows and memory that is refused.
 """
 import os
 import re
@@ -224,6 +224,27 @@ def device_problems(program, folder):
         yield name, [] if ok else [f"status {done.returncode}, {done.stderr!r}, {done.stdout!r}"]
 
 
+def peak_memory(program, folder, script):
+    """The most kilobytes that a replay of a script has at one time, and its exit status."""
+    path = os.path.join(folder, "script")
+    with open(path, "wb") as file:
+        file.write(script)
+    arguments = [program, "replay", "--site", os.path.join(folder, "good")]
+    with open(path, "rb") as given, subprocess.Popen(arguments, stdin=given, stdout=subprocess.DEVNULL) as process:
+        _, status, usage = os.wait4(process.pid, 0)
+        process.returncode = os.waitstatus_to_exitcode(status)
+    return usage.ru_maxrss, process.returncode
+
+
+def growth_problems(program, folder):
+    """The memory that a frame was read into serves the next: 2,000 frames take no more than the same frames broken."""
+    line = b'2025-01-01T00:00:00Z point CP1 %s2,"7","DataTransfer",{"data":[' + b'{"a":1},' * 99 + b'{"a":1}]}]\n'
+    read, read_status = peak_memory(program, folder, line.replace(b"%s", b"[") * 2_000)
+    broken, broken_status = peak_memory(program, folder, line.replace(b"%s", b"]") * 2_000)
+    ok = (read_status, broken_status) == (0, 0) and read < broken + 8_192
+    yield "2,000 frames in one memory", [] if ok else [f"{read} KB, status {read_status}; broken {broken} KB, {broken_status}"]
+
+
 def memory_problems(program, folder):
     """Scripts with each of their allocations refused in turn: a prefix of the output and OutOfMemory."""
     library = os.path.join(folder, "refuse_allocation.so")
@@ -280,7 +301,7 @@ def refusals(program, library, case):
             if done.returncode != 3 or done.stderr != b"central: OutOfMemory\n" or not whole.startswith(done.stdout):
                 problems.append(f"allocation {number}: status {done.returncode}, {done.stdout!r}, {done.stderr!r}")
         if problems or without_effect == 50:
-            break  # it went wrong, or the program makes fewer allocations
+            break  # it went wrong, or fifty in a row had no effect: the program makes fewer allocations
     return refused, problems
 
 
@@ -294,6 +315,7 @@ def main():
             results.append((name, list(differences(run(program, arguments, given), *want))))
         results.extend(command_line_problems(program))
         results.extend(device_problems(program, folder))
+        results.extend(growth_problems(program, folder))
         results.extend(memory_problems(program, folder))
     for name, problems in results:
         for problem in problems:

@@ -3,7 +3,7 @@ ghost use Rattle.std.specs.Prelude.{◌≡◌};
 
 use std::marker::Model;
 
-/// The name of a CALL's action, as it was written (OCPP-J 1.6, section 4.2.1).
+/// The name of a CALL's action, its escapes resolved (OCPP-J 1.6, section 4.2.1).
 #[derive(Debug, Drop)]
 pub struct ActionName<'a> {
     text: &'a str,

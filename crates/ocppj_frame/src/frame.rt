@@ -42,7 +42,9 @@ pub enum Frame<'a> {
     Other,
 }
 
-/// Reads a text as a message, into `memory`.
+/// Reads a text as a message, into `memory`, which is borrowed until the frame is gone. The text is
+/// `Dropped` where it has more than [`MAX_FRAME_BYTES`] or is no message that could be answered;
+/// `Formation` is a malformed CALL with an id, `OutOfMemory` says nothing of the text.
 pub fn read_frame<'a>(memory: &'a mut ReadingMemory, text: &str) -> Result<Frame<'a>, FrameFault>
     ensures message { ReadsUnless is_memory message_in result (message_of_text text.now) }
     ensures object { IfOk result HasObject }

@@ -1,6 +1,6 @@
-//! Marked texts. `serde_json` reads a number into 64 bits, which loses digits: so the text that it
-//! reads has no numbers, but strings in their place, and each string has a mark that says which of the
-//! two it was.
+//! Marked texts. What a text is, is defined by how `serde_json` reads it, which makes 64 bits of a number
+//! and so loses digits. So the text that is read has no numbers, but strings in their place, and each
+//! string has a mark that says which of the two it was.
 ghost use Rattle.std.specs.Prelude.{◌≡◌, ◌<◌, ◌≤◌, ◌+◌, ◌*◌, ◌∷◌, ◌++◌, IfOk, OnOk, length, option_map, vec_capacity, vec_len};
 ghost use Rattle.ocppj_frame.specs.Mark.{after_mark, begins_number, continues_number};
 ghost use Rattle.ocppj_frame.specs.ByCases.Mark.{in_number, inside, marked_from, marked_text, outside};

@@ -12,11 +12,11 @@ use bumpalo::Bump;
 use json::{Reader, Scratch, Token};
 use std::collections::BTreeMap;
 
-/// How deep arrays and objects may nest: as deep as `serde_json` reads.
+/// How deep arrays and objects may nest: as deep as `serde_json` reads, by its definition.
 const MAX_DEPTH: usize = 127;
 
-/// A value of a marked text: what `serde_json` reads, but that its texts are borrowed. A marked text
-/// has no numbers.
+/// The value of a marked text: as `serde_json` has it, but with its strings borrowed, and without
+/// numbers, of which a marked text has none.
 #[derive(Drop)]
 pub(crate) enum MarkedValue<'a> {
     Null,
@@ -26,7 +26,8 @@ pub(crate) enum MarkedValue<'a> {
     Object(BTreeMap<&'a str, MarkedValue<'a>, &'a Bump>),
 }
 
-/// Reads a marked text. A text without escapes is borrowed, another stands in `scratch`.
+/// Reads a marked text: `NotJson` where `serde_json` refuses it. A string without escapes is borrowed from
+/// the text, one with escapes stands in `scratch`, and arrays and objects stand in `arena`.
 pub(crate) fn read_marked<'a>(
     arena: &'a Bump,
     text: &'a str,

@@ -20,7 +20,8 @@ pub struct Payload<'text> {
     ghost marked: { is_some (tree_of (view value)) ≡ true },
 }
 
-/// A node of a tree with all that is below it, borrowed.
+/// A node of a tree with all that is below it. It borrows the tree; its texts live as long as the memory
+/// that they were read into (`'text`).
 #[derive(Clone, Copy)]
 pub struct Node<'tree, 'text> {
     value: &'tree MarkedValue<'text>,

@@ -5,7 +5,9 @@ use std::alloc::{AllocError, AllocFailed};
 /// Why a marked text has no value.
 #[derive(Clone, Copy, Drop)]
 pub(crate) enum ReadFault {
+    /// `serde_json` refuses the text.
     NotJson,
+    /// Memory ran out.
     OutOfMemory,
 }
 

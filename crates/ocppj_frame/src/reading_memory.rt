@@ -3,10 +3,12 @@ use bumpalo::Bump;
 use json::Scratch;
 use std::alloc::Global;
 
-/// The memory that reading texts takes, kept from text to text. It grows to what the longest text
-/// needed, and stays so until it is dropped.
+/// The memory that reading texts takes, lent to one read after another. Its buffers keep the size that the
+/// longest text asked for, some four bytes for each byte of it, and the arena its largest chunk, until it
+/// is dropped. By itself it has 16 KiB.
 #[derive(Drop)]
 pub struct ReadingMemory {
+    /// What a message's id is copied with.
     pub(crate) alloc: Global,
     /// The marked text.
     pub(crate) marked: Vec<u8>,

@@ -1,4 +1,4 @@
-//! The elements of a list, owned, as a frame is taken apart.
+//! The elements of a list, moved out of it as a frame is taken apart; their texts stay borrowed.
 ghost use Rattle.std.specs.Prelude.{◌≡◌, is_some, true};
 ghost use Rattle.std.specs.Vec.Iter.{into_iter_items};
 ghost use Rattle.ocppj_frame.specs.Read.{trees_of};
@@ -14,7 +14,7 @@ use std::vec::IntoIter;
 /// The elements of a list that are left to visit, in order.
 #[derive(Drop)]
 pub(crate) struct Elements<'text> {
-    /// What the tree stands in.
+    /// The arena that the list stands in.
     arena: &'text Bump,
     values: IntoIter<MarkedValue<'text>, &'text Bump>,
     ghost marked: { is_some (trees_of (items_view (into_iter_items values))) ≡ true },
@@ -24,7 +24,7 @@ impl<'text> Elements<'text> {
     ghost use Rattle.std.specs.Prelude.{◌≡◌, drop, option_map, slice_get};
     ghost use Rattle.ocppj_frame.specs.Payload.{elements_left, tree_in};
 
-    /// What the tree stands in.
+    /// The arena that the list stands in, for a payload that is made anew.
     pub(crate) fn arena(&self) -> &'text Bump {
         self.arena
     }

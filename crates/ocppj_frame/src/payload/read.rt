@@ -13,13 +13,14 @@ use crate::read_fault::ReadFault;
 use crate::reading_memory::ReadingMemory;
 use crate::tree::is_tree;
 
-/// Reads a JSON text of any length as a tree. A text that is refused is `Dropped`; there is never a
-/// `Formation`. The tree stands in `memory`, which is free again when the tree is gone.
+/// Reads a JSON text of any length as a tree, in the place of what `memory` held before. A text that is
+/// refused is `Dropped`, want of memory is `OutOfMemory`; there is never a `Formation`. `memory` is
+/// borrowed until the tree is gone, and fit for the next text whatever came of this one.
 pub fn read_tree<'a>(memory: &'a mut ReadingMemory, text: &str) -> Result<Payload<'a>, FrameFault>
     ensures { ReadsUnless is_memory tree_in result
         (ok_or (tree_of_text text.now) FrameFault.Dropped) }
 {
-    // Where it fails, the arena stays as it is and goes on growing.
+    // Fails only where an earlier tree was forgotten and not dropped. Its blocks then stay where they are.
     let _ = memory.arena.reset();
     let marked = mark_text(text, &mut memory.marked)?;
     match read_marked(&memory.arena, marked, &mut memory.scratch) {

@@ -1,4 +1,5 @@
-//! The player of a script: the central system's machine, and the asks that are held.
+//! The player of a script: the central system's machine, the asks that are held, and the memory that
+//! texts are read into.
 
 ghost use Rattle.std.specs.Prelude.{◌≡◌, ◌∷◌, [], ◌++◌, None, IfOk, OnOk};
 ghost use Rattle.replay.specs.Todo.{hold_of, todo_of};

@@ -67,7 +67,7 @@ pub fn todo_of(
 }
 
 /// What a held text asks for: as [`todo_of`] has it, or `None` where the text is no CALL of
-/// GetCompositeSchedule.
+/// GetCompositeSchedule. The text is read into `memory`.
 #[tactic(auto, unfolding(crate::specs::Todo::todo_of))]
 pub fn hold_of(
     alloc: Global,
