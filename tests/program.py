@@ -270,16 +270,18 @@ def step_problems(program, library):
     tests = os.path.join(os.path.dirname(program), "..", "..", "site_core", "out", "site_core_tests")
     no_memory = re.compile(rb"error: (OutOfMemory|AllocError|AllocFailed \{ \.\. \})\n")
     for test in ("a_step_is_made_again_where_memory_was_refused", "a_run_goes_on_where_memory_was_refused"):
-        problems, unready, passed = [], 0, 0
+        problems, unready, passed, in_a_row = [], 0, 0, 0
         for number in range(1, 151):
             environment = {**os.environ, "LD_PRELOAD": library, "REFUSED_ALLOCATION": str(number)}
             done = subprocess.run([tests, f"tests::{test}"], capture_output=True, timeout=120, env=environment)
             if done.returncode == 0:
-                passed += 1
-            elif passed == 0 and no_memory.search(done.stdout + done.stderr):
-                unready += 1
+                passed, in_a_row = passed + 1, in_a_row + 1
+            elif in_a_row < 5 and no_memory.search(done.stdout + done.stderr):
+                # A chunk of the site file's arena that is refused is asked for at half its size: that alone passes.
+                unready, in_a_row = unready + 1, 0
             else:
                 problems.append(f"allocation {number}: status {done.returncode}, {done.stdout!r}, {done.stderr!r}")
+                in_a_row = 5
         if passed < 80:
             problems.append(f"only {passed} runs got past the beginning and passed")
         yield f"{test}: each allocation refused past the {unready} of its beginning", problems
