@@ -262,29 +262,41 @@ def memory_problems(program, folder):
         if refused < least:
             problems.append(f"only {refused} allocations were refused")
         yield f"{name}: each of {refused} allocations refused", problems
-    yield from step_problems(program, library)
+    for crate, test, in_a_row, least in (
+        ("site_core", "tests::a_step_is_made_again_where_memory_was_refused", 1, 1000),
+        ("site_core", "tests::a_run_goes_on_where_memory_was_refused", 1, 1000),
+        # A chunk of the arena that is refused is asked for at half its size, and so on: all of that is refused.
+        ("text_tests", "frame_texts::a_text_is_read_again_where_memory_was_refused", 20, 1000),
+    ):
+        tests = os.path.join(os.path.dirname(program), "..", "..", crate, "out", f"{crate}_tests")
+        yield again_problems(library, [tests, test], in_a_row, least)
 
 
-def step_problems(program, library):
-    """Tests of site_core's steps with each of their allocations refused in turn: each passes, unless it was set up without memory."""
-    tests = os.path.join(os.path.dirname(program), "..", "..", "site_core", "out", "site_core_tests")
+def again_problems(library, test, in_a_row, least):
+    """A test of what is tried again, refused its allocations from each in turn: it passes, unless it was set up without memory."""
     no_memory = re.compile(rb"error: (OutOfMemory|AllocError|AllocFailed \{ \.\. \})\n")
-    for test in ("a_step_is_made_again_where_memory_was_refused", "a_run_goes_on_where_memory_was_refused"):
-        problems, unready, passed, in_a_row = [], 0, 0, 0
-        for number in range(1, 151):
-            environment = {**os.environ, "LD_PRELOAD": library, "REFUSED_ALLOCATION": str(number)}
-            done = subprocess.run([tests, f"tests::{test}"], capture_output=True, timeout=120, env=environment)
-            if done.returncode == 0:
-                passed, in_a_row = passed + 1, in_a_row + 1
-            elif in_a_row < 5 and no_memory.search(done.stdout + done.stderr):
-                # A chunk of the site file's arena that is refused is asked for at half its size: that alone passes.
-                unready, in_a_row = unready + 1, 0
-            else:
-                problems.append(f"allocation {number}: status {done.returncode}, {done.stdout!r}, {done.stderr!r}")
-                in_a_row = 5
-        if passed < 80:
-            problems.append(f"only {passed} runs got past the beginning and passed")
-        yield f"{test}: each allocation refused past the {unready} of its beginning", problems
+    problems, unready, refused, passes = [], 0, 0, 0
+    for number in range(1, 151):
+        environment = {
+            **os.environ,
+            "LD_PRELOAD": library,
+            "REFUSED_ALLOCATION": str(number),
+            "REFUSED_IN_A_ROW": str(in_a_row),
+            "REPORT_REFUSED": "",
+        }
+        done = subprocess.run(test, capture_output=True, timeout=120, env=environment)
+        if done.returncode == 0:
+            passes += 1
+            refused += done.stderr == b"an allocation was refused\n"
+        elif passes < 5 and no_memory.search(done.stdout + done.stderr):
+            # A chunk of the site file's arena that is refused is asked for at half its size: that alone passes.
+            unready, passes = unready + 1, 0
+        else:
+            problems.append(f"allocation {number}: status {done.returncode}, {done.stdout!r}, {done.stderr!r}")
+            passes = 5
+    if refused < least:
+        problems.append(f"only {refused} runs were refused memory and passed")
+    return f"{test[1]}: memory refused past the {unready} allocations of its beginning", problems
 
 
 def refusals(program, library, case):

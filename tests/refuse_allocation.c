@@ -1,23 +1,43 @@
-/* Loaded before the C library by tests/program.py: the REFUSED_ALLOCATION-th allocation of the program is refused. */
+/* Loaded before the C library by tests/program.py: of the program's allocations the REFUSED_ALLOCATION-th is refused,
+   and as many after it as REFUSED_IN_A_ROW says, itself included. With REPORT_REFUSED the program says at its exit
+   whether one was. */
 #define _GNU_SOURCE
 #include <dlfcn.h>
 #include <errno.h>
 #include <stddef.h>
 #include <stdlib.h>
+#include <unistd.h>
 
-static long left = -1;
+static long before, left;
+static int was_refused;
+
+static long number_of(const char *name, long otherwise) {
+    const char *text = getenv(name);
+    return text ? atol(text) : otherwise;
+}
 
 __attribute__((constructor)) static void begin(void) {
-    const char *number = getenv("REFUSED_ALLOCATION");
-    left = number ? atol(number) : 0;
+    long first = number_of("REFUSED_ALLOCATION", 0);
+    before = first - 1;
+    left = first > 0 ? number_of("REFUSED_IN_A_ROW", 1) : 0;
+}
+
+__attribute__((destructor)) static void end(void) {
+    static const char said[] = "an allocation was refused\n";
+    if (was_refused && getenv("REPORT_REFUSED") && write(2, said, sizeof said - 1) < 0) {
+        _exit(1);
+    }
 }
 
 static int is_refused(void) {
-    if (left > 0 && --left == 0) {
-        errno = ENOMEM;
-        return 1;
+    if (left == 0 || before-- > 0) {
+        return 0;
     }
-    return 0;
+    before = 0;
+    left--;
+    was_refused = 1;
+    errno = ENOMEM;
+    return 1;
 }
 
 #define NEXT(name) ((__typeof__(&name))dlsym(RTLD_NEXT, #name))

@@ -65,7 +65,7 @@ pub struct StartTransaction {
 /// Reads what a message asks for, or names the first fault of its CALL: `NotImplemented` for an
 /// action that isn't known, else as [`read_fields`]. Who sends the action
 /// ([`ActionKind::side`]) is asked before.
-pub fn read_action(alloc: Global, frame: &Frame) -> Result<Action, CallFault>
+pub fn read_action(alloc: Global, frame: &Frame<'_>) -> Result<Action, CallFault>
     ensures value { ReadsUnless is_memory (λ action. action) result
         (action_in (message_in frame.now)) }
     ensures exact { NeedsNoMemory (kind_asked (message_in frame.now))

@@ -137,10 +137,10 @@ fn value_or_wrong<T: Drop>(value: Option<T>) -> Field<T>
 
 /// The object of a field that has to be there.
 #[tactic(auto, unfolding(crate::specs::Fields::required, crate::specs::Fields::object))]
-pub fn required_object<'tree, 'text>(
-    fields: Node<'tree, 'text>,
+pub fn required_object<'tree, 'memory>(
+    fields: Node<'tree, 'memory>,
     name: FieldName,
-) -> Result<Node<'tree, 'text>, CallFault>
+) -> Result<Node<'tree, 'memory>, CallFault>
     ensures { MatchResult result
         (λ node. required (object (tree_at fields.entry) name) ≡ Ok (tree_at node))
         (λ fault. required (object (tree_at fields.entry) name) ≡ Err fault) }
@@ -154,10 +154,10 @@ pub fn required_object<'tree, 'text>(
 
 /// The text of a field that has to be there.
 #[tactic(auto, unfolding(crate::specs::Fields::required, crate::specs::Fields::text))]
-pub fn required_text<'text>(
-    fields: Node<'_, 'text>,
+pub fn required_text<'memory>(
+    fields: Node<'_, 'memory>,
     name: FieldName,
-) -> Result<&'text str, CallFault>
+) -> Result<&'memory str, CallFault>
     ensures { MatchResult result
         (λ found. required (text (tree_at fields.entry) name) ≡ Ok found.now)
         (λ fault. required (text (tree_at fields.entry) name) ≡ Err fault) }
@@ -171,10 +171,10 @@ pub fn required_text<'text>(
 
 /// The entries of a list that has to be there.
 #[tactic(auto, unfolding(crate::specs::Fields::required, crate::specs::Fields::list))]
-pub fn required_list<'tree, 'text>(
-    fields: Node<'tree, 'text>,
+pub fn required_list<'tree, 'memory>(
+    fields: Node<'tree, 'memory>,
     name: FieldName,
-) -> Result<Entries<'tree, 'text>, CallFault>
+) -> Result<Entries<'tree, 'memory>, CallFault>
     ensures { MatchResult result
         (λ items. required (list (tree_at fields.entry) name) ≡ Ok (entries_in items))
         (λ fault. required (list (tree_at fields.entry) name) ≡ Err fault) }

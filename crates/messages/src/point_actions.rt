@@ -37,10 +37,7 @@ fn read_id_tag(alloc: Global, payload: Node<'_, '_>) -> Result<IdTag, CallFault>
     ensures { ReadsUnless is_memory (λ id_tag. id_tag) result (id_tag_of (tree_at payload.entry)) }
 {
     let tag = required_text(payload, FieldName::IdTag)?;
-    match IdTag::try_new(String::from_str(alloc, tag)?) {
-        Ok(id_tag) => Ok(id_tag),
-        Err(_) => Err(CallFault::PropertyConstraintViolation(FieldName::IdTag)),
-    }
+    IdTag::try_copy(alloc, tag)?.ok_or(CallFault::PropertyConstraintViolation(FieldName::IdTag))
 }
 
 /// Chapter 6, StopTransaction.req, of which the transaction alone is looked at.

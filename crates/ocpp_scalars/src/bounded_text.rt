@@ -1,5 +1,5 @@
 //! Texts of at most so many characters.
-ghost use Rattle.std.specs.Prelude.{◌≡◌, ◌↔◌, ◌≤◌, IfErr, IfOk, IsOk, length, string_bytes};
+ghost use Rattle.std.specs.Prelude.{◌≡◌, ◌↔◌, ◌<◌, ◌≤◌, if◌then◌else◌, IfErr, IfOk, IsOk, None, Some, length, nat_le, string_bytes};
 ghost use Rattle.std.specs.Str.{chars};
 
 use crate::characters::character_count;
@@ -36,6 +36,20 @@ impl<const MAX: usize> BoundedText<MAX> {
             return Err(text);
         }
         Ok(BoundedText { text })
+    }
+
+    /// A copy of the text, or `None` where it has more than `MAX` characters, of which nothing is copied.
+    pub fn try_copy(alloc: Global, text: &str) -> Result<Option<BoundedText<MAX>>, AllocError>
+        ensures copy { IfOk result (λ copy. copy
+            ≡ (if nat_le (length (chars text.now)) MAX then Some text.now else None)) }
+        ensures certain { MAX < length (chars text.now) → IsOk result }
+    {
+        if character_count(text) > MAX {
+            return Ok(None);
+        }
+        Ok(Some(BoundedText {
+            text: String::from_str(alloc, text)?,
+        }))
     }
 
     /// The text.

@@ -1,3 +1,4 @@
+pub mod Cases
 pub mod MarkedText
 pub mod Markings
 pub mod NoNumbers

@@ -5,10 +5,7 @@ use Rattle.std.proofs.lemmas.Bool.{eqb-true, ne_eqb, eqb-false}
 use Rattle.std.proofs.lemmas.Bool.Decides.{nat_tests}
 use Rattle.ocppj_frame.specs.ByCases.Mark.{outside, inside, in_number, marked_from, marked_text}
 use Rattle.ocppj_frame.specs.Mark.{begins_number, continues_number, IsContent, no_content, content_byte, content_pair, IsUnclosed, no_byte, last_backslash, unclosed_byte, unclosed_pair, AreNumberBytes, EndsNumber, IsMarked, no_text, string, unclosed_string, number, other_byte}
-
-by_test : {P : Type 0} → (t : Bool) → (t ≡ true → P) → (t ≡ false → P) → P
-by_test true held failed = held refl
-by_test false held failed = failed refl
+use Rattle.ocppj_frame.proofs.Cases.{by_test}
 
 -- what the rules have is what the definition gives
 

@@ -14,10 +14,7 @@ use Rattle.ocppj_frame.specs.declared.fault.FrameFault.{FrameFault}
 use Rattle.ocppj_frame.specs.declared.fault.FrameFault.TheVariants.{Dropped}
 use Rattle.ocppj_frame.specs.declared.message.MessageType.{MessageType}
 use Rattle.ocppj_frame.specs.declared.message.MessageType.TheVariants as types
-
-by_test : {P : Type 0} → (t : Bool) → (t ≡ true → P) → (t ≡ false → P) → P
-by_test true held failed = held refl
-by_test false held failed = failed refl
+use Rattle.ocppj_frame.proofs.Cases.{by_test}
 
 -- ---- what the table has is what the function gives
 

@@ -16,10 +16,7 @@ use Rattle.json.specs.Lex.{Place, fresh, after_value, after_comma, after_key, be
 use Rattle.ocppj_frame.specs.Mark.{begins_number, continues_number}
 use Rattle.ocppj_frame.specs.ByCases.Mark.{outside, inside, escaped, in_number, marked_from, marked_text}
 use Rattle.ocppj_frame.specs.ByCases.Tokens.{HaveNoNumber}
-
-by_test : {P : Type 0} → (t : Bool) → (t ≡ true → P) → (t ≡ false → P) → P
-by_test true held failed = held refl
-by_test false held failed = failed refl
+use Rattle.ocppj_frame.proofs.Cases.{by_test}
 
 -- what holds of both holds of the one that a test takes
 chosen : {A : Type 0} (P : A → Type 0) (t : Bool) (x y : A) → P x → P y → P (cond t x y)

@@ -20,7 +20,7 @@ pub enum Field<T> {
 }
 
 /// The text of a field. Never `WrongValue`.
-pub fn text_field<'text>(node: Node<'_, 'text>, name: &str) -> Field<&'text str>
+pub fn text_field<'memory>(node: Node<'_, 'memory>, name: &str) -> Field<&'memory str>
     ensures { field_map (λ t. t.now) result ≡ text_field_of name.now (tree_at node.entry) }
 {
     let Some(field) = present_field(node, name) else {
@@ -72,10 +72,10 @@ pub fn instant_field(node: Node<'_, '_>, name: &str) -> Field<Instant>
 }
 
 /// The entries of a field that is a list. Never `WrongValue`.
-pub fn list_field<'tree, 'text>(
-    node: Node<'tree, 'text>,
+pub fn list_field<'tree, 'memory>(
+    node: Node<'tree, 'memory>,
     name: &str,
-) -> Field<Entries<'tree, 'text>>
+) -> Field<Entries<'tree, 'memory>>
     ensures { field_map entries_in result ≡ list_field_of name.now (tree_at node.entry) }
 {
     let Some(field) = present_field(node, name) else {
@@ -88,7 +88,7 @@ pub fn list_field<'tree, 'text>(
 }
 
 /// The object of a field. Never `WrongValue`.
-pub fn object_field<'tree, 'text>(node: Node<'tree, 'text>, name: &str) -> Field<Node<'tree, 'text>>
+pub fn object_field<'tree, 'memory>(node: Node<'tree, 'memory>, name: &str) -> Field<Node<'tree, 'memory>>
     ensures { field_map tree_at result ≡ object_field_of name.now (tree_at node.entry) }
 {
     let Some(field) = present_field(node, name) else {
@@ -102,7 +102,7 @@ pub fn object_field<'tree, 'text>(node: Node<'tree, 'text>, name: &str) -> Field
 }
 
 /// The field, where it is there and not null.
-fn present_field<'tree, 'text>(node: Node<'tree, 'text>, name: &str) -> Option<Node<'tree, 'text>>
+fn present_field<'tree, 'memory>(node: Node<'tree, 'memory>, name: &str) -> Option<Node<'tree, 'memory>>
     ensures { option_map tree_at result ≡ present_field name.now (tree_at node.entry) }
 {
     match node.field(name) {

@@ -55,7 +55,7 @@ fn read_value<'a>(
     ensures value { IfOk result
         (λ found. converted of_json (value depth reader.old) ≡ Some (view found, reader.new)) }
     ensures shorter { OnOk result (length reader.new < length reader.old) }
-    ensures numbers { OnOk result (HaveNoNumber reader.new) }
+    ensures no_numbers { OnOk result (HaveNoNumber reader.new) }
     ensures refused { result ≡ Err ReadFault.NotJson
         → converted of_json (value depth reader.old) ≡ None }
 {
@@ -82,6 +82,8 @@ fn read_value<'a>(
     }
 }
 
+// It and `read_members` aren't inlined: `read_value` clears its variables whenever it is entered, and
+// without theirs it has few.
 #[cycle(read)]
 #[inline(never)]
 fn read_items<'a>(
@@ -94,7 +96,7 @@ fn read_items<'a>(
         (λ found. converted of_items (items (value depth) (length reader.old) reader.old)
         ≡ Some (items_view found.items, reader.new)) }
     ensures shorter { OnOk result (length reader.new < length reader.old) }
-    ensures numbers { OnOk result (HaveNoNumber reader.new) }
+    ensures no_numbers { OnOk result (HaveNoNumber reader.new) }
     ensures refused { result ≡ Err ReadFault.NotJson
         → converted of_items (items (value depth) (length reader.old) reader.old) ≡ None }
 {
@@ -119,7 +121,7 @@ fn read_members<'a>(
         (members (value depth) (length reader.old) reader.old)
         ≡ Some (members_view found.entries, reader.new)) }
     ensures shorter { OnOk result (length reader.new < length reader.old) }
-    ensures numbers { OnOk result (HaveNoNumber reader.new) }
+    ensures no_numbers { OnOk result (HaveNoNumber reader.new) }
     ensures refused { result ≡ Err ReadFault.NotJson
         → converted (λ ms. of_members ms no_members)
         (members (value depth) (length reader.old) reader.old) ≡ None }

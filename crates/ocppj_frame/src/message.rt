@@ -55,10 +55,7 @@ pub(crate) fn message_id(
     let Some(text) = element.into_text() else {
         return Ok(None);
     };
-    match MessageId::try_new(String::from_str(alloc, text)?) {
-        Ok(id) => Ok(Some(id)),
-        Err(_) => Ok(None),
-    }
+    MessageId::try_copy(alloc, text)
 }
 
 /// The payload in an element: the empty object where it is absent or null, `None` where it is

@@ -15,22 +15,22 @@ pub use read::read_tree;
 
 /// A JSON tree (RFC 8259) whose numbers keep their text, in the memory that it was read into.
 #[derive(Drop)]
-pub struct Payload<'text> {
-    value: MarkedValue<'text>,
+pub struct Payload<'memory> {
+    value: MarkedValue<'memory>,
     ghost marked: { is_some (tree_of (view value)) ≡ true },
 }
 
 /// A node of a tree with all that is below it. It borrows the tree; its texts live as long as the memory
-/// that they were read into (`'text`).
+/// that they were read into (`'memory`).
 #[derive(Clone, Copy)]
-pub struct Node<'tree, 'text> {
-    value: &'tree MarkedValue<'text>,
+pub struct Node<'tree, 'memory> {
+    value: &'tree MarkedValue<'memory>,
     ghost marked: { is_some (tree_of (view value.now)) ≡ true },
 }
 
 /// The entries of a list in a tree, borrowed.
 #[derive(Clone, Copy)]
-pub struct Entries<'tree, 'text> {
-    values: &'tree [MarkedValue<'text>],
+pub struct Entries<'tree, 'memory> {
+    values: &'tree [MarkedValue<'memory>],
     ghost marked: { is_some (trees_of (items_view values.now)) ≡ true },
 }

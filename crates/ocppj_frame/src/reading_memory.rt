@@ -3,9 +3,9 @@ use bumpalo::Bump;
 use json::Scratch;
 use std::alloc::Global;
 
-/// The memory that reading texts takes, lent to one read after another. Its buffers keep the size that the
-/// longest text asked for, five to eight bytes for each byte of it, and the arena its largest chunk, until it
-/// is dropped. By itself it has 16 KiB.
+/// The memory that reading texts takes, lent to one read after another. Its buffers keep the size that
+/// the longest text asked for, five to eight bytes for each byte of it, and the arena its largest chunk,
+/// until it is dropped. By itself it has 16 KiB.
 #[derive(Drop)]
 pub struct ReadingMemory {
     /// What a message's id is copied with.

@@ -181,6 +181,41 @@ fn texts_nest_to_127_levels(rt: HostRuntime) -> Result<(), AllocError> {
     Ok(())
 }
 
+/// The tries of a text until there is memory for it, and what it is then.
+fn tries(memory: &mut ReadingMemory, text: &str) -> (u32, &'static str) {
+    for refused in 0..40 {
+        match outcome(memory, text) {
+            "OutOfMemory" => {}
+            read => return (refused, read),
+        }
+    }
+    (40, "OutOfMemory")
+}
+
+/// Where memory is refused to a text, at whichever of its allocations, it is read into the same memory
+/// once there is some again, and so is another text. `tests/program.py` refuses; else each is read at once.
+#[test]
+fn a_text_is_read_again_where_memory_was_refused(rt: HostRuntime) -> Result<(), Fail> {
+    let alloc = rt.alloc();
+    let mut text = String::from_str(alloc, "[2,\"again\",\"DataTransfer\",{\"list\":[")?;
+    push_times(&mut text, r#"{"a":["\n",1.5],"b":{}},"#, 300)?;
+    text.push_str(r#"7],"last":160}]"#)?;
+    let mut memory = ReadingMemory::new(alloc);
+    let (refused, read) = tries(&mut memory, text.as_str());
+    assert_eq!(rt; read, "Call", "after {refused}");
+    let Ok(Frame::Call { payload, .. }) = read_frame(&mut memory, text.as_str()) else {
+        return Err(Fail::new("no call"));
+    };
+    assert!(rt; whole_field(payload.root(), "last") == Field::Value(160));
+    let Field::Value(entries) = list_field(payload.root(), "list") else {
+        return Err(Fail::new("no list"));
+    };
+    assert_eq!(rt; entries.len(), 301);
+    drop(payload);
+    assert_eq!(rt; outcome(&mut memory, "[7,\"5\"]"), "Other");
+    Ok(())
+}
+
 #[test]
 fn a_call_has_its_parts(rt: HostRuntime) -> Result<(), Fail> {
     let text = "[2,\"\\u0041\\/é\",\"Data\\nTransfer\",{\"k\\\"1\":\"-5e\"},0]";
@@ -213,21 +248,22 @@ instant time Value
 instant half WrongKind
 object list WrongKind";
 
-fn is_called<T>(field: &Field<T>, word: &str) -> bool {
+fn word_of<T>(field: &Field<T>) -> &'static str {
     match field {
-        Field::Absent => word == "Absent",
-        Field::WrongKind => word == "WrongKind",
-        Field::WrongValue => word == "WrongValue",
-        Field::Value(_) => word == "Value",
+        Field::Absent => "Absent",
+        Field::WrongKind => "WrongKind",
+        Field::WrongValue => "WrongValue",
+        Field::Value(_) => "Value",
     }
 }
 
-fn reads_as(node: Node<'_, '_>, kind: &str, name: &str, word: &str) -> bool {
+fn found(node: Node<'_, '_>, kind: &str, name: &str) -> &'static str {
     match kind {
-        "whole" => is_called(&whole_field(node, name), word),
-        "tenths" => is_called(&tenths_field(node, name), word),
-        "instant" => is_called(&instant_field(node, name), word),
-        _ => is_called(&object_field(node, name), word),
+        "whole" => word_of(&whole_field(node, name)),
+        "tenths" => word_of(&tenths_field(node, name)),
+        "instant" => word_of(&instant_field(node, name)),
+        _ if matches!(object_field(node, name), Field::WrongKind) => "WrongKind",
+        _ => "no WrongKind",
     }
 }
 
@@ -243,7 +279,7 @@ fn fields_are_read_by_kind(rt: HostRuntime) -> Result<(), Fail> {
     for line in FIELDS.lines() {
         let (kind, rest) = line.split_once(' ').ok_or("no kind")?;
         let (name, wanted) = rest.split_once(' ').ok_or("no name")?;
-        assert!(rt; reads_as(root, kind, name, wanted), "{line}");
+        assert_eq!(rt; found(root, kind, name), wanted, "{line}");
     }
     assert!(rt; whole_field(root, "whole") == Field::Value(160));
     assert!(rt; tenths_field(root, "half") == Field::Value(5));

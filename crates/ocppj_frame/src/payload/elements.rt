@@ -13,24 +13,24 @@ use std::vec::IntoIter;
 
 /// The elements of a list that are left to visit, in order.
 #[derive(Drop)]
-pub(crate) struct Elements<'text> {
+pub(crate) struct Elements<'memory> {
     /// The arena that the list stands in.
-    arena: &'text Bump,
-    values: IntoIter<MarkedValue<'text>, &'text Bump>,
+    arena: &'memory Bump,
+    values: IntoIter<MarkedValue<'memory>, &'memory Bump>,
     ghost marked: { is_some (trees_of (items_view (into_iter_items values))) ≡ true },
 }
 
-impl<'text> Elements<'text> {
+impl<'memory> Elements<'memory> {
     ghost use Rattle.std.specs.Prelude.{◌≡◌, drop, option_map, slice_get};
     ghost use Rattle.ocppj_frame.specs.Payload.{elements_left, tree_in};
 
     /// The arena that the list stands in, for a payload that is made anew.
-    pub(crate) fn arena(&self) -> &'text Bump {
+    pub(crate) fn arena(&self) -> &'memory Bump {
         self.arena
     }
 
     /// Returns the next element, where there is one, and moves past it.
-    pub(crate) fn next(&mut self) -> Option<Payload<'text>>
+    pub(crate) fn next(&mut self) -> Option<Payload<'memory>>
         ensures element { option_map tree_in result ≡ slice_get (elements_left self.old) 0 }
         ensures left { elements_left self.new ≡ drop 1 (elements_left self.old) }
     {
@@ -41,13 +41,13 @@ impl<'text> Elements<'text> {
     }
 }
 
-impl<'text> Payload<'text> {
+impl<'memory> Payload<'memory> {
     ghost use Rattle.std.specs.Prelude.{◌≡◌, option_map};
     ghost use Rattle.ocppj_frame.specs.Payload.{elements_left, tree_in};
     ghost use Rattle.ocppj_frame.specs.Tree.{as_list, as_text, no_fields, object};
 
     /// The object without fields. Needs no memory.
-    pub(crate) fn empty(arena: &'text Bump) -> Payload<'text>
+    pub(crate) fn empty(arena: &'memory Bump) -> Payload<'memory>
         ensures { tree_in result ≡ object no_fields }
     {
         Payload {
@@ -56,7 +56,7 @@ impl<'text> Payload<'text> {
     }
 
     /// The elements, where the tree is a list.
-    pub(crate) fn into_elements(self) -> Option<Elements<'text>>
+    pub(crate) fn into_elements(self) -> Option<Elements<'memory>>
         ensures { option_map elements_left result ≡ as_list (tree_in self.entry) }
     {
         let Payload { value } = self;
@@ -70,7 +70,7 @@ impl<'text> Payload<'text> {
     }
 
     /// The text, where the tree is one.
-    pub(crate) fn into_text(self) -> Option<&'text str>
+    pub(crate) fn into_text(self) -> Option<&'memory str>
         ensures { option_map (λ t. t.now) result ≡ as_text (tree_in self.entry) }
     {
         let Payload { value } = self;

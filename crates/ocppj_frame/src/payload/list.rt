@@ -5,7 +5,7 @@ ghost use Rattle.ocppj_frame.specs.Payload.{entries_in, entries_left, tree_at};
 
 use super::{Entries, Node};
 
-impl<'tree, 'text> Entries<'tree, 'text> {
+impl<'tree, 'memory> Entries<'tree, 'memory> {
     /// How many entries there are.
     pub fn len(self) -> usize
         ensures { result ≡ length (entries_in self.entry) }
@@ -22,7 +22,7 @@ impl<'tree, 'text> Entries<'tree, 'text> {
 
     /// The entry at this index, from 0.
     #[tactic(auto, using(crate::proofs::TreeParts::entry_is_tree, crate::proofs::TreeParts::entry_tree, crate::proofs::TreeParts::entry_past))]
-    pub fn get(self, index: usize) -> Option<Node<'tree, 'text>>
+    pub fn get(self, index: usize) -> Option<Node<'tree, 'memory>>
         ensures { option_map tree_at result ≡ slice_get (entries_in self.entry) index }
     {
         let values = self.values;
@@ -35,7 +35,7 @@ impl<'tree, 'text> Entries<'tree, 'text> {
     }
 
     /// The entries in order.
-    pub fn iter(self) -> EntriesIter<'tree, 'text>
+    pub fn iter(self) -> EntriesIter<'tree, 'memory>
         ensures { entries_left result ≡ entries_in self.entry }
     {
         EntriesIter { left: self }
@@ -44,18 +44,18 @@ impl<'tree, 'text> Entries<'tree, 'text> {
 
 /// The entries of a list that are left to visit, in order.
 #[derive(Drop)]
-pub struct EntriesIter<'tree, 'text> {
-    left: Entries<'tree, 'text>,
+pub struct EntriesIter<'tree, 'memory> {
+    left: Entries<'tree, 'memory>,
 }
 
-impl<'tree, 'text> Iterator for EntriesIter<'tree, 'text> {
-    type Item = Node<'tree, 'text>;
+impl<'tree, 'memory> Iterator for EntriesIter<'tree, 'memory> {
+    type Item = Node<'tree, 'memory>;
 
     ghost next_gives = { YieldsFirstBy tree_at entries_left };
 
     ghost remaining = { item_count entries_left };
 
-    fn next(&mut self) -> Option<Node<'tree, 'text>> {
+    fn next(&mut self) -> Option<Node<'tree, 'memory>> {
         let (value, others) = self.left.values.split_first()?;
         self.left = Entries { values: others };
         Some(Node { value })

@@ -11,16 +11,16 @@ use crate::marked_value::MarkedValue;
 use bumpalo::Bump;
 use std::collections::BTreeMap;
 
-impl<'text> Payload<'text> {
+impl<'memory> Payload<'memory> {
     /// The whole tree, borrowed.
-    pub fn root(&self) -> Node<'_, 'text>
+    pub fn root(&self) -> Node<'_, 'memory>
         ensures { tree_at result ≡ tree_in self.now }
     {
         Node { value: &self.value }
     }
 }
 
-impl<'tree, 'text> Node<'tree, 'text> {
+impl<'tree, 'memory> Node<'tree, 'memory> {
     /// Whether the node is an object.
     pub fn is_object(self) -> bool
         ensures { result ≡ is_object (tree_at self.entry) }
@@ -36,7 +36,7 @@ impl<'tree, 'text> Node<'tree, 'text> {
     }
 
     /// The text, where the node is one.
-    pub fn text(self) -> Option<&'text str>
+    pub fn text(self) -> Option<&'memory str>
         ensures { option_map (λ t. t.now) result ≡ as_text (tree_at self.entry) }
     {
         if let MarkedValue::String(marked) = self.value {
@@ -47,7 +47,7 @@ impl<'tree, 'text> Node<'tree, 'text> {
     }
 
     /// The number's text, where the node is a number.
-    pub fn number(self) -> Option<&'text str>
+    pub fn number(self) -> Option<&'memory str>
         ensures { option_map (λ t. t.now) result ≡ as_number (tree_at self.entry) }
     {
         if let MarkedValue::String(marked) = self.value {
@@ -59,7 +59,7 @@ impl<'tree, 'text> Node<'tree, 'text> {
 
     /// The entries, where the node is a list.
     #[tactic(auto, using(crate::proofs::TreeParts::value_list))]
-    pub fn list(self) -> Option<Entries<'tree, 'text>>
+    pub fn list(self) -> Option<Entries<'tree, 'memory>>
         ensures { option_map entries_in result ≡ as_list (tree_at self.entry) }
     {
         if let MarkedValue::Array(values) = self.value {
@@ -72,7 +72,7 @@ impl<'tree, 'text> Node<'tree, 'text> {
     }
 
     /// The field of this name, where the node is an object that has it.
-    pub fn field(self, name: &str) -> Option<Node<'tree, 'text>>
+    pub fn field(self, name: &str) -> Option<Node<'tree, 'memory>>
         ensures { option_map tree_at result ≡ field_of name.now (tree_at self.entry) }
     {
         let MarkedValue::Object(members) = self.value else {
@@ -85,10 +85,10 @@ impl<'tree, 'text> Node<'tree, 'text> {
     }
 }
 
-fn find_member<'tree, 'text>(
-    members: &'tree BTreeMap<&'text str, MarkedValue<'text>, &'text Bump>,
+fn find_member<'tree, 'memory>(
+    members: &'tree BTreeMap<&'memory str, MarkedValue<'memory>, &'memory Bump>,
     name: &str,
-) -> Option<&'tree MarkedValue<'text>>
+) -> Option<&'tree MarkedValue<'memory>>
     ensures { option_map (λ v. view v.now) result
         ≡ member_named name.now (members_view members.now.entries) }
 {

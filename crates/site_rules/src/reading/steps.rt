@@ -26,10 +26,10 @@ pub(crate) fn some_or<T: Drop>(fault: SiteFault, value: Option<T>) -> Result<T, 
     }
 }
 
-pub(crate) fn object_or<'tree, 'text>(
+pub(crate) fn object_or<'tree, 'memory>(
     fault: SiteFault,
-    part: Node<'tree, 'text>,
-) -> Result<Node<'tree, 'text>, SiteFault>
+    part: Node<'tree, 'memory>,
+) -> Result<Node<'tree, 'memory>, SiteFault>
     ensures { MatchResult result
         (λ object. object_or fault (tree_at part.entry) ≡ Ok (tree_at object))
         (λ found. object_or fault (tree_at part.entry) ≡ Err found) }
@@ -42,11 +42,11 @@ pub(crate) fn object_or<'tree, 'text>(
 }
 
 /// A list of at least one entry and at most so many, or the fault.
-pub(crate) fn few_or<'tree, 'text>(
+pub(crate) fn few_or<'tree, 'memory>(
     fault: SiteFault,
     most: usize,
-    entries: Entries<'tree, 'text>,
-) -> Result<Entries<'tree, 'text>, SiteFault>
+    entries: Entries<'tree, 'memory>,
+) -> Result<Entries<'tree, 'memory>, SiteFault>
     ensures entries { MatchResult result
         (λ few. few_or fault most (entries_in entries.entry) ≡ Ok (entries_in few))
         (λ found. few_or fault most (entries_in entries.entry) ≡ Err found) }

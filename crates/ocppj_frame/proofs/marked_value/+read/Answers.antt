@@ -131,7 +131,7 @@ read_items-items-preserved t c =
       l.invariant.2 ∙ ap (parse_map (items_before l.found.items)) turn ∙ one_before l.found.items v _
           ∙ ap (λ vs. parse_map (items_before vs) (converted of_items (items p (n - 1) r))) (sym c.in_ok-push.ensures.items),
       omega (arith, l.invariant.3),
-      done.numbers,
+      done.no_numbers,
     )
 
 pub read_items-returns-clause-items : goal.read_items-returns-clause-items
@@ -189,7 +189,7 @@ read_members-members-preserved t c =
       l.invariant.2 ∙ one_member p n old k.now l.reader s r (view v) (omega (arith, l.invariant.1)) named done.value
           ∙ ap (λ found. converted (λ ms. of_members ms found) (members p (n - 1) r)) (sym inserted),
       omega (arith, l.invariant.3),
-      done.numbers,
+      done.no_numbers,
     )
 
 pub read_members-returns-clause-members : goal.read_members-returns-clause-members
