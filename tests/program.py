@@ -201,6 +201,18 @@ def command_line_problems(program):
         yield f"central {' '.join(arguments)}", [] if ok else [f"status {done.returncode}, {done.stdout[:200]!r}"]
 
 
+def help_example_problems(program, folder):
+    """The example of replay's help: on its site its script prints what the help says."""
+    told = run(program, ["replay", "--help"], b"").stdout
+    example = re.search(rb"for example\n([^\n]*)\n.*and the script\n(.*)it prints\n(.*?)\n\n", told, re.DOTALL)
+    site, script, printed = (re.sub(rb"(?m)^  ", b"", part) for part in example.groups()) if example else (b"", b"", b"")
+    path = os.path.join(folder, "site-of-the-help")
+    with open(path, "wb") as file:
+        file.write(site)
+    done = run(program, ["replay", "--site", path], script)
+    yield "the example of replay's help", list(differences(done, printed + b"\n", b"", 0)) if example else ["no example"]
+
+
 def device_problems(program, folder):
     """Which device failed: a full device as standard output, a folder as standard input or as the site file."""
     read, write, none = b"central: device: read\n", b"central: device: write\n", b""
@@ -328,6 +340,7 @@ def main():
         for name, arguments, given, *want in [*replay_cases(), *fault_cases(folder)]:
             results.append((name, list(differences(run(program, arguments, given), *want))))
         results.extend(command_line_problems(program))
+        results.extend(help_example_problems(program, folder))
         results.extend(device_problems(program, folder))
         results.extend(growth_problems(program, folder))
         results.extend(memory_problems(program, folder))

@@ -1,4 +1,4 @@
-//! The dice of a random run, and a charge point that does what its calls say.
+//! Random numbers, and a charge point that does what its calls say.
 
 use messages::CallBody;
 use profile::{Criteria, Profile, Purpose, Row};
@@ -6,30 +6,30 @@ use std::alloc::{AllocError, Global};
 
 /// A linear congruential generator.
 #[derive(Drop)]
-pub(crate) struct Dice {
+pub(crate) struct RandomNumbers {
     pub(crate) state: u32,
 }
 
-impl Dice {
-    /// A number below `sides`.
-    pub(crate) fn roll(&mut self, sides: u8) -> u8 {
+impl RandomNumbers {
+    /// A number below `limit`; 0 where there is none.
+    pub(crate) fn below(&mut self, limit: u8) -> u8 {
         let product = self.state.wrapping_mul(1_664_525);
         self.state = product.wrapping_add(1_013_904_223);
-        (self.state >> 24) as u8 % sides.max(1)
+        (self.state >> 24) as u8 % limit.max(1)
     }
 
     /// Keys of a few, some of which no point may have.
     pub(crate) fn keys(&mut self) -> Keys {
-        let purpose = match self.roll(3) {
+        let purpose = match self.below(3) {
             0 => Purpose::ChargePointMaxProfile,
             1 => Purpose::TxProfile,
             _ => Purpose::TxDefaultProfile,
         };
         Keys {
-            id: i32::from(self.roll(4)),
-            connector: u32::from(self.roll(3)),
+            id: i32::from(self.below(4)),
+            connector: u32::from(self.below(3)),
             purpose,
-            level: u32::from(self.roll(3)),
+            level: u32::from(self.below(3)),
         }
     }
 
@@ -45,7 +45,7 @@ impl Dice {
     }
 
     fn maybe<T: Copy>(&mut self, value: T) -> Option<T> {
-        match self.roll(3) {
+        match self.below(3) {
             0 => Some(value),
             _ => None,
         }

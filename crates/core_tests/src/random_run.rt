@@ -1,7 +1,7 @@
 //! A seeded run in which sendings, replies and links are lost: after each confirmed call, a point that
 //! obeys has what the store had after the call's change.
 
-use crate::obeying_point::{Dice, Keys, lasting, obey};
+use crate::obeying_point::{Keys, RandomNumbers, lasting, obey};
 use ocpp_scalars::{IdTag, Instant};
 use profile::{Period, PeriodList, Profile, ProfileKind, ProfileParts, Row, ScheduleParts, Unit};
 use site_core::{Machine, PointId, Reply, Step, Take};
@@ -18,7 +18,7 @@ const SITE: &str =
 struct Trial {
     alloc: Global,
     machine: Machine,
-    dice: Dice,
+    random: RandomNumbers,
     /// The link that the point got last, and the transaction that began last.
     link: u64,
     transaction: i32,
@@ -38,9 +38,9 @@ impl Trial {
         self.machine.step(step).ok()
     }
 
-    /// A step by the dice.
+    /// A random step.
     fn step(&mut self) -> Result<(), Fail> {
-        match self.dice.roll(16) {
+        match self.random.below(16) {
             0..=3 => self.change(),
             4 => self.transact(),
             5 => self.attach(),
@@ -52,11 +52,11 @@ impl Trial {
     /// Installs or clears, and keeps what the store has where a call comes of it.
     fn change(&mut self) -> Result<(), Fail> {
         let point = id(self.alloc)?;
-        let step = if self.dice.roll(4) == 0 {
-            let criteria = self.dice.criteria();
+        let step = if self.random.below(4) == 0 {
+            let criteria = self.random.criteria();
             Step::Clear { point, criteria }
         } else {
-            let row = row(self.alloc, self.dice.keys())?;
+            let row = row(self.alloc, self.random.keys())?;
             Step::Install { point, row }
         };
         if let Some(Reply::Accepted) = self.made(step) {
@@ -79,7 +79,7 @@ impl Trial {
 
     /// Begins a transaction, or else ends the one that began last.
     fn transact(&mut self) -> Result<(), Fail> {
-        let start = start(self.alloc, u32::from(self.dice.roll(3)))?;
+        let start = start(self.alloc, u32::from(self.random.below(3)))?;
         let point = id(self.alloc)?;
         let transaction = self.transaction;
         match self.made(start) {
@@ -149,7 +149,7 @@ impl Trial {
 
     /// One sending or reply of six is lost.
     fn is_lost(&mut self) -> bool {
-        let is_lost = self.dice.roll(6) == 0;
+        let is_lost = self.random.below(6) == 0;
         if is_lost {
             self.losses = self.losses.saturating_add(1);
         }
@@ -232,15 +232,15 @@ fn row(alloc: Global, keys: Keys) -> Result<Row, Fail> {
 
 /// A machine whose point has a row of before, which call 0 is to remove.
 fn opening(alloc: Global) -> Result<Trial, Fail> {
-    let mut dice = Dice { state: 20_261_123 };
+    let mut random = RandomNumbers { state: 20_261_123 };
     let mut point = Vec::new(alloc);
-    point.push(dice.keys())?;
+    point.push(random.keys())?;
     let mut stores = Vec::new(alloc);
     stores.push(Vec::new(alloc))?;
     Ok(Trial {
         alloc,
         machine: Machine::new(alloc, read_site(alloc, SITE.as_bytes())?)?,
-        dice,
+        random,
         link: 0,
         transaction: 0,
         obeyed: None,

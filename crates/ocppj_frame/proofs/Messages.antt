@@ -1,5 +1,5 @@
--- The message element by element is the one of the table's row, and no other.
-use Rattle.std.proofs.Common.{◌≡◌, ℕ, ◌==◌, ℤ, pos, negsuc, nat_le, length, Bool, true, false, List, [], ◌∷◌, slice_get, Option, Some, None, option_map, option_and_then, unwrap_or, Result, Ok, Err, refl, ap, ◌∙◌, subst, inl, inr, arith}
+-- The message element by element is the one of the table's row, and no other; that of a text is its tree's.
+use Rattle.std.proofs.Common.{◌≡◌, ◌≤◌, ℕ, ◌==◌, ℤ, pos, negsuc, nat_le, length, nat_lt, true, false, List, [], ◌∷◌, slice_get, Option, Some, None, option_map, option_and_then, unwrap_or, Result, Ok, Err, refl, ap, ◌∙◌, subst, inl, inr, arith, ltb-true, ltb-false, lt-ltb, le-ltb}
 use Rattle.std.specs.Prelude.{◌≢◌, ◌↔◌}
 use Rattle.std.specs.Str.{chars}
 use Rattle.std.specs.Result.{result_ok}
@@ -7,9 +7,12 @@ use Rattle.std.proofs.lemmas.Bool.{eqb-true, ne_eqb, eqb-false}
 use Rattle.std.proofs.lemmas.Bool.Decides.{nat_tests}
 use Rattle.ocpp_scalars.specs.ByCases.Number.{whole_of}
 use Rattle.ocpp_scalars.specs.declared.number.NumberFault.{NumberFault}
+use Rattle.std.specs.Option.{option_map_or}
+use Rattle.ocppj_frame.specs.Limits.{max_frame_bytes}
+use Rattle.ocppj_frame.specs.Read.{tree_of_text}
 use Rattle.ocppj_frame.specs.Tree.{Tree, null, boolean, text, number, list, object, entries, as_text}
-use Rattle.ocppj_frame.specs.Message.{Message, call_result, IsId, IsKnownType, IsOtherType, IsPayload, absent_payload, null_payload, object_payload, IsNoPayload, HasNoType, HasNoId, HasNoText, IsFrame, call_row, result_row, malformed_result_row, error_row, other_row, malformed_action, malformed_payload, no_type, no_id, IsMessage, of_list, no_list, empty_object}
-use Rattle.ocppj_frame.specs.ByCases.Message.{call_of, message_by, message_id, message_of_elements, message_of_tree, message_type, payload_of, type_of_number, unless_long}
+use Rattle.ocppj_frame.specs.Message.{Message, call_result, IsId, IsKnownType, IsOtherType, IsPayload, absent_payload, null_payload, object_payload, IsNoPayload, HasNoType, HasNoId, HasNoText, IsFrame, call_row, result_row, malformed_result_row, error_row, other_row, malformed_action, malformed_payload, no_type, no_id, IsMessage, of_list, no_list, IsMessageOfText, long_text, refused_text, read_text, empty_object}
+use Rattle.ocppj_frame.specs.ByCases.Message.{call_of, message_by, message_id, message_of_elements, message_of_text, message_of_tree, message_type, payload_of, type_of_number, unless_long}
 use Rattle.ocppj_frame.specs.declared.fault.FrameFault.{FrameFault}
 use Rattle.ocppj_frame.specs.declared.fault.FrameFault.TheVariants.{Dropped}
 use Rattle.ocppj_frame.specs.declared.message.MessageType.{MessageType}
@@ -219,4 +222,27 @@ pub messages_by_rows : (tree : Tree) (result : Result Message FrameFault) → (m
 messages_by_rows tree result = (
   λ same. subst (λ (r : Result Message FrameFault). IsMessage tree r) same (found_message tree),
   only_message tree result,
+)
+
+-- ---- texts
+
+of_read : (bytes : List ℕ) (o : Option Tree) → length bytes ≤ max_frame_bytes → tree_of_text bytes ≡ o
+    → IsMessageOfText bytes (option_map_or message_of_tree o (Err Dropped))
+of_read bytes None short e = refused_text bytes short e
+of_read bytes (Some tree) short e = read_text bytes tree (message_of_tree tree) short e (found_message tree)
+
+found_text : (bytes : List ℕ) → IsMessageOfText bytes (message_of_text bytes)
+found_text bytes = by_test (nat_lt max_frame_bytes (length bytes))
+    (λ long. rw long (long_text bytes (ltb-true max_frame_bytes (length bytes) long)))
+    (λ short. rw short (of_read bytes (tree_of_text bytes) (ltb-false max_frame_bytes (length bytes) short) refl))
+
+only_text : (bytes : List ℕ) (result : Result Message FrameFault) → IsMessageOfText bytes result → message_of_text bytes ≡ result
+only_text _ _ (long_text bytes long) = rw (lt-ltb max_frame_bytes (length bytes) long) refl
+only_text _ _ (refused_text bytes short e) = rw (le-ltb max_frame_bytes (length bytes) short, e) refl
+only_text _ _ (read_text bytes tree result short e is) = rw (le-ltb max_frame_bytes (length bytes) short, e) (only_message tree result is)
+
+pub messages_of_texts : (bytes : List ℕ) (result : Result Message FrameFault) → (message_of_text bytes ≡ result) ↔ IsMessageOfText bytes result
+messages_of_texts bytes result = (
+  λ same. subst (λ (r : Result Message FrameFault). IsMessageOfText bytes r) same (found_text bytes),
+  only_text bytes result,
 )

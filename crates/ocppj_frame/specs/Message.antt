@@ -1,4 +1,4 @@
--- What a tree is as a message (OCPP-J 1.6, section 4.2): the table of frames, a constructor for each row.
+-- What a text is as a message (OCPP-J 1.6, section 4.2): the table of frames, a constructor for each row.
 --
 --   [2, id, action, payload]                  a CALL
 --   [3, id, payload]                          a CALLRESULT
@@ -6,10 +6,11 @@
 --   [another whole number, ..]                ignored
 --
 -- Elements past those are ignored, and so is all of a CALLERROR after its id.
-use Rattle.std.specs.Prelude.{◌≡◌, ◌≢◌, ◌≤◌, ◌⊎◌, ℕ, ℤ, pos, length, List, [], ◌∷◌, false, None, Result, Ok, Err}
+use Rattle.std.specs.Prelude.{◌≡◌, ◌≢◌, ◌<◌, ◌≤◌, ◌⊎◌, ℕ, ℤ, pos, length, List, [], ◌∷◌, false, None, Some, Result, Ok, Err}
 use Rattle.std.specs.Str.{chars}
 use Rattle.ocpp_scalars.specs.ByCases.Number.{whole_of}
-use Rattle.ocppj_frame.specs.Limits.{max_id_characters}
+use Rattle.ocppj_frame.specs.Limits.{max_frame_bytes, max_id_characters}
+use Rattle.ocppj_frame.specs.Read.{tree_of_text}
 use Rattle.ocppj_frame.specs.Tree.{Tree, Trees, Fields, null, text, number, list, object, no_fields, entries, as_list, as_text, is_null, is_object}
 use Rattle.ocppj_frame.specs.declared.fault.FrameFault.{FrameFault}
 use Rattle.ocppj_frame.specs.declared.fault.FrameFault.TheVariants.{Dropped, Formation}
@@ -98,3 +99,12 @@ pub data IsMessage : Tree → Result Message FrameFault → Type 0 where
   of_list : (elements : Trees) (result : Result Message FrameFault)
       → IsFrame (entries elements) result → IsMessage (list elements) result
   no_list : (tree : Tree) → as_list tree ≡ None → IsMessage tree (Err Dropped)
+
+-- a text, and the message or the fault
+pub data IsMessageOfText : List ℕ → Result Message FrameFault → Type 0 where
+  long_text : (bytes : List ℕ) → max_frame_bytes < length bytes → IsMessageOfText bytes (Err Dropped)
+  refused_text : (bytes : List ℕ) → length bytes ≤ max_frame_bytes → tree_of_text bytes ≡ None
+      → IsMessageOfText bytes (Err Dropped)
+  read_text : (bytes : List ℕ) (tree : Tree) (result : Result Message FrameFault)
+      → length bytes ≤ max_frame_bytes → tree_of_text bytes ≡ Some tree → IsMessage tree result
+      → IsMessageOfText bytes result

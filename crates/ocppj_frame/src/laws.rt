@@ -1,10 +1,10 @@
 //! Laws of all texts and trees, on functions that do nothing.
 ghost use Rattle.std.specs.Prelude.{◌≡◌, ℕ, ◌↔◌, List, Result};
 ghost use Rattle.ocppj_frame.specs.Mark.{IsMarked};
-ghost use Rattle.ocppj_frame.specs.Message.{IsMessage, Message};
+ghost use Rattle.ocppj_frame.specs.Message.{IsMessage, IsMessageOfText, Message};
 ghost use Rattle.ocppj_frame.specs.Tree.{Tree};
 ghost use Rattle.ocppj_frame.specs.ByCases.Mark.{marked_text};
-ghost use Rattle.ocppj_frame.specs.ByCases.Message.{message_of_tree};
+ghost use Rattle.ocppj_frame.specs.ByCases.Message.{message_of_text, message_of_tree};
 ghost use Rattle.ocppj_frame.specs.declared.fault.FrameFault.{FrameFault};
 
 /// A law of all texts: the marked text is the one that the rules of marking have, and no other.
@@ -12,9 +12,11 @@ pub fn marked_texts()
     ensures { (text : List ℕ) (out : List ℕ) → (marked_text text ≡ out) ↔ IsMarked text out }
 {}
 
-/// A law of all trees: the message, or the fault, is that of the row of OCPP-J's table that the tree
-/// has, and no other.
+/// Laws of all trees and of all texts: the message, or the fault, is that of the row of OCPP-J's table
+/// that the tree has, and no other; that of a text is its tree's, if it isn't too long and has one.
 pub fn frame_messages()
-    ensures { (tree : Tree) (result : Result Message FrameFault)
+    ensures trees { (tree : Tree) (result : Result Message FrameFault)
         → (message_of_tree tree ≡ result) ↔ IsMessage tree result }
+    ensures texts { (text : List ℕ) (result : Result Message FrameFault)
+        → (message_of_text text ≡ result) ↔ IsMessageOfText text result }
 {}

@@ -5,7 +5,7 @@ use std::alloc::Global;
 
 /// The memory that reading texts takes, lent to one read after another. Its buffers keep the size that
 /// the longest text asked for, five to eight bytes for each byte of it, and the arena its largest chunk,
-/// until it is dropped. By itself it has 16 KiB.
+/// until it is dropped. The struct itself has 16 KiB, for the places of tokens.
 #[derive(Drop)]
 pub struct ReadingMemory {
     /// What a message's id is copied with.

@@ -114,6 +114,7 @@ fn push_string(out: &mut String, text: &str) -> Result<(), AllocError>
     let bytes = mem::replace(out, String::new(alloc)).into_bytes();
     let mut writer = Writer::new(bytes);
     let written = writer.string(text);
+    // A text with a JSON string behind it is UTF-8.
     *out = unsafe { String::from_utf8_unchecked(writer.into_inner()) };
     written
 }

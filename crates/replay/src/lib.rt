@@ -1,5 +1,6 @@
-//! Scripts of texts, played on a site. Each text is read as what its sender asks for, done as one step of
-//! the central system, and answered. What a replay writes is the output of its script.
+//! Scripts of texts, played on a site. Each text is read as what its sender asks for, done by steps of the
+//! central system, and answered, and the calls that wait for a point go out behind its texts. What a replay
+//! writes is the output of its script.
 #![tactic(auto)]
 
 mod number;

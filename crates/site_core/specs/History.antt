@@ -26,8 +26,8 @@ Legal old (event ∷ later) new =
     (middle : MachineState) × Steps old event.step event.reply middle × Legal middle later new
 
 -- The history of a run: its steps that were made, with their replies. A refused step is no event. A
--- step that is answered without a change (Unknown, Repeated, NoSuch, NotYet, a second Finish) is
--- one.
+-- step that is answered without a change (Unknown, Repeated, NoSuch, NotYet, Nothing, a second
+-- Finish) is one.
 abbrev pub history_of : List Step → List Outcome → List Event
 history_of (step ∷ steps) (Done reply ∷ outcomes) =
     record { step = step; reply = reply } ∷ history_of steps outcomes

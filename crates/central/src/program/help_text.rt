@@ -31,8 +31,13 @@ pub const REPLAY_EXAMPLE: &str = "F is a JSON file that describes the site, for 
 The script is standard input, one text a line:
   INSTANT operator ID FRAME    an operator's text for the point ID
   INSTANT point ID FRAME       a text of the point ID
-INSTANT is the moment of the text, FRAME an OCPP-J frame. Standard output has a line '> FRAME' for each
-answer, and a line '! LINE NAME' for each line of the script that has a fault.
+  INSTANT hold ID FRAME        an operator's request for a schedule, whose answer is held
+  INSTANT release N            the answer to the held request N
+INSTANT is the moment of the text, FRAME an OCPP-J frame. Standard output has a line
+  > FRAME                      for each answer
+  * ID FRAME                   for each call that is sent to the point ID
+  held N                       for each request that is held
+  ! LINE NAME                  for each line of the script that has a fault
 
 Example:
   central replay --site site.json < script
@@ -40,5 +45,6 @@ With the site above and the script
   2025-01-01T00:00:00Z point CP1 [2,\"1\",\"Heartbeat\",{}]
 it prints
   > [3,\"1\",{\"currentTime\":\"2025-01-01T00:00:00Z\"}]
+  * CP1 [2,\"0\",\"ClearChargingProfile\",{}]
 
 The exit statuses are those of 'central --help'.";

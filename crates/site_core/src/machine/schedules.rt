@@ -99,6 +99,7 @@ impl Machine {
     }
 
     /// Stops the central system.
+    #[inline(never)]
     pub(super) fn finish(&mut self) -> Reply
         ensures { finishes self.old ≡ record { reply = result; after = self.new } }
     {

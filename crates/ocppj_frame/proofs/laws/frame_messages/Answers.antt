@@ -1,6 +1,9 @@
--- The law stands in `Messages`.
-use Rattle.ocppj_frame.proofs.Messages.{messages_by_rows}
+-- The laws stand in `Messages`.
+use Rattle.ocppj_frame.proofs.Messages.{messages_by_rows, messages_of_texts}
 use Rattle.ocppj_frame.proofs.laws.frame_messages.Goals as goal
 
 pub returns : goal.returns
-returns c = messages_by_rows
+returns c = record {
+  trees = messages_by_rows;
+  texts = messages_of_texts;
+}
