@@ -1,5 +1,5 @@
 -- The value that a `MarkedValue` stands for, in the words of `serde_json`.
-use Rattle.std.specs.Prelude.{ℕ, List, [], ◌∷◌, map}
+use Rattle.std.specs.Prelude.{ℕ, false, true, List, [], ◌∷◌, map}
 use Rattle.std.specs.Borrow.{Bor}
 use Rattle.serde_json.specs.Data.{Data, null, boolean, string, array, object, Items, Members, no_members, member}
 use Rattle.serde_json.specs.View.{items_of}
@@ -13,7 +13,8 @@ members_of (m ∷ ms) = member m.0.now m.1 (members_of ms)
 -- one level, with each value inside already seen as its data
 abbrev pub view_step : MarkedValue-F Data → Data
 view_step MarkedValue-F.Null = null
-view_step (MarkedValue-F.Bool b) = boolean b
+view_step MarkedValue-F.False = boolean false
+view_step MarkedValue-F.True = boolean true
 view_step (MarkedValue-F.String s) = string s.now
 view_step (MarkedValue-F.Array v) = array (items_of v.items)
 view_step (MarkedValue-F.Object m) = object (members_of m.entries)

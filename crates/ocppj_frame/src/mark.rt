@@ -6,6 +6,7 @@ ghost use Rattle.ocppj_frame.specs.Mark.{after_mark, begins_number, continues_nu
 ghost use Rattle.ocppj_frame.specs.ByCases.Mark.{in_number, inside, marked_from, marked_text, outside};
 
 use std::alloc::AllocError;
+use std::mem;
 
 /// The text with each string and each number marked, as a JSON text without numbers. It is written
 /// to `room`, in the place of what was there.
@@ -17,16 +18,19 @@ pub(crate) fn mark_text<'a>(text: &str, room: &'a mut Vec<u8>) -> Result<&'a str
     Ok(unsafe { std::str::from_utf8_unchecked(room.as_slice()) })
 }
 
-fn mark_bytes(text: &[u8], out: &mut Vec<u8>) -> Result<(), AllocError>
-    ensures { OnOk result (out.new.items ≡ marked_text text.now) }
+fn mark_bytes(text: &[u8], room: &mut Vec<u8>) -> Result<(), AllocError>
+    ensures { OnOk result (room.new.items ≡ marked_text text.now) }
 {
-    out.clear();
+    room.clear();
     // A byte makes at most four. With the whole room from the start no push has to ask for more.
-    out.reserve(text.len().checked_mul(4).ok_or(AllocError)?)?;
+    room.reserve(text.len().checked_mul(4).ok_or(AllocError)?)?;
+    // Moved here while it is written, where its length needn't be stored after each byte.
+    let mut out = mem::replace(room, Vec::new(*room.allocator()));
     let mut left = text;
     while let Some((byte, others)) = left.split_first() {
-        left = push_outside(out, *byte, others);
+        left = push_outside(&mut out, *byte, others);
     }
+    *room = out;
     Ok(())
 }
 

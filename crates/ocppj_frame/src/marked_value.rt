@@ -20,7 +20,8 @@ const MAX_DEPTH: usize = 127;
 #[derive(Drop)]
 pub(crate) enum MarkedValue<'a> {
     Null,
-    Bool(bool),
+    False,
+    True,
     String(&'a str),
     Array(Vec<MarkedValue<'a>, &'a Bump>),
     Object(BTreeMap<&'a str, MarkedValue<'a>, &'a Bump>),
@@ -62,7 +63,8 @@ fn read_value<'a>(
     let token = reader.next().ok_or(ReadFault::NotJson)?;
     match token {
         Token::String(text) => Ok(MarkedValue::String(text)),
-        Token::Bool(truth) => Ok(MarkedValue::Bool(truth)),
+        Token::Bool(false) => Ok(MarkedValue::False),
+        Token::Bool(true) => Ok(MarkedValue::True),
         Token::Null => Ok(MarkedValue::Null),
         Token::BeginArray => {
             if depth == 0 {

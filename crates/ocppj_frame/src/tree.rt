@@ -15,7 +15,7 @@ pub(crate) fn is_tree(value: &MarkedValue<'_>) -> bool
     ensures { result ≡ is_some (tree_of (view value.now)) }
 {
     match value {
-        MarkedValue::Null | MarkedValue::Bool(_) => true,
+        MarkedValue::Null | MarkedValue::False | MarkedValue::True => true,
         MarkedValue::String(text) => is_marked(text),
         MarkedValue::Array(values) => are_trees(values),
         MarkedValue::Object(members) => are_fields(members),

@@ -1,5 +1,5 @@
 -- The values of the tokens are those of the grammar, as `serde_json` converts them.
-use Rattle.std.proofs.Common.{◌≡◌, ◌-◌, ◌<◌, [], ◌∷◌, length, Some, None, sym, ap, ap₂, subst, ◌∙◌, arith, rules}
+use Rattle.std.proofs.Common.{◌≡◌, ◌-◌, ◌<◌, false, true, [], ◌∷◌, length, Some, None, sym, ap, ap₂, subst, ◌∙◌, arith, rules}
 use Rattle.json.specs.Token.{Token}
 use Rattle.json.specs.Json.{parse_map, after_end_array, read_key, items, members, value}
 use Rattle.json.specs.Reads.{token_of}
@@ -8,7 +8,7 @@ use Rattle.serde_json.specs.Data.{null, boolean, string, array, object, put}
 use Rattle.serde_json.specs.Read.{of_json, of_items, of_members, converted}
 use Rattle.ocppj_frame.specs.ByCases.Tokens.{HaveNoNumber}
 use Rattle.ocppj_frame.specs.View.{view, members_view}
-use Rattle.ocppj_frame.specs.declared.marked_value.MarkedValue.{String, Bool, Null, the_lemmas}
+use Rattle.ocppj_frame.specs.declared.marked_value.MarkedValue.{String, False, True, Null, the_lemmas}
 use Rattle.ocppj_frame.proofs.Reading.{array_opened, object_opened, one_item, last_item, item_refused, one_member, no_key, last_member, member_refused, items_before, before_none, none_before, one_before}
 use Rattle.ocppj_frame.proofs.Views.{view-Array, view-Object, members_view-insert_entry}
 use Rattle.ocppj_frame.proofs.marked_value.+read.Goals as goal
@@ -25,11 +25,18 @@ read_value-returns-in-String-clause-value t c =
     let seen : view (String c.in-String.text) ≡ string c.in-String.text.now = search (rules, the_lemmas) in
     ap (converted of_json) (ap (value c.args.depth) text ∙ value_is c.args.depth _) ∙ ap (λ d. Some (d, c.next.new.self)) (sym seen)
 
-pub read_value-returns-in-Bool-clause-value : goal.read_value-returns-in-Bool-clause-value
-read_value-returns-in-Bool-clause-value t c =
+pub read_value-returns-in-Bool-false-clause-value : goal.read_value-returns-in-Bool-false-clause-value
+read_value-returns-in-Bool-false-clause-value t c =
     let is : c.args.reader.now ≡ token_of c.in_ok-token.token ∷ c.next.new.self = grind arith in
-    let truth : c.args.reader.now ≡ Token.boolean c.in-Bool.truth ∷ c.next.new.self = grind (arith, is) in
-    let seen : view (Bool c.in-Bool.truth) ≡ boolean c.in-Bool.truth = search (rules, the_lemmas) in
+    let truth : c.args.reader.now ≡ Token.boolean false ∷ c.next.new.self = grind (arith, is) in
+    let seen : view False ≡ boolean false = search (rules, the_lemmas) in
+    ap (converted of_json) (ap (value c.args.depth) truth ∙ value_is c.args.depth _) ∙ ap (λ d. Some (d, c.next.new.self)) (sym seen)
+
+pub read_value-returns-in-Bool-true-clause-value : goal.read_value-returns-in-Bool-true-clause-value
+read_value-returns-in-Bool-true-clause-value t c =
+    let is : c.args.reader.now ≡ token_of c.in_ok-token.token ∷ c.next.new.self = grind arith in
+    let truth : c.args.reader.now ≡ Token.boolean true ∷ c.next.new.self = grind (arith, is) in
+    let seen : view True ≡ boolean true = search (rules, the_lemmas) in
     ap (converted of_json) (ap (value c.args.depth) truth ∙ value_is c.args.depth _) ∙ ap (λ d. Some (d, c.next.new.self)) (sym seen)
 
 pub read_value-returns-in-Null-clause-value : goal.read_value-returns-in-Null-clause-value
