@@ -7,7 +7,7 @@ use Rattle.std.proofs.lemmas.Bool.{cases_lt}
 use Rattle.std.proofs.lemmas.Bool.Decides.{nat_tests}
 use Rattle.profile.specs.declared.period.Period.{Period}
 use Rattle.profile.specs.Periods.{are_in_order}
-use Rattle.profile.proofs.PeriodLemmas.{partitioned}
+use Rattle.profile.specs.Theory.Periods.{partitioned}
 use Rattle.recurrence.specs.Next.{IsFirstAfter, is_start}
 
 abbrev pub IsBegunUpTo : List Period → ℕ → ℕ → Type 0
