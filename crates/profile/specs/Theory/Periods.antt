@@ -1,5 +1,5 @@
--- Lemmas that crates above cite: nothing here has to be believed. Of periods in order, those that have begun
--- at an offset stand first.
+-- Lemmas that crates above cite: nothing here has to be believed.
+-- Of periods in order, those that have begun at an offset stand first.
 use Rattle.std.proofs.Common.{◌≡◌, ℕ, ◌+◌, ◌<◌, ◌≤◌, zero, suc, nat_lt, nat_le, true, List, [], ◌∷◌, length, get_or, arith}
 use Rattle.std.specs.List.Sorted.{IsPartitionedBy}
 use Rattle.std.proofs.lemmas.List.Sorted.{IsPartitionedBy-leb, IsNonDecreasingBy-from_all_adjacent}
