@@ -7,7 +7,8 @@ use Rattle.meaning.specs.Limits.{max_composite_periods}
 use Rattle.meaning.specs.Composite.{Schedule}
 use Rattle.meaning.specs.Compiled.{IsExactAnswer, IsTooLong}
 use Rattle.meaning.specs.ByCases.Exact.{exact_periods, exact_schedule}
-use Rattle.meaning.proofs.ExactTheory.{exact_is, exact_are}
+use Rattle.meaning.specs.Theory.ExactPeriods.{exact_is, exact_are}
+use Rattle.meaning.specs.Theory.ExactAnswers.{made}
 
 pub computed : (limit : ℕ → ℕ) (duration : ℕ) (schedule : Schedule) → IsExactAnswer limit duration schedule → exact_schedule limit duration ≡ Ok schedule
 computed limit duration schedule answer =
@@ -15,21 +16,6 @@ computed limit duration schedule answer =
     let few : length (exact_periods limit duration) ≤ max_composite_periods = rw (sym same) answer.few in
     let short : nat_lt max_composite_periods (length (exact_periods limit duration)) ≡ false = grind (arith, nat_tests) in
     rw short (λ i. Ok (record { duration = sym answer.lasts i; periods = sym same i }))
-
--- the schedule that is computed
-abbrev pub made : (ℕ → ℕ) → ℕ → Schedule
-made limit duration = record { duration = duration; periods = exact_periods limit duration }
-
-pub answered : (limit : ℕ → ℕ) (duration : ℕ) (schedule : Schedule) → 0 < duration → exact_schedule limit duration ≡ Ok schedule → IsExactAnswer limit duration schedule
-answered limit duration schedule some is = go (nat_lt max_composite_periods (length (exact_periods limit duration))) refl is
-  where
-    go : (b : Bool) → nat_lt max_composite_periods (length (exact_periods limit duration)) ≡ b → ◌≡◌ {A = Result Schedule Refusal} (cond b (Err ResultTooLong) (Ok (made limit duration))) (Ok schedule)
-        → IsExactAnswer limit duration schedule
-    go true long is = cc
-    go false short is =
-        let same : made limit duration ≡ schedule = cc in
-        let few : length (exact_periods limit duration) ≤ max_composite_periods = grind (arith, nat_tests) in
-        rw (sym same) (record { lasts = refl; exact = exact_are limit duration some; few = few })
 
 pub refused : (limit : ℕ → ℕ) (duration : ℕ) → 0 < duration → IsTooLong limit duration → exact_schedule limit duration ≡ Err ResultTooLong
 refused limit duration some long =

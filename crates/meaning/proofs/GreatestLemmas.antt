@@ -5,10 +5,7 @@ use Rattle.std.proofs.lemmas.List.{take_more, append-nil}
 use Rattle.std.proofs.lemmas.List.Elements.{filter-append, filter_map-append}
 use Rattle.std.proofs.lemmas.Bool.Decides.{nat_tests}
 use Rattle.profile.specs.Greatest.{greater, greatest}
-
--- the greatest of two where they are there
-abbrev pub greatest_of : {X : Type 0} → (X → ℕ) → Option X → Option X → Option X
-greatest_of key best next = greatest key (filter_map (λ x. x) (best ∷ (next ∷ [])))
+use Rattle.meaning.specs.Theory.Greatest.{greatest_of}
 
 greater_more : {X : Type 0} (key : X → ℕ) (x y : X) (best : Option X)
     → Some (greater key x (greatest_of key best (Some y))) ≡ greatest_of key (Some (greater key x best)) (Some y)

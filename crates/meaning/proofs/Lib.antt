@@ -1,7 +1,5 @@
 pub mod AskLemmas
-pub mod Ranges
-pub mod ExactTheory
+pub mod Sums
 pub mod GreatestLemmas
-pub mod PlainCompiler
 pub mod Compiling
 pub mod WorkedExamples

@@ -1,3 +1,2 @@
 pub mod Exact
 pub mod Ask
-pub mod PlainCompiler

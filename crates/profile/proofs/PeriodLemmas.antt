@@ -1,8 +1,7 @@
 -- The order of periods, and the limit of one period more.
 use Rattle.std.proofs.Common.{◌≡◌, ℕ, ◌+◌, ◌-◌, ◌<◌, ◌≤◌, zero, suc, nat_lt, nat_le, Bool, true, false, ◌&&◌, List, [], ◌∷◌, ◌++◌, length, take, drop, get_or, filter, Option, Some, None, option_map, cond, refl, sym, ◌∙◌, ap, arith}
 use Rattle.std.specs.List.{AllByRecursion, AllWithin}
-use Rattle.std.specs.List.Sorted.{IsPartitionedBy, IsPartitionPoint}
-use Rattle.std.proofs.lemmas.List.Sorted.{IsPartitionedBy-leb, IsNonDecreasingBy-from_all_adjacent}
+use Rattle.std.specs.List.Sorted.{IsPartitionPoint}
 use Rattle.std.proofs.Math.Seq.{drop-cons, take-length}
 use Rattle.std.proofs.lemmas.Bool.{and_parts}
 use Rattle.std.proofs.lemmas.Bool.Decides.{nat_tests}
@@ -62,22 +61,6 @@ limit_in-more ps i d o inside ordered =
       | false ↦ λ is. ap (λ (xs : List Period). option_map (λ (p : Period). p.limit) (greatest start xs)) (filtered ∙ ap (λ b. filter test (take i ps) ++ cond b (q ∷ []) []) is ∙ append-nil (filter test (take i ps)))
     ] is in
     found (nat_le q.start o) refl
-
--- no period starts before the one before it
-adjacent : (ps : List Period) → are_in_order ps ≡ true → (k : ℕ) (d : Period) → k + 1 < length ps → (get_or ps k d).start ≤ (get_or ps (k + 1) d).start
-adjacent [] ordered k d inside = absurd (omega arith)
-adjacent (p ∷ []) ordered k d inside = absurd (omega arith)
-adjacent (p ∷ (q ∷ ps)) ordered zero d inside =
-    let parts = and_parts (nat_lt p.start q.start) (are_in_order (q ∷ ps)) ordered in grind (arith, nat_tests)
-adjacent (p ∷ (q ∷ ps)) ordered (suc k) d inside =
-    let parts = and_parts (nat_lt p.start q.start) (are_in_order (q ∷ ps)) ordered in
-    let next : suc k + 1 ≡ suc (k + 1) = omega arith in
-    rw next (adjacent (q ∷ ps) parts.1 k d (omega arith))
-
--- those that have begun at an offset stand first
-pub partitioned : (ps : List Period) (o : ℕ) → are_in_order ps ≡ true → IsPartitionedBy (λ (p : Period). nat_le p.start o) ps
-partitioned ps o ordered =
-    IsPartitionedBy-leb (λ (p : Period). p.start) ps o (IsNonDecreasingBy-from_all_adjacent (λ (p : Period). p.start) ps (adjacent ps ordered))
 
 limit_of_begun : (ps : List Period) (i more : ℕ) (d : Period) (o : ℕ) → i + more ≤ length ps → are_in_order_after None ps ≡ true
     → AllWithin (λ (p : Period). nat_le p.start o ≡ false) ps i (length ps) → limit_in (take (i + more) ps) o ≡ limit_in (take i ps) o

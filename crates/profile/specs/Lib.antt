@@ -13,3 +13,4 @@ pub mod Row
 pub mod Candidates
 pub mod Changes
 pub mod ByCases
+pub mod Theory

@@ -1,12 +1,15 @@
 -- The next number that passes one of two tests, or a test that comes again and again.
-use Rattle.std.proofs.Common.{◌≡◌, ℕ, ◌+◌, ◌-◌, ◌*◌, ◌/◌, ◌%◌, ◌<◌, ◌≤◌, min, Bool, true, false, ◌||◌, Option, Some, None, ⊎_elim, refl, sym, ap, ◌∙◌, mod-lt, arith}
+use Rattle.std.proofs.Common.{◌≡◌, ℕ, ◌+◌, ◌-◌, ◌*◌, ◌/◌, ◌%◌, ◌<◌, ◌≤◌, nat_lt, Bool, true, false, ◌||◌, cond, Option, Some, None, refl, sym, subst, ap, ◌∙◌, mod-lt, arith}
+use Rattle.std.specs.Ordering.{nat_cmp}
 use Rattle.std.proofs.Math.Nat.{div-add-mod}
 use Rattle.std.proofs.lemmas.Nat.{mod-mul-add}
-use Rattle.std.proofs.lemmas.Bool.{cases_lt}
-use Rattle.recurrence.specs.Next.{IsFirstAfter, IsNext, sooner}
+use Rattle.std.proofs.lemmas.Bool.Decides.{nat_tests}
+use Rattle.recurrence.specs.Next.{sooner}
+use Rattle.recurrence.specs.Theory.Next.{sooner_number}
+use Rattle.recurrence.specs.ByCases.Next.{IsFirstAfter, IsNext}
 
 -- of two tests
-pub next_or : (p q : ℕ → Bool) (n : ℕ) (a b : Option ℕ) → IsNext p n a → IsNext q n b → IsNext (λ k. p k || q k) n (sooner a b)
+pub next_or : (p q : ℕ → Bool) (n : ℕ) (a b : Option ℕ) → IsNext p n a → IsNext q n b → IsNext (λ k. p k || q k) n (sooner nat_cmp a b)
 next_or p q n None None no_a no_b = λ k later. rw (no_a k later, no_b k later) refl
 next_or p q n None (Some b) no_a is_b = record {
   later = is_b.later;
@@ -18,25 +21,23 @@ next_or p q n (Some a) None is_a no_b = record {
   passes = rw is_a.passes refl;
   fails_between = λ k later early. rw (is_a.fails_between k later early, no_b k later) refl;
 }
-next_or p q n (Some a) (Some b) is_a is_b = ⊎_elim first second (cases_lt b a)
+next_or p q n (Some a) (Some b) is_a is_b = subst (IsNext (λ k. p k || q k) n) (sym (sooner_number a b)) (go (nat_lt b a) refl)
   where
-    second : a ≤ b → IsFirstAfter (λ k. p k || q k) n (min a b)
-    second before =
-        let same : min a b ≡ a = omega arith in
-        rw same (record {
-          later = is_a.later;
-          passes = rw is_a.passes refl;
-          fails_between = λ k later early. rw (is_a.fails_between k later early, is_b.fails_between k later (omega arith)) refl;
-        })
-
-    first : b < a → IsFirstAfter (λ k. p k || q k) n (min a b)
-    first before =
-        let same : min a b ≡ b = omega arith in
-        rw same (record {
+    go : (less : Bool) → nat_lt b a ≡ less → IsNext (λ k. p k || q k) n (cond less (Some b) (Some a))
+    go true less =
+        let before : b < a = grind (arith, nat_tests) in
+        record {
           later = is_b.later;
           passes = rw (is_a.fails_between b is_b.later before, is_b.passes) refl;
           fails_between = λ k later early. rw (is_a.fails_between k later (omega arith), is_b.fails_between k later early) refl;
-        })
+        }
+    go false less =
+        let before : a ≤ b = grind (arith, nat_tests) in
+        record {
+          later = is_a.later;
+          passes = rw is_a.passes refl;
+          fails_between = λ k later early. rw (is_a.fails_between k later early, is_b.fails_between k later (omega arith)) refl;
+        }
 
 -- a test that never passes later changes nothing
 pub next_beside : (p q : ℕ → Bool) (n : ℕ) (r : Option ℕ) → ((k : ℕ) → n < k → p k ≡ false) → IsNext q n r → IsNext (λ k. p k || q k) n r

@@ -7,8 +7,8 @@ use Rattle.std.proofs.lemmas.Bool.{cases_lt}
 use Rattle.std.proofs.lemmas.Bool.Decides.{nat_tests}
 use Rattle.profile.specs.declared.period.Period.{Period}
 use Rattle.profile.specs.Periods.{are_in_order}
-use Rattle.profile.proofs.PeriodLemmas.{partitioned}
-use Rattle.recurrence.specs.Next.{IsFirstAfter, is_start}
+use Rattle.profile.specs.Theory.Periods.{partitioned}
+use Rattle.recurrence.specs.ByCases.Next.{IsFirstAfter, is_start}
 
 abbrev pub IsBegunUpTo : List Period → ℕ → ℕ → Type 0
 IsBegunUpTo periods offset i = IsPartitionPoint (λ (p : Period). nat_le p.start offset ≡ true) (λ (p : Period). nat_le p.start offset ≡ false) periods i

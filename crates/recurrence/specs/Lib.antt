@@ -1,2 +1,4 @@
-pub mod NextChange
 pub mod Next
+pub mod NextChange
+pub mod ByCases
+pub mod Theory

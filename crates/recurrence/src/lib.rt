@@ -7,6 +7,7 @@ mod next;
 mod places;
 mod turns;
 
+pub use next::sooner;
 pub use places::{next_change, rate_at};
 
 #[cfg(test)]

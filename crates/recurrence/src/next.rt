@@ -1,7 +1,8 @@
-//! The next of numbers.
+//! The next of two, and a number that is next.
 
 ghost use Rattle.std.specs.Prelude.{◌≡◌, ◌==◌, ℕ};
-ghost use Rattle.recurrence.specs.Next.{IsNext, sooner};
+ghost use Rattle.recurrence.specs.Next.{sooner};
+ghost use Rattle.recurrence.specs.ByCases.Next.{IsNext};
 
 /// A number, where it is greater than another.
 pub(crate) fn later(number: u64, than: u64) -> Option<u64>
@@ -10,13 +11,13 @@ pub(crate) fn later(number: u64, than: u64) -> Option<u64>
     if than < number { Some(number) } else { None }
 }
 
-/// The lesser of those that are there.
-pub(crate) fn sooner(a: Option<u64>, b: Option<u64>) -> Option<u64>
-    ensures { result ≡ sooner a b }
+/// The lesser of two, where they are there.
+pub fn sooner<T: Ord + Drop>(a: Option<T>, b: Option<T>) -> Option<T>
+    ensures { result ≡ sooner T.cmp a b }
 {
     match (a, b) {
-        (None, _) => b,
-        (_, None) => a,
+        (None, b) => b,
+        (a, None) => a,
         (Some(m), Some(n)) => Some(m.min(n)),
     }
 }

@@ -3,7 +3,7 @@
 ghost use Rattle.std.specs.Prelude.{◌≡◌, ℕ};
 ghost use Rattle.profile.specs.ChargingProfile.{offset, rate};
 ghost use Rattle.profile.specs.Places.{is_at, is_turn_at, is_place};
-ghost use Rattle.recurrence.specs.Next.{IsNext};
+ghost use Rattle.recurrence.specs.ByCases.Next.{IsNext};
 ghost use Rattle.recurrence.specs.NextChange.{IsNextPlace, HasOneRateUntil};
 
 use crate::next::{later, sooner};

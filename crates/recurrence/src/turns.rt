@@ -6,7 +6,7 @@ ghost use Rattle.profile.specs.Kind.{offset_after};
 ghost use Rattle.profile.specs.Limits.{week};
 ghost use Rattle.profile.specs.Periods.{are_in_order};
 ghost use Rattle.profile.specs.Places.{is_at, is_turn};
-ghost use Rattle.recurrence.specs.Next.{IsNext, is_start};
+ghost use Rattle.recurrence.specs.ByCases.Next.{IsNext, is_start};
 
 use crate::next::{later, sooner};
 use profile::{Kind, Period, Schedule};

@@ -11,7 +11,7 @@ use Rattle.meaning.specs.declared.ask.Ask.{Ask}
 use Rattle.meaning.specs.Composite.{Schedule}
 use Rattle.meaning.specs.Limit.{limit_asked}
 use Rattle.meaning.specs.ByCases.Ask.{ask_with}
-use Rattle.meaning.proofs.Compiling.{answered as exact_answered}
+use Rattle.meaning.specs.Theory.ExactAnswers.{answered as exact_answered}
 use Rattle.messages.specs.declared.call.CallBody.TheVariants.{Set}
 use Rattle.site_rules.specs.Site.{SiteState}
 use Rattle.point_book.specs.Book.{Book, empty_book, state_of}

@@ -6,7 +6,7 @@ use Rattle.std.proofs.lemmas.Bool.Decides.{nat_tests}
 use Rattle.profile.specs.Greatest.{greater, greatest}
 use Rattle.profile.specs.Limits.{max_stack_level}
 use Rattle.meaning.specs.Limit.{or_else}
-use Rattle.meaning.proofs.GreatestLemmas.{greatest_of}
+use Rattle.meaning.specs.Theory.Greatest.{greatest_of}
 use Rattle.sweep_compiler.specs.ByCases.Seen.{SeenRow, level_seen, limit_seen, first_limit, place_of, inserted, by_falling_level}
 
 -- ---- the place of a row

@@ -1,6 +1,7 @@
 -- What is gathered of the rows that count for an ask has its limits and its places.
 use Rattle.std.proofs.Common.{◌≡◌, ℕ, ◌+◌, ◌≤◌, ◌==◌, Bool, true, false, ◌||◌, List, [], ◌∷◌, ◌++◌, filter, map, min, cond, Option, option_map, refl, ap, sym, ◌∙◌, arith}
 use Rattle.std.specs.List.{list_any, filter_map, cons_option, sum_by}
+use Rattle.std.specs.Ordering.{nat_cmp}
 use Rattle.std.proofs.lemmas.List.{append-nil, map-append}
 use Rattle.std.proofs.lemmas.List.Elements.{filter-append}
 use Rattle.std.proofs.lemmas.List.Sums.{fold-append, sum_by-cons}
@@ -11,7 +12,8 @@ use Rattle.meaning.specs.View.{PointState, ceiling_of}
 use Rattle.meaning.specs.Prevailing.{counted, prevailing}
 use Rattle.meaning.specs.Limit.{or_else, at_most, own_limit, active_connectors, limit, limit_by}
 use Rattle.sweep_compiler.specs.Places.{is_place_for, is_place_at, is_place_asked, looked_at}
-use Rattle.sweep_compiler.specs.ByCases.NextChange.{IsNextChange, sooner}
+use Rattle.recurrence.specs.Next.{sooner}
+use Rattle.sweep_compiler.specs.ByCases.NextChange.{IsNextChange}
 use Rattle.sweep_compiler.specs.ByCases.NextPlace.{IsNextOfFirst, IsNextOfAll}
 use Rattle.sweep_compiler.specs.ByCases.Seen.{SeenRow, SeenConnector, AreGathered, is_place_seen, first_limit, inserted, by_falling_level, seen_from, rows_seen, connector_seen, own_limit_seen, is_place_looked}
 use Rattle.sweep_compiler.proofs.ByLevel.{first_prevails, any_falling}
@@ -120,8 +122,8 @@ limit_is state connector asked instant most looked point sum h p within s =
 -- the sooner of the next places of the point's own profiles and of the connectors is one of what is asked
 pub next_is : (state : PointState) (connector asked instant : ℕ) (most : List SeenRow) (looked : List SeenConnector) (next other : Option ℕ) → AreGathered state connector asked most looked
     → IsNextOfFirst most instant next → IsNextOfAll looked instant other
-    → IsNextChange (is_place_asked state connector asked) (limit state connector asked) instant (sooner next other)
+    → IsNextChange (is_place_asked state connector asked) (limit state connector asked) instant (sooner nat_cmp next other)
 next_is state connector asked instant most looked next other h of_most of_looked =
-    change_as _ _ _ _ instant (sooner next other) (λ k. places_are state connector asked k most looked h) (λ k. limits_are state connector asked k most looked h)
+    change_as _ _ _ _ instant (sooner nat_cmp next other) (λ k. places_are state connector asked k most looked h) (λ k. limits_are state connector asked k most looked h)
     (change_both (λ (limit : Option ℕ) (sum : ℕ). min (at_most state.ceiling limit) sum) (λ k. list_any (is_place_seen k) most) (λ k. list_any (is_place_looked k) looked)
     (λ k. first_limit k most) (λ k. sum_by (own_limit_seen k) looked) instant next other of_most of_looked)

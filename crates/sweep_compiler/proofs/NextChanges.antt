@@ -1,13 +1,16 @@
 -- Next places of two things are a next place of what is made of both: of rows, of connectors, of the point.
 use Rattle.std.proofs.Common.{◌≡◌, ℕ, ◌+◌, ◌<◌, ◌≤◌, Bool, true, false, ◌||◌, List, [], ◌∷◌, ◌++◌, length, take, drop, get_or, cond, Option, Some, None, is_some, nat_lt, refl, ap, sym, subst, ◌∙◌, arith}
 use Rattle.std.specs.List.{list_any, sum_by}
+use Rattle.std.specs.Ordering.{nat_cmp}
 use Rattle.std.proofs.Math.Bool.{or-false}
 use Rattle.std.proofs.lemmas.List.{take_more, take-append-drop}
 use Rattle.std.proofs.lemmas.List.Folds.{list_any-append}
 use Rattle.std.proofs.lemmas.List.Sums.{sum_by_push}
 use Rattle.std.proofs.lemmas.Bool.Decides.{nat_tests}
 use Rattle.meaning.specs.Limit.{or_else}
-use Rattle.sweep_compiler.specs.ByCases.NextChange.{IsNextChange, sooner}
+use Rattle.recurrence.specs.Next.{sooner}
+use Rattle.recurrence.specs.Theory.Next.{sooner_number}
+use Rattle.sweep_compiler.specs.ByCases.NextChange.{IsNextChange}
 use Rattle.sweep_compiler.specs.ByCases.Seen.{SeenRow, SeenConnector, limit_seen, is_place_seen, first_limit, own_limit_seen, is_place_looked}
 use Rattle.sweep_compiler.specs.ByCases.NextPlace.{IsNextSeen, IsNextOfFirst, IsNextLooked, IsNextOfAll}
 
@@ -39,7 +42,7 @@ make_both make x x' y y' h k = ap (λ z. make z y) h ∙ ap (make x') k
 -- the sooner of two next places is one of both
 pub change_both : {X Y Z : Type 0} (make : X → Y → Z) (place place' : ℕ → Bool) (value : ℕ → X) (value' : ℕ → Y) (instant : ℕ) (next other : Option ℕ)
     → IsNextChange place value instant next → IsNextChange place' value' instant other
-    → IsNextChange (λ k. place k || place' k) (λ k. make (value k) (value' k)) instant (sooner next other)
+    → IsNextChange (λ k. place k || place' k) (λ k. make (value k) (value' k)) instant (sooner nat_cmp next other)
 change_both make place place' value value' instant None None h h' = λ k from within.
     make_both make _ _ _ _ (h k from within) (h' k from within)
 change_both make place place' value value' instant None (Some other) h h' = record {
@@ -54,7 +57,8 @@ change_both make place place' value value' instant (Some next) None h h' = recor
   is_place = or-first (place next) (place' next) h.is_place;
   stays = λ k from below. let end = h.in_calendar in make_both make _ _ _ _ (h.stays k from below) (h' k from (omega (arith, below, end)));
 }
-change_both make place place' value value' instant (Some next) (Some other) h h' = go (nat_lt other next) refl
+change_both make place place' value value' instant (Some next) (Some other) h h' =
+    subst (IsNextChange (λ k. place k || place' k) (λ k. make (value k) (value' k)) instant) (sym (sooner_number next other)) (go (nat_lt other next) refl)
   where
     go : (b : Bool) → nat_lt other next ≡ b → IsNextChange (λ k. place k || place' k) (λ k. make (value k) (value' k)) instant (cond b (Some other) (Some next))
     go true less = let before : other < next = grind (arith, nat_tests) in record {
@@ -89,12 +93,12 @@ first_append instant (x ∷ rows) others = go (limit_seen instant x) (first_appe
     go (Some limit) h = refl
 
 pub first_more : (i more : ℕ) (rows : List SeenRow) (x : SeenRow) (instant : ℕ) (next other : Option ℕ) → more ≡ i + 1 → i < length rows → x ≡ get_or rows i x
-    → IsNextOfFirst (take i rows) instant next → IsNextSeen x instant other → IsNextOfFirst (take more rows) instant (sooner next other)
+    → IsNextOfFirst (take i rows) instant next → IsNextSeen x instant other → IsNextOfFirst (take more rows) instant (sooner nat_cmp next other)
 first_more i more rows x instant next other e below is h here =
     let both = change_both (λ (limit limit' : Option ℕ). or_else limit (or_else limit' None)) (λ k. list_any (is_place_seen k) (take i rows)) (λ k. is_place_seen k x)
     (λ k. first_limit k (take i rows)) (λ k. limit_seen k x) instant next other h here in
-    subst (λ (xs : List SeenRow). IsNextOfFirst xs instant (sooner next other)) (sym (take_one i more rows x e below is))
-    (change_as _ _ _ _ instant (sooner next other) (λ k. any_push (is_place_seen k) (take i rows) x) (λ k. sym (first_append k (take i rows) (x ∷ []))) both)
+    subst (λ (xs : List SeenRow). IsNextOfFirst xs instant (sooner nat_cmp next other)) (sym (take_one i more rows x e below is))
+    (change_as _ _ _ _ instant (sooner nat_cmp next other) (λ k. any_push (is_place_seen k) (take i rows) x) (λ k. sym (first_append k (take i rows) (x ∷ []))) both)
 
 some_first : (limit other : Option ℕ) → is_some limit ≡ true → or_else limit other ≡ limit
 some_first None other h = absurd (false_is_not_true h)
@@ -133,18 +137,18 @@ or_else_some (Some limit) other h = refl
 
 pub first_stops : (i more : ℕ) (rows : List SeenRow) (x : SeenRow) (instant : ℕ) (next other : Option ℕ) → more ≡ i + 1 → i < length rows → x ≡ get_or rows i x
     → is_some (limit_seen instant x) ≡ true
-    → IsNextOfFirst (take i rows) instant next → IsNextSeen x instant other → IsNextOfFirst rows instant (sooner next other)
+    → IsNextOfFirst (take i rows) instant next → IsNextSeen x instant other → IsNextOfFirst rows instant (sooner nat_cmp next other)
 first_stops i more rows x instant next other e below is some h here =
     let has : is_some (first_limit instant (take more rows)) ≡ true =
     ap (λ (xs : List SeenRow). is_some (first_limit instant xs)) (take_one i more rows x e below is)
     ∙ (ap is_some (first_append instant (take i rows) (x ∷ [])) ∙ or_else_some (first_limit instant (take i rows)) (limit_seen instant x) some) in
-    subst (λ (xs : List SeenRow). IsNextOfFirst xs instant (sooner next other)) (take-append-drop more rows)
-    (first_stays (take more rows) (drop more rows) instant (sooner next other) has (first_more i more rows x instant next other e below is h here))
+    subst (λ (xs : List SeenRow). IsNextOfFirst xs instant (sooner nat_cmp next other)) (take-append-drop more rows)
+    (first_stays (take more rows) (drop more rows) instant (sooner nat_cmp next other) has (first_more i more rows x instant next other e below is h here))
 
 pub all_more : (i more : ℕ) (looked : List SeenConnector) (x : SeenConnector) (instant : ℕ) (next other : Option ℕ) → more ≡ i + 1 → i < length looked → x ≡ get_or looked i x
-    → IsNextOfAll (take i looked) instant next → IsNextLooked x instant other → IsNextOfAll (take more looked) instant (sooner next other)
+    → IsNextOfAll (take i looked) instant next → IsNextLooked x instant other → IsNextOfAll (take more looked) instant (sooner nat_cmp next other)
 all_more i more looked x instant next other e below is h here =
     let both = change_both (λ (sum n : ℕ). sum + n) (λ k. list_any (is_place_looked k) (take i looked)) (λ k. is_place_looked k x)
     (λ k. sum_by (own_limit_seen k) (take i looked)) (λ k. own_limit_seen k x) instant next other h here in
-    subst (λ (xs : List SeenConnector). IsNextOfAll xs instant (sooner next other)) (sym (take_one i more looked x e below is))
-    (change_as _ _ _ _ instant (sooner next other) (λ k. any_push (is_place_looked k) (take i looked) x) (λ k. sym (sum_by_push (own_limit_seen k) (take i looked) x)) both)
+    subst (λ (xs : List SeenConnector). IsNextOfAll xs instant (sooner nat_cmp next other)) (sym (take_one i more looked x e below is))
+    (change_as _ _ _ _ instant (sooner nat_cmp next other) (λ k. any_push (is_place_looked k) (take i looked) x) (λ k. sym (sum_by_push (own_limit_seen k) (take i looked) x)) both)

@@ -11,10 +11,10 @@ use crate::falling::{first_limit, next_after};
 use crate::gatherer::Gatherer;
 use crate::looked::{Looked, at_most};
 use crate::seen::Seen;
-use crate::sooner::sooner;
 use meaning::View;
 use ocpp_scalars::Instant;
 use profile::Purpose;
+use recurrence::sooner;
 use std::alloc::AllocError;
 use std::marker::Model;
 

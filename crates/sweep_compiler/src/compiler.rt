@@ -32,6 +32,7 @@ pub fn compile(
     ensures compiled { IsCompiled (limit_asked (state_of book.now) ask.now.connector ask.now.start)
         ask.now.duration result }
     ensures bound { turns.new ≤ turns.old + (1 + places book.now ask.now) }
+    ensures counted { turns.old ≤ turns.new }
     ensures each { IfOk result (λ schedule. turns.old + length schedule.periods ≤ turns.new) }
 {
     let gatherer = Gatherer {

@@ -5,8 +5,8 @@ ghost use Rattle.sweep_compiler.specs.ByCases.Seen.{first_limit, inserted, place
 ghost use Rattle.sweep_compiler.specs.ByCases.NextPlace.{IsNextOfFirst};
 
 use crate::seen::Seen;
-use crate::sooner::sooner;
 use ocpp_scalars::Instant;
+use recurrence::sooner;
 use std::alloc::AllocError;
 
 /// The limit of the first of the rows that has one at an instant.

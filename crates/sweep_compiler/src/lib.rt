@@ -11,7 +11,6 @@ mod gatherer;
 mod limit_curve;
 mod looked;
 mod seen;
-mod sooner;
 mod sweep;
 mod turns;
 

@@ -7,8 +7,8 @@ ghost use Rattle.sweep_compiler.specs.ByCases.NextPlace.{IsNextLooked};
 
 use crate::falling::{first_limit, next_after};
 use crate::seen::Seen;
-use crate::sooner::sooner;
 use ocpp_scalars::Instant;
+use recurrence::sooner;
 use std::marker::Model;
 
 /// A connector's ceiling and the rows that set its own limit, by falling stack level.

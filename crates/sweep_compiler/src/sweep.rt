@@ -25,6 +25,7 @@ pub(crate) fn sweep_along<C: Curve>(
     requires fresh { turns.old < 2 ^ 63 }
     ensures compiled { IsCompiled (C.limits curve.old) duration result }
     ensures bound { turns.new ≤ turns.old + (1 + places_within (C.is_place curve.old) duration) }
+    ensures counted { turns.old ≤ turns.new }
     ensures each { IfOk result (λ schedule. turns.old + length schedule.periods ≤ turns.new) }
 {
     let mut periods = Vec::new(alloc);

@@ -1,5 +1,5 @@
 -- Of private clauses: the next place of something that changes only at places.
-use Rattle.std.specs.Prelude.{◌≡◌, ℕ, ◌<◌, ◌≤◌, nat_lt, Bool, true, Option, Some, None, if◌then◌else◌}
+use Rattle.std.specs.Prelude.{◌≡◌, ℕ, ◌<◌, ◌≤◌, Bool, true, Option, Some, None}
 use Rattle.ocpp_scalars.specs.Limits.{last_second}
 
 -- a later place up to which a value stays as it is at an instant
@@ -14,9 +14,3 @@ abbrev pub IsNextChange : {X : Type 0} → (ℕ → Bool) → (ℕ → X) → �
 IsNextChange place value instant None =
     (k : ℕ) → instant ≤ k → k ≤ last_second → value k ≡ value instant
 IsNextChange place value instant (Some next) = IsChange place value instant next
-
--- the lesser of those that are there
-abbrev pub sooner : Option ℕ → Option ℕ → Option ℕ
-sooner None other = other
-sooner (Some next) None = Some next
-sooner (Some next) (Some other) = if nat_lt other next then Some other else Some next

@@ -1,11 +1,15 @@
 -- That the periods so far are the exact ones, and that one too many makes the whole too long.
-use Rattle.std.proofs.Common.{◌≡◌, ℕ, ◌+◌, ◌∙◌, ap, Some, arith, rules}
+use Rattle.std.proofs.Common.{◌≡◌, ℕ, ◌+◌, ◌∙◌, ap, refl, Some, add-one, arith, rules}
 use Rattle.std.proofs.lemmas.Result.{err_from_is_err_and}
 use Rattle.meaning.specs.View.{point_state}
 use Rattle.meaning.specs.Limit.{limit_asked}
 use Rattle.meaning.specs.ByCases.Exact.{exact_periods}
-use Rattle.meaning.proofs.PlainCompiler.{before_more, periods_added, permitted, exact_answer, is_schedule}
+use Rattle.meaning.specs.Theory.PlainCompiler.{limit_before, periods_added, permitted}
+use Rattle.meaning.specs.Theory.ExactAnswers.{exact_answer, is_schedule}
 use Rattle.meaning.proofs.plain_compiler.compile_plain.Goals as goal
+
+before_more : (limit : ℕ → ℕ) (n : ℕ) → Some (limit n) ≡ limit_before limit (n + 1)
+before_more limit n = rw add-one refl
 
 pub returns-in_err-add_second : goal.returns-in_err-add_second
 returns-in_err-add_second c =

@@ -4,7 +4,7 @@ use Rattle.meaning.specs.Limits.{max_composite_periods}
 use Rattle.meaning.specs.View.{point_state}
 use Rattle.meaning.specs.Limit.{limit_asked}
 use Rattle.meaning.specs.ByCases.Exact.{exact_periods}
-use Rattle.meaning.proofs.PlainCompiler.{limit_before}
+use Rattle.meaning.specs.Theory.PlainCompiler.{limit_before}
 use Rattle.meaning.proofs.plain_compiler.compile_plain.Given as goal
 
 abbrev pub invariant-loop-second : goal.invariant-loop-second

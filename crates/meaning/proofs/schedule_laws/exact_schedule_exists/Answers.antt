@@ -1,6 +1,6 @@
 -- The periods that are computed are exact.
 use Rattle.meaning.specs.Limit.{limit_asked}
-use Rattle.meaning.proofs.ExactTheory.{exact_are}
+use Rattle.meaning.specs.Theory.ExactPeriods.{exact_are}
 use Rattle.meaning.proofs.schedule_laws.exact_schedule_exists.Goals as goal
 
 pub returns : goal.returns

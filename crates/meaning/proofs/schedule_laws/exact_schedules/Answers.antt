@@ -1,6 +1,7 @@
 -- Exact periods are the ones that are computed, and too many exactly where those are.
-use Rattle.meaning.proofs.ExactTheory.{exact_is, exact_are}
-use Rattle.meaning.proofs.Compiling.{computed, answered, refused, too_long-is}
+use Rattle.meaning.specs.Theory.ExactPeriods.{exact_is, exact_are}
+use Rattle.meaning.specs.Theory.ExactAnswers.{answered}
+use Rattle.meaning.proofs.Compiling.{computed, refused, too_long-is}
 use Rattle.meaning.proofs.schedule_laws.exact_schedules.Goals as goal
 
 pub returns-clause-periods : goal.returns-clause-periods

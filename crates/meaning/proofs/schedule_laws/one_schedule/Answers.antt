@@ -1,7 +1,9 @@
 -- Exact periods are the ones that are computed.
+use Rattle.std.proofs.Common.{sym, ◌∙◌}
 use Rattle.meaning.specs.Limit.{limit_asked}
-use Rattle.meaning.proofs.ExactTheory.{exact_same}
+use Rattle.meaning.specs.Theory.ExactPeriods.{exact_is}
 use Rattle.meaning.proofs.schedule_laws.one_schedule.Goals as goal
 
 pub returns : goal.returns
-returns c = λ state connector start duration one other h k. exact_same (limit_asked state connector start) duration one other h k
+returns c = λ state connector start duration one other h k.
+    exact_is (limit_asked state connector start) duration one h ∙ sym (exact_is (limit_asked state connector start) duration other k)

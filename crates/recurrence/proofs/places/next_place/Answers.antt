@@ -1,8 +1,10 @@
 -- That the soonest of the three is the next place.
 use Rattle.std.proofs.Common.{rules, ◌≡◌, ℕ, Option, ap, sym, subst, ◌∙◌}
+use Rattle.std.specs.Ordering.{nat_cmp}
 use Rattle.profile.specs.ChargingProfile.{offset}
 use Rattle.profile.specs.Places.{is_at, is_turn_at, is_place}
-use Rattle.recurrence.specs.Next.{IsNext, sooner}
+use Rattle.recurrence.specs.Next.{sooner}
+use Rattle.recurrence.specs.ByCases.Next.{IsNext}
 use Rattle.recurrence.proofs.NextLemmas.{next_or}
 use Rattle.recurrence.proofs.places.next_place.Goals as goal
 
@@ -19,6 +21,6 @@ returns c =
     let is_turn : IsNext (λ (k : ℕ). is_turn_at profile.schedule (offset profile base k)) instant turn = search rules in
     let later = next_or (λ (k : ℕ). is_at k profile.valid_to) (λ (k : ℕ). is_turn_at profile.schedule (offset profile base k)) instant to turn
     is_to is_turn in
-    let next = next_or (λ (k : ℕ). is_at k profile.valid_from) _ instant from (sooner to turn) is_from later in
-    let same : c.sooner-2.result ≡ sooner from (sooner to turn) = c.sooner-2.ensures ∙ ap (sooner from) c.sooner.ensures in
+    let next = next_or (λ (k : ℕ). is_at k profile.valid_from) _ instant from (sooner nat_cmp to turn) is_from later in
+    let same : c.sooner-2.result ≡ sooner nat_cmp from (sooner nat_cmp to turn) = c.sooner-2.ensures ∙ ap (sooner nat_cmp from) c.sooner.ensures in
     subst (λ (r : Option ℕ). IsNext (is_place profile base) instant r) (sym same) next

@@ -2,7 +2,7 @@
 use Rattle.std.proofs.Common.{◌<◌, nat_le, length, None, rules, arith}
 use Rattle.std.proofs.lemmas.List.Sorted.{IsPartitionPoint-from_clause}
 use Rattle.profile.specs.declared.period.Period.{Period}
-use Rattle.profile.proofs.PeriodLemmas.{partitioned}
+use Rattle.profile.specs.Theory.Periods.{partitioned}
 use Rattle.recurrence.proofs.StartLemmas.{next_start_at, no_next_start}
 use Rattle.recurrence.proofs.turns.next_start.Goals as goal
 

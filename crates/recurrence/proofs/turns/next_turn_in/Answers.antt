@@ -3,7 +3,7 @@ use Rattle.std.proofs.Common.{◌≡◌, ℕ, ◌<◌, ◌==◌, false, List, Op
 use Rattle.std.proofs.lemmas.Bool.Decides.{nat_tests}
 use Rattle.profile.specs.declared.period.Period.{Period}
 use Rattle.profile.specs.Places.{is_at, is_turn}
-use Rattle.recurrence.specs.Next.{IsNext, is_start}
+use Rattle.recurrence.specs.ByCases.Next.{IsNext, is_start}
 use Rattle.recurrence.proofs.NextLemmas.{next_or, next_beside}
 use Rattle.recurrence.proofs.turns.next_turn_in.Goals as goal
 

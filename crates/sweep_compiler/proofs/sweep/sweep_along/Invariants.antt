@@ -3,7 +3,7 @@
 use Rattle.std.proofs.Common.{◌≡◌, ◌+◌, ◌-◌, ◌<◌, ◌≤◌, true, length}
 use Rattle.meaning.specs.Limits.{max_composite_periods}
 use Rattle.meaning.specs.ByCases.Exact.{exact_periods}
-use Rattle.meaning.proofs.PlainCompiler.{limit_before}
+use Rattle.meaning.specs.Theory.PlainCompiler.{limit_before}
 use Rattle.sweep_compiler.proofs.Sweeping.{spent}
 use Rattle.sweep_compiler.proofs.sweep.sweep_along.Given as goal
 

@@ -5,7 +5,8 @@ use Rattle.profile.specs.Greatest.{greatest}
 use Rattle.profile.specs.Candidates.{is_candidate}
 use Rattle.meaning.specs.View.{point_state}
 use Rattle.meaning.specs.Prevailing.{level_and_limit}
-use Rattle.meaning.proofs.GreatestLemmas.{greatest_of, passing_more}
+use Rattle.meaning.specs.Theory.Greatest.{greatest_of}
+use Rattle.meaning.proofs.GreatestLemmas.{passing_more}
 use Rattle.meaning.proofs.view.View.prevailing.Goals as goal
 use Rattle.meaning.proofs.view.View.prevailing.Goals.{then-is_candidate, else-is_candidate}
 

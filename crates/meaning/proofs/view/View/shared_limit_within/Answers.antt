@@ -3,7 +3,7 @@ use Rattle.std.proofs.Common.{◌≡◌, ℕ, ◌+◌, min, ◌∙◌, sym, ap, 
 use Rattle.std.specs.List.{range_with_len, sum_by}
 use Rattle.meaning.specs.View.{point_state, active_since}
 use Rattle.meaning.specs.Limit.{own_limit}
-use Rattle.meaning.proofs.Ranges.{sum_passing_more, min_more}
+use Rattle.meaning.proofs.Sums.{sum_passing_more, min_more}
 use Rattle.meaning.proofs.view.View.shared_limit_within.Goals as goal
 use Rattle.meaning.proofs.view.View.shared_limit_within.Goals.{then-is_some, else-is_some}
 

@@ -3,7 +3,8 @@ use Rattle.std.proofs.Common.{◌≡◌, ◌-◌, nat_le, true, None, sym, ◌�
 use Rattle.std.proofs.lemmas.List.Sorted.{IsPartitionPoint-from_clause}
 use Rattle.profile.specs.declared.period.Period.{Period}
 use Rattle.profile.specs.Periods.{are_in_order, limit_in}
-use Rattle.profile.proofs.PeriodLemmas.{partitioned, limit_at_point, limit_of_last}
+use Rattle.profile.specs.Theory.Periods.{partitioned}
+use Rattle.profile.proofs.PeriodLemmas.{limit_at_point, limit_of_last}
 use Rattle.profile.proofs.periods.Periods.limit_in_force.Goals as goal
 
 pub returns-then-begun-eq0 : goal.returns-then-begun-eq0

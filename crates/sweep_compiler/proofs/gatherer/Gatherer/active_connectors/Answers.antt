@@ -2,7 +2,7 @@
 use Rattle.std.proofs.Common.{◌≡◌, ℕ, ◌+◌, ◌∙◌, ◌∷◌, ◌++◌, [], sym, ap, is_some, arith, rules}
 use Rattle.std.specs.List.{range_with_len}
 use Rattle.meaning.specs.View.{point_state, active_since}
-use Rattle.meaning.proofs.Ranges.{range_more}
+use Rattle.meaning.specs.Theory.Ranges.{range_more}
 use Rattle.sweep_compiler.specs.ByCases.Seen.{connector_seen}
 use Rattle.sweep_compiler.proofs.Gathered.{passed_more, passed_skip}
 use Rattle.sweep_compiler.proofs.gatherer.Gatherer.active_connectors.Goals as goal

@@ -1,23 +1,20 @@
+-- Lemmas that crates above cite: nothing here has to be believed.
 -- What one second more adds to the exact periods, and when they are too many.
-use Rattle.std.proofs.Common.{◌≡◌, ℕ, ◌+◌, ◌-◌, ◌<◌, ◌≤◌, zero, suc, Bool, List, [], ◌∷◌, ◌++◌, length, cond, Option, Some, None, refl, ap, sym, ◌∙◌, add-one, arith}
+use Rattle.std.proofs.Common.{◌≡◌, ℕ, ◌+◌, ◌-◌, ◌<◌, ◌≤◌, zero, suc, Bool, List, [], ◌∷◌, ◌++◌, length, cond, Option, Some, None, refl, ap, sym, ◌∙◌, arith}
 use Rattle.std.proofs.lemmas.List.{length-append}
 use Rattle.ocpp_scalars.specs.declared.refusal.Refusal.{Refusal}
 use Rattle.ocpp_scalars.specs.declared.refusal.Refusal.TheVariants.{ResultTooLong, OutOfMemory}
 use Rattle.meaning.specs.declared.composite.CompositePeriod.{CompositePeriod}
 use Rattle.meaning.specs.Limits.{max_composite_periods}
-use Rattle.meaning.specs.Composite.{Schedule, IsSchedule}
 use Rattle.meaning.specs.ByCases.Exact.{begins_period, period_from, exact_periods}
-use Rattle.meaning.specs.Compiled.{IsExactAnswer, IsTooLong, IsPermitted}
-use Rattle.meaning.specs.ByCases.PlainCompiler.{differs, period_added, IsAddRefused}
-use Rattle.meaning.proofs.ExactTheory.{exact_are, exact_is, periods_more, periods_grow}
+use Rattle.meaning.specs.Compiled.{IsTooLong, IsPermitted}
+use Rattle.meaning.specs.PlainCompiler.{differs, period_added, IsAddRefused}
+use Rattle.meaning.specs.Theory.ExactPeriods.{exact_is, periods_more, periods_grow}
 
 -- the limit at the second before, where there is one
 abbrev pub limit_before : (ℕ → ℕ) → ℕ → Option ℕ
 limit_before limit zero = None
 limit_before limit (suc before) = Some (limit before)
-
-pub before_more : (limit : ℕ → ℕ) (n : ℕ) → Some (limit n) ≡ limit_before limit (n + 1)
-before_more limit n = rw add-one refl
 
 differs_is : (limit : ℕ → ℕ) (n : ℕ) → differs (limit_before limit n) (limit n) ≡ begins_period limit n
 differs_is limit zero = refl
@@ -52,16 +49,3 @@ permitted limit duration n periods before value ResultTooLong h k e below many =
     too_long limit duration n below (omega (arith, many, added, both))
 permitted limit duration n periods before value OutOfMemory h k e below many = tt
 permitted limit duration n periods before value other h k e below many = absurd many
-
-pub exact_answer : (limit : ℕ → ℕ) (duration : ℕ) (schedule : Schedule) → 0 < duration → schedule.duration ≡ duration
-    → schedule.periods ≡ exact_periods limit duration → length schedule.periods ≤ max_composite_periods → IsExactAnswer limit duration schedule
-exact_answer limit duration schedule some lasts same few = record {
-  lasts = lasts;
-  exact = rw same (exact_are limit duration some);
-  few = few;
-}
-
-pub is_schedule : (limit : ℕ → ℕ) (duration : ℕ) (periods : List CompositePeriod) → 0 < duration → periods ≡ exact_periods limit duration → IsSchedule duration periods
-is_schedule limit duration periods some same =
-    let exact = exact_are limit duration some in
-    rw same (record { first = exact.first; increasing = exact.increasing; within = exact.within })

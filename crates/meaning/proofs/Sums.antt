@@ -1,15 +1,9 @@
--- A range with one number more, and the sum over it.
-use Rattle.std.proofs.Common.{◌≡◌, ℕ, ◌+◌, zero, suc, Bool, true, false, List, [], ◌∷◌, ◌++◌, filter, cond, ap, ◌∙◌, min, arith}
+-- The sum over a range with one number more.
+use Rattle.std.proofs.Common.{◌≡◌, ℕ, ◌+◌, Bool, true, false, List, [], ◌∷◌, filter, cond, ap, ◌∙◌, min, arith}
 use Rattle.std.specs.List.{range_with_len, sum_by}
 use Rattle.std.proofs.lemmas.List.Elements.{filter-append}
 use Rattle.std.proofs.lemmas.List.Sums.{sum_by-append}
-
--- a range with one number more
-pub range_more : (a n j : ℕ) → a + n ≡ j → range_with_len a (n + 1) ≡ range_with_len a n ++ j ∷ []
-range_more a zero j h = let e : a ≡ j = omega arith in ap (λ (x : ℕ). x ∷ []) e
-range_more a (suc n) j h =
-    let next : suc n + 1 ≡ suc (n + 1) = omega arith in
-    rw next (ap (λ (xs : List ℕ). a ∷ xs) (range_more (a + 1) n j (omega arith)))
+use Rattle.meaning.specs.Theory.Ranges.{range_more}
 
 -- the step of a sum over the numbers of a range that pass a test
 pub sum_passing_more : (give : ℕ → ℕ) (test : ℕ → Bool) (a n j : ℕ) → a + n ≡ j

@@ -1,4 +1,4 @@
--- Of a private clause: what one second more adds to the periods of the seconds before it.
+-- What one second more adds to the periods of the seconds before it (`add_second`).
 use Rattle.std.specs.Prelude.{ℕ, ◌==◌, ◌<◌, Bool, true, not, List, [], ◌∷◌, Option, Some, None, if◌then◌else◌}
 use Rattle.ocpp_scalars.specs.declared.refusal.Refusal.{Refusal}
 use Rattle.ocpp_scalars.specs.declared.refusal.Refusal.TheVariants.{ResultTooLong, OutOfMemory}

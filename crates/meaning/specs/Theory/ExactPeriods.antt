@@ -1,3 +1,4 @@
+-- Lemmas that crates above cite: nothing here has to be believed.
 -- Exact periods are those that are computed, and there are such.
 use Rattle.std.proofs.Common.{◌≡◌, ◌≢◌, ℕ, ◌+◌, ◌<◌, ◌≤◌, ◌==◌, zero, suc, Bool, true, false, List, [], ◌∷◌, ◌++◌, length, map, filter, cond, Some, nat_le, refl, ap, sym, ◌∙◌, inl, inr, arith}
 use Rattle.std.specs.List.{AllByRecursion, range_with_len}
@@ -8,8 +9,8 @@ use Rattle.std.proofs.lemmas.Bool.Decides.{nat_tests}
 use Rattle.meaning.specs.declared.composite.CompositePeriod.{CompositePeriod}
 use Rattle.meaning.specs.Composite.{AreStrictlyIncreasing, at}
 use Rattle.meaning.specs.Exact.{Change, IsExact}
-use Rattle.meaning.proofs.Ranges.{range_more}
 use Rattle.meaning.specs.ByCases.Exact.{begins_period, period_from, exact_periods}
+use Rattle.meaning.specs.Theory.Ranges.{range_more}
 
 -- each period starts later than a second
 abbrev AllAfter : ℕ → List CompositePeriod → Type 0
@@ -238,9 +239,6 @@ exact_is limit (suc n) (p ∷ ps) exact =
     }) in
     let both : p ∷ ps ≡ period_from limit 0 ∷ after limit 0 n = cc in
     both ∙ sym (periods_are limit n)
-
-pub exact_same : (limit : ℕ → ℕ) (duration : ℕ) (xs ys : List CompositePeriod) → IsExact limit duration xs → IsExact limit duration ys → xs ≡ ys
-exact_same limit duration xs ys h k = exact_is limit duration xs h ∙ sym (exact_is limit duration ys k)
 
 -- the periods of one second more
 pub periods_more : (limit : ℕ → ℕ) (n : ℕ)

@@ -1,0 +1,2 @@
+-- Forms by cases, with which proofs compute.
+pub mod Next
