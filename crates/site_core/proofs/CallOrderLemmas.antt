@@ -36,7 +36,7 @@ use Rattle.site_core.specs.Requests.{request_of, answered, all_stopped}
 use Rattle.site_core.specs.State.{MachineState, Kept, ScheduleAnswer, opening_at, opening_book, opening_outbox_of, book_in, book_at, outbox_at}
 use Rattle.site_core.specs.Outbox.{numbered, OutboxState, opening_outbox, clear_all, lost, sent, confirmed, sendable, is_number_in_flight}
 use Rattle.site_core.specs.OutboxOrder.{Traffic, Attach, Lose, Add, Send, Confirm, after, after_all, sent_at, numbers_sent, number_of, calls_confirmed, added_at, bodies_added, AreInSendingOrder}
-use Rattle.site_core.specs.Obey.{Change, Installs, Clears, Ends, call_of, calls_of, last_number, obeyed, lasting, rows_after_call, Obeying, numbers_of}
+use Rattle.site_core.specs.Obey.{Change, Installs, Clears, Ends, rows_after, call_of, calls_of, last_number, obeyed, lasting, rows_after_call, Obeying, numbers_of}
 use Rattle.site_core.specs.Step.{next_transaction, with_transaction, refusal_to_start, refusal_to_install}
 use Rattle.site_core.specs.Step.{Made, Steps, at_link, at_linked_place, is_present, attaches, sends, sends_call, confirms, loses, with_outbox, changed, changed_by_call, refusal_to_call, unless, version_refusal, installs, clears, starts, starts_as, stops, takes, takes_ask, compiles_kept, answers_kept, answers_with, finishes, unchanged, stepped, no_answer}
 use Rattle.site_core.specs.History.{Event, Legal}
@@ -435,9 +435,7 @@ calls_along-append outbox (first ∷ one) other =
 
 rows_after_all-append : (one other : List Change) (rows : List Row) → rows_after_all (one ++ other) rows ≡ rows_after_all other (rows_after_all one rows)
 rows_after_all-append [] other rows = refl
-rows_after_all-append (Installs row ∷ one) other rows = rows_after_all-append one other (installed rows row)
-rows_after_all-append (Clears criteria ∷ one) other rows = rows_after_all-append one other (cleared rows criteria)
-rows_after_all-append (Ends connector ∷ one) other rows = rows_after_all-append one other (without_transaction_profiles rows connector)
+rows_after_all-append (change ∷ one) other rows = rows_after_all-append one other (rows_after rows change)
 
 bodies_added-append : (one other : List Traffic) → bodies_added (one ++ other) ≡ bodies_added one ++ bodies_added other
 bodies_added-append [] other = refl

@@ -3,7 +3,6 @@
 use Rattle.std.specs.Prelude.{ℕ, ◌≤◌, ◌≡◌, ◌==◌, Bool, false, List, [], ◌∷◌, ◌++◌, length, map, filter, slice_get, Option, None, Some}
 use Rattle.std.specs.List.{flat_map, AllByRecursion}
 use Rattle.profile.specs.declared.row.Row.{Row}
-use Rattle.profile.specs.Changes.{installed, cleared, without_transaction_profiles}
 use Rattle.transactions.specs.declared.transaction.Transaction.{Transaction}
 use Rattle.transactions.specs.ActiveTable.{connector_of, started, stopped}
 use Rattle.site_rules.specs.Site.{SiteState, place_of}
@@ -17,7 +16,7 @@ use Rattle.site_core.specs.declared.reply.Reply.{Reply}
 use Rattle.site_core.specs.declared.reply.Reply.TheVariants as replies
 use Rattle.site_core.specs.Outbox.{opening_outbox, clear_all}
 use Rattle.site_core.specs.OutboxOrder.{Traffic, Attach, Lose, Add, Send, Confirm, after_all, calls_confirmed, calls_so_far, bodies_added, AreInSendingOrder}
-use Rattle.site_core.specs.Obey.{Change, Installs, Clears, Ends, Obeying, numbers_of, last_number, obeyed, lasting}
+use Rattle.site_core.specs.Obey.{Change, Installs, Clears, Ends, rows_after, Obeying, numbers_of, last_number, obeyed, lasting}
 use Rattle.site_core.specs.ObeyOrder.{obeyed_numbers, IsObeyed}
 use Rattle.site_core.specs.State.{MachineState, opening, opening_at, book_at, outbox_at}
 use Rattle.site_core.specs.History.{Event, Legal}
@@ -168,10 +167,7 @@ changes_of site place history =
 -- the rows after all these changes
 abbrev pub rows_after_all : List Change → List Row → List Row
 rows_after_all [] rows = rows
-rows_after_all (Installs row ∷ later) rows = rows_after_all later (installed rows row)
-rows_after_all (Clears criteria ∷ later) rows = rows_after_all later (cleared rows criteria)
-rows_after_all (Ends connector ∷ later) rows =
-    rows_after_all later (without_transaction_profiles rows connector)
+rows_after_all (change ∷ later) rows = rows_after_all later (rows_after rows change)
 
 -- the installs and clears of the point at a place that were accepted, as calls
 abbrev pub accepted : SiteState → ℕ → List Event → List CallBody
