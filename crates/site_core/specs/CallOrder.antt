@@ -1,6 +1,6 @@
 -- What the laws of outboxes and of points that obey say of the machine: the calls and the profiles
 -- of a point along a history.
-use Rattle.std.specs.Prelude.{ℕ, ◌≤◌, ◌≡◌, ◌==◌, Bool, false, List, [], ◌∷◌, ◌++◌, length, map, filter, slice_get, Option, None, Some}
+use Rattle.std.specs.Prelude.{ℕ, ◌≤◌, ◌≡◌, Bool, false, List, [], ◌∷◌, ◌++◌, length, map, filter, slice_get, Option, None, Some}
 use Rattle.std.specs.List.{flat_map, AllByRecursion}
 use Rattle.profile.specs.declared.row.Row.{Row}
 use Rattle.transactions.specs.declared.transaction.Transaction.{Transaction}
@@ -18,18 +18,14 @@ use Rattle.site_core.specs.Outbox.{opening_outbox, clear_all}
 use Rattle.site_core.specs.OutboxOrder.{Traffic, Attach, Lose, Add, Send, Confirm, after_all, calls_confirmed, calls_so_far, bodies_added, AreInSendingOrder}
 use Rattle.site_core.specs.Obey.{Change, Installs, Clears, Ends, rows_after, Obeying, numbers_of, last_number, obeyed, lasting}
 use Rattle.site_core.specs.ObeyOrder.{obeyed_numbers, IsObeyed}
-use Rattle.site_core.specs.State.{MachineState, opening, opening_at, book_at, outbox_at}
+use Rattle.site_core.specs.State.{MachineState, opening, opening_at, book_at, outbox_at, is_this_number}
 use Rattle.site_core.specs.History.{Event, Legal}
 
 -- ---- the events of a point
 
-abbrev pub is_place : ℕ → Option ℕ → Bool
-is_place place None = false
-is_place place (Some other) = other == place
-
 -- whether an identity is that of the point at a place
 abbrev pub is_at : SiteState → ℕ → List ℕ → Bool
-is_at site place point = is_place place (place_of site point)
+is_at site place point = is_this_number place (place_of site point)
 
 -- whether a step names the point at a place
 abbrev pub names : SiteState → ℕ → Step → Bool
