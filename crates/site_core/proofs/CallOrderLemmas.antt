@@ -34,7 +34,7 @@ use Rattle.meaning.specs.declared.ask.Ask.{Ask}
 use Rattle.site_core.specs.Ask.{ask_at}
 use Rattle.site_core.specs.Requests.{request_of, answered, all_stopped}
 use Rattle.site_core.specs.State.{MachineState, Kept, ScheduleAnswer, opening_at, opening_book, opening_outbox_of, book_in, book_at, outbox_at, is_this_number}
-use Rattle.site_core.specs.Outbox.{numbered, OutboxState, opening_outbox, clear_all, lost, sent, confirmed, sendable, is_number_in_flight}
+use Rattle.site_core.specs.Outbox.{numbered, OutboxState, opening_outbox, all_calls, lost, sent, confirmed, sendable, is_number_in_flight}
 use Rattle.site_core.specs.OutboxOrder.{Traffic, Attach, Lose, Add, Send, Confirm, after, after_all, sent_at, numbers_sent, number_of, calls_confirmed, added_at, bodies_added, AreInSendingOrder}
 use Rattle.site_core.specs.Obey.{Change, Installs, Clears, Ends, rows_after, call_of, calls_of, last_number, obeyed, lasting, rows_after_call, Obeying, numbers_of}
 use Rattle.site_core.specs.Step.{next_transaction, with_transaction, refusal_to_start, refusal_to_install}
@@ -599,7 +599,7 @@ pub sent_as_made : CallsAreSentAsMade
 sent_as_made site numbers history state legal point place here =
     let traffic = traffic_of site place history in
     subst (AllByRecursion (IsOneOf (calls_made site place history))) (sym (sent_along site numbers history state place legal))
-    (each_along (IsOneOf (calls_made site place history)) traffic None _ 1 false (each_at_its_number (clear_all ∷ bodies_added traffic) 0 [] refl))
+    (each_along (IsOneOf (calls_made site place history)) traffic None _ 1 false (each_at_its_number (all_calls (bodies_added traffic)) 0 [] refl))
 
 pub left_of_history : CallsAreLeftUnlessConfirmed
 left_of_history site numbers history state legal point place here =
@@ -664,7 +664,7 @@ in_step_after site numbers earlier later middle state legal then_legal point pla
     let split : all ≡ so_far ++ more.0 = ap (changes_from slots) (filter-append test earlier later) ∙ more.1 in
     let whole = from_opening site numbers (earlier ++ later) state place (legal_join opening_state earlier middle later state legal then_legal) in
     let part = from_opening site numbers earlier middle place legal in
-    let calls : calls_of all ≡ bodies_of site place (earlier ++ later) = ap (λ (bs : List CallBody). clear_all ∷ bs) (whole.calls slots) in
+    let calls : calls_of all ≡ bodies_of site place (earlier ++ later) = ap all_calls (whole.calls slots) in
     let count : number ≡ length (filter_map call_of so_far) = last ∙ ap (λ (bs : List CallBody). length bs) (sym (part.calls slots)) in
     ap (λ (bs : List CallBody). lasting (obeyed bs (first ∷ others) rows)) (sym calls)
     ∙ stays_in_step all first others rows order

@@ -14,7 +14,7 @@ use Rattle.site_core.specs.declared.step.Step.{Step}
 use Rattle.site_core.specs.declared.step.Step.TheVariants as steps
 use Rattle.site_core.specs.declared.reply.Reply.{Reply}
 use Rattle.site_core.specs.declared.reply.Reply.TheVariants as replies
-use Rattle.site_core.specs.Outbox.{opening_outbox, clear_all}
+use Rattle.site_core.specs.Outbox.{opening_outbox, all_calls}
 use Rattle.site_core.specs.OutboxOrder.{Traffic, Attach, Lose, Add, Send, Confirm, after_all, calls_confirmed, calls_so_far, bodies_added, AreInSendingOrder}
 use Rattle.site_core.specs.Obey.{Change, Installs, Clears, Ends, rows_after, Obeying, numbers_of, last_number, obeyed, lasting}
 use Rattle.site_core.specs.ObeyOrder.{obeyed_numbers, IsObeyed}
@@ -78,8 +78,7 @@ calls_sent site place history = flat_map calls_by_event (events_at site place hi
 abbrev pub numbers_of_calls : List Call → List ℕ
 numbers_of_calls calls = map (λ (call : Call). call.number) calls
 
--- Every call of the point at a place so far: call 0 clears all, and call k is the k-th of its
--- installs and clears that were accepted.
+-- every call of the point at a place so far
 abbrev pub calls_made : SiteState → ℕ → List Event → List Call
 calls_made site place history = calls_so_far (traffic_of site place history)
 
@@ -171,7 +170,7 @@ accepted site place history = bodies_added (traffic_of site place history)
 
 -- what calls 0, 1, .. of the point at a place tell it
 abbrev pub bodies_of : SiteState → ℕ → List Event → List CallBody
-bodies_of site place history = clear_all ∷ accepted site place history
+bodies_of site place history = all_calls (accepted site place history)
 
 -- ---- the laws of its profiles
 

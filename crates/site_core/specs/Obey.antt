@@ -8,7 +8,7 @@ use Rattle.profile.specs.Purpose.{is_tx}
 use Rattle.profile.specs.Changes.{installed, cleared, without_transaction_profiles}
 use Rattle.messages.specs.declared.call.CallBody.{CallBody}
 use Rattle.messages.specs.declared.call.CallBody.TheVariants.{Clear, Set}
-use Rattle.site_core.specs.Outbox.{clear_all}
+use Rattle.site_core.specs.Outbox.{all_calls}
 use Rattle.site_core.specs.OutboxOrder.{AreInSendingOrder}
 
 -- ---- the central system
@@ -43,9 +43,9 @@ rows_after_call (suc before) (change ∷ later) rows =
     rows_after_call (if is_some (call_of change) then before else suc before) later
     (rows_after rows change)
 
--- call 0 clears all, and call k is the k-th install or clear
+-- every call to the point: those of its installs and clears come after call 0
 abbrev pub calls_of : List Change → List CallBody
-calls_of changes = clear_all ∷ filter_map call_of changes
+calls_of changes = all_calls (filter_map call_of changes)
 
 -- ---- the point
 
