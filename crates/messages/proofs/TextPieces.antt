@@ -1,5 +1,5 @@
 -- Texts that are appended in pieces.
-use Rattle.std.proofs.Common.{◌≡◌, ℕ, List, [], ◌++◌, ap, sym, ◌∙◌, append-nil, append_assoc, Result, Ok, Err}
+use Rattle.std.proofs.Common.{◌≡◌, ℕ, List, ◌++◌, ap, ◌∙◌, append_assoc, Result, Ok, Err}
 use Rattle.std.specs.Prelude.{OnErr}
 use Rattle.ocpp_scalars.specs.Appending.{BeginsWith}
 
@@ -19,13 +19,6 @@ seven_pieces old a b c d e f g s t u v w x y i j k l m n o =
     appended old (a ++ b ++ c ++ d ++ e ++ f) x g y (appended old (a ++ b ++ c ++ d ++ e) w f x (five_pieces old a b c d e s t u v w i j k l m) n) o
 
 -- ---- what a refused append leaves
-
-pub begins_itself : (text : List ℕ) → BeginsWith text text
-begins_itself text = record { behind = []; is = sym (append-nil text) }
-
-pub on_err : {T E P : Type 0} → (r : Result T E) → P → OnErr r P
-on_err (Ok x) h = tt
-on_err (Err e) h = h
 
 -- Two pieces are written, and the next is refused.
 pub kept_behind_two : {T E : Type 0} → (r : Result T E) (old a b s t text : List ℕ) → s ≡ old ++ a → t ≡ s ++ b → OnErr r (BeginsWith text t) → OnErr r (BeginsWith text old)

@@ -20,9 +20,9 @@ pub fn push_call(out: &mut String, call: &Call) -> Result<(), AllocError>
         (string_bytes out.new ≡ string_bytes out.old ++ call_text call.now) }
     ensures kept { OnErr result (BeginsWith (string_bytes out.new) (string_bytes out.old)) }
 {
-    let number = call.number;
-    let id = format!(in *out.allocator(); "{number}")?;
-    push_call_head(out, id.as_str(), action_name(&call.body))?;
+    let mut digits = itoa::Buffer::new();
+    let id = digits.format(call.number);
+    push_call_head(out, id, action_name(&call.body))?;
     push_payload(out, &call.body)?;
     push_frame_end(out)
 }

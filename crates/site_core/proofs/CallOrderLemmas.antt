@@ -33,14 +33,14 @@ use Rattle.site_core.specs.declared.reply.Reply.TheVariants as replies
 use Rattle.meaning.specs.declared.ask.Ask.{Ask}
 use Rattle.site_core.specs.Ask.{ask_at}
 use Rattle.site_core.specs.Requests.{request_of, answered, all_stopped}
-use Rattle.site_core.specs.State.{MachineState, Kept, ScheduleAnswer, opening_at, opening_book, opening_outbox_of, book_in, book_at, outbox_at}
-use Rattle.site_core.specs.Outbox.{numbered, OutboxState, opening_outbox, clear_all, lost, sent, confirmed, sendable, is_number_in_flight}
+use Rattle.site_core.specs.State.{MachineState, Kept, ScheduleAnswer, opening_at, opening_book, opening_outbox_of, book_in, book_at, outbox_at, is_this_number}
+use Rattle.site_core.specs.Outbox.{numbered, OutboxState, opening_outbox, all_calls, lost, sent, confirmed, sendable, is_number_in_flight}
 use Rattle.site_core.specs.OutboxOrder.{Traffic, Attach, Lose, Add, Send, Confirm, after, after_all, sent_at, numbers_sent, number_of, calls_confirmed, added_at, bodies_added, AreInSendingOrder}
-use Rattle.site_core.specs.Obey.{Change, Installs, Clears, Ends, call_of, calls_of, last_number, obeyed, lasting, rows_after_call, Obeying, numbers_of}
+use Rattle.site_core.specs.Obey.{Change, Installs, Clears, Ends, rows_after, call_of, calls_of, last_number, obeyed, lasting, rows_after_call, Obeying, numbers_of}
 use Rattle.site_core.specs.Step.{next_transaction, with_transaction, refusal_to_start, refusal_to_install}
-use Rattle.site_core.specs.Step.{Made, Steps, at_link, at_linked_place, is_present, attaches, sends, sends_call, confirms, loses, with_outbox, changed, changed_by_call, refusal_to_call, unless, version_refusal, installs, clears, starts, starts_as, stops, takes, takes_ask, compiles_kept, answers_kept, answers_with, finishes, unchanged, stepped, no_answer}
+use Rattle.site_core.specs.Step.{Made, Steps, at_link, at_linked_place, attaches, sends, sends_call, confirms, loses, with_outbox, changed, changed_by_call, refusal_to_call, unless, version_refusal, installs, clears, starts, starts_as, stops, takes, takes_ask, compiles_kept, answers_kept, answers_with, finishes, unchanged, stepped, no_answer}
 use Rattle.site_core.specs.History.{Event, Legal}
-use Rattle.site_core.specs.CallOrder.{is_place, is_at, names, events_at, traffic_by, traffic_of, traffic_by_event, calls_by, calls_by_event, calls_sent, numbers_of_calls, OutboxesFollowHistories, calls_made, IsOneOf, CallsAreSentInOrder, CallsAreSentAsMade, CallsAreLeftUnlessConfirmed}
+use Rattle.site_core.specs.CallOrder.{is_at, names, events_at, traffic_by, traffic_of, traffic_by_event, calls_by, calls_by_event, calls_sent, numbers_of_calls, OutboxesFollowHistories, calls_made, IsOneOf, CallsAreSentInOrder, CallsAreSentAsMade, CallsAreLeftUnlessConfirmed}
 use Rattle.site_core.specs.CallOrder.{slots_after, end_at, changes_by, changes_from, changes_of, opening_slots, rows_after_all, bodies_of, RowsFollowHistories, PointsStayInStep, accepted, Moment, EachCallHasItsMoment, ObeyingPointsStayInStep}
 use Rattle.site_core.specs.ObeyOrder.{obeyed_numbers, numbers_obeyed, IsObeyed}
 use Rattle.site_core.proofs.StepLemmas.{at_point_made, unless_made, either_made}
@@ -182,7 +182,7 @@ new_book : (place there : ℕ) (old : MachineState) (point : List ℕ) (step : S
     → ((slots : List (Option Transaction)) → filter_map call_of (changes_by slots step made.reply) ≡ bodies_added (traffic_by step made.reply))
     → OnBook place (is_at old.site place point) old step made
 new_book place there old point step made change many here new rows slots calls =
-    subst (λ (o : Option ℕ). OnBook place (is_place place o) old step made) (sym here) (record {
+    subst (λ (o : Option ℕ). OnBook place (is_this_number place o) old step made) (sym here) (record {
       many = ap (λ (bs : List Book). length bs) new ∙ length-set old.books there (change (book_at old there));
       rows = ap (λ (b : Book). b.rows) read ∙ by_rows (there == place) refl;
       slots = ap (λ (b : Book). b.transactions) read ∙ by_slots (there == place);
@@ -253,7 +253,7 @@ moved : (place there : ℕ) (old : MachineState) (point : List ℕ) (step : Step
     → (there ≡ place → calls_by step made.reply ≡ calls_along (outbox_at old place) (one ∷ []))
     → OnBook place (is_at old.site place point) old step made → Acts place (is_at old.site place point) old step made
 moved place there old point step made one many here site new is sends book =
-    subst (λ (o : Option ℕ). Acts place (is_place place o) old step made) (sym here) (record {
+    subst (λ (o : Option ℕ). Acts place (is_this_number place o) old step made) (sym here) (record {
       site = site;
       many = ap (λ (os : List OutboxState). length os) new ∙ length-set old.outboxes there (after (outbox_at old there) one);
       outbox = ap (λ (os : List OutboxState). slice_index_or os place opening_outbox) new
@@ -261,7 +261,7 @@ moved place there old point step made one many here site new is sends book =
           ∙ ap (λ (ts : List Traffic). cond (there == place) (after_all (outbox_at old place) ts) (outbox_at old place)) (sym is);
       few = subst (λ (ts : List Traffic). length (bodies_added ts) ≤ 1) (sym is) (one_at_most one);
       sent = λ same. sends (eqb-true there place same) ∙ ap (λ (ts : List Traffic). calls_along (outbox_at old place) ts) (sym is);
-      book = subst (λ (o : Option ℕ). OnBook place (is_place place o) old step made) here book;
+      book = subst (λ (o : Option ℕ). OnBook place (is_this_number place o) old step made) here book;
     })
   where
     within : there < length old.outboxes
@@ -375,7 +375,7 @@ at_link_found P old point link made_at each =
   where
     found : (place : Option ℕ) → place_of old.site point ≡ place → IfOk (at_linked_place old link place made_at) P
     found None here = tt
-    found (Some there) here = either_made P (is_present link (outbox_at old there).link) (made_at there) (Err refusals.Superseded) (each there here) tt
+    found (Some there) here = either_made P (is_this_number link (outbox_at old there).link) (made_at there) (Err refusals.Superseded) (each there here) tt
 
 sends_acts : (place : ℕ) (old : MachineState) (point : List ℕ) (link : ℕ) → HasPlaces old → IfOk (stepped no_answer old (steps.Send point link)) (ActsAt place old (steps.Send point link))
 sends_acts place old point link many =
@@ -435,9 +435,7 @@ calls_along-append outbox (first ∷ one) other =
 
 rows_after_all-append : (one other : List Change) (rows : List Row) → rows_after_all (one ++ other) rows ≡ rows_after_all other (rows_after_all one rows)
 rows_after_all-append [] other rows = refl
-rows_after_all-append (Installs row ∷ one) other rows = rows_after_all-append one other (installed rows row)
-rows_after_all-append (Clears criteria ∷ one) other rows = rows_after_all-append one other (cleared rows criteria)
-rows_after_all-append (Ends connector ∷ one) other rows = rows_after_all-append one other (without_transaction_profiles rows connector)
+rows_after_all-append (change ∷ one) other rows = rows_after_all-append one other (rows_after rows change)
 
 bodies_added-append : (one other : List Traffic) → bodies_added (one ++ other) ≡ bodies_added one ++ bodies_added other
 bodies_added-append [] other = refl
@@ -601,7 +599,7 @@ pub sent_as_made : CallsAreSentAsMade
 sent_as_made site numbers history state legal point place here =
     let traffic = traffic_of site place history in
     subst (AllByRecursion (IsOneOf (calls_made site place history))) (sym (sent_along site numbers history state place legal))
-    (each_along (IsOneOf (calls_made site place history)) traffic None _ 1 false (each_at_its_number (clear_all ∷ bodies_added traffic) 0 [] refl))
+    (each_along (IsOneOf (calls_made site place history)) traffic None _ 1 false (each_at_its_number (all_calls (bodies_added traffic)) 0 [] refl))
 
 pub left_of_history : CallsAreLeftUnlessConfirmed
 left_of_history site numbers history state legal point place here =
@@ -666,7 +664,7 @@ in_step_after site numbers earlier later middle state legal then_legal point pla
     let split : all ≡ so_far ++ more.0 = ap (changes_from slots) (filter-append test earlier later) ∙ more.1 in
     let whole = from_opening site numbers (earlier ++ later) state place (legal_join opening_state earlier middle later state legal then_legal) in
     let part = from_opening site numbers earlier middle place legal in
-    let calls : calls_of all ≡ bodies_of site place (earlier ++ later) = ap (λ (bs : List CallBody). clear_all ∷ bs) (whole.calls slots) in
+    let calls : calls_of all ≡ bodies_of site place (earlier ++ later) = ap all_calls (whole.calls slots) in
     let count : number ≡ length (filter_map call_of so_far) = last ∙ ap (λ (bs : List CallBody). length bs) (sym (part.calls slots)) in
     ap (λ (bs : List CallBody). lasting (obeyed bs (first ∷ others) rows)) (sym calls)
     ∙ stays_in_step all first others rows order

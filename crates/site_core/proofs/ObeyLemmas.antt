@@ -108,8 +108,9 @@ lasting_end rows connector = lasting_within (λ row. not (is_tx_profile_at conne
     stays : (row : Row) → lasts row ≡ true → not (is_tx_profile_at connector row) ≡ true
     stays row is = by (is_tx row.profile.purpose) (row.connector == connector) is
 
-lasting_moment : (row : Row) (moment : ℕ) → lasting (at_moment moment row ∷ []) ≡ lasting (row ∷ [])
-lasting_moment row moment = go (lasts row) refl
+-- whatever the moment of a row
+lasting_with_moment : (moment : ℕ) (row : Row) → lasting (at_moment moment row ∷ []) ≡ lasting (row ∷ [])
+lasting_with_moment moment row = go (lasts row) refl
   where
     go : (b : Bool) → lasts row ≡ b → lasting (at_moment moment row ∷ []) ≡ lasting (row ∷ [])
     go true is = lasting_kept (at_moment moment row) [] is ∙ sym (lasting_kept row [] is)
@@ -137,7 +138,7 @@ lasting_installed : (rows : List Row) (row : Row) → lasting (installed rows ro
 lasting_installed rows row =
     lasting_append (rows_beside rows row) (row ∷ [])
     ∙ ap (λ (rs : List Row). rs ++ lasting (row ∷ [])) (lasting_filter (stays_beside row) (λ _. refl) rows)
-    ∙ ap (λ (rs : List Row). filter (stays_beside row) (lasting rows) ++ rs) (sym (lasting_moment row 0))
+    ∙ ap (λ (rs : List Row). filter (stays_beside row) (lasting rows) ++ rs) (sym (lasting_with_moment 0 row))
 
 lasting_cleared : (rows : List Row) (criteria : Criteria) → lasting (cleared rows criteria) ≡ on_lasting (Some (Clear criteria)) (lasting rows)
 lasting_cleared rows criteria = lasting_filter (fails_some criteria) (λ _. refl) rows

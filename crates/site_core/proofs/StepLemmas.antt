@@ -21,14 +21,14 @@ use Rattle.site_core.specs.declared.step.Step.TheVariants as steps
 use Rattle.site_core.specs.declared.step.Take.{Take}
 use Rattle.site_core.specs.declared.reply.Reply.{Reply}
 use Rattle.site_core.specs.declared.reply.Reply.TheVariants.{Accepted, Unknown, Started, Ended, NoSuch, Taken, Compiled, Answered, NotYet, Finished, Confirmed}
-use Rattle.site_core.specs.State.{MachineState, Kept, ScheduleAnswer, book_in, book_at, outbox_at}
+use Rattle.site_core.specs.State.{MachineState, Kept, ScheduleAnswer, book_in, book_at, outbox_at, is_this_number}
 use Rattle.site_core.specs.Requests.{request_of, answered, without, all_stopped}
 use Rattle.site_core.specs.Right.{IsCompiledFor}
 use Rattle.site_core.specs.Ask.{ask_at}
 use Rattle.messages.specs.declared.call.Call.{Call}
 use Rattle.messages.specs.declared.call.CallBody.TheVariants as bodies
 use Rattle.site_core.specs.Outbox.{sendable, is_number_in_flight, confirmed}
-use Rattle.site_core.specs.Step.{at_link, at_linked_place, is_present, attaches, sends, sends_call, confirms, loses, with_outbox, changed_by_call, refusal_to_call}
+use Rattle.site_core.specs.Step.{at_link, at_linked_place, attaches, sends, sends_call, confirms, loses, with_outbox, changed_by_call, refusal_to_call}
 use Rattle.site_core.specs.Step.{Made, Steps, unless, changed, version_refusal, next_transaction, at_place, at_point, installs, clears, starts, starts_as, stops, takes, takes_ask, with_request, compiles_kept, answers_kept, answers_with, finishes, unchanged, stepped, no_answer}
 use Rattle.site_core.specs.History.{reply_takes, asks_answer_of, has_answer}
 
@@ -123,7 +123,7 @@ at_link_made P old point link made_at each =
   where
     found : (place : Option ℕ) → IfOk (at_linked_place old link place made_at) P
     found None = tt
-    found (Some place) = either_made P (is_present link (outbox_at old place).link) (made_at place) (Err refusals.Superseded) (each place) tt
+    found (Some place) = either_made P (is_this_number link (outbox_at old place).link) (made_at place) (Err refusals.Superseded) (each place) tt
 
 attaches_leaves : (old : MachineState) (point : List ℕ) → IfOk (stepped no_answer old (steps.Attach point)) (LeavesRequests old (steps.Attach point))
 attaches_leaves old point =

@@ -1,9 +1,8 @@
 -- What the laws of outboxes and of points that obey say of the machine: the calls and the profiles
 -- of a point along a history.
-use Rattle.std.specs.Prelude.{ℕ, ◌≤◌, ◌≡◌, ◌==◌, Bool, false, List, [], ◌∷◌, ◌++◌, length, map, filter, slice_get, Option, None, Some}
+use Rattle.std.specs.Prelude.{ℕ, ◌≤◌, ◌≡◌, Bool, false, List, [], ◌∷◌, ◌++◌, length, map, filter, slice_get, Option, None, Some}
 use Rattle.std.specs.List.{flat_map, AllByRecursion}
 use Rattle.profile.specs.declared.row.Row.{Row}
-use Rattle.profile.specs.Changes.{installed, cleared, without_transaction_profiles}
 use Rattle.transactions.specs.declared.transaction.Transaction.{Transaction}
 use Rattle.transactions.specs.ActiveTable.{connector_of, started, stopped}
 use Rattle.site_rules.specs.Site.{SiteState, place_of}
@@ -15,22 +14,18 @@ use Rattle.site_core.specs.declared.step.Step.{Step}
 use Rattle.site_core.specs.declared.step.Step.TheVariants as steps
 use Rattle.site_core.specs.declared.reply.Reply.{Reply}
 use Rattle.site_core.specs.declared.reply.Reply.TheVariants as replies
-use Rattle.site_core.specs.Outbox.{opening_outbox, clear_all}
+use Rattle.site_core.specs.Outbox.{opening_outbox, all_calls}
 use Rattle.site_core.specs.OutboxOrder.{Traffic, Attach, Lose, Add, Send, Confirm, after_all, calls_confirmed, calls_so_far, bodies_added, AreInSendingOrder}
-use Rattle.site_core.specs.Obey.{Change, Installs, Clears, Ends, Obeying, numbers_of, last_number, obeyed, lasting}
+use Rattle.site_core.specs.Obey.{Change, Installs, Clears, Ends, rows_after, Obeying, numbers_of, last_number, obeyed, lasting}
 use Rattle.site_core.specs.ObeyOrder.{obeyed_numbers, IsObeyed}
-use Rattle.site_core.specs.State.{MachineState, opening, opening_at, book_at, outbox_at}
+use Rattle.site_core.specs.State.{MachineState, opening, opening_at, book_at, outbox_at, is_this_number}
 use Rattle.site_core.specs.History.{Event, Legal}
 
 -- ---- the events of a point
 
-abbrev pub is_place : ℕ → Option ℕ → Bool
-is_place place None = false
-is_place place (Some other) = other == place
-
 -- whether an identity is that of the point at a place
 abbrev pub is_at : SiteState → ℕ → List ℕ → Bool
-is_at site place point = is_place place (place_of site point)
+is_at site place point = is_this_number place (place_of site point)
 
 -- whether a step names the point at a place
 abbrev pub names : SiteState → ℕ → Step → Bool
@@ -83,8 +78,7 @@ calls_sent site place history = flat_map calls_by_event (events_at site place hi
 abbrev pub numbers_of_calls : List Call → List ℕ
 numbers_of_calls calls = map (λ (call : Call). call.number) calls
 
--- Every call of the point at a place so far: call 0 clears all, and call k is the k-th of its
--- installs and clears that were accepted.
+-- every call of the point at a place so far
 abbrev pub calls_made : SiteState → ℕ → List Event → List Call
 calls_made site place history = calls_so_far (traffic_of site place history)
 
@@ -168,10 +162,7 @@ changes_of site place history =
 -- the rows after all these changes
 abbrev pub rows_after_all : List Change → List Row → List Row
 rows_after_all [] rows = rows
-rows_after_all (Installs row ∷ later) rows = rows_after_all later (installed rows row)
-rows_after_all (Clears criteria ∷ later) rows = rows_after_all later (cleared rows criteria)
-rows_after_all (Ends connector ∷ later) rows =
-    rows_after_all later (without_transaction_profiles rows connector)
+rows_after_all (change ∷ later) rows = rows_after_all later (rows_after rows change)
 
 -- the installs and clears of the point at a place that were accepted, as calls
 abbrev pub accepted : SiteState → ℕ → List Event → List CallBody
@@ -179,7 +170,7 @@ accepted site place history = bodies_added (traffic_of site place history)
 
 -- what calls 0, 1, .. of the point at a place tell it
 abbrev pub bodies_of : SiteState → ℕ → List Event → List CallBody
-bodies_of site place history = clear_all ∷ accepted site place history
+bodies_of site place history = all_calls (accepted site place history)
 
 -- ---- the laws of its profiles
 

@@ -1,6 +1,6 @@
 -- That a point which does as it is told stays in step: whatever is lost or sent again, the profiles
 -- that outlast its transactions are those that the central system has for it.
-use Rattle.std.specs.Prelude.{ℕ, ◌≡◌, not, List, [], ◌∷◌, filter, map, Option, None, Some, zero, suc, slice_get}
+use Rattle.std.specs.Prelude.{ℕ, ◌≡◌, not, List, [], ◌∷◌, filter, map, Option, None, Some, is_some, zero, suc, slice_get, if◌then◌else◌}
 use Rattle.std.specs.List.{filter_map}
 use Rattle.profile.specs.declared.row.Row.{Row}
 use Rattle.profile.specs.declared.criteria.Criteria.{Criteria}
@@ -8,7 +8,7 @@ use Rattle.profile.specs.Purpose.{is_tx}
 use Rattle.profile.specs.Changes.{installed, cleared, without_transaction_profiles}
 use Rattle.messages.specs.declared.call.CallBody.{CallBody}
 use Rattle.messages.specs.declared.call.CallBody.TheVariants.{Clear, Set}
-use Rattle.site_core.specs.Outbox.{clear_all}
+use Rattle.site_core.specs.Outbox.{all_calls}
 use Rattle.site_core.specs.OutboxOrder.{AreInSendingOrder}
 
 -- ---- the central system
@@ -22,19 +22,11 @@ pub data Change : Type 0 where
   -- the transaction at a connector ends (OCPP 1.6, 3.13)
   Ends : (connector : ℕ) → Change
 
--- what the central system has for a point once it has made as many installs and clears as this,
--- having had these rows before
-abbrev pub rows_after_call : ℕ → List Change → List Row → List Row
-rows_after_call zero changes rows = rows
-rows_after_call (suc before) [] rows = rows
-rows_after_call (suc before) (Installs row ∷ later) rows =
-    rows_after_call before later (installed rows row)
-rows_after_call (suc before) (Clears criteria ∷ later) rows =
-    rows_after_call before later (cleared rows criteria)
-rows_after_call (suc before) (Ends connector ∷ later) rows =
-    rows_after_call (suc before) later (without_transaction_profiles rows connector)
-
--- ---- the calls
+-- what a change makes of the rows that the central system has for a point
+abbrev pub rows_after : List Row → Change → List Row
+rows_after rows (Installs row) = installed rows row
+rows_after rows (Clears criteria) = cleared rows criteria
+rows_after rows (Ends connector) = without_transaction_profiles rows connector
 
 -- the call to the point that makes the change known: it sees by itself that a transaction ends
 abbrev pub call_of : Change → Option CallBody
@@ -42,9 +34,18 @@ call_of (Installs row) = Some (Set row.connector row.profile)
 call_of (Clears criteria) = Some (Clear criteria)
 call_of (Ends connector) = None
 
--- call 0 clears all, and call k is the k-th install or clear
+-- what the central system has for a point once it has made as many installs and clears as this,
+-- having had these rows before
+abbrev pub rows_after_call : ℕ → List Change → List Row → List Row
+rows_after_call zero changes rows = rows
+rows_after_call (suc before) [] rows = rows
+rows_after_call (suc before) (change ∷ later) rows =
+    rows_after_call (if is_some (call_of change) then before else suc before) later
+    (rows_after rows change)
+
+-- every call to the point: those of its installs and clears come after call 0
 abbrev pub calls_of : List Change → List CallBody
-calls_of changes = clear_all ∷ filter_map call_of changes
+calls_of changes = all_calls (filter_map call_of changes)
 
 -- ---- the point
 

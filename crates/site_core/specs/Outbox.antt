@@ -28,6 +28,10 @@ every_profile = record { id = None; connector = None; purpose = None; stack_leve
 abbrev pub clear_all : CallBody
 clear_all = Clear every_profile
 
+-- every call to a point: call 0 clears all, and call k is the k-th of these
+abbrev pub all_calls : List CallBody → List CallBody
+all_calls bodies = clear_all ∷ bodies
+
 -- bodies as calls, numbered from here on
 abbrev pub numbered : ℕ → List CallBody → List Call
 numbered number [] = []

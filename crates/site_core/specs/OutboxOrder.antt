@@ -2,7 +2,7 @@
 use Rattle.std.specs.Prelude.{ℕ, ◌+◌, ◌≡◌, ◌⊎◌, List, [], ◌∷◌, ◌++◌, Option, None, Some, take, if◌then◌else◌}
 use Rattle.messages.specs.declared.call.Call.{Call}
 use Rattle.messages.specs.declared.call.CallBody.{CallBody}
-use Rattle.site_core.specs.Outbox.{OutboxState, opening_outbox, attached, lost, added, sendable, sent, is_number_in_flight, confirmed, numbered, clear_all}
+use Rattle.site_core.specs.Outbox.{OutboxState, opening_outbox, attached, lost, added, sendable, sent, is_number_in_flight, confirmed, numbered, all_calls}
 
 -- ---- numbers
 
@@ -72,9 +72,9 @@ abbrev pub bodies_added : List Traffic → List CallBody
 bodies_added [] = []
 bodies_added (event ∷ later) = added_at event ++ bodies_added later
 
--- every call so far: call 0 clears all, and call k is the k-th that was added
+-- every call so far, by its number: those that were added come after call 0
 abbrev pub calls_so_far : List Traffic → List Call
-calls_so_far traffic = numbered 0 (clear_all ∷ bodies_added traffic)
+calls_so_far traffic = numbered 0 (all_calls (bodies_added traffic))
 
 -- ---- the laws
 

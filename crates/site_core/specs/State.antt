@@ -1,5 +1,5 @@
 -- The state of the central system: what it knows between two steps.
-use Rattle.std.specs.Prelude.{ℕ, ◌≡◌, ◌≤◌, Bool, false, List, [], map, length, slice_index_or, Option, None, Some, Result, if◌then◌else◌}
+use Rattle.std.specs.Prelude.{ℕ, ◌≡◌, ◌≤◌, ◌==◌, Bool, false, List, [], map, length, slice_index_or, Option, None, Some, Result, if◌then◌else◌}
 use Rattle.ocpp_scalars.specs.declared.refusal.Refusal.{Refusal}
 use Rattle.meaning.specs.declared.ask.Ask.{Ask}
 use Rattle.meaning.specs.Composite.{Schedule}
@@ -86,6 +86,11 @@ link_at state (Some place) = (outbox_at state place).link
 
 abbrev pub link_of : MachineState → List ℕ → Option ℕ
 link_of state point = link_at state (place_of state.site point)
+
+-- whether there is a number, of a link or of a place, and it is this one
+abbrev pub is_this_number : ℕ → Option ℕ → Bool
+is_this_number number None = false
+is_this_number number (Some other) = other == number
 
 -- the link over which a call is to be sent now to the point at a place, and to the point of an
 -- identity, where there is such a call: a stranger has none, and nothing is sent once the central

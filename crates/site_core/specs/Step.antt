@@ -1,6 +1,6 @@
 -- One step of the central system: what it replies and what it changes, or the first cause why it is
 -- refused. All that a step doesn't name stays as it was, and a refused step changes nothing.
-use Rattle.std.specs.Prelude.{ℕ, ℤ, pos, ◌≡◌, ◌+◌, nat_lt, nat_le, ◌==◌, ◌||◌, Bool, false, true, List, [], ◌∷◌, ◌++◌, length, Option, Some, None, is_some, Result, Ok, Err, IfOk, slice_set, if◌then◌else◌}
+use Rattle.std.specs.Prelude.{ℕ, ℤ, pos, ◌≡◌, ◌+◌, nat_lt, nat_le, ◌==◌, ◌||◌, true, List, [], ◌∷◌, ◌++◌, length, Option, Some, None, is_some, Result, Ok, Err, IfOk, slice_set, if◌then◌else◌}
 use Rattle.std.specs.List.{list_any}
 use Rattle.ocpp_scalars.specs.declared.refusal.Refusal.{Refusal}
 use Rattle.ocpp_scalars.specs.declared.refusal.Refusal.TheVariants.{UnknownPoint, UnknownConnector, OutboxFull, TooManyOpen, VersionsExhausted, TransactionsExhausted, Behind, OutOfMemory, UnknownRequest, AlreadyAnswered, Superseded, NothingInFlight}
@@ -27,7 +27,7 @@ use Rattle.site_core.specs.Limits.{max_number, max_transaction, max_requests}
 use Rattle.messages.specs.declared.call.Call.{Call}
 use Rattle.messages.specs.declared.call.CallBody.{CallBody}
 use Rattle.messages.specs.declared.call.CallBody.TheVariants as bodies
-use Rattle.site_core.specs.State.{MachineState, Kept, ScheduleAnswer, book_at, outbox_at}
+use Rattle.site_core.specs.State.{MachineState, Kept, ScheduleAnswer, book_at, outbox_at, is_this_number}
 use Rattle.site_core.specs.Outbox.{OutboxState, is_full, is_exhausted, attached, lost, added, sendable, sent, is_number_in_flight, confirmed}
 use Rattle.site_core.specs.Requests.{request_of, answered, without, all_stopped}
 use Rattle.site_core.specs.Ask.{ask_at}
@@ -239,16 +239,11 @@ abbrev pub attaches : MachineState → ℕ → Result Made Refusal
 attaches old place = unless (refusal_to_attach old)
     (record { reply = Attached (old.numbers.link + 1); after = with_link old place })
 
--- whether a link is the present one
-abbrev pub is_present : ℕ → Option ℕ → Bool
-is_present link None = false
-is_present link (Some present) = link == present
-
 abbrev pub at_linked_place : MachineState → ℕ → Option ℕ → (ℕ → Result Made Refusal)
     → Result Made Refusal
 at_linked_place old link None made_at = Err Superseded
 at_linked_place old link (Some place) made_at =
-    if is_present link (outbox_at old place).link then made_at place else Err Superseded
+    if is_this_number link (outbox_at old place).link then made_at place else Err Superseded
 
 -- what is made over a link, while it is the present one of its point and the central system isn't
 -- stopped

@@ -8,8 +8,8 @@ use Rattle.point_book.specs.Changes.{IsCause}
 use Rattle.site_core.specs.declared.step.Step.{Step}
 use Rattle.site_core.specs.declared.step.Step.TheVariants as steps
 use Rattle.site_core.specs.declared.reply.Reply.{Reply}
-use Rattle.site_core.specs.State.{MachineState, outbox_at}
-use Rattle.site_core.specs.Step.{Made, cause_of, is_present}
+use Rattle.site_core.specs.State.{MachineState, outbox_at, is_this_number}
+use Rattle.site_core.specs.Step.{Made, cause_of}
 
 -- made, with this reply and this state after it
 abbrev pub IsMade : Result Made Refusal → Reply → MachineState → Type 0
@@ -34,7 +34,7 @@ place_in state point =
 abbrev pub found_linked : MachineState → ℕ → Option ℕ → Result ℕ Refusal
 found_linked state link None = Err Superseded
 found_linked state link (Some place) =
-    if is_present link (outbox_at state place).link then Ok place else Err Superseded
+    if is_this_number link (outbox_at state place).link then Ok place else Err Superseded
 
 abbrev pub linked_place_in : MachineState → List ℕ → ℕ → Result ℕ Refusal
 linked_place_in state point link =
