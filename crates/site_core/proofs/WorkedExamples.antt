@@ -1,8 +1,9 @@
 -- A history worked by hand. A profile is installed between two requests, and both answers are handed out in
 -- the other order: each is for what the point had when it was asked. Limits are in tenths.
-use Rattle.std.specs.Prelude.{ℕ, List, [], ◌∷◌, Some, None, Ok}
-use Rattle.std.proofs.Common.{refl}
+use Rattle.std.specs.Prelude.{ℕ, List, [], ◌∷◌, length, Some, None, Result, Ok, Err}
+use Rattle.std.proofs.Common.{◌≡◌, ap, refl}
 use Rattle.std.proofs.Math.IntN.{pos}
+use Rattle.ocpp_scalars.specs.declared.refusal.Refusal.{Refusal}
 use Rattle.profile.specs.declared.kind.Kind.TheVariants.{Absolute}
 use Rattle.profile.specs.declared.purpose.Purpose.TheVariants.{TxDefaultProfile}
 use Rattle.profile.specs.declared.row.Row.{Row}
@@ -18,10 +19,11 @@ use Rattle.point_book.specs.Book.{Book, empty_book, state_of}
 use Rattle.point_book.specs.Changes.{book_installed}
 use Rattle.site_core.specs.declared.step.Step.TheVariants as steps
 use Rattle.site_core.specs.declared.step.Take.{Take}
-use Rattle.site_core.specs.declared.reply.Reply.TheVariants.{Accepted, Compiled}
+use Rattle.site_core.specs.declared.reply.Reply.{Reply}
+use Rattle.site_core.specs.declared.reply.Reply.TheVariants.{Accepted, Answered, Compiled}
 use Rattle.site_core.specs.State.{MachineState, opening}
 use Rattle.site_core.specs.Right.{IsCompiledFor}
-use Rattle.site_core.specs.Step.{changed_by_call, with_request}
+use Rattle.site_core.specs.Step.{Made, Steps, changed_by_call, with_request}
 use Rattle.site_core.specs.Requests.{answered, without}
 use Rattle.site_core.specs.History.{Event, Legal, taken_event, answered_event}
 
@@ -140,3 +142,19 @@ two_requests = (
     ),
   ),
 )
+
+-- how many profiles stand in the book that an answer is for
+abbrev rows_answered : Reply → ℕ
+rows_answered (Answered book asked answer) = length book.rows
+rows_answered other = 0
+
+abbrev rows_made : Result Made Refusal → ℕ
+rows_made (Ok made) = rows_answered made.reply
+rows_made (Err refusal) = 0
+
+zero_is_not_one : ◌≡◌ {A = ℕ} 0 1 → ⊥
+zero_is_not_one e = cc
+
+-- Were the newer book handed out for the older request, that last event would be no step.
+pub no_newer_book : (state : MachineState) → ¬ Steps second_handed (steps.Answer 1) (Answered after ask (Ok (at_limit 100))) state
+no_newer_book state is = zero_is_not_one (ap rows_made is)
