@@ -1,8 +1,7 @@
 -- Which periods give a limit exactly (OCPP 1.6, 5.7).
 use Rattle.std.specs.Prelude.{◌≡◌, ◌≢◌, ℕ, ◌<◌, List, [], ◌∷◌, Some}
-use Rattle.std.specs.List.{AllByRecursion}
 use Rattle.meaning.specs.declared.composite.CompositePeriod.{CompositePeriod}
-use Rattle.meaning.specs.Composite.{BeginAtZero, AreStrictlyIncreasing, at}
+use Rattle.meaning.specs.Composite.{IsSchedule, at}
 
 -- no two neighbours have the same limit
 abbrev pub Change : List CompositePeriod → Type 0
@@ -10,11 +9,9 @@ Change [] = Unit {0}
 Change (p ∷ []) = Unit {0}
 Change (p ∷ (q ∷ ps)) = (p.limit ≢ q.limit) × Change (q ∷ ps)
 
--- Periods are exact for a limit over so many seconds: they begin at 0, are strictly increasing, start
--- within the duration, change at each start, and give the limit at every second.
+-- Periods are exact for a limit over so many seconds: they make a schedule, their limit changes at each
+-- start, and they give the limit at every second.
 pub record IsExact (limit : ℕ → ℕ) (duration : ℕ) (periods : List CompositePeriod) : Type 0 where
-  pub first : BeginAtZero periods
-  pub increasing : AreStrictlyIncreasing periods
-  pub within : AllByRecursion (λ p. p.start < duration) periods
+  pub schedule : IsSchedule duration periods
   pub change : Change periods
   pub each : (second : ℕ) → second < duration → at periods second ≡ Some (limit second)

@@ -22,7 +22,7 @@ exact_answer limit duration schedule some lasts same few = record {
 pub is_schedule : (limit : ℕ → ℕ) (duration : ℕ) (periods : List CompositePeriod) → 0 < duration → periods ≡ exact_periods limit duration → IsSchedule duration periods
 is_schedule limit duration periods some same =
     let exact = exact_are limit duration some in
-    rw same (record { first = exact.first; increasing = exact.increasing; within = exact.within })
+    rw same exact.schedule
 
 -- the schedule that is computed
 abbrev pub made : (ℕ → ℕ) → ℕ → Schedule

@@ -224,17 +224,17 @@ continued limit second (suc n) p (q ∷ ps) h e later c =
 -- exact periods are these alone
 pub exact_is : (limit : ℕ → ℕ) (duration : ℕ) (periods : List CompositePeriod) → IsExact limit duration periods
     → periods ≡ exact_periods limit duration
-exact_is limit duration [] exact = absurd exact.first
-exact_is limit zero (p ∷ ps) exact = let below : p.start < 0 = exact.within.0 in absurd (omega arith)
+exact_is limit duration [] exact = absurd exact.schedule.first
+exact_is limit zero (p ∷ ps) exact = let below : p.start < 0 = exact.schedule.within.0 in absurd (omega arith)
 exact_is limit (suc n) (p ∷ ps) exact =
-    let start : p.start ≡ 0 = exact.first in
-    let since : AllAfter 0 ps = later_all 0 p.start ps (omega arith) (increasing_after p ps exact.increasing) in
+    let start : p.start ≡ 0 = exact.schedule.first in
+    let since : AllAfter 0 ps = later_all 0 p.start ps (omega arith) (increasing_after p ps exact.schedule.increasing) in
     let here : p.limit ≡ limit 0 = some_same (sym (at_first 0 p ps (omega arith) since) ∙ exact.each 0 (omega arith)) in
     let first : p ≡ period_from limit 0 = period_is p 0 (limit 0) start here in
     let rest = continued limit 0 n p ps (omega arith) here since (record {
-      increasing = exact.increasing;
+      increasing = exact.schedule.increasing;
       change = exact.change;
-      within = within_all (suc n) (suc (0 + n)) ps (omega arith) exact.within.1;
+      within = within_all (suc n) (suc (0 + n)) ps (omega arith) exact.schedule.within.1;
       each = λ t from below. exact.each t (omega arith);
     }) in
     let both : p ∷ ps ≡ period_from limit 0 ∷ after limit 0 n = cc in
@@ -262,9 +262,11 @@ exact_are limit zero h = absurd (omega arith)
 exact_are limit (suc n) h =
     let c = continues limit 0 n (period_from limit 0) (omega arith) refl in
     rw (periods_are limit n) (record {
-      first = refl;
-      increasing = c.increasing;
+      schedule = record {
+        first = refl;
+        increasing = c.increasing;
+        within = (omega arith, within_all (suc (0 + n)) (suc n) (after limit 0 n) (omega arith) c.within);
+      };
       change = c.change;
-      within = (omega arith, within_all (suc (0 + n)) (suc n) (after limit 0 n) (omega arith) c.within);
       each = λ t below. c.each t (omega arith) (omega arith);
     })
