@@ -11,7 +11,7 @@ returns-clause-text c =
     let schedule = c.args.schedule.now in
     let fields = rw (c.whole.ensures, c.time.ensures) at c.in_ok-push_fields.ensures.text in
     let later = rw (c.tenths.ensures) at c.in_ok-push_later_fields.ensures.text in
-    let periods = rw (c.as_slice.ensures.value) at c.in_ok-push_periods.ensures.text in
+    let periods = rw (c.as_slice.ensures.value) at c.in_ok-push_list.ensures.text in
     nested_object _ ((codes "duration", option_map decimal schedule.duration) ∷ (codes "startSchedule", option_map time_text schedule.start) ∷ []) [] _
     _ _ (codes "chargingSchedulePeriod") _ _ _ _ _ _ _
     c.in_ok-push_str.ensures.bytes fields c.in_ok-push_str-2.ensures.bytes periods
