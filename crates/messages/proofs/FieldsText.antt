@@ -49,3 +49,8 @@ nested_object old before middle after key value name text s t u v w x h i j k l 
 pub object_of_two : (old : List ℕ) (middle : List (List ℕ × Option (List ℕ))) (key value name text s t u v x : List ℕ) → s ≡ old ++ codes "{" → t ≡ s ++ fields_text ((key, Some value) ∷ middle) → u ≡ t ++ (codes "," ++ string_text name ++ codes ":") → v ≡ u ++ text → x ≡ v ++ codes "}" → x ≡ old ++ object_text ((key, Some value) ∷ (middle ++ ((name, Some text) ∷ [])))
 unfolding later_fields_text
 object_of_two old middle key value name text s t u v x h i j k m = nested_object old [] middle [] key value name text s t u v v x h i j k (sym (append-nil v)) m
+
+-- An object's first field stands apart from what is written behind it.
+pub first_field : (key value : List ℕ) (fields : List (List ℕ × Option (List ℕ))) → object_text ((key, Some value) ∷ fields) ≡ (codes "{" ++ field_text key value) ++ (later_fields_text fields ++ codes "}")
+unfolding fields_text later_fields_text object_text
+first_field key value fields = ap (λ (l : List ℕ). codes "{" ++ l) (append_assoc (field_text key value) (later_texts (filter_map present fields)) (codes "}"))

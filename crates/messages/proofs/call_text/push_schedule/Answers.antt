@@ -1,7 +1,8 @@
 -- What was missing: the parts make one object, with the values that may be absent as they are written.
 use Rattle.std.proofs.Common.{[], ◌∷◌, codes, option_map}
 use Rattle.std.specs.Fmt.{decimal}
-use Rattle.messages.specs.CallText.{schedule_text, time_text}
+use Rattle.messages.specs.CallText.{schedule_text}
+use Rattle.messages.specs.ObjectText.{time_text}
 use Rattle.messages.proofs.FieldsText.{nested_object}
 use Rattle.messages.proofs.call_text.push_schedule.Goals as goal
 
