@@ -1,6 +1,6 @@
 -- Texts that are appended in pieces.
 use Rattle.std.proofs.Common.{◌≡◌, ℕ, List, [], ◌++◌, ap, sym, ◌∙◌, append-nil, append_assoc, Result, Ok, Err}
-use Rattle.std.specs.Prelude.{OnOk, OnErr}
+use Rattle.std.specs.Prelude.{OnErr}
 use Rattle.ocpp_scalars.specs.Appending.{BeginsWith}
 
 -- A text with a piece more is appended as one.
@@ -26,11 +26,6 @@ two_values old a v b w e s t u x y h i j k l = simp (l, k, j, i, h, append_assoc
 pub three_values : (old a u b v q c w e o r s t x y z : List ℕ) → o ≡ old ++ a → r ≡ o ++ u → s ≡ r ++ b → t ≡ s ++ v → x ≡ t ++ (q ++ c) → y ≡ x ++ w → z ≡ y ++ e → z ≡ old ++ ((a ++ (u ++ (b ++ ((v ++ q) ++ (c ++ (w ++ [])))))) ++ e)
 three_values old a u b v q c w e o r s t x y z f g h i j k l = simp (l, k, j, i, h, g, f, append_assoc, append-nil)
 
--- Between the head and the end of a frame a payload is written in two pieces.
-pub payload_of_two : {T E : Type 0} → (r : Result T E) (old head payload a b end s t u text : List ℕ) → payload ≡ a ++ b → s ≡ old ++ head → t ≡ s ++ a → u ≡ t ++ b → OnOk r (text ≡ u ++ end) → OnOk r (text ≡ old ++ (head ++ (payload ++ end)))
-payload_of_two (Ok x) old head payload a b end s t u text h i j k l = simp (l, k, j, i, h, append_assoc)
-payload_of_two (Err e) old head payload a b end s t u text h i j k l = tt
-
 -- ---- what a refused append leaves
 
 pub begins_itself : (text : List ℕ) → BeginsWith text text
@@ -45,7 +40,3 @@ pub kept_behind_two : {T E : Type 0} → (r : Result T E) (old a b s t text : Li
 kept_behind_two (Ok x) old a b s t text p q h = tt
 kept_behind_two (Err e) old a b s t text p q h =
     record { behind = (a ++ b) ++ h.behind; is = appended old (a ++ b) t h.behind text (appended old a s b t p q) h.is }
-
--- Three pieces are written, and the next is refused.
-pub kept_behind_three : {T E : Type 0} → (r : Result T E) (old a b c s t u text : List ℕ) → s ≡ old ++ a → t ≡ s ++ b → u ≡ t ++ c → OnErr r (BeginsWith text u) → OnErr r (BeginsWith text old)
-kept_behind_three r old a b c s t u text p q x h = kept_behind_two r old a (b ++ c) s u text p (appended s b t c u q x) h

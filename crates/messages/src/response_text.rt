@@ -2,7 +2,8 @@
 ghost use Rattle.std.specs.Prelude.{◌≡◌, ◌++◌, OnOk, OnErr, IfOk, codes, string_bytes};
 ghost use Rattle.ocpp_scalars.specs.Appending.{BeginsWith};
 ghost use Rattle.ocppj_frame.specs.Write.{call_result_text};
-ghost use Rattle.messages.specs.ObjectText.{field_text, time_text};
+ghost use Rattle.messages.specs.ByCases.ObjectText.{first_field_text};
+ghost use Rattle.messages.specs.ObjectText.{time_text};
 ghost use Rattle.messages.specs.ResponseText.{boot_notification_text, composite_period_text, composite_schedule_text, composite_text, heartbeat_text, is_out_of_memory, refusal_text, rejected_text, response_text, start_transaction_text, unit_text};
 
 use crate::list_text::{ListItem, push_list};
@@ -140,7 +141,7 @@ fn push_heartbeat(out: &mut String, id: &str, current_time: Instant) -> Result<(
 /// Appends an object's beginning with its first field, the present moment.
 fn push_current_time(out: &mut String, current_time: Instant) -> Result<(), AllocError>
     ensures text { OnOk result (string_bytes out.new ≡ string_bytes out.old
-        ++ (codes "{" ++ field_text (codes "currentTime") (time_text current_time))) }
+        ++ first_field_text (codes "currentTime") (time_text current_time)) }
     ensures kept { OnErr result (BeginsWith (string_bytes out.new) (string_bytes out.old)) }
 {
     out.push_str(r#"{"currentTime":""#)?;
