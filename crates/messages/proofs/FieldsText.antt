@@ -1,8 +1,9 @@
 -- An object's fields that are written in two parts.
 use Rattle.std.proofs.Common.{◌≡◌, ℕ, List, [], ◌∷◌, ◌++◌, ap, sym, ◌∙◌, append-nil, append_assoc, Option, Some, None, codes, refl}
 use Rattle.std.specs.List.{filter_map}
-use Rattle.messages.specs.ObjectText.{field_text, fields_text, later_texts, object_text, present, string_text}
-use Rattle.messages.specs.ByCases.ObjectText.{later_fields_text}
+use Rattle.messages.specs.ObjectText.{field_text, fields_text, later_texts, object_text, present, string_text, time_text}
+use Rattle.messages.specs.ResponseText.{boot_notification_text, heartbeat_text}
+use Rattle.messages.specs.ByCases.ObjectText.{first_field_text, later_fields_text}
 use Rattle.messages.proofs.TextPieces.{appended}
 
 later-append : (fields more : List (List ℕ × Option (List ℕ))) → later_texts (filter_map present (fields ++ more)) ≡ later_texts (filter_map present fields) ++ later_texts (filter_map present more)
@@ -49,3 +50,18 @@ nested_object old before middle after key value name text s t u v w x h i j k l 
 pub object_of_two : (old : List ℕ) (middle : List (List ℕ × Option (List ℕ))) (key value name text s t u v x : List ℕ) → s ≡ old ++ codes "{" → t ≡ s ++ fields_text ((key, Some value) ∷ middle) → u ≡ t ++ (codes "," ++ string_text name ++ codes ":") → v ≡ u ++ text → x ≡ v ++ codes "}" → x ≡ old ++ object_text ((key, Some value) ∷ (middle ++ ((name, Some text) ∷ [])))
 unfolding later_fields_text
 object_of_two old middle key value name text s t u v x h i j k m = nested_object old [] middle [] key value name text s t u v v x h i j k (sym (append-nil v)) m
+
+-- An object's first field stands apart from what is written behind it.
+pub first_field : (key value : List ℕ) (fields : List (List ℕ × Option (List ℕ))) → object_text ((key, Some value) ∷ fields) ≡ first_field_text key value ++ (later_fields_text fields ++ codes "}")
+unfolding fields_text first_field_text later_fields_text object_text
+first_field key value fields = ap (λ (l : List ℕ). codes "{" ++ l) (append_assoc (field_text key value) (later_texts (filter_map present fields)) (codes "}"))
+
+pub heartbeat_object : (now : ℕ) → heartbeat_text now ≡ first_field_text (codes "currentTime") (time_text now) ++ codes "}"
+unfolding heartbeat_text later_fields_text
+heartbeat_object now = first_field (codes "currentTime") (time_text now) []
+
+pub boot_notification_object : (now : ℕ) → boot_notification_text now ≡ first_field_text (codes "currentTime") (time_text now) ++ codes ",\"interval\":300,\"status\":\"Accepted\"}"
+unfolding boot_notification_text later_fields_text
+boot_notification_object now =
+    first_field (codes "currentTime") (time_text now)
+    ((codes "interval", Some (codes "300")) ∷ (codes "status", Some (string_text (codes "Accepted"))) ∷ [])

@@ -10,13 +10,21 @@ appended old text before piece after p q = q ∙ ap (λ (l : List ℕ). l ++ pie
 pub three_pieces : (old a b c s t u : List ℕ) → s ≡ old ++ a → t ≡ s ++ b → u ≡ t ++ c → u ≡ old ++ (a ++ b ++ c)
 three_pieces old a b c s t u p q r = appended old (a ++ b) t c u (appended old a s b t p q) r
 
-pub five_pieces : (old a b c d e s t u v w : List ℕ) → s ≡ old ++ a → t ≡ s ++ b → u ≡ t ++ c → v ≡ u ++ d → w ≡ v ++ e → w ≡ old ++ (a ++ b ++ c ++ d ++ e)
-five_pieces old a b c d e s t u v w p q r x y =
-    appended old (a ++ b ++ c ++ d) v e w (appended old (a ++ b ++ c) u d v (three_pieces old a b c s t u p q r) x) y
+-- ---- objects whose values are written one by one, each behind the text that stands before it
 
-pub seven_pieces : (old a b c d e f g s t u v w x y : List ℕ) → s ≡ old ++ a → t ≡ s ++ b → u ≡ t ++ c → v ≡ u ++ d → w ≡ v ++ e → x ≡ w ++ f → y ≡ x ++ g → y ≡ old ++ (a ++ b ++ c ++ d ++ e ++ f ++ g)
-seven_pieces old a b c d e f g s t u v w x y i j k l m n o =
-    appended old (a ++ b ++ c ++ d ++ e ++ f) x g y (appended old (a ++ b ++ c ++ d ++ e) w f x (five_pieces old a b c d e s t u v w i j k l m) n) o
+pub one_value : (old a v e s t u : List ℕ) → s ≡ old ++ a → t ≡ s ++ v → u ≡ t ++ e → u ≡ old ++ ((a ++ (v ++ [])) ++ e)
+one_value old a v e s t u p q r = simp (r, q, p, append_assoc, append-nil)
+
+-- The value is a string, whose quote q is written with what stands behind it.
+pub one_string : (old a v q e s t u : List ℕ) → s ≡ old ++ a → t ≡ s ++ v → u ≡ t ++ (q ++ e) → u ≡ old ++ ((a ++ ((v ++ q) ++ [])) ++ e)
+one_string old a v q e s t u h i j = simp (j, i, h, append_assoc, append-nil)
+
+pub two_values : (old a v b w e s t u x y : List ℕ) → s ≡ old ++ a → t ≡ s ++ v → u ≡ t ++ b → x ≡ u ++ w → y ≡ x ++ e → y ≡ old ++ ((a ++ (v ++ ((b ++ w) ++ []))) ++ e)
+two_values old a v b w e s t u x y h i j k l = simp (l, k, j, i, h, append_assoc, append-nil)
+
+-- The middle one of three values is a string.
+pub three_values : (old a u b v q c w e o r s t x y z : List ℕ) → o ≡ old ++ a → r ≡ o ++ u → s ≡ r ++ b → t ≡ s ++ v → x ≡ t ++ (q ++ c) → y ≡ x ++ w → z ≡ y ++ e → z ≡ old ++ ((a ++ (u ++ (b ++ ((v ++ q) ++ (c ++ (w ++ [])))))) ++ e)
+three_values old a u b v q c w e o r s t x y z f g h i j k l = simp (l, k, j, i, h, g, f, append_assoc, append-nil)
 
 -- ---- what a refused append leaves
 

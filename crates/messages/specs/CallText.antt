@@ -2,7 +2,7 @@
 -- chapters 6 and 7, without those of absent fields, no blanks, limits with one decimal.
 use Rattle.std.specs.Prelude.{ℕ, List, [], ◌∷◌, ◌++◌, map, Option, Some, None, option_map, codes}
 use Rattle.std.specs.Fmt.{decimal, signed_decimal}
-use Rattle.ocpp_scalars.specs.Writing.{instant_text, tenths_text}
+use Rattle.ocpp_scalars.specs.Writing.{tenths_text}
 use Rattle.ocppj_frame.specs.Write as frames
 use Rattle.profile.specs.declared.charging_profile.Profile.{Profile}
 use Rattle.profile.specs.declared.criteria.Criteria.{Criteria}
@@ -14,14 +14,11 @@ use Rattle.profile.specs.declared.period.Period.{Period}
 use Rattle.profile.specs.declared.purpose.Purpose.{Purpose}
 use Rattle.profile.specs.declared.purpose.Purpose.TheVariants.{ChargePointMaxProfile, TxDefaultProfile, TxProfile}
 use Rattle.profile.specs.declared.schedule.Schedule.{Schedule}
-use Rattle.messages.specs.ObjectText.{list_text, object_text, string_text}
+use Rattle.messages.specs.ObjectText.{list_text, object_text, string_text, time_text}
 use Rattle.messages.specs.ResponseText.{unit_text}
 use Rattle.messages.specs.declared.call.Call.{Call}
 use Rattle.messages.specs.declared.call.CallBody.{CallBody}
 use Rattle.messages.specs.declared.call.CallBody.TheVariants.{Clear, Set}
-
-abbrev pub time_text : ℕ → List ℕ
-time_text instant = string_text (instant_text instant)
 
 -- OCPP 1.6, chapter 7, ChargingProfilePurposeType
 abbrev pub purpose_name : Purpose → List ℕ

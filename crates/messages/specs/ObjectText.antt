@@ -1,11 +1,16 @@
--- What JSON objects look like whose fields may be absent: the fields that are present in a given
--- order, without blanks (RFC 8259, section 4).
+-- What JSON lists and objects look like: without blanks, and of an object the fields that are
+-- present, in a given order (RFC 8259, sections 4 and 5).
 use Rattle.std.specs.Prelude.{ℕ, List, [], ◌∷◌, ◌++◌, Option, option_map, codes}
 use Rattle.std.specs.List.{filter_map}
+use Rattle.ocpp_scalars.specs.Writing.{instant_text}
 
 -- a JSON string of a text that has no character to escape
 abbrev pub string_text : List ℕ → List ℕ
 string_text text = codes "\"" ++ text ++ codes "\""
+
+-- an instant as a JSON string
+abbrev pub time_text : ℕ → List ℕ
+time_text instant = string_text (instant_text instant)
 
 -- each behind a comma
 abbrev pub later_texts : List (List ℕ) → List ℕ

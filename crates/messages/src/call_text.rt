@@ -1,13 +1,14 @@
 //! The texts of calls to a charge point, byte for byte.
-ghost use Rattle.std.specs.Prelude.{◌≡◌, ◌++◌, OnOk, OnErr, Some, map, option_map, string_bytes};
+ghost use Rattle.std.specs.Prelude.{◌≡◌, ◌++◌, OnOk, OnErr, Some, option_map, string_bytes};
 ghost use Rattle.std.specs.Fmt.{signed_decimal};
 ghost use Rattle.ocpp_scalars.specs.Appending.{BeginsWith};
 ghost use Rattle.messages.specs.CallText.{action_name, call_text, clear_text, own_fields, payload_text, period_text, profile_text, schedule_text, set_text};
-ghost use Rattle.messages.specs.ObjectText.{fields_text, joined, list_text};
+ghost use Rattle.messages.specs.ObjectText.{fields_text};
 ghost use Rattle.messages.specs.ByCases.FieldValue.{value_text};
 
 use crate::call::{Call, CallBody};
 use crate::field_value::{FieldValue, purpose, recurrency, signed, tenths, time, whole};
+use crate::list_text::{ListItem, push_list};
 use crate::object_text::{push_fields, push_later_fields, push_object};
 use ocppj_frame::{push_call_head, push_frame_end};
 use profile::{Criteria, Period, Profile, Schedule};
@@ -147,7 +148,7 @@ fn push_schedule(out: &mut String, schedule: &Schedule) -> Result<(), AllocError
         ],
     )?;
     out.push_str(r#","chargingSchedulePeriod":"#)?;
-    push_periods(out, schedule.periods.as_slice())?;
+    push_list(out, schedule.periods.as_slice())?;
     push_later_fields(
         out,
         &[("minChargingRate", tenths(schedule.min_charging_rate))],
@@ -156,33 +157,12 @@ fn push_schedule(out: &mut String, schedule: &Schedule) -> Result<(), AllocError
     Ok(())
 }
 
-/// Appends a list of periods.
-fn push_periods(out: &mut String, periods: &[Period]) -> Result<(), AllocError>
-    ensures text { OnOk result (string_bytes out.new
-        ≡ string_bytes out.old ++ list_text (map period_text periods.now)) }
-    ensures kept { OnErr result (BeginsWith (string_bytes out.new) (string_bytes out.old)) }
-{
-    out.push_str("[")?;
-    push_joined(out, periods)?;
-    out.push_str("]")?;
-    Ok(())
-}
+impl ListItem for Period {
+    ghost text = { period_text };
 
-/// Appends periods, with commas between them.
-fn push_joined(out: &mut String, periods: &[Period]) -> Result<(), AllocError>
-    ensures text { OnOk result (string_bytes out.new
-        ≡ string_bytes out.old ++ joined (map period_text periods.now)) }
-    ensures kept { OnErr result (BeginsWith (string_bytes out.new) (string_bytes out.old)) }
-{
-    let Some((first, later)) = periods.split_first() else {
-        return Ok(());
-    };
-    push_period(out, first)?;
-    for period in later {
-        out.push_str(",")?;
-        push_period(out, period)?;
+    fn push_text(&self, out: &mut String) -> Result<(), AllocError> {
+        push_period(out, self)
     }
-    Ok(())
 }
 
 /// Appends a period (chapter 7, ChargingSchedulePeriod).

@@ -3,8 +3,8 @@ ghost use Rattle.std.specs.Prelude.{◌≡◌, ◌++◌, OnOk, OnErr, option_map
 ghost use Rattle.std.specs.Fmt.{decimal, signed_decimal};
 ghost use Rattle.ocpp_scalars.specs.Appending.{BeginsWith};
 ghost use Rattle.ocpp_scalars.specs.Writing.{tenths_text};
-ghost use Rattle.messages.specs.CallText.{kind_name, purpose_name, recurrency_name, recurrency_of, time_text};
-ghost use Rattle.messages.specs.ObjectText.{string_text};
+ghost use Rattle.messages.specs.CallText.{kind_name, purpose_name, recurrency_name, recurrency_of};
+ghost use Rattle.messages.specs.ObjectText.{string_text, time_text};
 ghost use Rattle.messages.specs.ByCases.FieldValue.{value_text};
 
 use crate::response_text::unit_name;

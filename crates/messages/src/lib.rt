@@ -11,6 +11,7 @@ mod field_name;
 mod field_value;
 mod fields;
 mod laws;
+mod list_text;
 mod object_text;
 mod operator_actions;
 mod point_actions;

@@ -1,9 +1,12 @@
 //! The texts of answers, byte for byte.
-ghost use Rattle.std.specs.Prelude.{◌≡◌, ◌++◌, OnOk, OnErr, IfOk, string_bytes};
+ghost use Rattle.std.specs.Prelude.{◌≡◌, ◌++◌, OnOk, OnErr, IfOk, codes, string_bytes};
 ghost use Rattle.ocpp_scalars.specs.Appending.{BeginsWith};
 ghost use Rattle.ocppj_frame.specs.Write.{call_result_text};
-ghost use Rattle.messages.specs.ResponseText.{boot_notification_text, composite_text, current_time_text, heartbeat_text, is_out_of_memory, period_text, periods_text, refusal_text, rejected_text, response_text, schedule_text, start_transaction_text, unit_text};
+ghost use Rattle.messages.specs.ByCases.ObjectText.{first_field_text};
+ghost use Rattle.messages.specs.ObjectText.{time_text};
+ghost use Rattle.messages.specs.ResponseText.{boot_notification_text, composite_period_text, composite_schedule_text, composite_text, heartbeat_text, is_out_of_memory, refusal_text, rejected_text, response_text, start_transaction_text, unit_text};
 
+use crate::list_text::{ListItem, push_list};
 use crate::response::{Response, ScheduleResponse};
 use meaning::{Composite, CompositePeriod};
 use ocpp_scalars::{Instant, Refusal, push_instant, push_integer, push_tenths};
@@ -38,6 +41,7 @@ fn room(response: &Response) -> usize {
 }
 
 /// Appends the text that answers the CALL of this id.
+#[tactic(auto, unfolding(crate::specs::ObjectText::fields_text, crate::specs::ObjectText::object_text))]
 pub fn push_response(out: &mut String, id: &str, response: &Response) -> Result<(), AllocError>
     ensures text { OnOk result
         (string_bytes out.new ≡ string_bytes out.old ++ response_text id.now response.now) }
@@ -136,8 +140,8 @@ fn push_heartbeat(out: &mut String, id: &str, current_time: Instant) -> Result<(
 
 /// Appends an object's beginning with its first field, the present moment.
 fn push_current_time(out: &mut String, current_time: Instant) -> Result<(), AllocError>
-    ensures text { OnOk result
-        (string_bytes out.new ≡ string_bytes out.old ++ current_time_text current_time) }
+    ensures text { OnOk result (string_bytes out.new ≡ string_bytes out.old
+        ++ first_field_text (codes "currentTime") (time_text current_time)) }
     ensures kept { OnErr result (BeginsWith (string_bytes out.new) (string_bytes out.old)) }
 {
     out.push_str(r#"{"currentTime":""#)?;
@@ -195,24 +199,28 @@ fn push_composite(out: &mut String, response: &ScheduleResponse) -> Result<(), A
     out.push_str(r#","scheduleStart":""#)?;
     push_instant(out, response.start)?;
     out.push_str(r#"","chargingSchedule":"#)?;
-    push_schedule(out, response.unit, &response.schedule)?;
+    push_composite_schedule(out, response.unit, &response.schedule)?;
     out.push_str("}")?;
     Ok(())
 }
 
-/// Appends a schedule (chapter 7, ChargingSchedule).
-fn push_schedule(out: &mut String, unit: Unit, schedule: &Composite) -> Result<(), AllocError>
+/// Appends a composite schedule (chapter 7, ChargingSchedule).
+fn push_composite_schedule(
+    out: &mut String,
+    unit: Unit,
+    schedule: &Composite,
+) -> Result<(), AllocError>
     ensures text { OnOk result
-        (string_bytes out.new ≡ string_bytes out.old ++ schedule_text unit schedule.now) }
+        (string_bytes out.new ≡ string_bytes out.old ++ composite_schedule_text unit schedule.now) }
     ensures kept { OnErr result (BeginsWith (string_bytes out.new) (string_bytes out.old)) }
 {
     out.push_str(r#"{"duration":"#)?;
     push_integer(out, schedule.duration())?;
     out.push_str(r#","chargingRateUnit":""#)?;
     out.push_str(unit_name(unit))?;
-    out.push_str(r#"","chargingSchedulePeriod":["#)?;
-    push_periods(out, schedule.periods())?;
-    out.push_str("]}")?;
+    out.push_str(r#"","chargingSchedulePeriod":"#)?;
+    push_list(out, schedule.periods())?;
+    out.push_str("}")?;
     Ok(())
 }
 
@@ -225,27 +233,18 @@ pub(crate) fn unit_name(unit: Unit) -> &'static str
     }
 }
 
-/// Appends periods, with commas between them.
-fn push_periods(out: &mut String, periods: &[CompositePeriod]) -> Result<(), AllocError>
-    ensures text { OnOk result
-        (string_bytes out.new ≡ string_bytes out.old ++ periods_text periods.now) }
-    ensures kept { OnErr result (BeginsWith (string_bytes out.new) (string_bytes out.old)) }
-{
-    let Some((first, later)) = periods.split_first() else {
-        return Ok(());
-    };
-    push_period(out, first)?;
-    for period in later {
-        out.push_str(",")?;
-        push_period(out, period)?;
+impl ListItem for CompositePeriod {
+    ghost text = { composite_period_text };
+
+    fn push_text(&self, out: &mut String) -> Result<(), AllocError> {
+        push_composite_period(out, self)
     }
-    Ok(())
 }
 
-/// Appends a period (chapter 7, ChargingSchedulePeriod).
-fn push_period(out: &mut String, period: &CompositePeriod) -> Result<(), AllocError>
+/// Appends a period of a composite schedule (chapter 7, ChargingSchedulePeriod).
+fn push_composite_period(out: &mut String, period: &CompositePeriod) -> Result<(), AllocError>
     ensures text { OnOk result
-        (string_bytes out.new ≡ string_bytes out.old ++ period_text period.now) }
+        (string_bytes out.new ≡ string_bytes out.old ++ composite_period_text period.now) }
     ensures kept { OnErr result (BeginsWith (string_bytes out.new) (string_bytes out.old)) }
 {
     out.push_str(r#"{"startPeriod":"#)?;

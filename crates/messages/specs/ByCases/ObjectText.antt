@@ -1,7 +1,11 @@
 -- Of private clauses: the parts in which an object is written.
-use Rattle.std.specs.Prelude.{Bool, true, false, ℕ, List, Option}
+use Rattle.std.specs.Prelude.{Bool, true, false, ℕ, List, ◌++◌, Option, codes}
 use Rattle.std.specs.List.{filter_map}
-use Rattle.messages.specs.ObjectText.{joined, later_texts, present}
+use Rattle.messages.specs.ObjectText.{field_text, joined, later_texts, present}
+
+-- an object's beginning with its first field
+unfoldable pub first_field_text : List ℕ → List ℕ → List ℕ
+first_field_text key value = codes "{" ++ field_text key value
 
 -- the fields that are present, each behind a comma
 unfoldable pub later_fields_text : List (List ℕ × Option (List ℕ)) → List ℕ

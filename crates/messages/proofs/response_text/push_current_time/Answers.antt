@@ -1,9 +1,11 @@
 -- What was missing: the pieces make one text.
 use Rattle.std.proofs.Common.{codes}
+use Rattle.messages.specs.ByCases.ObjectText.{first_field_text}
 use Rattle.messages.proofs.TextPieces.{three_pieces}
 use Rattle.messages.proofs.response_text.push_current_time.Goals as goal
 
 pub returns-clause-text : goal.returns-clause-text
+unfolding first_field_text
 returns-clause-text c =
     three_pieces _ (codes "{\"currentTime\":\"") _ (codes "\"")
     _ _ _

@@ -1,11 +1,14 @@
--- What was missing: the pieces make one text.
+-- What was missing: the pieces make one object.
 use Rattle.std.proofs.Common.{codes}
-use Rattle.messages.proofs.TextPieces.{three_pieces}
+use Rattle.messages.specs.ObjectText.{fields_text, object_text}
+use Rattle.messages.specs.ResponseText.{rejected_text}
+use Rattle.messages.proofs.TextPieces.{one_string}
 use Rattle.messages.proofs.response_text.push_rejection.Goals as goal
 
 pub returns-clause-text : goal.returns-clause-text
+unfolding fields_text object_text rejected_text
 returns-clause-text c =
     rw (← c.name.ensures)
-    (three_pieces _ (codes "{\"status\":\"Rejected\",\"reason\":\"") _ (codes "\"}")
+    (one_string _ (codes "{\"status\":\"Rejected\",\"reason\":\"") _ (codes "\"") (codes "}")
     _ _ _
     c.in_ok-push_str.ensures.bytes c.in_ok-push_str-2.ensures.bytes c.in_ok-push_str-3.ensures.bytes)

@@ -1,13 +1,16 @@
--- What was missing: the pieces make one text, and the number is a whole number of 32 bits.
+-- What was missing: the pieces make one object, and the number is a whole number of 32 bits.
 use Rattle.std.proofs.Common.{codes}
 use Rattle.std.proofs.lemmas.Int.{to_z-of_z}
 use mir.Syntax.{w32}
-use Rattle.messages.proofs.TextPieces.{three_pieces}
+use Rattle.messages.specs.ObjectText.{fields_text, object_text}
+use Rattle.messages.specs.ResponseText.{start_transaction_text}
+use Rattle.messages.proofs.TextPieces.{one_value}
 use Rattle.messages.proofs.response_text.push_transaction.Goals as goal
 
 pub returns-clause-text : goal.returns-clause-text
+unfolding fields_text object_text start_transaction_text
 returns-clause-text c =
-    three_pieces _ (codes "{\"idTagInfo\":{\"status\":\"Accepted\"},\"transactionId\":") _ (codes "}")
+    one_value _ (codes "{\"idTagInfo\":{\"status\":\"Accepted\"},\"transactionId\":") _ (codes "}")
     _ _ _
     c.in_ok-push_str.ensures.bytes
     (rw (to_z-of_z w32 c.args.transaction c.ranges.transaction) at c.in_ok-push_integer.ensures.text)
