@@ -88,7 +88,10 @@ pub fn list_field<'tree, 'memory>(
 }
 
 /// The object of a field. Never `WrongValue`.
-pub fn object_field<'tree, 'memory>(node: Node<'tree, 'memory>, name: &str) -> Field<Node<'tree, 'memory>>
+pub fn object_field<'tree, 'memory>(
+    node: Node<'tree, 'memory>,
+    name: &str,
+) -> Field<Node<'tree, 'memory>>
     ensures { field_map tree_at result ≡ object_field_of name.now (tree_at node.entry) }
 {
     let Some(field) = present_field(node, name) else {
@@ -102,7 +105,10 @@ pub fn object_field<'tree, 'memory>(node: Node<'tree, 'memory>, name: &str) -> F
 }
 
 /// The field, where it is there and not null.
-fn present_field<'tree, 'memory>(node: Node<'tree, 'memory>, name: &str) -> Option<Node<'tree, 'memory>>
+fn present_field<'tree, 'memory>(
+    node: Node<'tree, 'memory>,
+    name: &str,
+) -> Option<Node<'tree, 'memory>>
     ensures { option_map tree_at result ≡ present_field name.now (tree_at node.entry) }
 {
     match node.field(name) {
