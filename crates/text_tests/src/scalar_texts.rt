@@ -209,6 +209,9 @@ fn id_tags_are_bounded(rt: HostRuntime) -> Result<(), Fail> {
     ] {
         let tag = IdTag::try_new(String::from_str(rt.alloc(), text)?);
         assert_eq!(rt; tag.is_ok(), is_tag, "{text}");
+        let copy = IdTag::try_copy(rt.alloc(), text)?;
+        let copied = copy.as_ref().map(|tag| tag.as_str());
+        assert_eq!(rt; copied, is_tag.then_some(text), "{text}");
     }
     Ok(())
 }
