@@ -1,5 +1,5 @@
 -- Texts that are appended in pieces.
-use Rattle.std.proofs.Common.{◌≡◌, ℕ, List, ◌++◌, ap, ◌∙◌, append_assoc, Result, Ok, Err}
+use Rattle.std.proofs.Common.{◌≡◌, ℕ, List, [], ◌++◌, ap, ◌∙◌, append-nil, append_assoc, Result, Ok, Err}
 use Rattle.std.specs.Prelude.{OnErr}
 use Rattle.ocpp_scalars.specs.Appending.{BeginsWith}
 
