@@ -111,6 +111,7 @@ fn push_rejection(out: &mut String, refusal: Refusal) -> Result<(), AllocError>
 }
 
 /// Appends BootNotification's answer.
+#[tactic(auto, using(crate::proofs::FieldsText::boot_notification_object, std::proofs::lemmas::Grind::common_steps))]
 fn push_boot_notification(
     out: &mut String,
     id: &str,
