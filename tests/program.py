@@ -275,10 +275,10 @@ def memory_problems(program, folder):
             problems.append(f"only {refused} allocations were refused")
         yield f"{name}: each of {refused} allocations refused", problems
     for crate, test, in_a_row, least in (
-        ("site_core", "tests::a_step_is_made_again_where_memory_was_refused", 1, 1000),
-        ("site_core", "tests::a_run_goes_on_where_memory_was_refused", 1, 1000),
+        ("site_core", "tests::a_step_is_made_again_where_memory_was_refused", 1, 20),
+        ("site_core", "tests::a_run_goes_on_where_memory_was_refused", 1, 3),
         # A chunk of the arena that is refused is asked for at half its size, and so on: all of that is refused.
-        ("text_tests", "frame_texts::a_text_is_read_again_where_memory_was_refused", 20, 1000),
+        ("text_tests", "frame_texts::a_text_is_read_again_where_memory_was_refused", 20, 30),
     ):
         tests = os.path.join(os.path.dirname(program), "..", "..", crate, "out", f"{crate}_tests")
         yield again_problems(library, [tests, test], in_a_row, least)
