@@ -276,7 +276,7 @@ def memory_problems(program, folder):
         yield f"{name}: each of {refused} allocations refused", problems
     for crate, test, in_a_row, least in (
         ("site_core", "tests::a_step_is_made_again_where_memory_was_refused", 1, 20),
-        ("site_core", "tests::a_run_goes_on_where_memory_was_refused", 1, 3),
+        ("site_core", "tests::a_run_goes_on_where_memory_was_refused", 1, 2),
         # A chunk of the arena that is refused is asked for at half its size, and so on: all of that is refused.
         ("text_tests", "frame_texts::a_text_is_read_again_where_memory_was_refused", 20, 30),
     ):
@@ -302,7 +302,7 @@ def again_problems(library, test, in_a_row, least):
             refused += done.stderr == b"an allocation was refused\n"
         elif passes < 5 and no_memory.search(done.stdout + done.stderr):
             # A chunk of the site file's arena that is refused is asked for at half its size: that alone passes.
-            unready, passes = unready + 1, 0
+            unready, refused, passes = unready + 1, 0, 0
         else:
             problems.append(f"allocation {number}: status {done.returncode}, {done.stdout!r}, {done.stderr!r}")
             passes = 5
