@@ -1,87 +1,37 @@
--- What each step is to the outbox of the point that it names, and outboxes along histories.
-use Rattle.std.proofs.Common.{◌≡◌, ℕ, zero, suc, ◌<◌, ◌==◌, Bool, true, false, cond, List, [], ◌∷◌, ◌++◌, length, map, flat_map, slice_index_or, slice_set, ℤ, ◌+◌, ◌||◌, is_some, nat_lt, Option, Some, None, Result, Ok, Err, refl, sym, ap, ap₂, ◌∙◌, subst, arith, append_assoc, slice_get, length-append, append-nil, ◌≤◌, ◌-◌}
-use Rattle.std.proofs.lemmas.Bool.{eqb-true, eqb-false}
-use Rattle.std.proofs.lemmas.List.{length-set, length-map, map-append, get_or-set_same, get_or-set_other}
+-- What comes to the outbox of a point along a history, and what is sent to it; its profiles; the moments
+-- of its calls.
+use Rattle.std.proofs.Common.{◌≡◌, ℕ, zero, suc, ◌<◌, ◌==◌, Bool, true, false, cond, List, [], ◌∷◌, ◌++◌, length, map, filter, filter_map, flat_map, slice_index_or, slice_get, ◌+◌, Option, Some, None, refl, sym, ap, ap₂, ◌∙◌, subst, arith, append_assoc, length-append, append-nil, ◌≤◌, ◌-◌, inl}
+use Rattle.std.proofs.lemmas.List.{length-map, map-append}
 use Rattle.std.proofs.lemmas.Grind.{flat_map-append}
-use Rattle.std.proofs.lemmas.List.Quantifiers.{position-Some}
-use Rattle.std.proofs.lemmas.List.Elements.{filter-append, filter_map-append}
-use Rattle.std.specs.Prelude.{IfOk}
-use Rattle.std.specs.List.{list_any, filter_map, AllByRecursion}
-use Rattle.std.specs.Str.{bytes_eq}
-use Rattle.profile.specs.Changes.{matches, installed, cleared, without_transaction_profiles}
-use Rattle.transactions.specs.declared.transaction.Transaction.{Transaction}
-use Rattle.ocpp_scalars.specs.declared.refusal.Refusal.{Refusal}
-use Rattle.ocpp_scalars.specs.declared.refusal.Refusal.TheVariants as refusals
+use Rattle.std.proofs.lemmas.List.Elements.{filter-append, filter_map-append, All-contains_itself, recursion_from_All}
+use Rattle.std.specs.List.{AllByRecursion, Contains, cons_option, range_with_len}
+use Rattle.profile.specs.Changes.{installed, cleared, without_transaction_profiles}
 use Rattle.profile.specs.declared.row.Row.{Row}
-use Rattle.profile.specs.declared.criteria.Criteria.{Criteria}
-use Rattle.transactions.specs.declared.begin.Begin.{Begin}
-use Rattle.transactions.specs.declared.active_table.Began.{Began}
-use Rattle.transactions.specs.declared.active_table.Began.TheVariants.{Fresh, Repeat}
-use Rattle.transactions.specs.ActiveTable.{began, connector_of}
+use Rattle.transactions.specs.ActiveTable.{connector_of}
 use Rattle.site_rules.specs.Site.{SiteState, PointEntry, place_of}
-use Rattle.point_book.specs.Book.{Book, empty_book}
-use Rattle.point_book.specs.Changes.{book_installed, book_cleared, book_started, book_stopped, rows_after_start, rows_after_stop}
+use Rattle.point_book.specs.Book.{Book}
+use Rattle.point_book.specs.Changes.{rows_after_stop}
 use Rattle.messages.specs.declared.call.Call.{Call}
 use Rattle.messages.specs.declared.call.CallBody.{CallBody}
-use Rattle.messages.specs.declared.call.CallBody.TheVariants as bodies
 use Rattle.site_core.specs.declared.numbers.Numbers.{Numbers}
-use Rattle.site_core.specs.declared.step.Step.{Step}
-use Rattle.site_core.specs.declared.step.Step.TheVariants as steps
-use Rattle.site_core.specs.declared.step.Take.{Take}
-use Rattle.site_core.specs.declared.reply.Reply.{Reply}
-use Rattle.site_core.specs.declared.reply.Reply.TheVariants as replies
-use Rattle.meaning.specs.declared.ask.Ask.{Ask}
-use Rattle.site_core.specs.Ask.{ask_at}
-use Rattle.site_core.specs.Requests.{request_of, answered, all_stopped}
-use Rattle.site_core.specs.State.{MachineState, Kept, ScheduleAnswer, opening_at, opening_book, opening_outbox_of, book_in, book_at, outbox_at, is_this_number}
-use Rattle.site_core.specs.Outbox.{numbered, OutboxState, opening_outbox, all_calls, lost, sent, confirmed, sendable, is_number_in_flight}
-use Rattle.site_core.specs.OutboxOrder.{Traffic, Attach, Lose, Add, Send, Confirm, after, after_all, sent_at, numbers_sent, number_of, calls_confirmed, added_at, bodies_added, AreInSendingOrder}
+use Rattle.site_core.specs.Outbox.{numbered, OutboxState, IsOutbox, AreConsecutive, opening_outbox, all_calls, sendable, Traffic, Attach, Lose, Add, Send, Confirm, after, after_all}
+use Rattle.site_core.specs.ChargePoint.{ChargePointState, BookChange, Install, Clear, Start, Stop, opening_point, book_with, outbox_with}
+use Rattle.site_core.specs.State.{MachineState, IsMachine, opening, opening_at, no_point, point_at, book_at, outbox_at}
+use Rattle.site_core.specs.OutboxOrder.{GoesOn, sent_at, numbers_sent, number_of, calls_confirmed, confirmed_at, added_at, bodies_added, AreInSendingOrder}
 use Rattle.site_core.specs.Obey.{Change, Installs, Clears, Ends, rows_after, call_of, calls_of, last_number, obeyed, lasting, rows_after_call, Obeying, numbers_of}
-use Rattle.site_core.specs.Step.{next_transaction, with_transaction, refusal_to_start, refusal_to_install}
-use Rattle.site_core.specs.Step.{Made, Steps, at_link, at_linked_place, attaches, sends, sends_call, confirms, loses, with_outbox, changed, changed_by_call, refusal_to_call, unless, version_refusal, installs, clears, starts, starts_as, stops, takes, takes_ask, compiles_kept, answers_kept, answers_with, finishes, unchanged, stepped, no_answer}
 use Rattle.site_core.specs.History.{Event, Legal}
-use Rattle.site_core.specs.CallOrder.{is_at, names, events_at, traffic_by, traffic_of, traffic_by_event, calls_by, calls_by_event, calls_sent, numbers_of_calls, OutboxesFollowHistories, calls_made, IsOneOf, CallsAreSentInOrder, CallsAreSentAsMade, CallsAreLeftUnlessConfirmed}
-use Rattle.site_core.specs.CallOrder.{slots_after, end_at, changes_by, changes_from, changes_of, opening_slots, rows_after_all, bodies_of, RowsFollowHistories, PointsStayInStep, accepted, Moment, EachCallHasItsMoment, ObeyingPointsStayInStep}
+use Rattle.site_core.specs.CallOrder.{names, events_at, change_by, traffic_by, traffic_of, traffic_by_event, point_by, point_by_all, calls_by_event, calls_sent, confirmed_by_event, numbers_confirmed, numbers_of_calls, calls_made, IsOneOf, first_number, calls_since}
+use Rattle.site_core.specs.CallOrder.{PointsFollowHistories, OutboxesFollowHistories, CallsAreSentInOrder, CallsAreSentAsMade, CallsAreLeftUnlessConfirmed, ConfirmationsAreEvents, CallsGoOnInOrder, CallsAreSentAsKept, CallsStayUnlessConfirmed}
+use Rattle.site_core.specs.CallOrder.{end_at, row_changes, changes_in, changes_by, changes_from, changes_of, opening_at_place, rows_after_all, bodies_of, RowsFollowHistories, RowsGoOn, PointsStayInStep, accepted, Moment, EachCallHasItsMoment, CallsAreObeyedInOrder, ObeyingPointsStayInStep}
 use Rattle.site_core.specs.ObeyOrder.{obeyed_numbers, numbers_obeyed, IsObeyed}
-use Rattle.site_core.proofs.StepLemmas.{at_point_made, unless_made, either_made}
+use Rattle.site_core.proofs.PointLemmas.{as_many}
+use Rattle.site_core.proofs.EffectLemmas.{calls_at, call_list, sent_by_effect, confirmed_by_effect, bodies_in}
+use Rattle.site_core.proofs.StepLemmas.{Acts, HasPlaces, acts, does, keeps_site}
 use Rattle.site_core.proofs.ObeyLemmas.{lasting_end, stays_in_step}
 use Rattle.site_core.proofs.ObeyOrderLemmas.{obeyed_in_order}
-use Rattle.site_core.proofs.OutboxOrderLemmas.{outbox, sent_in_order, left_unless_confirmed}
-
--- ---- places
-
--- what is read after the item of a place was changed
-pub changed_in : {X : Type 0} (xs : List X) (there place : ℕ) (change : X → X) (d : X) → there < length xs
-    → slice_index_or (slice_set xs there (change (slice_index_or xs there d))) place d
-    ≡ cond (there == place) (change (slice_index_or xs place d)) (slice_index_or xs place d)
-changed_in {X} xs there place change d within = go (there == place) refl
-  where
-    new : X
-    new = change (slice_index_or xs there d)
-
-    go : (b : Bool) → (there == place) ≡ b → slice_index_or (slice_set xs there new) place d ≡ cond b (change (slice_index_or xs place d)) (slice_index_or xs place d)
-    go true is =
-        subst (λ (p : ℕ). slice_index_or (slice_set xs there new) p d ≡ change (slice_index_or xs p d)) (eqb-true there place is) (get_or-set_same xs there new d within)
-    go false is = get_or-set_other xs there place new d (λ e. eqb-false there place is (sym e))
-
-pub either_way : {X : Type 0} (b : Bool) (x : X) → x ≡ cond b x x
-either_way true x = refl
-either_way false x = refl
-
-pub place_within : (site : SiteState) (point : List ℕ) (place : ℕ) → place_of site point ≡ Some place → place < length site.points
-place_within site point place here =
-    let blank : PointEntry = record { id = []; ceiling = 0; ceilings = [] } in
-    (position-Some (λ (p : PointEntry). bytes_eq point p.id) site.points place blank here).0
+use Rattle.site_core.proofs.OutboxOrderLemmas.{outbox, AreFrom, goes_on, left, sent_in_order, left_unless_confirmed}
 
 -- ---- the calls that an outbox sends
-
-abbrev call_list : Option Call → List Call
-call_list None = []
-call_list (Some call) = call ∷ []
-
-abbrev calls_at : OutboxState → Traffic → List Call
-calls_at old Send = call_list (sendable old)
-calls_at old other = []
 
 abbrev calls_along : OutboxState → List Traffic → List Call
 calls_along old [] = []
@@ -144,294 +94,7 @@ each_at_its_number (body ∷ later) number before many =
       subst (λ (all : List Call). AllByRecursion (IsOneOf all) (numbered (number + 1) later)) (append_assoc before (call ∷ []) (numbered (number + 1) later)) rest,
     )
 
--- ---- one step
-
--- as many outboxes and books as points
-record HasPlaces (state : MachineState) : Type 0 where
-  outboxes : length state.outboxes ≡ length state.site.points
-  books : length state.books ≡ length state.site.points
-
--- what is made by a step changes the book at a place where that is named
-record OnBook (place : ℕ) (named : Bool) (old : MachineState) (step : Step) (made : Made) : Type 0 where
-  many : length made.after.books ≡ length old.books
-  rows : (book_at made.after place).rows ≡ cond named (rows_after_all (changes_by (book_at old place).transactions step made.reply) (book_at old place).rows) (book_at old place).rows
-  slots : (book_at made.after place).transactions ≡ cond named (slots_after (book_at old place).transactions step made.reply) (book_at old place).transactions
-  -- the changes that are calls are those that the outbox is brought
-  calls : (slots : List (Option Transaction)) → filter_map call_of (changes_by slots step made.reply) ≡ bodies_added (traffic_by step made.reply)
-
--- no book is changed
-same_book : (place : ℕ) (named : Bool) (old : MachineState) (step : Step) (made : Made) → made.after.books ≡ old.books
-    → ((slots : List (Option Transaction)) → changes_by slots step made.reply ≡ []) → ((slots : List (Option Transaction)) → slots_after slots step made.reply ≡ slots)
-    → bodies_added (traffic_by step made.reply) ≡ [] → OnBook place named old step made
-same_book place named old step made same none kept no_body =
-    let book = book_at old place in
-    record {
-      many = ap (λ (bs : List Book). length bs) same;
-      rows = ap (λ (bs : List Book). (book_in bs place).rows) same ∙ either_way named book.rows
-          ∙ ap (λ (cs : List Change). cond named (rows_after_all cs book.rows) book.rows) (sym (none book.transactions));
-      slots = ap (λ (bs : List Book). (book_in bs place).transactions) same ∙ either_way named book.transactions
-          ∙ ap (λ (slots : List (Option Transaction)). cond named slots book.transactions) (sym (kept book.transactions));
-      calls = λ slots. ap (filter_map call_of) (none slots) ∙ sym no_body;
-    }
-
--- the book of one point is changed
-new_book : (place there : ℕ) (old : MachineState) (point : List ℕ) (step : Step) (made : Made) (change : Book → Book) → HasPlaces old → place_of old.site point ≡ Some there
-    → made.after.books ≡ slice_set old.books there (change (book_at old there))
-    → (there ≡ place → (change (book_at old place)).rows ≡ rows_after_all (changes_by (book_at old place).transactions step made.reply) (book_at old place).rows)
-    → (change (book_at old place)).transactions ≡ slots_after (book_at old place).transactions step made.reply
-    → ((slots : List (Option Transaction)) → filter_map call_of (changes_by slots step made.reply) ≡ bodies_added (traffic_by step made.reply))
-    → OnBook place (is_at old.site place point) old step made
-new_book place there old point step made change many here new rows slots calls =
-    subst (λ (o : Option ℕ). OnBook place (is_this_number place o) old step made) (sym here) (record {
-      many = ap (λ (bs : List Book). length bs) new ∙ length-set old.books there (change (book_at old there));
-      rows = ap (λ (b : Book). b.rows) read ∙ by_rows (there == place) refl;
-      slots = ap (λ (b : Book). b.transactions) read ∙ by_slots (there == place);
-      calls = calls;
-    })
-  where
-    within : there < length old.books
-    within = rw many.books (place_within old.site point there here)
-
-    read : book_at made.after place ≡ cond (there == place) (change (book_at old place)) (book_at old place)
-    read = ap (λ (bs : List Book). book_in bs place) new ∙ changed_in old.books there place change (empty_book 0 []) within
-
-    by_rows : (b : Bool) → (there == place) ≡ b
-        → (cond b (change (book_at old place)) (book_at old place)).rows
-        ≡ cond b (rows_after_all (changes_by (book_at old place).transactions step made.reply) (book_at old place).rows) (book_at old place).rows
-    by_rows true is = rows (eqb-true there place is)
-    by_rows false is = refl
-
-    by_slots : (b : Bool) → (cond b (change (book_at old place)) (book_at old place)).transactions
-        ≡ cond b (slots_after (book_at old place).transactions step made.reply) (book_at old place).transactions
-    by_slots true = slots
-    by_slots false = refl
-
--- what is made by a step leaves the site, and is traffic to the outbox at a place where that is named
-record Acts (place : ℕ) (named : Bool) (old : MachineState) (step : Step) (made : Made) : Type 0 where
-  site : made.after.site ≡ old.site
-  many : length made.after.outboxes ≡ length old.outboxes
-  outbox : outbox_at made.after place ≡ cond named (after_all (outbox_at old place) (traffic_by step made.reply)) (outbox_at old place)
-  few : length (bodies_added (traffic_by step made.reply)) ≤ 1
-  sent : named ≡ true → calls_by step made.reply ≡ calls_along (outbox_at old place) (traffic_by step made.reply)
-  book : OnBook place named old step made
-
-abbrev ActsAt : ℕ → MachineState → Step → Made → Type 0
-ActsAt place old step made = Acts place (names old.site place step) old step made
-
--- no traffic adds more than one call
-one_at_most : (one : Traffic) → length (bodies_added (one ∷ [])) ≤ 1
-one_at_most (Attach link) = omega arith
-one_at_most Lose = omega arith
-one_at_most (Add body) = omega arith
-one_at_most Send = omega arith
-one_at_most (Confirm number) = omega arith
-
--- no outbox is changed
-quiet : (place : ℕ) (named : Bool) (old : MachineState) (step : Step) (made : Made) → made.after.site ≡ old.site → made.after.outboxes ≡ old.outboxes
-    → traffic_by step made.reply ≡ [] → calls_by step made.reply ≡ [] → OnBook place named old step made → Acts place named old step made
-quiet place named old step made site same none no_call book = record {
-  site = site;
-  many = ap (λ (os : List OutboxState). length os) same;
-  outbox = ap (λ (os : List OutboxState). slice_index_or os place opening_outbox) same ∙ either_way named (outbox_at old place)
-      ∙ ap (λ (ts : List Traffic). cond named (after_all (outbox_at old place) ts) (outbox_at old place)) (sym none);
-  few = rw none (omega arith);
-  sent = λ is. no_call ∙ ap (λ (ts : List Traffic). calls_along (outbox_at old place) ts) (sym none);
-  book = book;
-}
-
--- nothing is changed of outboxes and books
-idle : (place : ℕ) (named : Bool) (old : MachineState) (step : Step) (made : Made) → made.after.site ≡ old.site → made.after.outboxes ≡ old.outboxes → made.after.books ≡ old.books
-    → traffic_by step made.reply ≡ [] → calls_by step made.reply ≡ []
-    → ((slots : List (Option Transaction)) → changes_by slots step made.reply ≡ []) → ((slots : List (Option Transaction)) → slots_after slots step made.reply ≡ slots)
-    → Acts place named old step made
-idle place named old step made site outboxes books none no_call no_change kept =
-    quiet place named old step made site outboxes none no_call (same_book place named old step made books no_change kept (ap bodies_added none))
-
--- the outbox of one point is changed
-moved : (place there : ℕ) (old : MachineState) (point : List ℕ) (step : Step) (made : Made) (one : Traffic) → HasPlaces old → place_of old.site point ≡ Some there
-    → made.after.site ≡ old.site → made.after.outboxes ≡ slice_set old.outboxes there (after (outbox_at old there) one) → traffic_by step made.reply ≡ one ∷ []
-    → (there ≡ place → calls_by step made.reply ≡ calls_along (outbox_at old place) (one ∷ []))
-    → OnBook place (is_at old.site place point) old step made → Acts place (is_at old.site place point) old step made
-moved place there old point step made one many here site new is sends book =
-    subst (λ (o : Option ℕ). Acts place (is_this_number place o) old step made) (sym here) (record {
-      site = site;
-      many = ap (λ (os : List OutboxState). length os) new ∙ length-set old.outboxes there (after (outbox_at old there) one);
-      outbox = ap (λ (os : List OutboxState). slice_index_or os place opening_outbox) new
-          ∙ changed_in old.outboxes there place (λ outbox. after outbox one) opening_outbox within
-          ∙ ap (λ (ts : List Traffic). cond (there == place) (after_all (outbox_at old place) ts) (outbox_at old place)) (sym is);
-      few = subst (λ (ts : List Traffic). length (bodies_added ts) ≤ 1) (sym is) (one_at_most one);
-      sent = λ same. sends (eqb-true there place same) ∙ ap (λ (ts : List Traffic). calls_along (outbox_at old place) ts) (sym is);
-      book = subst (λ (o : Option ℕ). OnBook place (is_this_number place o) old step made) here book;
-    })
-  where
-    within : there < length old.outboxes
-    within = rw many.outboxes (place_within old.site point there here)
-
-installs_acts : (place : ℕ) (old : MachineState) (point : List ℕ) (row : Row) → HasPlaces old → IfOk (stepped no_answer old (steps.Install point row)) (ActsAt place old (steps.Install point row))
-installs_acts place old point row many =
-    at_point_made (ActsAt place old (steps.Install point row)) old point (installs old point row) (λ there going here.
-    let done : Made = record { reply = replies.Accepted; after = changed_by_call old there (book_installed (book_at old there) row) (bodies.Set row.connector row.profile) } in
-    unless_made (ActsAt place old (steps.Install point row)) (refusal_to_install old point row there) done
-    (moved place there old point (steps.Install point row) done (Add (bodies.Set row.connector row.profile)) many here refl refl refl (λ same. refl)
-    (new_book place there old point (steps.Install point row) done (λ book. book_installed book row) many here refl (λ same. refl) refl (λ slots. refl))))
-
-clears_acts : (place : ℕ) (old : MachineState) (point : List ℕ) (criteria : Criteria) → HasPlaces old → IfOk (stepped no_answer old (steps.Clear point criteria)) (ActsAt place old (steps.Clear point criteria))
-clears_acts place old point criteria many =
-    let P = ActsAt place old (steps.Clear point criteria) in
-    at_point_made P old point (clears old criteria) (λ there going here.
-    let done : Made = record { reply = replies.Accepted; after = changed_by_call old there (book_cleared (book_at old there) criteria) (bodies.Clear criteria) } in
-    either_made P (list_any (matches criteria) (book_at old there).rows) (unless (refusal_to_call old there) done) (Ok (unchanged old replies.Unknown))
-    (unless_made P (refusal_to_call old there) done (moved place there old point (steps.Clear point criteria) done (Add (bodies.Clear criteria)) many here refl refl refl (λ same. refl)
-    (new_book place there old point (steps.Clear point criteria) done (λ book. book_cleared book criteria) many here refl (λ same. refl) refl (λ slots. refl))))
-    (idle place _ old (steps.Clear point criteria) (unchanged old replies.Unknown) refl refl refl refl refl (λ slots. refl) (λ slots. refl)))
-
-starts_as_acts : (place : ℕ) (old : MachineState) (point : List ℕ) (found : Began) (connector : ℕ) (begin : Begin) (there : ℕ) → HasPlaces old → place_of old.site point ≡ Some there
-    → began (book_at old there).transactions connector begin ≡ found → IfOk (starts_as found old connector begin there) (ActsAt place old (steps.Start point connector begin))
-starts_as_acts place old point (Repeat number) connector begin there many here is =
-    idle place _ old (steps.Start point connector begin) (unchanged old (replies.Repeated number)) refl refl refl refl refl (λ slots. refl) (λ slots. refl)
-starts_as_acts place old point Fresh connector begin there many here is =
-    let change : Book → Book = λ book. book_started book connector begin (next_transaction old) in
-    let done : Made = record { reply = replies.Started (next_transaction old); after = with_transaction (changed old there (change (book_at old there))) } in
-    unless_made (ActsAt place old (steps.Start point connector begin)) (refusal_to_start old) done
-    (quiet place _ old (steps.Start point connector begin) done refl refl refl refl
-    (new_book place there old point (steps.Start point connector begin) done change many here refl
-    (λ same. ap (λ (began_as : Began). rows_after_start began_as (book_at old place).rows connector)
-    (ap (λ (p : ℕ). began (book_at old p).transactions connector begin) (sym same) ∙ is))
-    refl (λ slots. refl)))
-
-starts_acts : (place : ℕ) (old : MachineState) (point : List ℕ) (connector : ℕ) (begin : Begin) → HasPlaces old → IfOk (stepped no_answer old (steps.Start point connector begin)) (ActsAt place old (steps.Start point connector begin))
-starts_acts place old point connector begin many =
-    let P = ActsAt place old (steps.Start point connector begin) in
-    at_point_made P old point (starts old connector begin) (λ there going here.
-    either_made P ((connector == 0) || nat_lt (length (book_at old there).ceilings) connector) (Err refusals.UnknownConnector)
-    (starts_as (began (book_at old there).transactions connector begin) old connector begin there) tt
-    (starts_as_acts place old point (began (book_at old there).transactions connector begin) connector begin there many here refl))
-
--- the end of a transaction is no call
-end_is_no_call : (found : Option ℕ) → filter_map call_of (end_at found) ≡ []
-end_is_no_call None = refl
-end_is_no_call (Some connector) = refl
-
-rows_after_end : (found : Option ℕ) (rows : List Row) → rows_after_stop found rows ≡ rows_after_all (end_at found) rows
-rows_after_end None rows = refl
-rows_after_end (Some connector) rows = refl
-
-stops_acts : (place : ℕ) (old : MachineState) (point : List ℕ) (number : ℤ) → HasPlaces old → IfOk (stepped no_answer old (steps.Stop point number)) (ActsAt place old (steps.Stop point number))
-stops_acts place old point number many =
-    let P = ActsAt place old (steps.Stop point number) in
-    at_point_made P old point (stops old number) (λ there going here.
-    let done : Made = record { reply = replies.Ended; after = changed old there (book_stopped (book_at old there) number) } in
-    either_made P (is_some (connector_of (book_at old there).transactions number)) (unless (version_refusal old) done) (Ok (unchanged old replies.NoSuch))
-    (unless_made P (version_refusal old) done (quiet place _ old (steps.Stop point number) done refl refl refl refl
-    (new_book place there old point (steps.Stop point number) done (λ book. book_stopped book number) many here refl
-    (λ same. rows_after_end (connector_of (book_at old place).transactions number) (book_at old place).rows)
-    refl (λ slots. end_is_no_call (connector_of slots number)))))
-    (idle place _ old (steps.Stop point number) (unchanged old replies.NoSuch) refl refl refl refl refl (λ slots. refl) (λ slots. refl)))
-
-takes_acts : (place : ℕ) (old : MachineState) (take : Take) → IfOk (stepped no_answer old (steps.Take take)) (ActsAt place old (steps.Take take))
-takes_acts place old take =
-    at_point_made (ActsAt place old (steps.Take take)) old take.point (takes old take) (λ there going here. asked there (ask_at old.site.unit (book_at old there) take))
-  where
-    asked : (there : ℕ) (asking : Result Ask Refusal) → IfOk (takes_ask old take there asking) (ActsAt place old (steps.Take take))
-    asked there (Err refusal) = tt
-    asked there (Ok ask) = unless_made (ActsAt place old (steps.Take take)) _ _ (idle place _ old (steps.Take take) _ refl refl refl refl refl (λ slots. refl) (λ slots. refl))
-
-compiles_acts : (place : ℕ) (old : MachineState) (number : ℕ) (answer : ScheduleAnswer) (found : Option Kept) → IfOk (compiles_kept old number answer found) (ActsAt place old (steps.Compile number))
-compiles_acts place old number answer None = tt
-compiles_acts place old number answer (Some kept) =
-    let done : Made = record { reply = replies.Compiled; after = record old { requests = answered number answer old.requests } } in
-    either_made (ActsAt place old (steps.Compile number)) (is_some kept.answer) (Err refusals.AlreadyAnswered) (Ok done) tt
-    (idle place _ old (steps.Compile number) done refl refl refl refl refl (λ slots. refl) (λ slots. refl))
-
-answers_acts : (place : ℕ) (old : MachineState) (number : ℕ) (found : Option Kept) → IfOk (answers_kept old found) (ActsAt place old (steps.Answer number))
-answers_acts place old number None = tt
-answers_acts place old number (Some kept) = given kept.answer
-  where
-    given : (answer : Option ScheduleAnswer) → ActsAt place old (steps.Answer number) (answers_with old kept answer)
-    given None = idle place _ old (steps.Answer number) (answers_with old kept None) refl refl refl refl refl (λ slots. refl) (λ slots. refl)
-    given (Some answer) = idle place _ old (steps.Answer number) (answers_with old kept (Some answer)) refl refl refl refl refl (λ slots. refl) (λ slots. refl)
-
-finishes_acts : (place : ℕ) (old : MachineState) → ActsAt place old steps.Finish (finishes old)
-finishes_acts place old = go old.is_stopped
-  where
-    done : Made
-    done = record { reply = replies.Finished; after = record old { requests = all_stopped old.requests; is_stopped = true } }
-
-    go : (stopped : Bool) → ActsAt place old steps.Finish (cond stopped (unchanged old replies.Finished) done)
-    go true = idle place _ old steps.Finish (unchanged old replies.Finished) refl refl refl refl refl (λ slots. refl) (λ slots. refl)
-    go false = idle place _ old steps.Finish done refl refl refl refl refl (λ slots. refl) (λ slots. refl)
-
-attaches_acts : (place : ℕ) (old : MachineState) (point : List ℕ) → HasPlaces old → IfOk (stepped no_answer old (steps.Attach point)) (ActsAt place old (steps.Attach point))
-attaches_acts place old point many =
-    at_point_made (ActsAt place old (steps.Attach point)) old point (attaches old) (λ there going here.
-    unless_made (ActsAt place old (steps.Attach point)) _ _ (moved place there old point (steps.Attach point) _ (Attach (old.numbers.link + 1)) many here refl refl refl (λ same. refl)
-    (same_book place _ old (steps.Attach point) _ refl (λ slots. refl) (λ slots. refl) refl)))
-
--- what is made over a link is made at the place of its point
-at_link_found : (P : Made → Type 0) (old : MachineState) (point : List ℕ) (link : ℕ) (made_at : ℕ → Result Made Refusal)
-    → ((there : ℕ) → place_of old.site point ≡ Some there → IfOk (made_at there) P) → IfOk (at_link old point link made_at) P
-at_link_found P old point link made_at each =
-    either_made P old.is_stopped (Err refusals.Stopped) (at_linked_place old link (place_of old.site point) made_at) tt (found (place_of old.site point) refl)
-  where
-    found : (place : Option ℕ) → place_of old.site point ≡ place → IfOk (at_linked_place old link place made_at) P
-    found None here = tt
-    found (Some there) here = either_made P (is_this_number link (outbox_at old there).link) (made_at there) (Err refusals.Superseded) (each there here) tt
-
-sends_acts : (place : ℕ) (old : MachineState) (point : List ℕ) (link : ℕ) → HasPlaces old → IfOk (stepped no_answer old (steps.Send point link)) (ActsAt place old (steps.Send point link))
-sends_acts place old point link many =
-    at_link_found (ActsAt place old (steps.Send point link)) old point link (sends old) (λ there here. by there here (sendable (outbox_at old there)) refl)
-  where
-    by : (there : ℕ) → place_of old.site point ≡ Some there → (call : Option Call) → sendable (outbox_at old there) ≡ call → IfOk (sends_call old there call) (ActsAt place old (steps.Send point link))
-    by there here None first = idle place _ old (steps.Send point link) (unchanged old replies.Nothing) refl refl refl refl refl (λ slots. refl) (λ slots. refl)
-    by there here (Some call) first =
-        moved place there old point (steps.Send point link) (record { reply = replies.Sent call; after = with_outbox old there (sent (outbox_at old there)) }) Send many here refl refl refl (λ same.
-        ap (λ (c : Option Call). call_list c ++ []) (sym first ∙ ap (λ (p : ℕ). sendable (outbox_at old p)) same))
-        (same_book place _ old (steps.Send point link) _ refl (λ slots. refl) (λ slots. refl) refl)
-
-confirms_acts : (place : ℕ) (old : MachineState) (point : List ℕ) (link number : ℕ) → HasPlaces old → IfOk (stepped no_answer old (steps.Confirm point link number)) (ActsAt place old (steps.Confirm point link number))
-confirms_acts place old point link number many =
-    let P = ActsAt place old (steps.Confirm point link number) in
-    at_link_found P old point link (confirms old number) (λ there here.
-    let done : Made = record { reply = replies.Confirmed; after = with_outbox old there (confirmed (outbox_at old there) number) } in
-    either_made P (is_number_in_flight (outbox_at old there) number) (Ok done) (Err refusals.NothingInFlight)
-    (moved place there old point (steps.Confirm point link number) done (Confirm number) many here refl refl refl (λ same. refl)
-    (same_book place _ old (steps.Confirm point link number) done refl (λ slots. refl) (λ slots. refl) refl)) tt)
-
-loses_acts : (place : ℕ) (old : MachineState) (point : List ℕ) (link : ℕ) → HasPlaces old → IfOk (stepped no_answer old (steps.Lost point link)) (ActsAt place old (steps.Lost point link))
-loses_acts place old point link many =
-    at_link_found (ActsAt place old (steps.Lost point link)) old point link (loses old) (λ there here.
-    moved place there old point (steps.Lost point link) (record { reply = replies.LinkLost; after = with_outbox old there (lost (outbox_at old there)) }) Lose many here refl refl refl (λ same. refl)
-    (same_book place _ old (steps.Lost point link) _ refl (λ slots. refl) (λ slots. refl) refl))
-
--- what holds of whatever is made holds of what was made
-of_made : (P : Made → Type 0) (result : Result Made Refusal) (made : Made) → result ≡ Ok made → IfOk result P → P made
-of_made P result made is holds = subst (λ (r : Result Made Refusal). IfOk r P) is holds
-
-acts : (place : ℕ) (old : MachineState) (step : Step) (reply : Reply) (new : MachineState) → HasPlaces old → Steps old step reply new → ActsAt place old step (record { reply = reply; after = new })
-acts place old (steps.Install point row) reply new many made = of_made (ActsAt place old (steps.Install point row)) _ _ made (installs_acts place old point row many)
-acts place old (steps.Clear point criteria) reply new many made = of_made (ActsAt place old (steps.Clear point criteria)) _ _ made (clears_acts place old point criteria many)
-acts place old (steps.Start point connector begin) reply new many made = of_made (ActsAt place old (steps.Start point connector begin)) _ _ made (starts_acts place old point connector begin many)
-acts place old (steps.Stop point number) reply new many made = of_made (ActsAt place old (steps.Stop point number)) _ _ made (stops_acts place old point number many)
-acts place old (steps.Take take) reply new many made = of_made (ActsAt place old (steps.Take take)) _ _ made (takes_acts place old take)
-acts place old (steps.Compile number) reply new many made = of_made (ActsAt place old (steps.Compile number)) _ _ made.made (compiles_acts place old number made.answer (request_of number old.requests))
-acts place old (steps.Answer number) reply new many made = of_made (ActsAt place old (steps.Answer number)) _ _ made (answers_acts place old number (request_of number old.requests))
-acts place old steps.Finish reply new many made = of_made (ActsAt place old steps.Finish) _ _ made (finishes_acts place old)
-acts place old (steps.Attach point) reply new many made = of_made (ActsAt place old (steps.Attach point)) _ _ made (attaches_acts place old point many)
-acts place old (steps.Send point link) reply new many made = of_made (ActsAt place old (steps.Send point link)) _ _ made (sends_acts place old point link many)
-acts place old (steps.Confirm point link number) reply new many made = of_made (ActsAt place old (steps.Confirm point link number)) _ _ made (confirms_acts place old point link number many)
-acts place old (steps.Lost point link) reply new many made = of_made (ActsAt place old (steps.Lost point link)) _ _ made (loses_acts place old point link many)
-
--- ---- histories
-
-after_all-append : (outbox : OutboxState) (one other : List Traffic) → after_all outbox (one ++ other) ≡ after_all (after_all outbox one) other
-after_all-append outbox [] other = refl
-after_all-append outbox (first ∷ one) other = after_all-append (after outbox first) one other
-
-calls_along-append : (outbox : OutboxState) (one other : List Traffic) → calls_along outbox (one ++ other) ≡ calls_along outbox one ++ calls_along (after_all outbox one) other
-calls_along-append outbox [] other = refl
-calls_along-append outbox (first ∷ one) other =
-    ap (λ (cs : List Call). calls_at outbox first ++ cs) (calls_along-append (after outbox first) one other)
-    ∙ sym (append_assoc (calls_at outbox first) (calls_along (after outbox first) one) (calls_along (after_all (after outbox first) one) other))
+-- ---- lists that are joined
 
 rows_after_all-append : (one other : List Change) (rows : List Row) → rows_after_all (one ++ other) rows ≡ rows_after_all other (rows_after_all one rows)
 rows_after_all-append [] other rows = refl
@@ -443,145 +106,234 @@ bodies_added-append (first ∷ one) other =
     ap (λ (bs : List CallBody). added_at first ++ bs) (bodies_added-append one other)
     ∙ sym (append_assoc (added_at first) (bodies_added one) (bodies_added other))
 
--- along a history the outbox at a place has the traffic of its events, and sends the calls of its replies
+-- ---- traffic that comes or doesn't
+
+after_all-cons : (outbox : OutboxState) (first : Option Traffic) (later : List Traffic)
+    → after_all outbox (cons_option first later) ≡ after_all (outbox_with first outbox) later
+after_all-cons outbox None later = refl
+after_all-cons outbox (Some traffic) later = refl
+
+calls_along-cons : (outbox : OutboxState) (first : Option Traffic) (later : List Traffic)
+    → calls_along outbox (cons_option first later) ≡ sent_by_effect outbox first ++ calls_along (outbox_with first outbox) later
+calls_along-cons outbox None later = refl
+calls_along-cons outbox (Some traffic) later = refl
+
+calls_confirmed-cons : (outbox : OutboxState) (first : Option Traffic) (later : List Traffic)
+    → calls_confirmed outbox (cons_option first later) ≡ confirmed_by_effect outbox first ++ calls_confirmed (outbox_with first outbox) later
+calls_confirmed-cons outbox None later = refl
+calls_confirmed-cons outbox (Some traffic) later = refl
+
+bodies_added-cons : (first : Option Traffic) (later : List Traffic) → bodies_added (cons_option first later) ≡ bodies_in first ++ bodies_added later
+bodies_added-cons None later = refl
+bodies_added-cons (Some traffic) later = refl
+
+-- ---- a point along its own events
+
+outbox_along : (point : ChargePointState) (events : List Event)
+    → (point_by_all point events).outbox ≡ after_all point.outbox (filter_map traffic_by_event events)
+outbox_along point [] = refl
+outbox_along point (event ∷ later) =
+    outbox_along (point_by point event) later ∙ sym (after_all-cons point.outbox (traffic_by_event event) (filter_map traffic_by_event later))
+
+rows_after_end : (found : Option ℕ) (rows : List Row) → rows_after_stop found rows ≡ rows_after_all (end_at found) rows
+rows_after_end None rows = refl
+rows_after_end (Some connector) rows = refl
+
+rows_changed : (book : Book) (change : Option BookChange) → (book_with change book).rows ≡ rows_after_all (changes_in book change) book.rows
+rows_changed book None = refl
+rows_changed book (Some (Install row)) = refl
+rows_changed book (Some (Clear criteria)) = refl
+rows_changed book (Some (Start connector begin number)) = refl
+rows_changed book (Some (Stop number)) = rows_after_end (connector_of book.transactions number) book.rows
+
+rows_along : (point : ChargePointState) (events : List Event)
+    → (point_by_all point events).book.rows ≡ rows_after_all (changes_from point events) point.book.rows
+rows_along point [] = refl
+rows_along point (event ∷ later) =
+    rows_along (point_by point event) later
+    ∙ ap (rows_after_all (changes_from (point_by point event) later)) (rows_changed point.book (change_by event.step event.reply))
+    ∙ sym (rows_after_all-append (changes_by point event) (changes_from (point_by point event) later) point.book.rows)
+
+-- ---- along a history
+
+-- the point at a place is what its own events make of it, and it is sent and confirms the calls of their
+-- replies
 record Follows (place : ℕ) (old : MachineState) (history : List Event) (new : MachineState) : Type 0 where
   site : new.site ≡ old.site
   many : HasPlaces new
-  -- so do its book and what changes it
-  rows : (book_at new place).rows ≡ rows_after_all (changes_from (book_at old place).transactions (events_at old.site place history)) (book_at old place).rows
-  calls : (slots : List (Option Transaction)) → filter_map call_of (changes_from slots (events_at old.site place history)) ≡ bodies_added (traffic_of old.site place history)
-  outbox : outbox_at new place ≡ after_all (outbox_at old place) (traffic_of old.site place history)
+  point : point_at new place ≡ point_by_all (point_at old place) (events_at old.site place history)
   sent : calls_sent old.site place history ≡ calls_along (outbox_at old place) (traffic_of old.site place history)
+  confirmed : numbers_of_calls (calls_confirmed (outbox_at old place) (traffic_of old.site place history)) ≡ numbers_confirmed old.site place history
+  -- the changes of its profiles that are calls are those that its outbox is brought
+  calls : (point : ChargePointState) → filter_map call_of (changes_from point (events_at old.site place history)) ≡ bodies_added (traffic_of old.site place history)
 
-places_still : (place : ℕ) (old : MachineState) (step : Step) (made : Made) → HasPlaces old → ActsAt place old step made → HasPlaces made.after
-places_still place old step made many act = record {
-  outboxes = act.many ∙ many.outboxes ∙ ap (λ (s : SiteState). length s.points) (sym act.site);
-  books = act.book.many ∙ many.books ∙ ap (λ (s : SiteState). length s.points) (sym act.site);
-}
-
-follows_more : (place : ℕ) (old middle : MachineState) (event : Event) (later : List Event) (new : MachineState) → ActsAt place old event.step (record { reply = event.reply; after = middle })
-    → Follows place middle later new → Follows place old (event ∷ later) new
-follows_more place old middle event later new act rest = by (names old.site place event.step) refl
+follows_more : (place : ℕ) (old middle : MachineState) (event : Event) (later : List Event) (new : MachineState) → middle.site ≡ old.site
+    → Acts place old event.step (record { reply = event.reply; after = middle }) → Follows place middle later new → Follows place old (event ∷ later) new
+follows_more place old middle event later new site act there = by (names old.site place event.step) refl
   where
+    rest : Follows place (record middle { site = old.site }) later new
+    rest = subst (λ (s : SiteState). Follows place (record middle { site = s }) later new) site there
+
+    events : List Event
+    events = events_at old.site place later
+
     traffic : List Traffic
     traffic = traffic_of old.site place later
 
-    calls : List Call
-    calls = calls_sent old.site place later
-
-    rest_outbox : outbox_at new place ≡ after_all (outbox_at middle place) traffic
-    rest_outbox = rest.outbox ∙ ap (λ (s : SiteState). after_all (outbox_at middle place) (traffic_of s place later)) act.site
-
-    rest_sent : calls ≡ calls_along (outbox_at middle place) traffic
-    rest_sent = subst (λ (s : SiteState). calls_sent s place later ≡ calls_along (outbox_at middle place) (traffic_of s place later)) act.site rest.sent
-
-    before : Book
-    before = book_at old place
-
-    between : Book
-    between = book_at middle place
-
-    changes : List (Option Transaction) → List Change
-    changes slots = changes_from slots (events_at old.site place later)
-
-    rest_rows : (book_at new place).rows ≡ rows_after_all (changes between.transactions) between.rows
-    rest_rows = subst (λ (s : SiteState). (book_at new place).rows ≡ rows_after_all (changes_from between.transactions (events_at s place later)) between.rows) act.site rest.rows
-
-    rest_calls : (slots : List (Option Transaction)) → filter_map call_of (changes slots) ≡ bodies_added traffic
-    rest_calls slots = subst (λ (s : SiteState). filter_map call_of (changes_from slots (events_at s place later)) ≡ bodies_added (traffic_of s place later)) act.site (rest.calls slots)
+    first : Option Traffic
+    first = traffic_by_event event
 
     by : (named : Bool) → names old.site place event.step ≡ named → Follows place old (event ∷ later) new
     by true is =
-        let here : outbox_at middle place ≡ after_all (outbox_at old place) (traffic_by_event event) =
-        act.outbox ∙ ap (λ (b : Bool). cond b (after_all (outbox_at old place) (traffic_by_event event)) (outbox_at old place)) is in
-        let events : events_at old.site place (event ∷ later) ≡ event ∷ events_at old.site place later =
-        ap (λ (b : Bool). cond b (event ∷ events_at old.site place later) (events_at old.site place later)) is in
-        let after_slots : List (Option Transaction) = slots_after before.transactions event.step event.reply in
-        let slots : between.transactions ≡ after_slots = act.book.slots ∙ ap (λ (b : Bool). cond b after_slots before.transactions) is in
-        let after_rows : List Row = rows_after_all (changes_by before.transactions event.step event.reply) before.rows in
-        let rows : between.rows ≡ after_rows = act.book.rows ∙ ap (λ (b : Bool). cond b after_rows before.rows) is in
-        let one : calls_by_event event ≡ calls_along (outbox_at old place) (traffic_by_event event) = act.sent is in
+        let all : events_at old.site place (event ∷ later) ≡ event ∷ events = ap (λ (b : Bool). cond b (event ∷ events) events) is in
+        let here : point_at middle place ≡ point_by (point_at old place) event =
+        act.point ∙ ap (λ (b : Bool). cond b (point_by (point_at old place) event) (point_at old place)) is in
+        let box : outbox_at middle place ≡ outbox_with first (outbox_at old place) = ap (λ (p : ChargePointState). p.outbox) here in
         record {
-          site = rest.site ∙ act.site;
+          site = rest.site;
           many = rest.many;
-          rows = rest_rows ∙ ap₂ (λ (slots : List (Option Transaction)) (rows : List Row). rows_after_all (changes slots) rows) slots rows
-              ∙ sym (rows_after_all-append (changes_by before.transactions event.step event.reply) (changes after_slots) before.rows)
-              ∙ ap (λ (es : List Event). rows_after_all (changes_from before.transactions es) before.rows) (sym events);
-          calls = λ slots. ap (λ (es : List Event). filter_map call_of (changes_from slots es)) events
-              ∙ filter_map-append call_of (changes_by slots event.step event.reply) (changes (slots_after slots event.step event.reply))
-              ∙ ap₂ (λ (one other : List CallBody). one ++ other) (act.book.calls slots) (rest_calls (slots_after slots event.step event.reply))
-              ∙ sym (bodies_added-append (traffic_by_event event) traffic)
-              ∙ ap (λ (es : List Event). bodies_added (flat_map traffic_by_event es)) (sym events);
-          outbox = rest_outbox ∙ ap (λ (o : OutboxState). after_all o traffic) here ∙ sym (after_all-append (outbox_at old place) (traffic_by_event event) traffic)
-              ∙ ap (λ (es : List Event). after_all (outbox_at old place) (flat_map traffic_by_event es)) (sym events);
-          sent = ap (λ (es : List Event). flat_map calls_by_event es) events
-              ∙ ap (λ (cs : List Call). cs ++ calls) one
-              ∙ ap (λ (cs : List Call). calls_along (outbox_at old place) (traffic_by_event event) ++ cs) (rest_sent ∙ ap (λ (o : OutboxState). calls_along o traffic) here)
-              ∙ sym (calls_along-append (outbox_at old place) (traffic_by_event event) traffic)
-              ∙ ap (λ (es : List Event). calls_along (outbox_at old place) (flat_map traffic_by_event es)) (sym events);
+          point = rest.point ∙ ap (λ (p : ChargePointState). point_by_all p events) here
+              ∙ ap (point_by_all (point_at old place)) (sym all);
+          sent = ap (flat_map calls_by_event) all
+              ∙ ap₂ (λ (one other : List Call). one ++ other) (act.sent is) (rest.sent ∙ ap (λ (o : OutboxState). calls_along o traffic) box)
+              ∙ sym (calls_along-cons (outbox_at old place) first traffic)
+              ∙ ap (λ (es : List Event). calls_along (outbox_at old place) (filter_map traffic_by_event es)) (sym all);
+          confirmed = ap (λ (es : List Event). numbers_of_calls (calls_confirmed (outbox_at old place) (filter_map traffic_by_event es))) all
+              ∙ ap numbers_of_calls (calls_confirmed-cons (outbox_at old place) first traffic)
+              ∙ map-append (λ (call : Call). call.number) (confirmed_by_effect (outbox_at old place) first) (calls_confirmed (outbox_with first (outbox_at old place)) traffic)
+              ∙ ap₂ (λ (one other : List ℕ). one ++ other) (act.confirmed is)
+              (ap (λ (o : OutboxState). numbers_of_calls (calls_confirmed o traffic)) (sym box) ∙ rest.confirmed)
+              ∙ ap (flat_map confirmed_by_event) (sym all);
+          calls = λ point. ap (λ (es : List Event). filter_map call_of (changes_from point es)) all
+              ∙ filter_map-append call_of (changes_by point event) (changes_from (point_by point event) events)
+              ∙ ap₂ (λ (one other : List CallBody). one ++ other) (act.bodies point.book) (rest.calls (point_by point event))
+              ∙ sym (bodies_added-cons first traffic)
+              ∙ ap (λ (es : List Event). bodies_added (filter_map traffic_by_event es)) (sym all);
         }
     by false is =
-        let here : outbox_at middle place ≡ outbox_at old place =
-        act.outbox ∙ ap (λ (b : Bool). cond b (after_all (outbox_at old place) (traffic_by_event event)) (outbox_at old place)) is in
-        let events : events_at old.site place (event ∷ later) ≡ events_at old.site place later =
-        ap (λ (b : Bool). cond b (event ∷ events_at old.site place later) (events_at old.site place later)) is in
-        let slots : between.transactions ≡ before.transactions =
-        act.book.slots ∙ ap (λ (b : Bool). cond b (slots_after before.transactions event.step event.reply) before.transactions) is in
-        let rows : between.rows ≡ before.rows =
-        act.book.rows ∙ ap (λ (b : Bool). cond b (rows_after_all (changes_by before.transactions event.step event.reply) before.rows) before.rows) is in
+        let all : events_at old.site place (event ∷ later) ≡ events = ap (λ (b : Bool). cond b (event ∷ events) events) is in
+        let here : point_at middle place ≡ point_at old place =
+        act.point ∙ ap (λ (b : Bool). cond b (point_by (point_at old place) event) (point_at old place)) is in
+        let box : outbox_at middle place ≡ outbox_at old place = ap (λ (p : ChargePointState). p.outbox) here in
         record {
-          site = rest.site ∙ act.site;
+          site = rest.site;
           many = rest.many;
-          rows = rest_rows ∙ ap₂ (λ (slots : List (Option Transaction)) (rows : List Row). rows_after_all (changes slots) rows) slots rows
-              ∙ ap (λ (es : List Event). rows_after_all (changes_from before.transactions es) before.rows) (sym events);
-          calls = λ slots. ap (λ (es : List Event). filter_map call_of (changes_from slots es)) events ∙ rest_calls slots
-              ∙ ap (λ (es : List Event). bodies_added (flat_map traffic_by_event es)) (sym events);
-          outbox = rest_outbox ∙ ap (λ (o : OutboxState). after_all o traffic) here
-              ∙ ap (λ (es : List Event). after_all (outbox_at old place) (flat_map traffic_by_event es)) (sym events);
-          sent = ap (λ (es : List Event). flat_map calls_by_event es) events
-              ∙ rest_sent ∙ ap (λ (o : OutboxState). calls_along o traffic) here
-              ∙ ap (λ (es : List Event). calls_along (outbox_at old place) (flat_map traffic_by_event es)) (sym events);
+          point = rest.point ∙ ap (λ (p : ChargePointState). point_by_all p events) here
+              ∙ ap (point_by_all (point_at old place)) (sym all);
+          sent = ap (flat_map calls_by_event) all ∙ rest.sent ∙ ap (λ (o : OutboxState). calls_along o traffic) box
+              ∙ ap (λ (es : List Event). calls_along (outbox_at old place) (filter_map traffic_by_event es)) (sym all);
+          confirmed = ap (λ (es : List Event). numbers_of_calls (calls_confirmed (outbox_at old place) (filter_map traffic_by_event es))) all
+              ∙ ap (λ (o : OutboxState). numbers_of_calls (calls_confirmed o traffic)) (sym box) ∙ rest.confirmed
+              ∙ ap (flat_map confirmed_by_event) (sym all);
+          calls = λ point. ap (λ (es : List Event). filter_map call_of (changes_from point es)) all ∙ rest.calls point
+              ∙ ap (λ (es : List Event). bodies_added (filter_map traffic_by_event es)) (sym all);
         }
 
-follows_outbox : (place : ℕ) (old : MachineState) (history : List Event) (new : MachineState) → HasPlaces old → Legal old history new → Follows place old history new
-follows_outbox place old [] new many legal = record {
+places_still : (place : ℕ) (old : MachineState) (event : Event) (middle : MachineState) → HasPlaces old → middle.site ≡ old.site
+    → Acts place old event.step (record { reply = event.reply; after = middle }) → HasPlaces middle
+places_still place old event middle many site act = act.many ∙ many ∙ ap (λ (s : SiteState). length s.points) (sym site)
+
+follows : (place : ℕ) (old : MachineState) (history : List Event) (new : MachineState) → HasPlaces old → Legal old history new → Follows place old history new
+follows place old [] new many legal = record {
   site = ap (λ (s : MachineState). s.site) legal;
   many = subst HasPlaces (sym legal) many;
-  rows = ap (λ (s : MachineState). (book_at s place).rows) legal;
-  calls = λ slots. refl;
-  outbox = ap (λ (s : MachineState). outbox_at s place) legal;
+  point = ap (λ (s : MachineState). point_at s place) legal;
   sent = refl;
+  confirmed = refl;
+  calls = λ point. refl;
 }
-follows_outbox place old (event ∷ later) new many legal =
-    let act : ActsAt place old event.step (record { reply = event.reply; after = legal.0 }) = acts place old event.step event.reply legal.0 many legal.1 in
-    let still : HasPlaces legal.0 = places_still place old event.step (record { reply = event.reply; after = legal.0 }) many act in
-    follows_more place old legal.0 event later new act (follows_outbox place legal.0 later new still legal.2)
+follows place old (event ∷ later) new many legal =
+    let is = does old event.step event.reply legal.0 legal.1 in
+    let site = keeps_site old event.step (record { reply = event.reply; after = legal.0 }) is in
+    let act = acts place old event.step (record { reply = event.reply; after = legal.0 }) many is in
+    follows_more place old legal.0 event later new site act
+    (follows place legal.0 later new (places_still place old event legal.0 many site act) legal.2)
+
+-- ---- from any state
+
+of_machine : (place : ℕ) (old : MachineState) (history : List Event) (new : MachineState) → IsMachine old → Legal old history new → Follows place old history new
+of_machine place old history new is legal = follows place old history new (as_many old.site old.points is.points) legal
+
+pub points_follow : PointsFollowHistories
+points_follow old history new is legal place = (of_machine place old history new is legal).point
+
+outbox_follows : (place : ℕ) (old : MachineState) (history : List Event) (new : MachineState) → Follows place old history new
+    → outbox_at new place ≡ after_all (outbox_at old place) (traffic_of old.site place history)
+outbox_follows place old history new is =
+    ap (λ (p : ChargePointState). p.outbox) is.point ∙ outbox_along (point_at old place) (events_at old.site place history)
+
+rows_follow_from : (place : ℕ) (old : MachineState) (history : List Event) (new : MachineState) → Follows place old history new
+    → (book_at new place).rows ≡ rows_after_all (changes_from (point_at old place) (events_at old.site place history)) (book_at old place).rows
+rows_follow_from place old history new is =
+    ap (λ (p : ChargePointState). p.book.rows) is.point ∙ rows_along (point_at old place) (events_at old.site place history)
+
+pub rows_go_on : RowsGoOn
+rows_go_on old history new is legal place = rows_follow_from place old history new (of_machine place old history new is legal)
+
+numbers_by : (old : MachineState) (history : List Event) (new : MachineState) (place : ℕ) → Follows place old history new
+    → numbers_of_calls (calls_sent old.site place history) ≡ numbers_sent (outbox_at old place) (traffic_of old.site place history)
+numbers_by old history new place is =
+    ap numbers_of_calls is.sent ∙ numbers_along (outbox_at old place) (traffic_of old.site place history)
+
+-- the calls of an outbox have the numbers from its first to before its next
+from_numbers : (first next : ℕ) (calls : List Call) → map (λ (call : Call). call.number) calls ≡ range_with_len first (length calls)
+    → first + length calls ≡ next → AreFrom first calls next
+from_numbers first next [] numbers end = omega (arith, end)
+from_numbers first next (call ∷ later) numbers end =
+    let here : call.number ≡ first = cc in
+    let rest : map (λ (call : Call). call.number) later ≡ range_with_len (first + 1) (length later) = cc in
+    (here, from_numbers (first + 1) next later rest (omega (arith, end)))
+
+pub go_on_in_order : CallsGoOnInOrder
+go_on_in_order old history new is legal place box =
+    let state = outbox_at old place in
+    let first = first_number state in
+    let drawn = box.drawn in
+    subst (GoesOn first) (sym (numbers_by old history new place (of_machine place old history new is legal)))
+    (goes_on (traffic_of old.site place history) state.link state.calls state.next state.is_in_flight first first
+    (from_numbers first state.next state.calls box.numbers (omega (arith, drawn))) (inl refl) (λ flies. refl))
+
+pub sent_as_kept : CallsAreSentAsKept
+sent_as_kept old history new is legal place =
+    let state = outbox_at old place in
+    let all = calls_since old place history in
+    subst (AllByRecursion (Contains all)) (sym (of_machine place old history new is legal).sent)
+    (each_along (Contains all) (traffic_of old.site place history) state.link state.calls state.next state.is_in_flight
+    (recursion_from_All (Contains all) all (All-contains_itself all)))
+
+pub stay_unless_confirmed : CallsStayUnlessConfirmed
+stay_unless_confirmed old history new is legal place =
+    let state = outbox_at old place in
+    let traffic = traffic_of old.site place history in
+    ap (λ (o : OutboxState). calls_confirmed state traffic ++ o.calls) (outbox_follows place old history new (of_machine place old history new is legal))
+    ∙ left traffic state.link state.calls state.next state.is_in_flight
 
 -- ---- from the opening
 
-opening_of_each : (points : List PointEntry) (place : ℕ) → slice_index_or (map opening_outbox_of points) place opening_outbox ≡ opening_outbox
-opening_of_each [] place = refl
-opening_of_each (point ∷ points) zero = refl
-opening_of_each (point ∷ points) (suc place) = opening_of_each points place
+opening_outbox_of_each : (points : List PointEntry) (place : ℕ) → (slice_index_or (map opening_point points) place no_point).outbox ≡ opening_outbox
+opening_outbox_of_each [] place = refl
+opening_outbox_of_each (point ∷ points) zero = refl
+opening_outbox_of_each (point ∷ points) (suc place) = opening_outbox_of_each points place
 
-opening_places : (site : SiteState) (numbers : Numbers) → HasPlaces (opening_at site numbers)
-opening_places site numbers =
-    record { outboxes = length-map site.points opening_outbox_of; books = length-map site.points opening_book }
+no_rows_of_each : (points : List PointEntry) (place : ℕ) → (slice_index_or (map opening_point points) place no_point).book.rows ≡ []
+no_rows_of_each [] place = refl
+no_rows_of_each (point ∷ points) zero = refl
+no_rows_of_each (point ∷ points) (suc place) = no_rows_of_each points place
 
 from_opening : (site : SiteState) (numbers : Numbers) (history : List Event) (state : MachineState) (place : ℕ) → Legal (opening_at site numbers) history state
     → Follows place (opening_at site numbers) history state
 from_opening site numbers history state place legal =
-    follows_outbox place (opening_at site numbers) history state (opening_places site numbers) legal
+    follows place (opening_at site numbers) history state (length-map site.points opening_point) legal
 
 pub outboxes_follow : OutboxesFollowHistories
 outboxes_follow site numbers history state legal point place here =
-    (from_opening site numbers history state place legal).outbox
-    ∙ ap (λ (o : OutboxState). after_all o (traffic_of site place history)) (opening_of_each site.points place)
+    outbox_follows place (opening_at site numbers) history state (from_opening site numbers history state place legal)
+    ∙ ap (λ (o : OutboxState). after_all o (traffic_of site place history)) (opening_outbox_of_each site.points place)
 
 sent_along : (site : SiteState) (numbers : Numbers) (history : List Event) (state : MachineState) (place : ℕ) → Legal (opening_at site numbers) history state
     → calls_sent site place history ≡ calls_along opening_outbox (traffic_of site place history)
 sent_along site numbers history state place legal =
-    (from_opening site numbers history state place legal).sent ∙ ap (λ (o : OutboxState). calls_along o (traffic_of site place history)) (opening_of_each site.points place)
+    (from_opening site numbers history state place legal).sent ∙ ap (λ (o : OutboxState). calls_along o (traffic_of site place history)) (opening_outbox_of_each site.points place)
 
 numbers_by_history : (site : SiteState) (numbers : Numbers) (history : List Event) (state : MachineState) (place : ℕ)
     → Legal (opening_at site numbers) history state
@@ -607,16 +359,16 @@ left_of_history site numbers history state legal point place here =
     ap (λ (o : OutboxState). calls_confirmed opening_outbox traffic ++ o.calls) (outboxes_follow site numbers history state legal point place here)
     ∙ left_unless_confirmed traffic
 
--- ---- its profiles
+pub confirmed_by_history : ConfirmationsAreEvents
+confirmed_by_history site numbers history state legal point place here =
+    ap (λ (o : OutboxState). numbers_of_calls (calls_confirmed o (traffic_of site place history))) (sym (opening_outbox_of_each site.points place))
+    ∙ (from_opening site numbers history state place legal).confirmed
 
-no_rows_of_each : (points : List PointEntry) (place : ℕ) → (slice_index_or (map opening_book points) place (empty_book 0 [])).rows ≡ []
-no_rows_of_each [] place = refl
-no_rows_of_each (point ∷ points) zero = refl
-no_rows_of_each (point ∷ points) (suc place) = no_rows_of_each points place
+-- ---- its profiles
 
 pub rows_follow : RowsFollowHistories
 rows_follow site numbers history state legal point place here =
-    (from_opening site numbers history state place legal).rows
+    rows_follow_from place (opening_at site numbers) history state (from_opening site numbers history state place legal)
     ∙ ap (λ (rows : List Row). rows_after_all (changes_of site place history) rows) (no_rows_of_each site.points place)
 
 legal_join : (old : MachineState) (earlier : List Event) (middle : MachineState) (later : List Event) (new : MachineState)
@@ -625,14 +377,14 @@ legal_join old [] middle later new legal then_legal = subst (λ (m : MachineStat
 legal_join old (event ∷ earlier) middle later new legal then_legal = (legal.0, legal.1, legal_join legal.0 earlier middle later new legal.2 then_legal)
 
 -- the changes of more events are more changes
-changes_more : (slots : List (Option Transaction)) (one other : List Event) → (more : List Change) × (changes_from slots (one ++ other) ≡ changes_from slots one ++ more)
-changes_more slots [] other = (changes_from slots other, refl)
-changes_more slots (event ∷ one) other =
-    let first = changes_by slots event.step event.reply in
-    let after_slots = slots_after slots event.step event.reply in
-    let rest = changes_more after_slots one other in (
+changes_more : (point : ChargePointState) (one other : List Event) → (more : List Change) × (changes_from point (one ++ other) ≡ changes_from point one ++ more)
+changes_more point [] other = (changes_from point other, refl)
+changes_more point (event ∷ one) other =
+    let first = changes_by point event in
+    let next = point_by point event in
+    let rest = changes_more next one other in (
       rest.0,
-      ap (λ (cs : List Change). first ++ cs) rest.1 ∙ sym (append_assoc first (changes_from after_slots one) rest.0),
+      ap (λ (cs : List Change). first ++ cs) rest.1 ∙ sym (append_assoc first (changes_from next one) rest.0),
     )
 
 -- after as many calls as the first changes have, the lasting rows are those after these changes
@@ -658,14 +410,14 @@ in_step_after site numbers earlier later middle state legal then_legal point pla
     let all = changes_of site place (earlier ++ later) in
     let so_far = changes_of site place earlier in
     let number = last_number first.number others in
-    let slots = opening_slots site place in
+    let began = opening_at_place site place in
     let test : Event → Bool = λ event. names site place event.step in
-    let more = changes_more slots (events_at site place earlier) (events_at site place later) in
-    let split : all ≡ so_far ++ more.0 = ap (changes_from slots) (filter-append test earlier later) ∙ more.1 in
+    let more = changes_more began (events_at site place earlier) (events_at site place later) in
+    let split : all ≡ so_far ++ more.0 = ap (changes_from began) (filter-append test earlier later) ∙ more.1 in
     let whole = from_opening site numbers (earlier ++ later) state place (legal_join opening_state earlier middle later state legal then_legal) in
     let part = from_opening site numbers earlier middle place legal in
-    let calls : calls_of all ≡ bodies_of site place (earlier ++ later) = ap all_calls (whole.calls slots) in
-    let count : number ≡ length (filter_map call_of so_far) = last ∙ ap (λ (bs : List CallBody). length bs) (sym (part.calls slots)) in
+    let calls : calls_of all ≡ bodies_of site place (earlier ++ later) = ap all_calls (whole.calls began) in
+    let count : number ≡ length (filter_map call_of so_far) = last ∙ ap (λ (bs : List CallBody). length bs) (sym (part.calls began)) in
     ap (λ (bs : List CallBody). lasting (obeyed bs (first ∷ others) rows)) (sym calls)
     ∙ stays_in_step all first others rows order
     ∙ ap (λ (cs : List Change). lasting (rows_after_call number cs [])) split
@@ -677,30 +429,42 @@ stay_in_step site numbers history state point place here first others rows order
     ap (λ (events : List Event). lasting (obeyed (bodies_of site place events) (first ∷ others) rows)) moment.parts
     ∙ in_step_after site numbers moment.earlier moment.later moment.state state moment.before moment.since point place here first others rows order (sym moment.many)
 
-pub obeying_stay_in_step : ObeyingPointsStayInStep
-obeying_stay_in_step site numbers history state legal point place here are_obeyed each first others rows is moment =
+pub obey_in_order : CallsAreObeyedInOrder
+obey_in_order site numbers history state legal point place here are_obeyed each =
     let traffic = traffic_of site place history in
     let same = numbers_by_history site numbers history state place legal in
     let each_sent : AllByRecursion (IsObeyed (numbers_obeyed traffic are_obeyed)) (calls_confirmed opening_outbox traffic) =
     subst (λ (sent : List ℕ). AllByRecursion (IsObeyed (obeyed_numbers are_obeyed sent)) (calls_confirmed opening_outbox traffic)) same each in
+    subst (λ (sent : List ℕ). AreInSendingOrder (obeyed_numbers are_obeyed sent)) (sym same) (obeyed_in_order traffic are_obeyed each_sent)
+
+pub obeying_stay_in_step : ObeyingPointsStayInStep
+obeying_stay_in_step site numbers history state legal point place here are_obeyed each first others rows is moment =
     let order : AreInSendingOrder (numbers_of (first ∷ others)) =
-    subst AreInSendingOrder (sym is)
-    (subst (λ (sent : List ℕ). AreInSendingOrder (obeyed_numbers are_obeyed sent)) (sym same) (obeyed_in_order traffic are_obeyed each_sent)) in
+    subst AreInSendingOrder (sym is) (obey_in_order site numbers history state legal point place here are_obeyed each) in
     stay_in_step site numbers history state point place here first others rows order moment
 
 -- ---- the moments of its calls
 
 accepted-append : (site : SiteState) (place : ℕ) (one other : List Event) → accepted site place (one ++ other) ≡ accepted site place one ++ accepted site place other
 accepted-append site place one other =
-    ap (λ (es : List Event). bodies_added (flat_map traffic_by_event es)) (filter-append (λ (event : Event). names site place event.step) one other)
-    ∙ ap bodies_added (flat_map-append traffic_by_event (events_at site place one) (events_at site place other))
+    ap (λ (es : List Event). bodies_added (filter_map traffic_by_event es)) (filter-append (λ (event : Event). names site place event.step) one other)
+    ∙ ap bodies_added (filter_map-append traffic_by_event (events_at site place one) (events_at site place other))
     ∙ bodies_added-append (traffic_of site place one) (traffic_of site place other)
 
-few_accepted : (site : SiteState) (place : ℕ) (event : Event) → length (bodies_added (traffic_by_event event)) ≤ 1 → length (accepted site place (event ∷ [])) ≤ 1
-few_accepted site place event few = go (names site place event.step)
+-- no event adds more than one call
+one_at_most : (one : Option Traffic) → length (bodies_added (cons_option one [])) ≤ 1
+one_at_most None = omega arith
+one_at_most (Some (Attach link)) = omega arith
+one_at_most (Some Lose) = omega arith
+one_at_most (Some (Add body)) = omega arith
+one_at_most (Some Send) = omega arith
+one_at_most (Some (Confirm number)) = omega arith
+
+few_accepted : (site : SiteState) (place : ℕ) (event : Event) → length (accepted site place (event ∷ [])) ≤ 1
+few_accepted site place event = go (names site place event.step)
   where
-    go : (named : Bool) → length (bodies_added (flat_map traffic_by_event (cond named (event ∷ []) []))) ≤ 1
-    go true = subst (λ (ts : List Traffic). length (bodies_added ts) ≤ 1) (sym (append-nil (traffic_by_event event))) few
+    go : (named : Bool) → length (bodies_added (filter_map traffic_by_event (cond named (event ∷ []) []))) ≤ 1
+    go true = one_at_most (traffic_by_event event)
     go false = omega arith
 
 moment : (place : ℕ) (old : MachineState) (history : List Event) (new : MachineState) → HasPlaces old → Legal old history new
@@ -709,19 +473,21 @@ moment place old history new many legal zero within =
     record { earlier = []; later = history; state = old; parts = refl; before = refl; since = legal; many = refl }
 moment place old [] new many legal (suc number) within = absurd (omega arith)
 moment place old (event ∷ later) new many legal (suc number) within =
-    let act : ActsAt place old event.step (record { reply = event.reply; after = legal.0 }) = acts place old event.step event.reply legal.0 many legal.1 in
-    let still : HasPlaces legal.0 = places_still place old event.step (record { reply = event.reply; after = legal.0 }) many act in
+    let is = does old event.step event.reply legal.0 legal.1 in
+    let site = keeps_site old event.step (record { reply = event.reply; after = legal.0 }) is in
+    let act = acts place old event.step (record { reply = event.reply; after = legal.0 }) many is in
+    let still = places_still place old event legal.0 many site act in
     let first = length (accepted old.site place (event ∷ [])) in
-    let few : first ≤ 1 = few_accepted old.site place event act.few in
+    let few : first ≤ 1 = few_accepted old.site place event in
     let join = λ (events : List Event). ap (λ (bs : List CallBody). length bs) (accepted-append old.site place (event ∷ []) events)
     ∙ length-append (accepted old.site place (event ∷ [])) (accepted old.site place events) in
     let all : length (accepted old.site place (event ∷ later)) ≡ first + length (accepted old.site place later) = join later in
     let left : suc number - first ≤ length (accepted old.site place later) = omega (arith, all, few, within) in
     let there : suc number - first ≤ length (accepted legal.0.site place later) =
-    subst (λ (s : SiteState). suc number - first ≤ length (accepted s place later)) (sym act.site) left in
+    subst (λ (s : SiteState). suc number - first ≤ length (accepted s place later)) (sym site) left in
     let rest = moment place legal.0 later new still legal.2 (suc number - first) there in
     let counted : length (accepted old.site place rest.earlier) ≡ suc number - first =
-    subst (λ (s : SiteState). length (accepted s place rest.earlier) ≡ suc number - first) act.site rest.many in
+    subst (λ (s : SiteState). length (accepted s place rest.earlier) ≡ suc number - first) site rest.many in
     record {
       earlier = event ∷ rest.earlier;
       later = rest.later;
@@ -734,4 +500,4 @@ moment place old (event ∷ later) new many legal (suc number) within =
 
 pub moments : EachCallHasItsMoment
 moments site numbers history state legal point place here number within =
-    moment place (opening_at site numbers) history state (opening_places site numbers) legal number within
+    moment place (opening_at site numbers) history state (length-map site.points opening_point) legal number within

@@ -1,22 +1,22 @@
 -- What is so of the machine after a change, and what it makes of a step.
-use Rattle.std.proofs.Common.{◌≡◌, ℕ, ◌+◌, ◌≤◌, ◌==◌, true, false, cond, List, slice_set, Option, Some, None, IfNone, Result, Ok, Err, length, refl, ap, ◌∙◌, arith}
+use Rattle.std.proofs.Common.{◌≡◌, ℕ, ◌+◌, ◌≤◌, ◌<◌, get_or, sym, subst, ◌==◌, true, false, cond, List, slice_set, Option, Some, None, IfNone, Result, Ok, Err, length, refl, ap, ◌∙◌, arith}
 use Rattle.std.proofs.lemmas.Bool.{eqb-false}
-use Rattle.std.proofs.lemmas.List.{length-set}
+use Rattle.std.proofs.lemmas.List.{get_or_default}
 use Rattle.ocpp_scalars.specs.declared.refusal.Refusal.{Refusal}
-use Rattle.ocpp_scalars.specs.declared.refusal.Refusal.TheVariants.{Stopped, UnknownPoint, OutboxFull, VersionsExhausted, TransactionsExhausted}
+use Rattle.ocpp_scalars.specs.declared.refusal.Refusal.TheVariants.{Stopped, UnknownPoint, VersionsExhausted, TransactionsExhausted}
 use Rattle.profile.specs.declared.row.Row.{Row}
-use Rattle.site_rules.specs.Site.{place_of}
 use Rattle.site_rules.specs.Admission.{admission_refusal}
-use Rattle.point_book.specs.Book.{Book}
 use Rattle.point_book.specs.Changes.{first_cause, install_refusal}
 use Rattle.site_core.specs.declared.reply.Reply.TheVariants.{Compiled}
 use Rattle.site_core.specs.Limits.{max_number, max_transaction}
-use Rattle.site_core.specs.Outbox.{OutboxState, is_full, is_exhausted}
-use Rattle.site_core.specs.State.{MachineState, Kept, IsMachine, book_at, outbox_at, connectors_of_book}
-use Rattle.site_core.specs.Step.{Made, at_point, at_place, version_refusal, refusal_to_call, refusal_to_install, refusal_to_start, with_transaction, Compiles}
+use Rattle.site_rules.specs.Site.{SiteState, place_of}
+use Rattle.site_core.specs.declared.numbers.Numbers.{Numbers}
+use Rattle.site_core.specs.ChargePoint.{ChargePointState}
+use Rattle.site_core.specs.State.{MachineState, Kept, IsMachine, no_point, point_at, connectors_in_book}
+use Rattle.site_core.specs.Step.{Made, at_point, at_place, version_refusal, transaction_number_refusal, refusal_to_add, refusal_to_call, refusal_to_install, refusal_to_start, Compiles}
 use Rattle.site_core.specs.ByCases.Requests.{IsCompiledIn}
 use Rattle.site_core.specs.ByCases.Made.{place_in, found_place}
-use Rattle.site_core.proofs.BookLemmas.{replaced}
+use Rattle.site_core.proofs.PointLemmas.{replaced}
 
 -- what holds, holds where there is nothing
 pub holds_if_none : {X P : Type 0} (option : Option X) → P → IfNone option P
@@ -37,61 +37,56 @@ both_none None next none = (refl, none)
 both_none (Some refusal) next none = absurd (cc none)
 
 -- a call that may be added leaves room for a version
-pub call_draws_version : (old : MachineState) (place : ℕ) → None ≡ refusal_to_call old place → None ≡ version_refusal old
-call_draws_version old place none =
-    elim (is_full (outbox_at old place)) as (λ full. None ≡ cond full (Some OutboxFull) (cond (is_exhausted (outbox_at old place)) (Some VersionsExhausted) (version_refusal old)) → None ≡ version_refusal old) [
-      | true ↦ λ h. absurd (cc h)
-      | false ↦ λ h. not_exhausted h
-    ] none
-  where
-    not_exhausted : None ≡ cond (is_exhausted (outbox_at old place)) (Some VersionsExhausted) (version_refusal old) → None ≡ version_refusal old
-    not_exhausted h =
-        elim (is_exhausted (outbox_at old place)) as (λ last. None ≡ cond last (Some VersionsExhausted) (version_refusal old) → None ≡ version_refusal old) [
-          | true ↦ λ k. absurd (cc k)
-          | false ↦ λ k. k
-        ] h
+pub call_draws_version : (numbers : Numbers) (point : ChargePointState) → None ≡ refusal_to_call numbers point → None ≡ version_refusal numbers
+call_draws_version numbers point none = (both_none (refusal_to_add point.outbox) (version_refusal numbers) none).1
 
 -- an install that may be made is a call that may be added
-pub install_calls : (old : MachineState) (point : List ℕ) (row : Row) (place : ℕ) → None ≡ refusal_to_install old point row place → None ≡ refusal_to_call old place
-install_calls old point row place none =
-    let later = both_none (admission_refusal old.site point row.connector row.profile) (first_cause (install_refusal (book_at old place) row) (refusal_to_call old place)) none in
-    (both_none (install_refusal (book_at old place) row) (refusal_to_call old place) later.1).1
+pub install_calls : (site : SiteState) (numbers : Numbers) (id : List ℕ) (row : Row) (point : ChargePointState) → None ≡ refusal_to_install site numbers id row point → None ≡ refusal_to_call numbers point
+install_calls site numbers id row point none =
+    let later = both_none (admission_refusal site id row.connector row.profile) (first_cause (install_refusal point.book row) (refusal_to_call numbers point)) none in
+    (both_none (install_refusal point.book row) (refusal_to_call numbers point) later.1).1
 
--- after a change of a book, which has as many connectors as before, and of one outbox at most
-pub changed_fits : (old : MachineState) (place : ℕ) (book : Book) (books : List Book) (outboxes : List OutboxState) → IsMachine old
-    → connectors_of_book book ≡ connectors_of_book (book_at old place) → None ≡ version_refusal old → books ≡ slice_set old.books place book
-    → length outboxes ≡ length old.outboxes
-    → IsMachine (record old { books = books; outboxes = outboxes; numbers = record old.numbers { version = old.numbers.version + 1 } })
-changed_fits old place book books outboxes fits same none set as_many = record {
-  books = rw set (replaced old.site old.books place book fits.books same);
-  outboxes = as_many ∙ fits.outboxes;
-  numbers = record {
-    version = below_limit old.numbers.version max_number VersionsExhausted fits.numbers.version none;
-    request = fits.numbers.request;
-    transaction = fits.numbers.transaction;
-    link = fits.numbers.link;
-  };
-  few = fits.few;
-}
+-- after an effect at one point, which has as many connectors as before
+pub moved_fits : (old : MachineState) (place : ℕ) (was new : ChargePointState) → IsMachine old → place < length old.points
+    → was ≡ get_or old.points place was → connectors_in_book new ≡ connectors_in_book was
+    → IsMachine (record old { points = slice_set old.points place new })
+moved_fits old place was new fits within read same =
+    let here : was ≡ point_at old place = read ∙ get_or_default old.points place was no_point within in
+    record {
+      points = replaced old.site old.points place new fits.points (same ∙ ap connectors_in_book here);
+      numbers = fits.numbers;
+      few = fits.few;
+    }
 
--- after a call is added too
-pub called_fits : (old : MachineState) (place : ℕ) (book : Book) (books : List Book) (outbox : OutboxState) (outboxes : List OutboxState) → IsMachine old
-    → connectors_of_book book ≡ connectors_of_book (book_at old place) → None ≡ refusal_to_call old place → books ≡ slice_set old.books place book
-    → outboxes ≡ slice_set old.outboxes place outbox
-    → IsMachine (record old { books = books; outboxes = outboxes; numbers = record old.numbers { version = old.numbers.version + 1 } })
-called_fits old place book books outbox outboxes fits same none set added =
-    changed_fits old place book books outboxes fits same (call_draws_version old place none) set (ap (λ (l : List OutboxState). length l) added ∙ length-set old.outboxes place outbox)
+-- after one that draws a version
+pub changed_fits : (old : MachineState) (place : ℕ) (was new : ChargePointState) → IsMachine old → place < length old.points
+    → was ≡ get_or old.points place was → connectors_in_book new ≡ connectors_in_book was → None ≡ version_refusal old.numbers
+    → IsMachine (record old { points = slice_set old.points place new; numbers = record old.numbers { version = old.numbers.version + 1 } })
+changed_fits old place was new fits within read same none =
+    let moved = moved_fits old place was new fits within read same in
+    record {
+      points = moved.points;
+      numbers = record {
+        version = below_limit old.numbers.version max_number VersionsExhausted fits.numbers.version none;
+        request = fits.numbers.request;
+        transaction = fits.numbers.transaction;
+        link = fits.numbers.link;
+      };
+      few = fits.few;
+    }
 
 -- after a start, which draws a transaction number too
-pub started_fits : (old : MachineState) (place : ℕ) (book : Book) (books : List Book) → IsMachine old
-    → connectors_of_book book ≡ connectors_of_book (book_at old place) → None ≡ refusal_to_start old → books ≡ slice_set old.books place book
-    → IsMachine (with_transaction (record old { books = books; numbers = record old.numbers { version = old.numbers.version + 1 } }))
-started_fits old place book books fits same none set =
-    let causes = both_none (version_refusal old) _ none in
-    let changed = changed_fits old place book books old.outboxes fits same causes.0 set refl in
+pub started_fits : (old : MachineState) (place : ℕ) (was new : ChargePointState) → IsMachine old → place < length old.points
+    → was ≡ get_or old.points place was → connectors_in_book new ≡ connectors_in_book was → None ≡ refusal_to_start old.numbers
+    → IsMachine (record old {
+      points = slice_set old.points place new;
+      numbers = record old.numbers { version = old.numbers.version + 1; transaction = old.numbers.transaction + 1 };
+    })
+started_fits old place was new fits within read same none =
+    let causes = both_none (version_refusal old.numbers) (transaction_number_refusal old.numbers) none in
+    let changed = changed_fits old place was new fits within read same causes.0 in
     record {
-      books = changed.books;
-      outboxes = changed.outboxes;
+      points = changed.points;
       numbers = record {
         version = changed.numbers.version;
         request = changed.numbers.request;
@@ -99,6 +94,23 @@ started_fits old place book books fits same none set =
         link = changed.numbers.link;
       };
       few = changed.few;
+    }
+
+-- after a new link, which draws its number
+pub linked_fits : (old : MachineState) (place : ℕ) (was new : ChargePointState) → IsMachine old → place < length old.points
+    → was ≡ get_or old.points place was → connectors_in_book new ≡ connectors_in_book was → old.numbers.link + 1 ≤ max_number
+    → IsMachine (record old { points = slice_set old.points place new; numbers = record old.numbers { link = old.numbers.link + 1 } })
+linked_fits old place was new fits within read same below =
+    let moved = moved_fits old place was new fits within read same in
+    record {
+      points = moved.points;
+      numbers = record {
+        version = fits.numbers.version;
+        request = fits.numbers.request;
+        transaction = fits.numbers.transaction;
+        link = below;
+      };
+      few = fits.few;
     }
 
 -- what is made at a point is what is made at its place

@@ -3,8 +3,8 @@
 use Rattle.std.proofs.Common.{◌≡◌, ℕ, ◌+◌, ◌<◌, ◌≤◌, ◌==◌, zero, suc, Bool, true, false, cond, ◌⊎◌, inl, inr, refl, sym, ◌∙◌, ap, subst, List, [], ◌∷◌, ◌++◌, length, slice_index_or, Option, None, Some, arith}
 use Rattle.std.specs.List.{AllByRecursion}
 use Rattle.messages.specs.declared.call.Call.{Call}
-use Rattle.site_core.specs.Outbox.{OutboxState, opening_outbox}
-use Rattle.site_core.specs.OutboxOrder.{Traffic, Attach, Lose, Add, Send, Confirm, GoesOn, AreInSendingOrder, numbers_sent, calls_confirmed}
+use Rattle.site_core.specs.Outbox.{OutboxState, opening_outbox, Traffic, Attach, Lose, Add, Send, Confirm}
+use Rattle.site_core.specs.OutboxOrder.{GoesOn, AreInSendingOrder, numbers_sent, calls_confirmed}
 use Rattle.site_core.specs.ObeyOrder.{obeyed_numbers, IsObeyed, AreObeyedInOrder}
 use Rattle.site_core.proofs.OutboxOrderLemmas.{outbox, AreFrom, from_push, sent_in_order}
 

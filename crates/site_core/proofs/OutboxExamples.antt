@@ -3,8 +3,8 @@ use Rattle.std.proofs.Common.{◌≡◌, refl, pos, List, [], ◌∷◌, map, tr
 use Rattle.messages.specs.declared.call.Call.{Call}
 use Rattle.messages.specs.declared.call.CallBody.{CallBody}
 use Rattle.messages.specs.declared.call.CallBody.TheVariants.{Clear}
-use Rattle.site_core.specs.Outbox.{opening_outbox}
-use Rattle.site_core.specs.OutboxOrder.{Traffic, Attach, Lose, Add, Send, Confirm, after_all, numbers_sent, calls_confirmed}
+use Rattle.site_core.specs.Outbox.{opening_outbox, Traffic, Attach, Lose, Add, Send, Confirm, after_all}
+use Rattle.site_core.specs.OutboxOrder.{numbers_sent, calls_confirmed}
 
 abbrev seven : CallBody
 seven = Clear (record { id = Some (pos 7); connector = None; purpose = None; stack_level = None })

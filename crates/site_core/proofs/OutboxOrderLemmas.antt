@@ -2,8 +2,8 @@
 use Rattle.std.proofs.Common.{◌≡◌, ℕ, ◌+◌, ◌==◌, Bool, true, false, cond, ◌⊎◌, inl, inr, refl, sym, ◌∙◌, ap, List, [], ◌∷◌, ◌++◌, Option, None, Some, append-nil, append_assoc, subst}
 use Rattle.messages.specs.declared.call.Call.{Call}
 use Rattle.messages.specs.declared.call.CallBody.{CallBody}
-use Rattle.site_core.specs.Outbox.{OutboxState, numbered}
-use Rattle.site_core.specs.OutboxOrder.{Traffic, Attach, Lose, Add, Send, Confirm, GoesOn, AreInSendingOrder, AreSentInOrder, AreLeftUnlessConfirmed, after_all, numbers_sent, calls_confirmed, bodies_added}
+use Rattle.site_core.specs.Outbox.{OutboxState, numbered, Traffic, Attach, Lose, Add, Send, Confirm, after_all}
+use Rattle.site_core.specs.OutboxOrder.{GoesOn, AreInSendingOrder, AreSentInOrder, AreLeftUnlessConfirmed, numbers_sent, calls_confirmed, bodies_added}
 
 abbrev pub outbox : Option ℕ → List Call → ℕ → Bool → OutboxState
 outbox link calls next is_in_flight = record { link = link; calls = calls; next = next; is_in_flight = is_in_flight }
@@ -21,7 +21,7 @@ from_push first (call ∷ later) next body are = (are.0, from_push (first + 1) l
 -- ---- the order of sendings
 
 -- after the sending of a call, that call or the next one is the first
-goes_on : (traffic : List Traffic) (link : Option ℕ) (calls : List Call) (next : ℕ) (is_in_flight : Bool) (last first : ℕ)
+pub goes_on : (traffic : List Traffic) (link : Option ℕ) (calls : List Call) (next : ℕ) (is_in_flight : Bool) (last first : ℕ)
     → AreFrom first calls next → (first ≡ last) ⊎ (first ≡ last + 1) → (is_in_flight ≡ true → first ≡ last)
     → GoesOn last (numbers_sent (outbox link calls next is_in_flight) traffic)
 goes_on [] link calls next is_in_flight last first are near flies = tt
@@ -71,7 +71,7 @@ sent_in_order traffic = begins traffic None _ 1 (refl, refl)
 -- ---- the calls that are left
 
 -- the confirmed calls and those that are left are those from before and the added ones
-left : (traffic : List Traffic) (link : Option ℕ) (calls : List Call) (next : ℕ) (is_in_flight : Bool)
+pub left : (traffic : List Traffic) (link : Option ℕ) (calls : List Call) (next : ℕ) (is_in_flight : Bool)
     → calls_confirmed (outbox link calls next is_in_flight) traffic ++ (after_all (outbox link calls next is_in_flight) traffic).calls
     ≡ calls ++ numbered next (bodies_added traffic)
 left [] link calls next is_in_flight = sym (append-nil calls)

@@ -1,46 +1,37 @@
--- What the steps that are made leave of the site, of the kept requests and of their numbers.
-use Rattle.std.proofs.Common.{◌≡◌, ℕ, ℤ, ◌+◌, Bool, true, false, cond, List, Option, Some, None, Result, Ok, Err, slice_set, refl, sym, ap, ◌∙◌, subst}
-use Rattle.std.proofs.Common.{inl, inr, ◌||◌, ◌&&◌, ◌==◌, nat_lt, length, is_some}
+-- What the steps that are made do at the point that they name, and what they leave of the site, of the kept
+-- requests and of their numbers.
+use Rattle.std.proofs.Common.{◌≡◌, ℕ, ℤ, ◌+◌, ◌<◌, ◌==◌, Bool, true, false, cond, List, [], ◌++◌, Option, Some, None, Result, Ok, Err, slice_set, slice_index_or, length, is_some, refl, sym, ap, ◌∙◌, subst, inl, inr, ◌&&◌}
+use Rattle.std.proofs.lemmas.Bool.{eqb-true}
+use Rattle.std.proofs.lemmas.List.{length-set}
+use Rattle.std.proofs.lemmas.List.Quantifiers.{position-Some}
 use Rattle.std.specs.Prelude.{IfOk, ◌⊎◌}
-use Rattle.std.specs.List.{list_any}
-use Rattle.profile.specs.Changes.{matches}
+use Rattle.std.specs.Str.{bytes_eq}
+use Rattle.std.specs.List.{filter_map}
+use Rattle.point_book.specs.Book.{Book}
 use Rattle.ocpp_scalars.specs.declared.refusal.Refusal.{Refusal}
 use Rattle.ocpp_scalars.specs.declared.refusal.Refusal.TheVariants as refusals
-use Rattle.profile.specs.declared.row.Row.{Row}
-use Rattle.profile.specs.declared.criteria.Criteria.{Criteria}
-use Rattle.transactions.specs.declared.begin.Begin.{Begin}
-use Rattle.transactions.specs.declared.active_table.Began.{Began}
-use Rattle.transactions.specs.declared.active_table.Began.TheVariants.{Fresh, Repeat}
-use Rattle.transactions.specs.ActiveTable.{began, connector_of}
 use Rattle.meaning.specs.declared.ask.Ask.{Ask}
-use Rattle.site_rules.specs.Site.{SiteState, place_of}
-use Rattle.point_book.specs.Book.{Book}
-use Rattle.point_book.specs.Changes.{book_installed, book_cleared, book_started, book_stopped}
+use Rattle.site_rules.specs.Site.{SiteState, PointEntry, place_of}
+use Rattle.messages.specs.declared.call.Call.{Call}
 use Rattle.site_core.specs.declared.step.Step.{Step}
 use Rattle.site_core.specs.declared.step.Step.TheVariants as steps
 use Rattle.site_core.specs.declared.step.Take.{Take}
 use Rattle.site_core.specs.declared.reply.Reply.{Reply}
-use Rattle.site_core.specs.declared.reply.Reply.TheVariants.{Accepted, Unknown, Started, Ended, NoSuch, Taken, Compiled, Answered, NotYet, Finished, Confirmed}
-use Rattle.site_core.specs.State.{MachineState, Kept, ScheduleAnswer, book_in, book_at, outbox_at, is_this_number}
+use Rattle.site_core.specs.declared.reply.Reply.TheVariants.{Taken, Compiled, Answered, NotYet, Finished}
+use Rattle.site_core.specs.Outbox.{OutboxState}
+use Rattle.site_core.specs.Obey.{call_of}
+use Rattle.site_core.specs.ChargePoint.{ChargePointState, Effect, point_after, drawn_by}
+use Rattle.site_core.specs.State.{MachineState, Kept, ScheduleAnswer, no_point, point_in, point_at, book_at, outbox_at, is_this_number}
 use Rattle.site_core.specs.Requests.{request_of, answered, without, all_stopped}
 use Rattle.site_core.specs.Right.{IsCompiledFor}
 use Rattle.site_core.specs.Ask.{ask_at}
-use Rattle.messages.specs.declared.call.Call.{Call}
-use Rattle.messages.specs.declared.call.CallBody.TheVariants as bodies
-use Rattle.site_core.specs.Outbox.{sendable, is_number_in_flight, confirmed}
-use Rattle.site_core.specs.Step.{at_link, at_linked_place, attaches, sends, sends_call, confirms, loses, with_outbox, changed_by_call, refusal_to_call}
-use Rattle.site_core.specs.Step.{Made, Steps, unless, changed, version_refusal, next_transaction, at_place, at_point, installs, clears, starts, starts_as, stops, takes, takes_ask, with_request, compiles_kept, answers_kept, answers_with, finishes, unchanged, stepped, no_answer}
-use Rattle.site_core.specs.History.{reply_takes, asks_answer_of, has_answer}
+use Rattle.site_core.specs.Step.{Told, Made, Steps, unless, done, done_at, told_at, affected, at_place, at_point, at_link, at_linked_place, takes, takes_ask, with_request, compiles_kept, answers_kept, answers_with, finishes, unchanged, stepped, no_answer, installs, clears, starts, stops, attaches, sends, confirms, loses}
+use Rattle.site_core.specs.History.{Event, reply_takes, asks_answer_of, has_answer}
+use Rattle.site_core.specs.CallOrder.{is_at, place_named, names, effect_by, traffic_by, point_by, calls_by, confirmed_by, numbers_of_calls, change_by, changes_in}
+use Rattle.site_core.proofs.EffectLemmas.{Agrees, told_reply, told_effect, done_is, draws_no_request, changed_in, sent_by_effect, confirmed_by_effect, bodies_in, unless_holds, either_holds}
+use Rattle.site_core.proofs.EffectLemmas.{install_agrees, clear_agrees, start_agrees, stop_agrees, attach_agrees, send_agrees, confirm_agrees, lose_agrees}
 
 -- ---- what holds of whatever is made
-
-pub unless_made : (P : Made → Type 0) (refusal : Option Refusal) (made : Made) → P made → IfOk (unless refusal made) P
-unless_made P None made h = h
-unless_made P (Some refusal) made h = tt
-
-pub either_made : (P : Made → Type 0) (test : Bool) (one other : Result Made Refusal) → IfOk one P → IfOk other P → IfOk (cond test one other) P
-either_made P true one other h k = h
-either_made P false one other h k = k
 
 pub at_point_made : (P : Made → Type 0) (old : MachineState) (point : List ℕ) (made_at : ℕ → Result Made Refusal)
     → ((place : ℕ) → old.is_stopped ≡ false → place_of old.site point ≡ Some place → IfOk (made_at place) P) → IfOk (at_point old point made_at) P
@@ -51,104 +42,147 @@ at_point_made P old point made_at each = go old.is_stopped refl (place_of old.si
     go false is None here = tt
     go false is (Some place) here = each place is here
 
--- ---- the books
+-- what is made over a link is made at the place of its point
+at_link_made : (P : Made → Type 0) (old : MachineState) (point : List ℕ) (link : ℕ) (made_at : ℕ → Result Made Refusal)
+    → ((place : ℕ) → place_of old.site point ≡ Some place → IfOk (made_at place) P) → IfOk (at_link old point link made_at) P
+at_link_made P old point link made_at each =
+    either_holds P old.is_stopped (Err refusals.Stopped) (at_linked_place old link (place_of old.site point) made_at) tt (found (place_of old.site point) refl)
+  where
+    found : (place : Option ℕ) → place_of old.site point ≡ place → IfOk (at_linked_place old link place made_at) P
+    found None here = tt
+    found (Some place) here = either_holds P (is_this_number link (outbox_at old place).link) (made_at place) (Err refusals.Superseded) (each place here) tt
 
--- the books with that of one place changed
-abbrev pub with_change : List Book → Option ℕ → (Book → Book) → List Book
-with_change books None change = books
-with_change books (Some place) change = slice_set books place (change (book_in books place))
+-- ---- steps at a point
 
--- what an event makes of the books
-abbrev pub books_after : SiteState → List Book → Step → Reply → List Book
-books_after site books (steps.Install point row) Accepted = with_change books (place_of site point) (λ book. book_installed book row)
-books_after site books (steps.Clear point criteria) Accepted = with_change books (place_of site point) (λ book. book_cleared book criteria)
-books_after site books (steps.Start point connector begin) (Started number) = with_change books (place_of site point) (λ book. book_started book connector begin number)
-books_after site books (steps.Stop point number) Ended = with_change books (place_of site point) (λ book. book_stopped book number)
-books_after site books step reply = books
+-- A step is made at the place of a point: it comes to what the laws say of its event.
+record IsAtPoint (old : MachineState) (point : List ℕ) (step : Step) (made : Made) : Type 0 where
+  place : ℕ
+  here : place_of old.site point ≡ Some place
+  told : Told
+  is : done old place told ≡ made
+  agrees : Agrees (point_at old place) step told
 
-at_its_place : (old : MachineState) (point : List ℕ) (place : ℕ) (change : Book → Book) → place_of old.site point ≡ Some place
-    → slice_set old.books place (change (book_at old place)) ≡ with_change old.books (place_of old.site point) change
-at_its_place old point place change here = ap (λ (o : Option ℕ). with_change old.books o change) (sym here)
+by_told : (old : MachineState) (point : List ℕ) (step : Step) (place : ℕ) → place_of old.site point ≡ Some place
+    → (result : Result Told Refusal) → IfOk result (Agrees (point_at old place) step) → IfOk (done_at old place result) (IsAtPoint old point step)
+by_told old point step place here (Ok told) agrees = record { place = place; here = here; told = told; is = refl; agrees = agrees }
+by_told old point step place here (Err refusal) agrees = tt
 
--- ---- the steps that leave the requests as they are
+at_its_point : (old : MachineState) (point : List ℕ) (step : Step) (told : ChargePointState → Result Told Refusal)
+    → ((kept : ChargePointState) → IfOk (told kept) (Agrees kept step)) → IfOk (at_point old point (told_at old told)) (IsAtPoint old point step)
+at_its_point old point step told agrees =
+    at_point_made (IsAtPoint old point step) old point (told_at old told) (λ place going here.
+    by_told old point step place here (told (point_at old place)) (agrees (point_at old place)))
+
+over_its_link : (old : MachineState) (point : List ℕ) (link : ℕ) (step : Step) (told : ChargePointState → Result Told Refusal)
+    → ((kept : ChargePointState) → IfOk (told kept) (Agrees kept step)) → IfOk (at_link old point link (told_at old told)) (IsAtPoint old point step)
+over_its_link old point link step told agrees =
+    at_link_made (IsAtPoint old point step) old point link (told_at old told) (λ place here.
+    by_told old point step place here (told (point_at old place)) (agrees (point_at old place)))
+
+-- ---- what a step leaves, and what it does to the point at a place
+
+-- as many points as in the site file
+abbrev pub HasPlaces : MachineState → Type 0
+HasPlaces state = length state.points ≡ length state.site.points
+
+-- the point at a place is what the event makes of it where that names it, and else as it was
+pub record Acts (place : ℕ) (old : MachineState) (step : Step) (made : Made) : Type 0 where
+  pub many : length made.after.points ≡ length old.points
+  pub point : point_at made.after place
+      ≡ cond (names old.site place step) (point_by (point_at old place) (record { step = step; reply = made.reply })) (point_at old place)
+  pub sent : names old.site place step ≡ true → calls_by step made.reply ≡ sent_by_effect (outbox_at old place) (traffic_by step made.reply)
+  pub confirmed : names old.site place step ≡ true
+      → numbers_of_calls (confirmed_by_effect (outbox_at old place) (traffic_by step made.reply)) ≡ confirmed_by step made.reply
+  pub bodies : (book : Book) → filter_map call_of (changes_in book (change_by step made.reply)) ≡ bodies_in (traffic_by step made.reply)
+
+-- the points after an effect at a place, if there is one
+abbrev pub points_by : List ChargePointState → Option ℕ → Effect → List ChargePointState
+points_by points None effect = points
+points_by points (Some place) effect = slice_set points place (point_after (point_in points place) effect)
 
 pub record LeavesRequests (old : MachineState) (step : Step) (made : Made) : Type 0 where
   pub site : made.after.site ≡ old.site
-  pub books : made.after.books ≡ books_after old.site old.books step made.reply
   pub requests : made.after.requests ≡ old.requests
   pub drawn : made.after.numbers.request ≡ old.numbers.request
   pub stopped : made.after.is_stopped ≡ old.is_stopped
   pub no_take : (number : ℕ) → reply_takes number made.reply ≡ false
   pub no_answer : (number : ℕ) → (asks_answer_of number step && has_answer made.reply) ≡ false
+  pub points : made.after.points ≡ points_by old.points (place_named old.site step) (effect_by step made.reply)
+  pub acts : (place : ℕ) → HasPlaces old → Acts place old step made
 
-installs_leaves : (old : MachineState) (point : List ℕ) (row : Row) → IfOk (stepped no_answer old (steps.Install point row)) (LeavesRequests old (steps.Install point row))
-installs_leaves old point row =
-    at_point_made (LeavesRequests old (steps.Install point row)) old point (installs old point row) (λ place going here.
-    unless_made (LeavesRequests old (steps.Install point row)) _ _ (record { site = refl; books = at_its_place old point place (λ book. book_installed book row) here; requests = refl; drawn = refl; stopped = refl; no_take = λ number. refl; no_answer = λ number. refl }))
+pub place_within : (site : SiteState) (point : List ℕ) (place : ℕ) → place_of site point ≡ Some place → place < length site.points
+place_within site point place here =
+    let blank : PointEntry = record { id = []; ceiling = 0; ceilings = [] } in
+    (position-Some (λ (p : PointEntry). bytes_eq point p.id) site.points place blank here).0
 
-clears_leaves : (old : MachineState) (point : List ℕ) (criteria : Criteria) → IfOk (stepped no_answer old (steps.Clear point criteria)) (LeavesRequests old (steps.Clear point criteria))
-clears_leaves old point criteria =
-    at_point_made (LeavesRequests old (steps.Clear point criteria)) old point (clears old criteria) (λ place going here.
-    let done : Made = record { reply = Accepted; after = changed_by_call old place (book_cleared (book_at old place) criteria) (bodies.Clear criteria) } in
-    either_made (LeavesRequests old (steps.Clear point criteria)) (list_any (matches criteria) (book_at old place).rows) (unless (refusal_to_call old place) done) (Ok (unchanged old Unknown))
-    (unless_made (LeavesRequests old (steps.Clear point criteria)) (refusal_to_call old place) done (record { site = refl; books = at_its_place old point place (λ book. book_cleared book criteria) here; requests = refl; drawn = refl; stopped = refl; no_take = λ number. refl; no_answer = λ number. refl }))
-    (record { site = refl; books = refl; requests = refl; drawn = refl; stopped = refl; no_take = λ number. refl; no_answer = λ number. refl }))
+either_way : {X : Type 0} (b : Bool) (x : X) → x ≡ cond b x x
+either_way true x = refl
+either_way false x = refl
 
-starts_as_leaves : (old : MachineState) (point : List ℕ) (found : Began) (connector : ℕ) (begin : Begin) (place : ℕ) → place_of old.site point ≡ Some place → IfOk (starts_as found old connector begin place) (LeavesRequests old (steps.Start point connector begin))
-starts_as_leaves old point (Repeat number) connector begin place here = record { site = refl; books = refl; requests = refl; drawn = refl; stopped = refl; no_take = λ number. refl; no_answer = λ number. refl }
-starts_as_leaves old point Fresh connector begin place here =
-    unless_made (LeavesRequests old (steps.Start point connector begin)) _ _ (record { site = refl; books = at_its_place old point place (λ book. book_started book connector begin (next_transaction old)) here; requests = refl; drawn = refl; stopped = refl; no_take = λ number. refl; no_answer = λ number. refl })
+-- where points stay as they are, and the event has no effect
+pub idle : (place : ℕ) (old : MachineState) (step : Step) (made : Made) → made.after.points ≡ old.points
+    → point_by (point_at old place) (record { step = step; reply = made.reply }) ≡ point_at old place
+    → calls_by step made.reply ≡ sent_by_effect (outbox_at old place) (traffic_by step made.reply)
+    → numbers_of_calls (confirmed_by_effect (outbox_at old place) (traffic_by step made.reply)) ≡ confirmed_by step made.reply
+    → ((book : Book) → filter_map call_of (changes_in book (change_by step made.reply)) ≡ bodies_in (traffic_by step made.reply))
+    → Acts place old step made
+idle place old step made same none sent confirmed bodies = record {
+  many = ap (λ (points : List ChargePointState). length points) same;
+  point = ap (λ (points : List ChargePointState). slice_index_or points place no_point) same
+      ∙ either_way (names old.site place step) (point_at old place)
+      ∙ ap (λ (p : ChargePointState). cond (names old.site place step) p (point_at old place)) (sym none);
+  sent = λ named. sent;
+  confirmed = λ named. confirmed;
+  bodies = bodies;
+}
 
-starts_leaves : (old : MachineState) (point : List ℕ) (connector : ℕ) (begin : Begin) → IfOk (stepped no_answer old (steps.Start point connector begin)) (LeavesRequests old (steps.Start point connector begin))
-starts_leaves old point connector begin =
-    at_point_made (LeavesRequests old (steps.Start point connector begin)) old point (starts old connector begin) (λ place going here.
-    either_made (LeavesRequests old (steps.Start point connector begin)) ((connector == 0) || nat_lt (length (book_at old place).ceilings) connector) (Err refusals.UnknownConnector)
-    (starts_as (began (book_at old place).transactions connector begin) old connector begin place) tt
-    (starts_as_leaves old point (began (book_at old place).transactions connector begin) connector begin place here))
-
-stops_leaves : (old : MachineState) (point : List ℕ) (number : ℤ) → IfOk (stepped no_answer old (steps.Stop point number)) (LeavesRequests old (steps.Stop point number))
-stops_leaves old point number =
-    at_point_made (LeavesRequests old (steps.Stop point number)) old point (stops old number) (λ place going here.
-    let done : Made = record { reply = Ended; after = changed old place (book_stopped (book_at old place) number) } in
-    either_made (LeavesRequests old (steps.Stop point number)) (is_some (connector_of (book_at old place).transactions number)) (unless (version_refusal old) done) (Ok (unchanged old NoSuch))
-    (unless_made (LeavesRequests old (steps.Stop point number)) (version_refusal old) done (record { site = refl; books = at_its_place old point place (λ book. book_stopped book number) here; requests = refl; drawn = refl; stopped = refl; no_take = λ number. refl; no_answer = λ number. refl }))
-    (record { site = refl; books = refl; requests = refl; drawn = refl; stopped = refl; no_take = λ number. refl; no_answer = λ number. refl }))
-
--- ---- links and calls
-
-at_link_made : (P : Made → Type 0) (old : MachineState) (point : List ℕ) (link : ℕ) (made_at : ℕ → Result Made Refusal)
-    → ((place : ℕ) → IfOk (made_at place) P) → IfOk (at_link old point link made_at) P
-at_link_made P old point link made_at each =
-    either_made P old.is_stopped (Err refusals.Stopped) (at_linked_place old link (place_of old.site point) made_at) tt (found (place_of old.site point))
+-- the effect of a step at its point
+acts_there : (place there : ℕ) (old : MachineState) (point : List ℕ) (step : Step) (told : Told) → HasPlaces old → place_of old.site point ≡ Some there
+    → names old.site place step ≡ is_at old.site place point → Agrees (point_at old there) step told
+    → Acts place old step (record { reply = told_reply told; after = affected old there (told_effect told) })
+acts_there place there old point step told many here named agrees = record {
+  many = length-set old.points there (point_after (point_at old there) (told_effect told));
+  point = changed_in old.points there place (λ (p : ChargePointState). point_after p (told_effect told)) no_point within
+      ∙ ap (λ (e : Effect). cond (there == place) (point_after (point_at old place) e) (point_at old place)) (sym agrees.effect)
+      ∙ ap (λ (b : Bool). cond b (point_after (point_at old place) (effect_by step (told_reply told))) (point_at old place)) (sym here_named);
+  sent = λ is. agrees.calls ∙ ap (λ (e : Effect). sent_by_effect (outbox_at old there) e.traffic) (sym agrees.effect)
+      ∙ ap (λ (p : ℕ). sent_by_effect (outbox_at old p) (traffic_by step (told_reply told))) (same is);
+  confirmed = λ is. ap (λ (p : ℕ). numbers_of_calls (confirmed_by_effect (outbox_at old p) (traffic_by step (told_reply told)))) (sym (same is))
+      ∙ ap (λ (e : Effect). numbers_of_calls (confirmed_by_effect (outbox_at old there) e.traffic)) agrees.effect ∙ agrees.confirmed;
+  bodies = λ book. ap (λ (e : Effect). filter_map call_of (changes_in book e.change)) agrees.effect ∙ agrees.bodies book
+      ∙ ap (λ (e : Effect). bodies_in e.traffic) (sym agrees.effect);
+}
   where
-    found : (place : Option ℕ) → IfOk (at_linked_place old link place made_at) P
-    found None = tt
-    found (Some place) = either_made P (is_this_number link (outbox_at old place).link) (made_at place) (Err refusals.Superseded) (each place) tt
+    within : there < length old.points
+    within = subst (λ (n : ℕ). there < n) (sym many) (place_within old.site point there here)
 
-attaches_leaves : (old : MachineState) (point : List ℕ) → IfOk (stepped no_answer old (steps.Attach point)) (LeavesRequests old (steps.Attach point))
-attaches_leaves old point =
-    at_point_made (LeavesRequests old (steps.Attach point)) old point (attaches old) (λ place going here.
-    unless_made (LeavesRequests old (steps.Attach point)) _ _ (record { site = refl; books = refl; requests = refl; drawn = refl; stopped = refl; no_take = λ number. refl; no_answer = λ number. refl }))
+    here_named : names old.site place step ≡ (there == place)
+    here_named = named ∙ ap (is_this_number place) here
 
-sends_leaves : (old : MachineState) (point : List ℕ) (link : ℕ) → IfOk (stepped no_answer old (steps.Send point link)) (LeavesRequests old (steps.Send point link))
-sends_leaves old point link =
-    at_link_made (LeavesRequests old (steps.Send point link)) old point link (sends old) (λ place. sent_call place (sendable (outbox_at old place)))
-  where
-    sent_call : (place : ℕ) (call : Option Call) → IfOk (sends_call old place call) (LeavesRequests old (steps.Send point link))
-    sent_call place None = record { site = refl; books = refl; requests = refl; drawn = refl; stopped = refl; no_take = λ number. refl; no_answer = λ number. refl }
-    sent_call place (Some call) = record { site = refl; books = refl; requests = refl; drawn = refl; stopped = refl; no_take = λ number. refl; no_answer = λ number. refl }
+    same : names old.site place step ≡ true → there ≡ place
+    same is = eqb-true there place (sym here_named ∙ is)
 
-confirms_leaves : (old : MachineState) (point : List ℕ) (link call : ℕ) → IfOk (stepped no_answer old (steps.Confirm point link call)) (LeavesRequests old (steps.Confirm point link call))
-confirms_leaves old point link call =
-    at_link_made (LeavesRequests old (steps.Confirm point link call)) old point link (confirms old call) (λ place.
-    let done : Made = record { reply = Confirmed; after = with_outbox old place (confirmed (outbox_at old place) call) } in
-    either_made (LeavesRequests old (steps.Confirm point link call)) (is_number_in_flight (outbox_at old place) call) (Ok done) (Err refusals.NothingInFlight)
-    (record { site = refl; books = refl; requests = refl; drawn = refl; stopped = refl; no_take = λ number. refl; no_answer = λ number. refl }) tt)
+false_and : (test other : Bool) → test ≡ false → (test && other) ≡ false
+false_and test other is = ap (λ (b : Bool). b && other) is
 
-loses_leaves : (old : MachineState) (point : List ℕ) (link : ℕ) → IfOk (stepped no_answer old (steps.Lost point link)) (LeavesRequests old (steps.Lost point link))
-loses_leaves old point link =
-    at_link_made (LeavesRequests old (steps.Lost point link)) old point link (loses old) (λ place.
-    record { site = refl; books = refl; requests = refl; drawn = refl; stopped = refl; no_take = λ number. refl; no_answer = λ number. refl })
+at_point_leaves : (old : MachineState) (point : List ℕ) (step : Step) (made : Made) → place_named old.site step ≡ place_of old.site point
+    → IsAtPoint old point step made → LeavesRequests old step made
+at_point_leaves old point step made named is =
+    subst (LeavesRequests old step) (sym (done_is old is.place is.told) ∙ is.is) (record {
+      site = refl;
+      requests = refl;
+      drawn = draws_no_request (told_effect is.told) old.numbers;
+      stopped = refl;
+      no_take = is.agrees.no_take;
+      no_answer = λ number. false_and (asks_answer_of number step) (has_answer (told_reply is.told)) (is.agrees.no_answer number);
+      points = ap (λ (e : Effect). slice_set old.points is.place (point_after (point_at old is.place) e)) (sym is.agrees.effect)
+          ∙ ap (λ (found : Option ℕ). points_by old.points found (effect_by step (told_reply is.told))) (sym (named ∙ is.here));
+      acts = λ place many. acts_there place is.place old point step is.told many is.here (ap (is_this_number place) named) is.agrees;
+    })
+
+-- what holds of whatever is made holds of what was made
+of_made : (P : Made → Type 0) (result : Result Made Refusal) (made : Made) → result ≡ Ok made → IfOk result P → P made
+of_made P result made is holds = subst (λ (r : Result Made Refusal). IfOk r P) is holds
 
 -- ---- Take
 
@@ -174,7 +208,7 @@ takes_is old take =
     asked : (place : ℕ) → old.is_stopped ≡ false → place_of old.site take.point ≡ Some place → (asking : Result Ask Refusal) → ask_at old.site.unit (book_at old place) take ≡ asking → IfOk (takes_ask old take place asking) (IsTaking old take)
     asked place going here (Err refusal) asks = tt
     asked place going here (Ok ask) asks =
-        unless_made (IsTaking old take) _ _ (record { place = place; point = here; ask = ask; asks = asks; going = going; is = refl })
+        unless_holds (IsTaking old take) _ _ (record { place = place; point = here; ask = ask; asks = asks; going = going; is = refl })
 
 -- ---- Compile
 
@@ -250,15 +284,25 @@ and_false : (test : Bool) → (test && false) ≡ false
 and_false true = refl
 and_false false = refl
 
+-- a step at a point leaves the requests
+done_leaves : (old : MachineState) (point : List ℕ) (step : Step) (result : Result Made Refusal) (made : Made)
+    → place_named old.site step ≡ place_of old.site point → result ≡ Ok made → IfOk result (IsAtPoint old point step) → Does old step made
+done_leaves old point step result made named is at =
+    leaves step made (at_point_leaves old point step made named (of_made (IsAtPoint old point step) result made is at))
+
 pub does : (old : MachineState) (step : Step) (reply : Reply) (new : MachineState) → Steps old step reply new → Does old step (record { reply = reply; after = new })
 does old (steps.Install point row) reply new made =
-    leaves _ _ (subst (λ (r : Result Made Refusal). IfOk r (LeavesRequests old (steps.Install point row))) made (installs_leaves old point row))
+    done_leaves old point (steps.Install point row) _ _ refl made
+    (at_its_point old point (steps.Install point row) (installs old.site old.numbers point row) (install_agrees old.site old.numbers point row))
 does old (steps.Clear point criteria) reply new made =
-    leaves _ _ (subst (λ (r : Result Made Refusal). IfOk r (LeavesRequests old (steps.Clear point criteria))) made (clears_leaves old point criteria))
+    done_leaves old point (steps.Clear point criteria) _ _ refl made
+    (at_its_point old point (steps.Clear point criteria) (clears old.numbers criteria) (clear_agrees old.numbers point criteria))
 does old (steps.Start point connector begin) reply new made =
-    leaves _ _ (subst (λ (r : Result Made Refusal). IfOk r (LeavesRequests old (steps.Start point connector begin))) made (starts_leaves old point connector begin))
+    done_leaves old point (steps.Start point connector begin) _ _ refl made
+    (at_its_point old point (steps.Start point connector begin) (starts old.numbers connector begin) (start_agrees old.numbers point connector begin))
 does old (steps.Stop point number) reply new made =
-    leaves _ _ (subst (λ (r : Result Made Refusal). IfOk r (LeavesRequests old (steps.Stop point number))) made (stops_leaves old point number))
+    done_leaves old point (steps.Stop point number) _ _ refl made
+    (at_its_point old point (steps.Stop point number) (stops old.numbers number) (stop_agrees old.numbers point number))
 does old (steps.Take take) reply new made =
     let taken : IsTaking old take (record { reply = reply; after = new }) = subst (λ (r : Result Made Refusal). IfOk r (IsTaking old take)) made (takes_is old take) in
     subst (Does old (steps.Take take)) taken.is (takes_one take taken.place taken.ask taken.point taken.asks taken.going)
@@ -274,7 +318,8 @@ does old (steps.Answer number) reply new made =
     handed (inl is) = subst (Does old (steps.Answer number)) is.is (hands_one number is.kept is.answer is.found is.has)
     handed (inr same) =
         subst (Does old (steps.Answer number)) same
-        (leaves _ _ (record { site = refl; books = refl; requests = refl; drawn = refl; stopped = refl; no_take = λ number. refl; no_answer = λ other. and_false (number == other) }))
+        (leaves _ _ (record { site = refl; requests = refl; drawn = refl; stopped = refl; no_take = λ number. refl; no_answer = λ other. and_false (number == other); points = refl;
+          acts = λ place many. idle place old (steps.Answer number) (unchanged old NotYet) refl refl refl refl (λ book. refl) }))
 does old steps.Finish reply new made = finished (finishes_is old)
   where
     is : finishes old ≡ record { reply = reply; after = new }
@@ -283,13 +328,35 @@ does old steps.Finish reply new made = finished (finishes_is old)
     finished : (unchanged old Finished ≡ finishes old) ⊎ (finishing old ≡ finishes old) → Does old steps.Finish (record { reply = reply; after = new })
     finished (inl same) =
         subst (Does old steps.Finish) (same ∙ is)
-        (leaves _ _ (record { site = refl; books = refl; requests = refl; drawn = refl; stopped = refl; no_take = λ number. refl; no_answer = λ number. refl }))
+        (leaves _ _ (record { site = refl; requests = refl; drawn = refl; stopped = refl; no_take = λ number. refl; no_answer = λ number. refl; points = refl;
+          acts = λ place many. idle place old steps.Finish (unchanged old Finished) refl refl refl refl (λ book. refl) }))
     finished (inr same) = subst (Does old steps.Finish) (same ∙ is) finishes_all
 does old (steps.Attach point) reply new made =
-    leaves _ _ (subst (λ (r : Result Made Refusal). IfOk r (LeavesRequests old (steps.Attach point))) made (attaches_leaves old point))
+    done_leaves old point (steps.Attach point) _ _ refl made
+    (at_its_point old point (steps.Attach point) (attaches old.numbers) (attach_agrees old.numbers point))
 does old (steps.Send point link) reply new made =
-    leaves _ _ (subst (λ (r : Result Made Refusal). IfOk r (LeavesRequests old (steps.Send point link))) made (sends_leaves old point link))
+    done_leaves old point (steps.Send point link) _ _ refl made
+    (over_its_link old point link (steps.Send point link) sends (send_agrees point link))
 does old (steps.Confirm point link call) reply new made =
-    leaves _ _ (subst (λ (r : Result Made Refusal). IfOk r (LeavesRequests old (steps.Confirm point link call))) made (confirms_leaves old point link call))
+    done_leaves old point (steps.Confirm point link call) _ _ refl made
+    (over_its_link old point link (steps.Confirm point link call) (confirms call) (confirm_agrees point link call))
 does old (steps.Lost point link) reply new made =
-    leaves _ _ (subst (λ (r : Result Made Refusal). IfOk r (LeavesRequests old (steps.Lost point link))) made (loses_leaves old point link))
+    done_leaves old point (steps.Lost point link) _ _ refl made
+    (over_its_link old point link (steps.Lost point link) loses (lose_agrees point link))
+
+-- ---- the points
+
+-- what every step does to the point at a place
+pub acts : (place : ℕ) (old : MachineState) (step : Step) (made : Made) → HasPlaces old → Does old step made → Acts place old step made
+acts place old step made many (leaves _ _ is) = is.acts place many
+acts place old step made many (takes_one take there ask point asks going) = idle place old (steps.Take take) (taking old there ask) refl refl refl refl (λ book. refl)
+acts place old step made many (compiles_one number kept answer found unanswered right) = idle place old (steps.Compile number) (compiling old number answer) refl refl refl refl (λ book. refl)
+acts place old step made many (hands_one number kept answer found has) = idle place old (steps.Answer number) (handing old kept answer) refl refl refl refl (λ book. refl)
+acts place old step made many finishes_all = idle place old steps.Finish (finishing old) refl refl refl refl (λ book. refl)
+
+pub keeps_site : (old : MachineState) (step : Step) (made : Made) → Does old step made → made.after.site ≡ old.site
+keeps_site old step made (leaves _ _ is) = is.site
+keeps_site old step made (takes_one take there ask point asks going) = refl
+keeps_site old step made (compiles_one number kept answer found unanswered right) = refl
+keeps_site old step made (hands_one number kept answer found has) = refl
+keeps_site old step made finishes_all = refl

@@ -13,7 +13,6 @@ use Rattle.meaning.specs.Composite.{Schedule}
 use Rattle.meaning.specs.Limit.{limit_asked}
 use Rattle.meaning.specs.ByCases.Ask.{ask_with}
 use Rattle.meaning.specs.Theory.ExactAnswers.{answered as exact_answered}
-use Rattle.messages.specs.declared.call.CallBody.TheVariants.{Set}
 use Rattle.site_rules.specs.Site.{SiteState}
 use Rattle.point_book.specs.Book.{Book, empty_book, state_of}
 use Rattle.point_book.specs.Changes.{book_installed}
@@ -23,7 +22,7 @@ use Rattle.site_core.specs.declared.reply.Reply.{Reply}
 use Rattle.site_core.specs.declared.reply.Reply.TheVariants.{Accepted, Answered, Compiled}
 use Rattle.site_core.specs.State.{MachineState, opening}
 use Rattle.site_core.specs.Right.{IsCompiledFor}
-use Rattle.site_core.specs.Step.{Made, Steps, changed_by_call, with_request}
+use Rattle.site_core.specs.Step.{Made, Steps, affected, installing, with_request}
 use Rattle.site_core.specs.Requests.{answered, without}
 use Rattle.site_core.specs.History.{Event, Legal, taken_event, answered_event}
 
@@ -78,7 +77,7 @@ abbrev taken : MachineState
 taken = with_request (opening site) before ask 0
 
 abbrev installed : MachineState
-installed = changed_by_call taken 0 after (Set 1 row.profile)
+installed = affected taken 0 (installing row)
 
 abbrev taken_again : MachineState
 taken_again = with_request installed after ask 0

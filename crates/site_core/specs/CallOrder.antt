@@ -1,10 +1,9 @@
 -- What the laws of outboxes and of points that obey say of the machine: the calls and the profiles
 -- of a point along a history.
-use Rattle.std.specs.Prelude.{ℕ, ◌≤◌, ◌≡◌, Bool, false, List, [], ◌∷◌, ◌++◌, length, map, filter, slice_get, Option, None, Some}
-use Rattle.std.specs.List.{flat_map, AllByRecursion}
+use Rattle.std.specs.Prelude.{ℕ, ◌≤◌, ◌≡◌, ◌-◌, Bool, false, List, [], ◌∷◌, ◌++◌, length, map, filter, slice_get, Option, None, Some}
+use Rattle.std.specs.List.{flat_map, filter_map, AllByRecursion, Contains}
 use Rattle.profile.specs.declared.row.Row.{Row}
-use Rattle.transactions.specs.declared.transaction.Transaction.{Transaction}
-use Rattle.transactions.specs.ActiveTable.{connector_of, started, stopped}
+use Rattle.transactions.specs.ActiveTable.{connector_of}
 use Rattle.site_rules.specs.Site.{SiteState, place_of}
 use Rattle.messages.specs.declared.call.Call.{Call}
 use Rattle.messages.specs.declared.call.CallBody.{CallBody}
@@ -14,11 +13,13 @@ use Rattle.site_core.specs.declared.step.Step.{Step}
 use Rattle.site_core.specs.declared.step.Step.TheVariants as steps
 use Rattle.site_core.specs.declared.reply.Reply.{Reply}
 use Rattle.site_core.specs.declared.reply.Reply.TheVariants as replies
-use Rattle.site_core.specs.Outbox.{opening_outbox, all_calls}
-use Rattle.site_core.specs.OutboxOrder.{Traffic, Attach, Lose, Add, Send, Confirm, after_all, calls_confirmed, calls_so_far, bodies_added, AreInSendingOrder}
+use Rattle.point_book.specs.Book.{Book}
+use Rattle.site_core.specs.Outbox.{OutboxState, IsOutbox, opening_outbox, all_calls, numbered, Traffic, Attach, Lose, Add, Send, Confirm, after_all}
+use Rattle.site_core.specs.ChargePoint.{ChargePointState, BookChange, Install, Clear, Start, Stop, Effect, point_after, opening_point}
+use Rattle.site_core.specs.OutboxOrder.{calls_confirmed, calls_so_far, bodies_added, GoesOn, AreInSendingOrder}
 use Rattle.site_core.specs.Obey.{Change, Installs, Clears, Ends, rows_after, Obeying, numbers_of, last_number, obeyed, lasting}
 use Rattle.site_core.specs.ObeyOrder.{obeyed_numbers, IsObeyed}
-use Rattle.site_core.specs.State.{MachineState, opening, opening_at, book_at, outbox_at, is_this_number}
+use Rattle.site_core.specs.State.{MachineState, IsMachine, opening, opening_at, point_at, book_at, outbox_at, is_this_number}
 use Rattle.site_core.specs.History.{Event, Legal}
 
 -- ---- the events of a point
@@ -27,42 +28,84 @@ use Rattle.site_core.specs.History.{Event, Legal}
 abbrev pub is_at : SiteState → ℕ → List ℕ → Bool
 is_at site place point = is_this_number place (place_of site point)
 
+-- the place of the point that a step names, if it names one of the site
+abbrev pub place_named : SiteState → Step → Option ℕ
+place_named site (steps.Install point row) = place_of site point
+place_named site (steps.Clear point criteria) = place_of site point
+place_named site (steps.Start point connector begin) = place_of site point
+place_named site (steps.Stop point number) = place_of site point
+place_named site (steps.Take take) = place_of site take.point
+place_named site (steps.Compile number) = None
+place_named site (steps.Answer number) = None
+place_named site steps.Finish = None
+place_named site (steps.Attach point) = place_of site point
+place_named site (steps.Send point link) = place_of site point
+place_named site (steps.Confirm point link number) = place_of site point
+place_named site (steps.Lost point link) = place_of site point
+
 -- whether a step names the point at a place
 abbrev pub names : SiteState → ℕ → Step → Bool
-names site place (steps.Install point row) = is_at site place point
-names site place (steps.Clear point criteria) = is_at site place point
-names site place (steps.Start point connector begin) = is_at site place point
-names site place (steps.Stop point number) = is_at site place point
-names site place (steps.Take take) = is_at site place take.point
-names site place (steps.Attach point) = is_at site place point
-names site place (steps.Send point link) = is_at site place point
-names site place (steps.Confirm point link number) = is_at site place point
-names site place (steps.Lost point link) = is_at site place point
-names site place other = false
+names site place step = is_this_number place (place_named site step)
 
 -- the events whose steps name the point at a place
 abbrev pub events_at : SiteState → ℕ → List Event → List Event
 events_at site place history = filter (λ (event : Event). names site place event.step) history
 
+-- ---- what the events do at a point, said of the events themselves
+
+-- An install and a clear that are accepted, a start that begins a transaction and the stop of one
+-- that is active change what the point has.
+abbrev pub change_by : Step → Reply → Option BookChange
+change_by (steps.Install point row) replies.Accepted = Some (Install row)
+change_by (steps.Clear point criteria) replies.Accepted = Some (Clear criteria)
+change_by (steps.Start point connector begin) (replies.Started number) =
+    Some (Start connector begin number)
+change_by (steps.Stop point number) replies.Ended = Some (Stop number)
+change_by step reply = None
+
+-- what a step with its reply brings to the outbox of the point that it names: the calls are its
+-- installs and clears that are accepted
+abbrev pub traffic_by : Step → Reply → Option Traffic
+traffic_by (steps.Install point row) replies.Accepted =
+    Some (Add (bodies.Set row.connector row.profile))
+traffic_by (steps.Clear point criteria) replies.Accepted = Some (Add (bodies.Clear criteria))
+traffic_by (steps.Attach point) (replies.Attached link) = Some (Attach link)
+traffic_by (steps.Send point link) (replies.Sent call) = Some Send
+traffic_by (steps.Confirm point link number) replies.Confirmed = Some (Confirm number)
+traffic_by (steps.Lost point link) replies.LinkLost = Some Lose
+traffic_by step reply = None
+
+abbrev pub effect_by : Step → Reply → Effect
+effect_by step reply = record { change = change_by step reply; traffic = traffic_by step reply }
+
+-- the point after an event of its own
+abbrev pub point_by : ChargePointState → Event → ChargePointState
+point_by point event = point_after point (effect_by event.step event.reply)
+
+abbrev pub point_by_all : ChargePointState → List Event → ChargePointState
+point_by_all point [] = point
+point_by_all point (event ∷ later) = point_by_all (point_by point event) later
+
+-- what holds of each place along every legal history, from any state that a central system may be in
+abbrev pub FromAnyState : (MachineState → ℕ → List Event → MachineState → Type 0) → Type 0
+FromAnyState holds =
+    (old : MachineState) (history : List Event) (new : MachineState)
+    → IsMachine old → Legal old history new → (place : ℕ) → holds old place history new
+
+-- what is kept of a point is what its own events make of what was kept of it: no event of another
+-- point, and no request, changes it
+abbrev pub PointsFollowHistories : Type 0
+PointsFollowHistories = FromAnyState (λ old place history new.
+    point_at new place ≡ point_by_all (point_at old place) (events_at old.site place history))
+
 -- ---- its calls
 
--- what a step with its reply brings to the outbox of the point that it names
-abbrev pub traffic_by : Step → Reply → List Traffic
-traffic_by (steps.Install point row) replies.Accepted =
-    Add (bodies.Set row.connector row.profile) ∷ []
-traffic_by (steps.Clear point criteria) replies.Accepted = Add (bodies.Clear criteria) ∷ []
-traffic_by (steps.Attach point) (replies.Attached link) = Attach link ∷ []
-traffic_by (steps.Send point link) (replies.Sent call) = Send ∷ []
-traffic_by (steps.Confirm point link number) replies.Confirmed = Confirm number ∷ []
-traffic_by (steps.Lost point link) replies.LinkLost = Lose ∷ []
-traffic_by step reply = []
-
-abbrev pub traffic_by_event : Event → List Traffic
+abbrev pub traffic_by_event : Event → Option Traffic
 traffic_by_event event = traffic_by event.step event.reply
 
 -- all that comes to the outbox of the point at a place
 abbrev pub traffic_of : SiteState → ℕ → List Event → List Traffic
-traffic_of site place history = flat_map traffic_by_event (events_at site place history)
+traffic_of site place history = filter_map traffic_by_event (events_at site place history)
 
 abbrev pub calls_by : Step → Reply → List Call
 calls_by (steps.Send point link) (replies.Sent call) = call ∷ []
@@ -86,6 +129,18 @@ calls_made site place history = calls_so_far (traffic_of site place history)
 abbrev pub calls_confirmed_at : SiteState → ℕ → List Event → List Call
 calls_confirmed_at site place history =
     calls_confirmed opening_outbox (traffic_of site place history)
+
+-- the numbers of the calls that Confirm takes note of
+abbrev pub confirmed_by : Step → Reply → List ℕ
+confirmed_by (steps.Confirm point link number) replies.Confirmed = number ∷ []
+confirmed_by step reply = []
+
+abbrev pub confirmed_by_event : Event → List ℕ
+confirmed_by_event event = confirmed_by event.step event.reply
+
+abbrev pub numbers_confirmed : SiteState → ℕ → List Event → List ℕ
+numbers_confirmed site place history =
+    flat_map confirmed_by_event (events_at site place history)
 
 -- ---- the laws of its calls
 
@@ -122,42 +177,79 @@ CallsAreLeftUnlessConfirmed = OfEachPoint (λ site place history state.
     calls_confirmed_at site place history ++ (outbox_at state place).calls
     ≡ calls_made site place history)
 
--- ---- its profiles
+-- the confirmed ones are those that Confirm takes note of, in this order
+abbrev pub ConfirmationsAreEvents : Type 0
+ConfirmationsAreEvents = OfEachPoint (λ site place history state.
+    numbers_of_calls (calls_confirmed_at site place history)
+    ≡ numbers_confirmed site place history)
 
--- the active transactions, at connectors 1, 2, .., of the point that a step names, after the step
-abbrev pub slots_after : List (Option Transaction) → Step → Reply → List (Option Transaction)
-slots_after slots (steps.Start point connector begin) (replies.Started number) =
-    started slots connector begin number
-slots_after slots (steps.Stop point number) replies.Ended = stopped slots number
-slots_after slots step reply = slots
+-- ---- the same from any state
+
+-- as many calls were confirmed before, so the first that isn't has this number
+abbrev pub first_number : OutboxState → ℕ
+first_number outbox = outbox.next - length outbox.calls
+
+-- the calls that aren't confirmed in a state, and those since
+abbrev pub calls_since : MachineState → ℕ → List Event → List Call
+calls_since old place history =
+    (outbox_at old place).calls
+    ++ numbered (outbox_at old place).next (bodies_added (traffic_of old.site place history))
+
+-- the numbers that Send replies begin with that of the first call that isn't confirmed, or the next
+-- one, and each later one equals the one before it or is one more
+abbrev pub CallsGoOnInOrder : Type 0
+CallsGoOnInOrder = FromAnyState (λ old place history new.
+    IsOutbox (outbox_at old place)
+    → GoesOn (first_number (outbox_at old place))
+    (numbers_of_calls (calls_sent old.site place history)))
+
+abbrev pub CallsAreSentAsKept : Type 0
+CallsAreSentAsKept = FromAnyState (λ old place history new.
+    AllByRecursion (Contains (calls_since old place history))
+    (calls_sent old.site place history))
+
+-- the calls of an outbox are those without the ones that were confirmed since, in order
+abbrev pub CallsStayUnlessConfirmed : Type 0
+CallsStayUnlessConfirmed = FromAnyState (λ old place history new.
+    calls_confirmed (outbox_at old place) (traffic_of old.site place history)
+    ++ (outbox_at new place).calls
+    ≡ calls_since old place history)
+
+-- ---- its profiles
 
 abbrev pub end_at : Option ℕ → List Change
 end_at None = []
 end_at (Some connector) = Ends connector ∷ []
 
--- what a step with its reply changes of the profiles of the point that it names. A new transaction
--- ends the one before it at its connector (OCPP 1.6, 3.13).
-abbrev pub changes_by : List (Option Transaction) → Step → Reply → List Change
-changes_by slots (steps.Install point row) replies.Accepted = Installs row ∷ []
-changes_by slots (steps.Clear point criteria) replies.Accepted = Clears criteria ∷ []
-changes_by slots (steps.Start point connector begin) (replies.Started number) = Ends connector ∷ []
-changes_by slots (steps.Stop point number) replies.Ended = end_at (connector_of slots number)
-changes_by slots step reply = []
+-- what a change of a point's book changes of its profiles. A new transaction ends the one before it
+-- at its connector (OCPP 1.6, 3.13).
+abbrev pub row_changes : Book → BookChange → List Change
+row_changes book (Install row) = Installs row ∷ []
+row_changes book (Clear criteria) = Clears criteria ∷ []
+row_changes book (Start connector begin number) = Ends connector ∷ []
+row_changes book (Stop number) = end_at (connector_of book.transactions number)
 
-abbrev pub changes_from : List (Option Transaction) → List Event → List Change
-changes_from slots [] = []
-changes_from slots (event ∷ later) =
-    changes_by slots event.step event.reply
-    ++ changes_from (slots_after slots event.step event.reply) later
+abbrev pub changes_in : Book → Option BookChange → List Change
+changes_in book None = []
+changes_in book (Some change) = row_changes book change
 
--- no transaction is active at the opening
-abbrev pub opening_slots : SiteState → ℕ → List (Option Transaction)
-opening_slots site place = (book_at (opening site) place).transactions
+-- what an event changes of the profiles of the point that it names, which was this before
+abbrev pub changes_by : ChargePointState → Event → List Change
+changes_by point event = changes_in point.book (change_by event.step event.reply)
+
+abbrev pub changes_from : ChargePointState → List Event → List Change
+changes_from point [] = []
+changes_from point (event ∷ later) =
+    changes_by point event ++ changes_from (point_by point event) later
+
+-- nothing is installed at the opening, and no transaction is active
+abbrev pub opening_at_place : SiteState → ℕ → ChargePointState
+opening_at_place site place = point_at (opening site) place
 
 -- all that changes the profiles of the point at a place
 abbrev pub changes_of : SiteState → ℕ → List Event → List Change
 changes_of site place history =
-    changes_from (opening_slots site place) (events_at site place history)
+    changes_from (opening_at_place site place) (events_at site place history)
 
 -- the rows after all these changes
 abbrev pub rows_after_all : List Change → List Row → List Row
@@ -178,6 +270,13 @@ bodies_of site place history = all_calls (accepted site place history)
 abbrev pub RowsFollowHistories : Type 0
 RowsFollowHistories = OfEachPoint (λ site place history state.
     (book_at state place).rows ≡ rows_after_all (changes_of site place history) [])
+
+-- from any state, what they make of those of that state
+abbrev pub RowsGoOn : Type 0
+RowsGoOn = FromAnyState (λ old place history new.
+    (book_at new place).rows
+    ≡ rows_after_all (changes_from (point_at old place) (events_at old.site place history))
+    (book_at old place).rows)
 
 -- the part of a history up to a moment when this many installs and clears of the point at a place
 -- had been accepted, the state then, and what came later
@@ -220,6 +319,15 @@ PointsStayInStep =
 abbrev pub numbers_obeyed_at : SiteState → ℕ → List Event → List Bool → List ℕ
 numbers_obeyed_at site place history are_obeyed =
     obeyed_numbers are_obeyed (numbers_of_calls (calls_sent site place history))
+
+-- A point that obeys calls in the order of their sendings, and each that it confirms at least once,
+-- obeys calls 0, 1, .. up to some call, each perhaps several times before the next.
+abbrev pub CallsAreObeyedInOrder : Type 0
+CallsAreObeyedInOrder = OfEachPoint (λ site place history state.
+    (are_obeyed : List Bool)
+    → AllByRecursion (IsObeyed (numbers_obeyed_at site place history are_obeyed))
+    (calls_confirmed_at site place history)
+    → AreInSendingOrder (numbers_obeyed_at site place history are_obeyed))
 
 -- The same of a point that obeys what is sent to it, in the order of the sendings, though any of
 -- them may be lost: it obeys each call at least once that it confirms. Its lasting rows are then

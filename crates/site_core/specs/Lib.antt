@@ -1,5 +1,6 @@
 pub mod Limits
 pub mod Outbox
+pub mod ChargePoint
 pub mod State
 pub mod Right
 pub mod Ask

@@ -2,8 +2,8 @@
 use Rattle.std.specs.Prelude.{ℕ, Bool, true, false, List, [], ◌∷◌}
 use Rattle.std.specs.List.{AllByRecursion, Contains}
 use Rattle.messages.specs.declared.call.Call.{Call}
-use Rattle.site_core.specs.Outbox.{opening_outbox}
-use Rattle.site_core.specs.OutboxOrder.{Traffic, AreInSendingOrder, numbers_sent, calls_confirmed}
+use Rattle.site_core.specs.Outbox.{opening_outbox, Traffic}
+use Rattle.site_core.specs.OutboxOrder.{AreInSendingOrder, numbers_sent, calls_confirmed}
 
 -- the numbers of the sendings that are obeyed, where for each sending in turn it is said whether it
 -- is; one that is lost isn't

@@ -115,6 +115,28 @@ confirmed old number =
     then record old { calls = drop 1 old.calls; is_in_flight = false }
     else old
 
+-- ---- what comes to an outbox
+
+-- a new link, its loss, a call that is added, a sending, and the reply to the call of a number
+pub data Traffic : Type 0 where
+  Attach : (link : ℕ) → Traffic
+  Lose : Traffic
+  Add : (body : CallBody) → Traffic
+  Send : Traffic
+  Confirm : (number : ℕ) → Traffic
+
+-- the outbox then
+abbrev pub after : OutboxState → Traffic → OutboxState
+after old (Attach link) = attached old link
+after old Lose = lost old
+after old (Add body) = added old body
+after old Send = sent old
+after old (Confirm number) = confirmed old number
+
+abbrev pub after_all : OutboxState → List Traffic → OutboxState
+after_all old [] = old
+after_all old (event ∷ later) = after_all (after old event) later
+
 -- ---- what is always so
 
 -- the numbers of the calls go up by one and end before the next call's

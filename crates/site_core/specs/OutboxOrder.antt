@@ -2,7 +2,7 @@
 use Rattle.std.specs.Prelude.{ℕ, ◌+◌, ◌≡◌, ◌⊎◌, List, [], ◌∷◌, ◌++◌, Option, None, Some, take, if◌then◌else◌}
 use Rattle.messages.specs.declared.call.Call.{Call}
 use Rattle.messages.specs.declared.call.CallBody.{CallBody}
-use Rattle.site_core.specs.Outbox.{OutboxState, opening_outbox, attached, lost, added, sendable, sent, is_number_in_flight, confirmed, numbered, all_calls}
+use Rattle.site_core.specs.Outbox.{OutboxState, opening_outbox, sendable, is_number_in_flight, numbered, all_calls, Traffic, Add, Send, Confirm, after, after_all}
 
 -- ---- numbers
 
@@ -16,28 +16,6 @@ GoesOn before (number ∷ later) = ((number ≡ before) ⊎ (number ≡ before +
 abbrev pub AreInSendingOrder : List ℕ → Type 0
 AreInSendingOrder [] = Unit {0}
 AreInSendingOrder (number ∷ later) = (number ≡ 0) × GoesOn number later
-
--- ---- what comes to an outbox
-
--- a new link, its loss, a call that is added, a sending, and the reply to the call of a number
-pub data Traffic : Type 0 where
-  Attach : (link : ℕ) → Traffic
-  Lose : Traffic
-  Add : (body : CallBody) → Traffic
-  Send : Traffic
-  Confirm : (number : ℕ) → Traffic
-
--- the outbox then
-abbrev pub after : OutboxState → Traffic → OutboxState
-after old (Attach link) = attached old link
-after old Lose = lost old
-after old (Add body) = added old body
-after old Send = sent old
-after old (Confirm number) = confirmed old number
-
-abbrev pub after_all : OutboxState → List Traffic → OutboxState
-after_all old [] = old
-after_all old (event ∷ later) = after_all (after old event) later
 
 -- ---- what an outbox does with it
 

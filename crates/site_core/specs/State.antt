@@ -8,6 +8,7 @@ use Rattle.point_book.specs.Book.{Book, empty_book}
 use Rattle.site_core.specs.declared.numbers.Numbers.{Numbers}
 use Rattle.site_core.specs.Limits.{max_number, max_transaction, max_requests}
 use Rattle.site_core.specs.Outbox.{OutboxState, opening_outbox, sending_link}
+use Rattle.site_core.specs.ChargePoint.{ChargePointState, opening_point}
 
 -- the answer to a request for a composite schedule: that schedule, or why there is none
 abbrev pub ScheduleAnswer : Type 0
@@ -30,30 +31,19 @@ pub record MachineState : Type 0 where
   pub site : SiteState
   -- the version, request, transaction and link numbers that were drawn last
   pub numbers : Numbers
-  -- what each point has, in the order of the site file
-  pub books : List Book
-  -- the link and the calls to each point, in the same order
-  pub outboxes : List OutboxState
+  -- what is kept of each point, in the order of the site file
+  pub points : List ChargePointState
   -- the requests that are kept, in the order of their numbers
   pub requests : List Kept
   -- once it is, no step but compiling, answering and finishing is made any more
   pub is_stopped : Bool
-
--- a point with nothing installed and no active transaction
-abbrev pub opening_book : PointEntry → Book
-opening_book point = empty_book point.ceiling point.ceilings
-
--- a point without a link, to which call 0 is to be sent
-abbrev pub opening_outbox_of : PointEntry → OutboxState
-opening_outbox_of point = opening_outbox
 
 -- before the first step, with these numbers drawn last
 abbrev pub opening_at : SiteState → Numbers → MachineState
 opening_at site numbers = record {
   site = site;
   numbers = numbers;
-  books = map opening_book site.points;
-  outboxes = map opening_outbox_of site.points;
+  points = map opening_point site.points;
   requests = [];
   is_stopped = false;
 }
@@ -64,20 +54,23 @@ no_numbers = record { version = 0; request = 0; transaction = 0; link = 0 }
 abbrev pub opening : SiteState → MachineState
 opening site = opening_at site no_numbers
 
--- What the point at a place of the site file has. A site's places have their books, so none is read
--- as the empty one.
-abbrev pub book_in : List Book → ℕ → Book
-book_in books place = slice_index_or books place (empty_book 0 [])
+-- What is kept of the point at a place of the site file. Each place has its point, so none is read
+-- as one without connectors.
+abbrev pub no_point : ChargePointState
+no_point = record { book = empty_book 0 []; outbox = opening_outbox }
 
+abbrev pub point_in : List ChargePointState → ℕ → ChargePointState
+point_in points place = slice_index_or points place no_point
+
+abbrev pub point_at : MachineState → ℕ → ChargePointState
+point_at state place = point_in state.points place
+
+-- what the point has, and the calls to it
 abbrev pub book_at : MachineState → ℕ → Book
-book_at state place = book_in state.books place
-
--- the calls to the point at a place; where there is none, the opening ones
-abbrev pub outbox_in : List OutboxState → ℕ → OutboxState
-outbox_in outboxes place = slice_index_or outboxes place opening_outbox
+book_at state place = (point_at state place).book
 
 abbrev pub outbox_at : MachineState → ℕ → OutboxState
-outbox_at state place = outbox_in state.outboxes place
+outbox_at state place = (point_at state place).outbox
 
 -- the present link of the point at a place, and of the point of an identity; a stranger has none
 abbrev pub link_at : MachineState → Option ℕ → Option ℕ
@@ -114,15 +107,15 @@ outbox_len state point = outbox_len_at state (place_of state.site point)
 -- ---- what is always so
 
 -- the connectors of a point by the site file, and by its book
-abbrev pub connectors_of_point : PointEntry → ℕ
-connectors_of_point point = length point.ceilings
+abbrev pub connectors_in_file : PointEntry → ℕ
+connectors_in_file point = length point.ceilings
 
-abbrev pub connectors_of_book : Book → ℕ
-connectors_of_book book = length book.ceilings
+abbrev pub connectors_in_book : ChargePointState → ℕ
+connectors_in_book point = length point.book.ceilings
 
--- each point has its book, with as many connectors
-abbrev pub AreBooksOf : SiteState → List Book → Type 0
-AreBooksOf site books = map connectors_of_book books ≡ map connectors_of_point site.points
+-- each point of the site is kept, with as many connectors
+abbrev pub ArePointsOf : SiteState → List ChargePointState → Type 0
+ArePointsOf site points = map connectors_in_book points ≡ map connectors_in_file site.points
 
 -- no number is above its limit
 pub record AreNumbers (numbers : Numbers) : Type 0 where
@@ -132,7 +125,6 @@ pub record AreNumbers (numbers : Numbers) : Type 0 where
   pub link : numbers.link ≤ max_number
 
 pub record IsMachine (state : MachineState) : Type 0 where
-  pub books : AreBooksOf state.site state.books
-  pub outboxes : length state.outboxes ≡ length state.site.points
+  pub points : ArePointsOf state.site state.points
   pub numbers : AreNumbers state.numbers
   pub few : length state.requests ≤ max_requests

@@ -1,6 +1,6 @@
 -- One step of the central system: what it replies and what it changes, or the first cause why it is
 -- refused. All that a step doesn't name stays as it was, and a refused step changes nothing.
-use Rattle.std.specs.Prelude.{ℕ, ℤ, pos, ◌≡◌, ◌+◌, nat_lt, nat_le, ◌==◌, ◌||◌, true, List, [], ◌∷◌, ◌++◌, length, Option, Some, None, is_some, Result, Ok, Err, IfOk, slice_set, if◌then◌else◌}
+use Rattle.std.specs.Prelude.{ℕ, ℤ, pos, ◌≡◌, ◌+◌, nat_lt, nat_le, ◌==◌, ◌||◌, Bool, true, false, List, [], ◌∷◌, ◌++◌, length, Option, Some, None, is_some, Result, Ok, Err, IfOk, slice_set, if◌then◌else◌}
 use Rattle.std.specs.List.{list_any}
 use Rattle.ocpp_scalars.specs.declared.refusal.Refusal.{Refusal}
 use Rattle.ocpp_scalars.specs.declared.refusal.Refusal.TheVariants.{UnknownPoint, UnknownConnector, OutboxFull, TooManyOpen, VersionsExhausted, TransactionsExhausted, Behind, OutOfMemory, UnknownRequest, AlreadyAnswered, Superseded, NothingInFlight}
@@ -13,10 +13,10 @@ use Rattle.transactions.specs.declared.active_table.Began.{Began}
 use Rattle.transactions.specs.declared.active_table.Began.TheVariants.{Fresh, Repeat}
 use Rattle.transactions.specs.ActiveTable.{began, connector_of}
 use Rattle.meaning.specs.declared.ask.Ask.{Ask}
-use Rattle.site_rules.specs.Site.{place_of}
+use Rattle.site_rules.specs.Site.{SiteState, place_of}
 use Rattle.site_rules.specs.Admission.{admission_refusal}
 use Rattle.point_book.specs.Book.{Book}
-use Rattle.point_book.specs.Changes.{first_cause, IsCause, install_refusal, book_installed, book_cleared, book_started, book_stopped}
+use Rattle.point_book.specs.Changes.{first_cause, install_refusal}
 use Rattle.site_core.specs.declared.step.Step.{Step}
 use Rattle.site_core.specs.declared.step.Step.TheVariants as steps
 use Rattle.site_core.specs.declared.step.Take.{Take}
@@ -27,8 +27,10 @@ use Rattle.site_core.specs.Limits.{max_number, max_transaction, max_requests}
 use Rattle.messages.specs.declared.call.Call.{Call}
 use Rattle.messages.specs.declared.call.CallBody.{CallBody}
 use Rattle.messages.specs.declared.call.CallBody.TheVariants as bodies
-use Rattle.site_core.specs.State.{MachineState, Kept, ScheduleAnswer, book_at, outbox_at, is_this_number}
-use Rattle.site_core.specs.Outbox.{OutboxState, is_full, is_exhausted, attached, lost, added, sendable, sent, is_number_in_flight, confirmed}
+use Rattle.site_core.specs.declared.numbers.Numbers.{Numbers}
+use Rattle.site_core.specs.Outbox.{OutboxState, is_full, is_exhausted, sendable, is_number_in_flight, Traffic, Attach, Lose, Add, Send, Confirm}
+use Rattle.site_core.specs.ChargePoint.{ChargePointState, BookChange, Install, Clear, Start, Stop, Effect, point_after, drawn_by}
+use Rattle.site_core.specs.State.{MachineState, Kept, ScheduleAnswer, point_at, book_at, outbox_at, is_this_number}
 use Rattle.site_core.specs.Requests.{request_of, answered, without, all_stopped}
 use Rattle.site_core.specs.Ask.{ask_at}
 use Rattle.site_core.specs.Right.{IsCompiledFor}
@@ -42,12 +44,34 @@ pub record Made : Type 0 where
 abbrev pub unchanged : MachineState → Reply → Made
 unchanged old reply = record { reply = reply; after = old }
 
--- made, unless there is a cause against it
-abbrev pub unless : Option Refusal → Made → Result Made Refusal
-unless (Some refusal) made = Err refusal
-unless None made = Ok made
+-- what a step at a point comes to: a reply alone, with which nothing changes, or a reply and what is
+-- done at the point
+pub data Told : Type 0 where
+  Answers : (reply : Reply) → Told
+  Does : (reply : Reply) (effect : Effect) → Told
+
+-- it comes to this, unless there is a cause against it
+abbrev pub unless : {X : Type 0} → Option Refusal → X → Result X Refusal
+unless (Some refusal) x = Err refusal
+unless None x = Ok x
 
 -- ---- points
+
+-- the state after an effect at the point at a place
+abbrev pub affected : MachineState → ℕ → Effect → MachineState
+affected old place effect = record old {
+  points = slice_set old.points place (point_after (point_at old place) effect);
+  numbers = drawn_by effect old.numbers;
+}
+
+abbrev pub done : MachineState → ℕ → Told → Made
+done old place (Answers reply) = unchanged old reply
+done old place (Does reply effect) = record { reply = reply; after = affected old place effect }
+
+-- what a step at a point makes of the whole state
+abbrev pub done_at : MachineState → ℕ → Result Told Refusal → Result Made Refusal
+done_at old place (Ok told) = Ok (done old place told)
+done_at old place (Err refusal) = Err refusal
 
 abbrev pub at_place : Option ℕ → (ℕ → Result Made Refusal) → Result Made Refusal
 at_place None made_at = Err UnknownPoint
@@ -58,100 +82,91 @@ abbrev pub at_point : MachineState → List ℕ → (ℕ → Result Made Refusal
 at_point old point made_at =
     if old.is_stopped then Err refusals.Stopped else at_place (place_of old.site point) made_at
 
+-- a step at a point, by what is kept of it
+abbrev pub told_at : MachineState → (ChargePointState → Result Told Refusal) → ℕ
+    → Result Made Refusal
+told_at old told place = done_at old place (told (point_at old place))
+
 -- ---- changes of a point's book: each makes a new version of the store
 
-abbrev pub version_refusal : MachineState → Option Refusal
-version_refusal old = if old.numbers.version == max_number then Some VersionsExhausted else None
+abbrev pub version_refusal : Numbers → Option Refusal
+version_refusal numbers = if numbers.version == max_number then Some VersionsExhausted else None
 
--- the point at a place has this book now
-abbrev pub changed : MachineState → ℕ → Book → MachineState
-changed old place book = record old {
-  books = slice_set old.books place book;
-  numbers = record old.numbers { version = old.numbers.version + 1 };
-}
+-- why no call is added to those that wait for a point
+abbrev pub refusal_to_add : OutboxState → Option Refusal
+refusal_to_add outbox =
+    if is_full outbox then Some OutboxFull
+    else if is_exhausted outbox then Some VersionsExhausted
+    else None
 
--- the point at a place has this link and these calls now
-abbrev pub with_outbox : MachineState → ℕ → OutboxState → MachineState
-with_outbox old place outbox = record old { outboxes = slice_set old.outboxes place outbox }
-
--- why no call is added to those that wait for the point at a place
-abbrev pub refusal_to_call : MachineState → ℕ → Option Refusal
-refusal_to_call old place =
-    if is_full (outbox_at old place) then Some OutboxFull
-    else if is_exhausted (outbox_at old place) then Some VersionsExhausted
-    else version_refusal old
+abbrev pub refusal_to_call : Numbers → ChargePointState → Option Refusal
+refusal_to_call numbers point = first_cause (refusal_to_add point.outbox) (version_refusal numbers)
 
 -- An install and a clear are calls to the point too: each joins those that wait.
-abbrev pub changed_by_call : MachineState → ℕ → Book → CallBody → MachineState
-changed_by_call old place book body =
-    with_outbox (changed old place book) place (added (outbox_at old place) body)
+abbrev pub effect_with_call : BookChange → CallBody → Effect
+effect_with_call change body = record { change = Some change; traffic = Some (Add body) }
 
 -- Install (OCPP 1.6, 5.16): by the rules of the site, and then by the point's book
-abbrev pub refusal_to_install : MachineState → List ℕ → Row → ℕ → Option Refusal
-refusal_to_install old point row place =
-    first_cause (admission_refusal old.site point row.connector row.profile)
-    (first_cause (install_refusal (book_at old place) row) (refusal_to_call old place))
+abbrev pub refusal_to_install : SiteState → Numbers → List ℕ → Row → ChargePointState
+    → Option Refusal
+refusal_to_install site numbers id row point =
+    first_cause (admission_refusal site id row.connector row.profile)
+    (first_cause (install_refusal point.book row) (refusal_to_call numbers point))
 
-abbrev pub installs : MachineState → List ℕ → Row → ℕ → Result Made Refusal
-installs old point row place = unless (refusal_to_install old point row place) (record {
-  reply = Accepted;
-  after = changed_by_call old place
-      (book_installed (book_at old place) row)
-      (bodies.Set row.connector row.profile);
-})
+abbrev pub installing : Row → Effect
+installing row = effect_with_call (Install row) (bodies.Set row.connector row.profile)
+
+abbrev pub installs : SiteState → Numbers → List ℕ → Row → ChargePointState → Result Told Refusal
+installs site numbers id row point =
+    unless (refusal_to_install site numbers id row point) (Does Accepted (installing row))
 
 -- Clear (OCPP 1.6, 5.5): where no profile matches, that is the answer, and nothing changes
-abbrev pub clears : MachineState → Criteria → ℕ → Result Made Refusal
-clears old criteria place =
-    if list_any (matches criteria) (book_at old place).rows
-    then unless (refusal_to_call old place) (record {
-      reply = Accepted;
-      after = changed_by_call old place
-          (book_cleared (book_at old place) criteria)
-          (bodies.Clear criteria);
-    })
-    else Ok (unchanged old Unknown)
+abbrev pub clearing : Criteria → Effect
+clearing criteria = effect_with_call (Clear criteria) (bodies.Clear criteria)
+
+abbrev pub clears : Numbers → Criteria → ChargePointState → Result Told Refusal
+clears numbers criteria point =
+    if list_any (matches criteria) point.book.rows
+    then unless (refusal_to_call numbers point) (Does Accepted (clearing criteria))
+    else Ok (Answers Unknown)
 
 -- Start (OCPP 1.6, 4.8): transactions are numbered over the whole site. A start that is told again
 -- changes nothing. A transaction is at a connector of the point, and connector 0 is none.
-abbrev pub next_transaction : MachineState → ℤ
-next_transaction old = pos (old.numbers.transaction + 1)
+abbrev pub next_transaction : Numbers → ℤ
+next_transaction numbers = pos (numbers.transaction + 1)
 
-abbrev pub refusal_to_start : MachineState → Option Refusal
-refusal_to_start old =
-    first_cause (version_refusal old)
-    (if old.numbers.transaction == max_transaction then Some TransactionsExhausted else None)
+abbrev pub transaction_number_refusal : Numbers → Option Refusal
+transaction_number_refusal numbers =
+    if numbers.transaction == max_transaction then Some TransactionsExhausted else None
 
-abbrev pub with_transaction : MachineState → MachineState
-with_transaction old = record old {
-  numbers = record old.numbers { transaction = old.numbers.transaction + 1 };
-}
+abbrev pub refusal_to_start : Numbers → Option Refusal
+refusal_to_start numbers = first_cause (version_refusal numbers) (transaction_number_refusal numbers)
 
-abbrev pub starts_as : Began → MachineState → ℕ → Begin → ℕ → Result Made Refusal
-starts_as (Repeat number) old connector begin place = Ok (unchanged old (Repeated number))
-starts_as Fresh old connector begin place = unless (refusal_to_start old) (record {
-  reply = Started (next_transaction old);
-  after = with_transaction
-      (changed old place (book_started (book_at old place) connector begin (next_transaction old)));
-})
+-- starts and stops send nothing
+abbrev pub effect_alone : BookChange → Effect
+effect_alone change = record { change = Some change; traffic = None }
 
--- whether the point at a place has told of this start before
-abbrev pub began_at : MachineState → ℕ → ℕ → Begin → Began
-began_at old place connector begin = began (book_at old place).transactions connector begin
+abbrev pub starts_as : Began → Numbers → ℕ → Begin → Result Told Refusal
+starts_as (Repeat number) numbers connector begin = Ok (Answers (Repeated number))
+starts_as Fresh numbers connector begin =
+    unless (refusal_to_start numbers) (Does (Started (next_transaction numbers))
+    (effect_alone (Start connector begin (next_transaction numbers))))
 
-abbrev pub starts : MachineState → ℕ → Begin → ℕ → Result Made Refusal
-starts old connector begin place =
-    if (connector == 0) || nat_lt (length (book_at old place).ceilings) connector
-    then Err UnknownConnector
-    else starts_as (began_at old place connector begin) old connector begin place
+abbrev pub is_at_no_connector : ChargePointState → ℕ → Bool
+is_at_no_connector point connector =
+    (connector == 0) || nat_lt (length point.book.ceilings) connector
+
+abbrev pub starts : Numbers → ℕ → Begin → ChargePointState → Result Told Refusal
+starts numbers connector begin point =
+    if is_at_no_connector point connector then Err UnknownConnector
+    else starts_as (began point.book.transactions connector begin) numbers connector begin
 
 -- Stop (OCPP 1.6, 4.10): only a transaction that is active at the point ends
-abbrev pub stops : MachineState → ℤ → ℕ → Result Made Refusal
-stops old number place =
-    if is_some (connector_of (book_at old place).transactions number)
-    then unless (version_refusal old)
-    (record { reply = Ended; after = changed old place (book_stopped (book_at old place) number) })
-    else Ok (unchanged old NoSuch)
+abbrev pub stops : Numbers → ℤ → ChargePointState → Result Told Refusal
+stops numbers number point =
+    if is_some (connector_of point.book.transactions number)
+    then unless (version_refusal numbers) (Does Ended (effect_alone (Stop number)))
+    else Ok (Answers NoSuch)
 
 -- ---- requests for composite schedules (OCPP 1.6, 5.7)
 
@@ -225,19 +240,16 @@ finishes old =
 
 -- ---- links and calls (OCPP-J 1.6, 3 and 4)
 
+abbrev pub traffic_alone : Traffic → Effect
+traffic_alone traffic = record { change = None; traffic = Some traffic }
+
 -- Attach: the point has a new link, and none before it any more
-abbrev pub refusal_to_attach : MachineState → Option Refusal
-refusal_to_attach old = if old.numbers.link == max_number then Some VersionsExhausted else None
+abbrev pub refusal_to_attach : Numbers → Option Refusal
+refusal_to_attach numbers = if numbers.link == max_number then Some VersionsExhausted else None
 
-abbrev pub with_link : MachineState → ℕ → MachineState
-with_link old place =
-    record (with_outbox old place (attached (outbox_at old place) (old.numbers.link + 1))) {
-      numbers = record old.numbers { link = old.numbers.link + 1 };
-    }
-
-abbrev pub attaches : MachineState → ℕ → Result Made Refusal
-attaches old place = unless (refusal_to_attach old)
-    (record { reply = Attached (old.numbers.link + 1); after = with_link old place })
+abbrev pub attaches : Numbers → ChargePointState → Result Told Refusal
+attaches numbers point = unless (refusal_to_attach numbers)
+    (Does (Attached (numbers.link + 1)) (traffic_alone (Attach (numbers.link + 1))))
 
 abbrev pub at_linked_place : MachineState → ℕ → Option ℕ → (ℕ → Result Made Refusal)
     → Result Made Refusal
@@ -253,46 +265,45 @@ at_link old point link made_at =
     else at_linked_place old link (place_of old.site point) made_at
 
 -- Send: the first call goes out, unless one is in flight
-abbrev pub sends_call : MachineState → ℕ → Option Call → Result Made Refusal
-sends_call old place None = Ok (unchanged old Nothing)
-sends_call old place (Some call) =
-    Ok (record { reply = Sent call; after = with_outbox old place (sent (outbox_at old place)) })
+abbrev pub sends_call : Option Call → Told
+sends_call None = Answers Nothing
+sends_call (Some call) = Does (Sent call) (traffic_alone Send)
 
-abbrev pub sends : MachineState → ℕ → Result Made Refusal
-sends old place = sends_call old place (sendable (outbox_at old place))
+abbrev pub sends : ChargePointState → Result Told Refusal
+sends point = Ok (sends_call (sendable point.outbox))
 
 -- Confirm: the call in flight has this number, and is done with
-abbrev pub confirms : MachineState → ℕ → ℕ → Result Made Refusal
-confirms old number place =
-    if is_number_in_flight (outbox_at old place) number
-    then Ok (record {
-      reply = Confirmed;
-      after = with_outbox old place (confirmed (outbox_at old place) number);
-    })
+abbrev pub confirms : ℕ → ChargePointState → Result Told Refusal
+confirms number point =
+    if is_number_in_flight point.outbox number
+    then Ok (Does Confirmed (traffic_alone (Confirm number)))
     else Err NothingInFlight
 
 -- Lost: the point has no link any more, and a call in flight waits again
-abbrev pub loses : MachineState → ℕ → Result Made Refusal
-loses old place =
-    Ok (record { reply = LinkLost; after = with_outbox old place (lost (outbox_at old place)) })
+abbrev pub loses : ChargePointState → Result Told Refusal
+loses point = Ok (Does LinkLost (traffic_alone Lose))
 
 -- ---- all steps
 
 -- What a step does. The answer is the compiler's, and only a Compile looks at it.
 abbrev pub stepped : ScheduleAnswer → MachineState → Step → Result Made Refusal
-stepped answer old (steps.Install point row) = at_point old point (installs old point row)
-stepped answer old (steps.Clear point criteria) = at_point old point (clears old criteria)
+stepped answer old (steps.Install point row) =
+    at_point old point (told_at old (installs old.site old.numbers point row))
+stepped answer old (steps.Clear point criteria) =
+    at_point old point (told_at old (clears old.numbers criteria))
 stepped answer old (steps.Start point connector begin) =
-    at_point old point (starts old connector begin)
-stepped answer old (steps.Stop point number) = at_point old point (stops old number)
+    at_point old point (told_at old (starts old.numbers connector begin))
+stepped answer old (steps.Stop point number) =
+    at_point old point (told_at old (stops old.numbers number))
 stepped answer old (steps.Take take) = at_point old take.point (takes old take)
 stepped answer old (steps.Compile number) = compiles old number answer
 stepped answer old (steps.Answer number) = answers old number
 stepped answer old steps.Finish = Ok (finishes old)
-stepped answer old (steps.Attach point) = at_point old point (attaches old)
-stepped answer old (steps.Send point link) = at_link old point link (sends old)
-stepped answer old (steps.Confirm point link number) = at_link old point link (confirms old number)
-stepped answer old (steps.Lost point link) = at_link old point link (loses old)
+stepped answer old (steps.Attach point) = at_point old point (told_at old (attaches old.numbers))
+stepped answer old (steps.Send point link) = at_link old point link (told_at old sends)
+stepped answer old (steps.Confirm point link number) =
+    at_link old point link (told_at old (confirms number))
+stepped answer old (steps.Lost point link) = at_link old point link (told_at old loses)
 
 -- an answer that no step but a Compile is given
 abbrev pub no_answer : ScheduleAnswer
@@ -328,21 +339,36 @@ abbrev pub SendsNothing : MachineState → List ℕ → ℕ → Type 0
 SendsNothing old point link =
     IfOk (stepped no_answer old (steps.Send point link)) (λ made. made ≡ unchanged old Nothing)
 
--- A step is refused by its first cause, or else since memory ran out. Nothing has changed, and the
--- step comes back.
+-- What wants memory: a profile and a clear with their calls, a transaction and its end, a request
+-- that is kept, and a call that is copied to be sent. What changes nothing wants none, and neither do
+-- compiling, answering and finishing, a new link, a confirmation and a link lost.
+abbrev pub wants_memory : Reply → Bool
+wants_memory Accepted = true
+wants_memory Unknown = false
+wants_memory (Started number) = true
+wants_memory (Repeated number) = false
+wants_memory Ended = true
+wants_memory NoSuch = false
+wants_memory (Taken number book ask) = true
+wants_memory Compiled = false
+wants_memory (Answered book ask answer) = false
+wants_memory NotYet = false
+wants_memory Finished = false
+wants_memory (Attached link) = false
+wants_memory (Sent call) = true
+wants_memory Nothing = false
+wants_memory Confirmed = false
+wants_memory LinkLost = false
+
+-- why a step is refused: its first cause, or else, where it would do what wants memory, that memory
+-- ran out
+abbrev pub IsRefusalOf : Result Made Refusal → Refusal → Type 0
+IsRefusalOf (Err cause) refusal = refusal ≡ cause
+IsRefusalOf (Ok made) refusal = (wants_memory made.reply ≡ true) × (refusal ≡ OutOfMemory)
+
+-- A step is refused: nothing has changed, and the step comes back.
 pub record IsRefused (old : MachineState) (step : Step) (refused : Refused) (new : MachineState)
     : Type 0 where
-  pub cause : IsCause (first_refusal old step) refused.refusal
+  pub cause : IsRefusalOf (stepped no_answer old step) refused.refusal
   pub unchanged : new ≡ old
   pub back : refused.step ≡ step
-
--- Compiling, answering and finishing, a new link, a link lost and a confirmation are never refused
--- for want of memory.
-abbrev pub NeedsNoMemory : Step → Type 0
-NeedsNoMemory (steps.Compile number) = Unit {0}
-NeedsNoMemory (steps.Answer number) = Unit {0}
-NeedsNoMemory steps.Finish = Unit {0}
-NeedsNoMemory (steps.Attach point) = Unit {0}
-NeedsNoMemory (steps.Confirm point link number) = Unit {0}
-NeedsNoMemory (steps.Lost point link) = Unit {0}
-NeedsNoMemory step = ⊥

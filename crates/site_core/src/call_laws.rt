@@ -7,18 +7,37 @@ ghost use Rattle.site_core.specs.CallOrder.{OutboxesFollowHistories, CallsAreSen
 ghost use Rattle.site_core.specs.CallOrder.{CallsAreLeftUnlessConfirmed, RowsFollowHistories};
 ghost use Rattle.site_core.specs.CallOrder.{PointsStayInStep, CallsAreSentAsMade};
 ghost use Rattle.site_core.specs.CallOrder.{EachCallHasItsMoment, ObeyingPointsStayInStep};
+ghost use Rattle.site_core.specs.CallOrder.{ConfirmationsAreEvents, CallsAreObeyedInOrder};
+ghost use Rattle.site_core.specs.CallOrder.{PointsFollowHistories, RowsGoOn, CallsGoOnInOrder};
+ghost use Rattle.site_core.specs.CallOrder.{CallsAreSentAsKept, CallsStayUnlessConfirmed};
 
 /// The laws of the calls to each point of a site, along every legal history from an opening state. What
 /// the machine keeps of its calls to the point is what the point's own events make of the opening
 /// outbox. The numbers of the calls that Send replies for it begin with 0, and each later one equals
 /// the one before it or is one more. Each call that is sent is the one of its number: call 0 clears
 /// all profiles, and call k is the k-th Install or Clear of the point that was accepted. And the
-/// calls that are kept are calls 0, 1, .. without the confirmed ones.
+/// calls that are kept are calls 0, 1, .. without the confirmed ones, which are those that Confirm took
+/// note of, in that order.
 pub fn histories_send_calls_in_order()
     ensures outbox { OutboxesFollowHistories }
     ensures order { CallsAreSentInOrder }
     ensures sent { CallsAreSentAsMade }
     ensures calls { CallsAreLeftUnlessConfirmed }
+    ensures confirmed { ConfirmationsAreEvents }
+{}
+
+/// The same from any state that a central system may be in, along every legal history: what is kept of
+/// each point is what the point's own events make of what was kept of it. Its profiles are what their
+/// changes make of those that it had. The numbers of the calls that Send replies for it begin with that of
+/// its first call that isn't confirmed, or the next one, and each later one equals the one before it or is
+/// one more. Each call that is sent is one of those that weren't confirmed, or of those since. And the calls
+/// that are kept are these without the ones confirmed since.
+pub fn histories_go_on_from_any_state()
+    ensures points { PointsFollowHistories }
+    ensures rows { RowsGoOn }
+    ensures order { CallsGoOnInOrder }
+    ensures sent { CallsAreSentAsKept }
+    ensures calls { CallsStayUnlessConfirmed }
 {}
 
 /// The laws of the profiles of each point of a site, along every legal history from an opening state.
@@ -28,11 +47,13 @@ pub fn histories_send_calls_in_order()
 /// as the calls tell it, in the order of sending, is in step with the machine: its
 /// ChargePointMaxProfiles and TxDefaultProfiles are, but for when they were installed, those that the
 /// machine had for it at each moment of the last of these calls. So is a point that obeys what is sent
-/// to it, and each call at least once that it confirms, whatever sendings and replies are lost.
+/// to it, and each call at least once that it confirms, whatever sendings and replies are lost: it obeys
+/// them in sending order.
 pub fn histories_keep_points_in_step()
     ensures rows { RowsFollowHistories }
     ensures moments { EachCallHasItsMoment }
     ensures lasting { PointsStayInStep }
+    ensures obeyed { CallsAreObeyedInOrder }
     ensures obeying { ObeyingPointsStayInStep }
 {}
 

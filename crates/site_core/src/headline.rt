@@ -58,10 +58,10 @@ pub fn runs_join()
 {}
 
 /// The law that what the points have after a legal history is determined by its events: of two states that
-/// it may lead to, which differ in answers that aren't handed out yet, each has the same books.
-pub fn books_follow_events()
+/// it may lead to, which differ in answers that aren't handed out yet, each has the same points.
+pub fn points_follow_events()
     ensures { (old one other : MachineState) (events : List Event)
-        → Legal old events one → Legal old events other → one.books ≡ other.books }
+        → Legal old events one → Legal old events other → one.points ≡ other.points }
 {}
 
 /// The law that no request is lost and none is answered twice: in every legal history from an opening state

@@ -5,15 +5,15 @@
 #![tactic(auto)]
 
 mod ask;
-mod books;
 mod call_laws;
+mod charge_point;
+mod charge_points;
 mod headline;
 mod machine;
 mod numbers;
 mod obey_laws;
 mod outbox;
 mod outbox_laws;
-mod outboxes;
 mod outcome;
 mod point_id;
 mod reply;
@@ -23,11 +23,12 @@ mod shared_book;
 mod step;
 
 pub use call_laws::{
-    histories_keep_points_in_step, histories_send_calls_in_order, skipped_sends_send_nothing,
+    histories_go_on_from_any_state, histories_keep_points_in_step, histories_send_calls_in_order,
+    skipped_sends_send_nothing,
 };
 pub use headline::{
     answered_schedules_are_right, answers_are_right, answers_follow_one_take, answers_stay,
-    books_follow_events, requests_are_answered_once, runs_are_legal, runs_join,
+    points_follow_events, requests_are_answered_once, runs_are_legal, runs_join,
     stopped_requests_are_answered,
 };
 pub use machine::Machine;

@@ -3,24 +3,22 @@
 ghost use Rattle.std.specs.Prelude.{◌≡◌, ◌<◌, ◌≤◌, Some, IfOk, IfErr, MatchResult, Ok, Err, length};
 ghost use Rattle.site_rules.specs.Site.{place_of};
 ghost use Rattle.site_core.specs.State.{AreNumbers, link_of, link_to_send, opening, opening_at, outbox_len};
-ghost use Rattle.site_core.specs.Step.{Steps, IsRefused, first_refusal, NeedsNoMemory};
+ghost use Rattle.site_core.specs.State.{IsMachine};
+ghost use Rattle.site_core.specs.Step.{Steps, IsRefused, IsRefusalOf, stepped, no_answer};
 ghost use Rattle.site_core.specs.Run.{HasOutcome, Runs};
 ghost use Rattle.site_core.specs.ByCases.Made.{place_in, KeepsNothing};
-ghost use Rattle.point_book.specs.Changes.{IsCause};
 
 mod changes;
 mod links;
 mod schedules;
 
-use crate::books::opening_books;
+use crate::charge_point::ChargePoint;
+use crate::charge_points::{opening_points, point_at};
 use crate::numbers::Numbers;
-use crate::outbox::Outbox;
-use crate::outboxes::{opening_outboxes, outbox_at};
 use crate::outcome::{Outcome, Refused, RunFault};
 use crate::point_id::PointId;
 use crate::reply::Reply;
 use crate::request::Request;
-use crate::shared_book::SharedBook;
 use crate::step::Step;
 use ocpp_scalars::Refusal;
 use site_rules::Site;
@@ -34,10 +32,8 @@ pub struct Machine {
     alloc: Global,
     site: Site,
     numbers: Numbers,
-    /// Each at the place of its point.
-    books: Vec<SharedBook>,
-    /// Each at the place of its point.
-    outboxes: Vec<Outbox>,
+    /// Each at its place in the site file.
+    points: Vec<ChargePoint>,
     /// In the order of their numbers.
     requests: Vec<Request>,
     is_stopped: bool,
@@ -51,8 +47,7 @@ impl Model for Machine {
     ghost view = { λ m. record {
       site = m.site;
       numbers = m.numbers;
-      books = m.books.items;
-      outboxes = m.outboxes.items;
+      points = m.points.items;
       requests = m.requests.items;
       is_stopped = m.is_stopped;
     } };
@@ -60,8 +55,7 @@ impl Model for Machine {
     ghost invariant = { λ m. IsMachine (record {
       site = m.site;
       numbers = m.numbers;
-      books = m.books.items;
-      outboxes = m.outboxes.items;
+      points = m.points.items;
       requests = m.requests.items;
       is_stopped = m.is_stopped;
     }) };
@@ -86,14 +80,12 @@ impl Machine {
         requires { AreNumbers numbers }
         ensures { IfOk result (λ machine. machine ≡ opening_at site numbers) }
     {
-        let books = opening_books(alloc, &site)?;
-        let outboxes = opening_outboxes(alloc, &site)?;
+        let points = opening_points(alloc, &site)?;
         Ok(Machine {
             alloc,
             site,
             numbers,
-            books,
-            outboxes,
+            points,
             requests: Vec::new(alloc),
             is_stopped: false,
         })
@@ -113,9 +105,11 @@ impl Machine {
         self.numbers.version
     }
 
-    /// How many requests for schedules are kept.
+    /// How many requests for schedules are kept. With what is always so of the central system: no number
+    /// is above its limit, no more requests are kept than may be, and each point of the site is kept.
     pub fn open_requests(&self) -> usize
-        ensures { result ≡ length self.now.requests }
+        ensures value { result ≡ length self.now.requests }
+        ensures machine { IsMachine self.now }
     {
         self.requests.len()
     }
@@ -125,7 +119,7 @@ impl Machine {
         ensures { result ≡ link_of self.now point.now }
     {
         let place = self.site.place_of(point)?;
-        outbox_at(&self.outboxes, place).link()
+        point_at(&self.points, place).outbox().link()
     }
 
     /// The link over which a call is to be sent now to the point of an identity, if there is such a call:
@@ -134,7 +128,7 @@ impl Machine {
         ensures { result ≡ link_to_send self.now point.now }
     {
         match self.site.place_of(point) {
-            Some(place) if !self.is_stopped => outbox_at(&self.outboxes, place).sending_link(),
+            Some(place) if !self.is_stopped => point_at(&self.points, place).outbox().sending_link(),
             _ => None,
         }
     }
@@ -144,19 +138,18 @@ impl Machine {
         ensures { result ≡ outbox_len self.now point.now }
     {
         match self.site.place_of(point) {
-            Some(place) => outbox_at(&self.outboxes, place).len(),
+            Some(place) => point_at(&self.points, place).outbox().len(),
             None => 0,
         }
     }
 
-    /// Makes a step, or says why not: then nothing has changed, and the step comes back. Compiling,
-    /// answering and finishing, a new link, a link lost and a confirmation are never refused for want of
-    /// memory.
+    /// Makes a step, or says why not: then nothing has changed, and the step comes back. The refusal is
+    /// the first cause. It is `OutOfMemory` only where no other cause is there and the step would do what
+    /// wants memory: an install, a clear that removes a profile, a start that isn't told again, a stop, a
+    /// take, and a sending.
     pub fn step(&mut self, step: Step) -> Result<Reply, Refused>
         ensures made { MatchResult result (λ reply. Steps self.old step reply self.new)
             (λ refused. IsRefused self.old step refused self.new) }
-        ensures certain { NeedsNoMemory step → IfErr result
-            (λ refused. first_refusal self.old step ≡ Some refused.refusal) }
     {
         match step {
             Step::Install { point, row } => self.install_step(point, row),
@@ -176,9 +169,7 @@ impl Machine {
         requires { KeepsNothing step.now }
         ensures made { IfOk result (λ reply. Steps self.old step.now reply self.new) }
         ensures refused { IfErr result (λ refusal.
-            IsCause (first_refusal self.old step.now) refusal × (self.new ≡ self.old)) }
-        ensures certain { NeedsNoMemory step.now → IfErr result
-            (λ refusal. first_refusal self.old step.now ≡ Some refusal) }
+            IsRefusalOf (stepped no_answer self.old step.now) refusal × (self.new ≡ self.old)) }
     {
         match step {
             Step::Clear { point, criteria } => self.clear(point, criteria),
@@ -228,7 +219,7 @@ impl Machine {
     fn place_at(&self, point: &PointId) -> Result<usize, Refusal>
         ensures place { result ≡ place_in self.now point.now }
         ensures here { IfOk result (λ place. place_of self.now.site point.now ≡ Some place) }
-        ensures within { IfOk result (λ place. place < length self.now.books) }
+        ensures within { IfOk result (λ place. place < length self.now.points) }
     {
         if self.is_stopped {
             return Err(Refusal::Stopped);

@@ -1,6 +1,6 @@
 //! What the central system keeps of its calls to a charge point.
 
-ghost use Rattle.std.specs.Prelude.{◌≡◌, ◌+◌, ◌-◌, ◌<◌, ◌≤◌, ◌^◌, ◌++◌, IfErr, IfOk, OnErr, OnOk, length};
+ghost use Rattle.std.specs.Prelude.{◌≡◌, ◌+◌, ◌-◌, ◌<◌, ◌≤◌, ◌^◌, ◌++◌, IfErr, IfOk, IsSome, OnErr, OnOk, length};
 ghost use Rattle.site_core.specs.Limits.{max_calls, max_number};
 ghost use Rattle.site_core.specs.Outbox.{IsOutbox, added, attached, confirmed, is_exhausted, is_full, is_number_in_flight, lost, opening_outbox, sendable, sending_link, sent};
 
@@ -174,11 +174,13 @@ impl Outbox {
     }
 
     /// A copy of the first call, which is in flight from then on: `None` where there is no link,
-    /// where a call is in flight, and where none waits. Out of memory nothing changes.
+    /// where a call is in flight, and where none waits. Out of memory, which only the copy of a call
+    /// wants, nothing changes.
     pub fn send(&mut self) -> Result<Option<Call>, AllocError>
         ensures call { IfOk result (λ call. call ≡ sendable self.old) }
         ensures outbox { OnOk result (self.new ≡ sent self.old) }
         ensures kept { OnErr result (self.new ≡ self.old) }
+        ensures wanted { OnErr result (IsSome (sendable self.old)) }
     {
         if self.link.is_none() || self.is_in_flight {
             return Ok(None);

@@ -4,12 +4,11 @@ use Rattle.std.specs.Prelude.{◌≡◌, ℕ, List, Option, Some, None, Result, 
 use Rattle.ocpp_scalars.specs.declared.refusal.Refusal.{Refusal}
 use Rattle.ocpp_scalars.specs.declared.refusal.Refusal.TheVariants.{Stopped, Superseded, UnknownPoint}
 use Rattle.site_rules.specs.Site.{place_of}
-use Rattle.point_book.specs.Changes.{IsCause}
 use Rattle.site_core.specs.declared.step.Step.{Step}
 use Rattle.site_core.specs.declared.step.Step.TheVariants as steps
 use Rattle.site_core.specs.declared.reply.Reply.{Reply}
 use Rattle.site_core.specs.State.{MachineState, outbox_at, is_this_number}
-use Rattle.site_core.specs.Step.{Made, cause_of}
+use Rattle.site_core.specs.Step.{Made, IsRefusalOf}
 
 -- made, with this reply and this state after it
 abbrev pub IsMade : Result Made Refusal → Reply → MachineState → Type 0
@@ -18,7 +17,7 @@ IsMade made reply new = made ≡ Ok (record { reply = reply; after = new })
 -- not made, for this cause, and the state is as it was
 pub record IsNotMade (old : MachineState) (made : Result Made Refusal) (refusal : Refusal)
     (new : MachineState) : Type 0 where
-  pub cause : IsCause (cause_of made) refusal
+  pub cause : IsRefusalOf made refusal
   pub unchanged : new ≡ old
 
 -- the place of a point, or why nothing is made there

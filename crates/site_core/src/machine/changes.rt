@@ -4,27 +4,23 @@ ghost use Rattle.std.specs.Prelude.{◌≡◌, ◌<◌, ◌≤◌, None, Some, I
 ghost use Rattle.site_rules.specs.Site.{place_of};
 ghost use Rattle.transactions.specs.declared.active_table.Began.{Began};
 ghost use Rattle.site_core.specs.declared.step.Step.{Step};
-ghost use Rattle.site_core.specs.State.{book_at, outbox_at};
-ghost use Rattle.site_core.specs.Step.{at_point, version_refusal, refusal_to_call, refusal_to_install, installs, clears, refusal_to_start, starts_as, starts, stops, Steps, IsRefused};
+ghost use Rattle.site_core.specs.State.{point_at, book_at, outbox_at};
+ghost use Rattle.site_core.specs.Step.{at_point, told_at, done_at, version_refusal, refusal_to_call, refusal_to_install, installs, clears, refusal_to_start, starts_as, starts, stops, Steps, IsRefused};
 ghost use Rattle.site_core.specs.ByCases.Made.{IsMade, IsNotMade};
 ghost use Rattle.site_core.specs.Limits.{max_number, max_calls};
-ghost use Rattle.messages.specs.declared.call.CallBody.{CallBody};
+ghost use Rattle.transactions.specs.ActiveTable.{began};
 ghost use Rattle.point_book.specs.Changes.{install_refusal};
 
-use crate::books::{Starting, book_at, clear_at, install_at, start_at, stop_at};
+use crate::charge_points::point_at;
 use crate::machine::Machine;
 use crate::numbers::{MAX_NUMBER, MAX_TRANSACTION};
-use crate::outbox::PreparedCall;
-use crate::outboxes::{add_at, outbox_at};
 use crate::outcome::Refused;
 use crate::point_id::PointId;
 use crate::reply::Reply;
 use crate::step::Step;
-use messages::CallBody;
 use ocpp_scalars::Refusal;
 use profile::{Criteria, Row};
 use site_rules::admit;
-use std::alloc::AllocError;
 use transactions::{Began, Begin};
 
 impl Machine {
@@ -72,10 +68,11 @@ impl Machine {
 
     /// Installs a row at a point. On a refusal the row comes back.
     fn install(&mut self, point: &PointId, row: Row) -> Result<Reply, (Refusal, Row)>
-        ensures made { IfOk result (λ reply.
-            IsMade (at_point self.old point.now (installs self.old point.now row)) reply self.new) }
+        ensures made { IfOk result (λ reply. IsMade (at_point self.old point.now (told_at self.old
+            (installs self.old.site self.old.numbers point.now row))) reply self.new) }
         ensures refused { IfErr result (λ refused. IsNotMade self.old
-            (at_point self.old point.now (installs self.old point.now row)) refused.0 self.new) }
+            (at_point self.old point.now (told_at self.old
+            (installs self.old.site self.old.numbers point.now row))) refused.0 self.new) }
         ensures back { IfErr result (λ refused. refused.1 ≡ row) }
     {
         match self.place_at(point) {
@@ -87,10 +84,10 @@ impl Machine {
     /// Removes the profiles of a point that match each criterion that is given.
     #[inline(never)]
     pub(super) fn clear(&mut self, point: &PointId, criteria: &Criteria) -> Result<Reply, Refusal>
-        ensures made { IfOk result (λ reply.
-            IsMade (at_point self.old point.now (clears self.old criteria.now)) reply self.new) }
-        ensures refused { IfErr result (λ refusal. IsNotMade self.old
-            (at_point self.old point.now (clears self.old criteria.now)) refusal self.new) }
+        ensures made { IfOk result (λ reply. IsMade (at_point self.old point.now
+            (told_at self.old (clears self.old.numbers criteria.now))) reply self.new) }
+        ensures refused { IfErr result (λ refusal. IsNotMade self.old (at_point self.old point.now
+            (told_at self.old (clears self.old.numbers criteria.now))) refusal self.new) }
     {
         let place = self.place_at(point)?;
         self.clear_at(place, criteria)
@@ -104,10 +101,10 @@ impl Machine {
         connector: u32,
         begin: Begin,
     ) -> Result<Reply, (Refusal, Begin)>
-        ensures made { IfOk result (λ reply. IsMade
-            (at_point self.old point.now (starts self.old connector begin)) reply self.new) }
-        ensures refused { IfErr result (λ refused. IsNotMade self.old
-            (at_point self.old point.now (starts self.old connector begin)) refused.0 self.new) }
+        ensures made { IfOk result (λ reply. IsMade (at_point self.old point.now
+            (told_at self.old (starts self.old.numbers connector begin))) reply self.new) }
+        ensures refused { IfErr result (λ refused. IsNotMade self.old (at_point self.old point.now
+            (told_at self.old (starts self.old.numbers connector begin))) refused.0 self.new) }
         ensures back { IfErr result (λ refused. refused.1 ≡ begin) }
     {
         match self.place_at(point) {
@@ -119,20 +116,21 @@ impl Machine {
     /// Ends the transaction of this number, where it is active at a point.
     #[inline(never)]
     pub(super) fn stop(&mut self, point: &PointId, number: i32) -> Result<Reply, Refusal>
-        ensures made { IfOk result (λ reply.
-            IsMade (at_point self.old point.now (stops self.old number)) reply self.new) }
-        ensures refused { IfErr result (λ refusal. IsNotMade self.old
-            (at_point self.old point.now (stops self.old number)) refusal self.new) }
+        ensures made { IfOk result (λ reply. IsMade (at_point self.old point.now
+            (told_at self.old (stops self.old.numbers number))) reply self.new) }
+        ensures refused { IfErr result (λ refusal. IsNotMade self.old (at_point self.old point.now
+            (told_at self.old (stops self.old.numbers number))) refusal self.new) }
     {
         let place = self.place_at(point)?;
         self.stop_at(place, number)
     }
 
-    /// Why a row isn't installed in the book of a point, which is at this place, if memory lasts.
+    /// Why a row isn't installed at a point, which is at this place, if memory lasts.
     fn refusal_to_install(&self, point: &PointId, place: usize, row: &Row) -> Option<Refusal>
         requires here { place_of self.now.site point.now ≡ Some place }
-        requires within { place < length self.now.books }
-        ensures refusal { result ≡ refusal_to_install self.now point.now row.now place }
+        requires within { place < length self.now.points }
+        ensures refusal { result ≡ refusal_to_install self.now.site self.now.numbers point.now
+            row.now (point_at self.now place) }
         ensures allowed { IfNone result (install_refusal (book_at self.now place) row.now ≡ None) }
         ensures room { IfNone result (length (outbox_at self.now place).calls < max_calls) }
         ensures number { IfNone result ((outbox_at self.now place).next ≤ max_number) }
@@ -142,7 +140,7 @@ impl Machine {
         if let Err(refusal) = admit(&self.site, point.as_str(), row.connector, &row.profile) {
             return Some(refusal);
         }
-        if let Some(refusal) = book_at(&self.books, place).book().install_refusal(row) {
+        if let Some(refusal) = point_at(&self.points, place).book().install_refusal(row) {
             return Some(refusal);
         }
         self.refusal_to_call(place)
@@ -150,23 +148,19 @@ impl Machine {
 
     /// Why no call is added for the point at a place, if memory lasts.
     fn refusal_to_call(&self, place: usize) -> Option<Refusal>
-        requires { place < length self.now.outboxes }
-        ensures refusal { result ≡ refusal_to_call self.now place }
+        requires { place < length self.now.points }
+        ensures refusal { result ≡ refusal_to_call self.now.numbers (point_at self.now place) }
         ensures room { IfNone result (length (outbox_at self.now place).calls < max_calls) }
         ensures number { IfNone result ((outbox_at self.now place).next ≤ max_number) }
     {
-        let outbox = outbox_at(&self.outboxes, place);
-        if outbox.is_full() {
-            return Some(Refusal::OutboxFull);
+        match point_at(&self.points, place).refusal_to_add() {
+            Some(refusal) => Some(refusal),
+            None => self.version_refusal(),
         }
-        if outbox.is_exhausted() {
-            return Some(Refusal::VersionsExhausted);
-        }
-        self.version_refusal()
     }
 
     fn version_refusal(&self) -> Option<Refusal>
-        ensures { result ≡ version_refusal self.now }
+        ensures { result ≡ version_refusal self.now.numbers }
     {
         if self.numbers.version == MAX_NUMBER {
             Some(Refusal::VersionsExhausted)
@@ -183,23 +177,18 @@ impl Machine {
         row: Row,
     ) -> Result<Reply, (Refusal, Row)>
         requires here { place_of self.old.site point.now ≡ Some place }
-        requires within { place < length self.old.books }
-        ensures made { IfOk result
-            (λ reply. IsMade (installs self.old point.now row place) reply self.new) }
-        ensures refused { IfErr result (λ refused.
-            IsNotMade self.old (installs self.old point.now row place) refused.0 self.new) }
+        requires within { place < length self.old.points }
+        ensures made { IfOk result (λ reply. IsMade (told_at self.old
+            (installs self.old.site self.old.numbers point.now row) place) reply self.new) }
+        ensures refused { IfErr result (λ refused. IsNotMade self.old (told_at self.old
+            (installs self.old.site self.old.numbers point.now row) place) refused.0 self.new) }
         ensures back { IfErr result (λ refused. refused.1 ≡ row) }
     {
         if let Some(refusal) = self.refusal_to_install(point, place, &row) {
             return Err((refusal, row));
         }
-        // The call's memory comes first, so that a refusal leaves the book.
-        let Ok(call) = self.call_of(&row) else {
-            return Err((Refusal::OutOfMemory, row));
-        };
-        match install_at(&mut self.books, place, row) {
+        match self.points[place].install(self.alloc, row) {
             Ok(()) => {
-                add_at(&mut self.outboxes, place, call);
                 self.numbers.version += 1;
                 Ok(Reply::Accepted)
             }
@@ -207,38 +196,22 @@ impl Machine {
         }
     }
 
-    /// The call that tells a point of the install of a row.
-    fn call_of(&self, row: &Row) -> Result<PreparedCall, AllocError>
-        ensures { IfOk result (λ call. call ≡ CallBody.Set row.now.connector row.now.profile) }
-    {
-        let body = CallBody::Set {
-            connector: row.connector,
-            profile: row.profile.copy()?,
-        };
-        match PreparedCall::new(self.alloc, body) {
-            Ok(call) => Ok(call),
-            Err((error, _)) => Err(error),
-        }
-    }
-
-    /// Removes the profiles that match each criterion that is given from the book at a place.
+    /// Removes the profiles that match each criterion that is given from the point at a place.
     fn clear_at(&mut self, place: usize, criteria: &Criteria) -> Result<Reply, Refusal>
-        requires { place < length self.old.books }
+        requires { place < length self.old.points }
         ensures { MatchResult result
-            (λ reply. IsMade (clears self.old criteria.now place) reply self.new)
-            (λ refusal. IsNotMade self.old (clears self.old criteria.now place) refusal self.new) }
+            (λ reply. IsMade (told_at self.old (clears self.old.numbers criteria.now) place)
+            reply self.new)
+            (λ refusal. IsNotMade self.old
+            (told_at self.old (clears self.old.numbers criteria.now) place) refusal self.new) }
     {
-        if !book_at(&self.books, place).book().has_match(criteria) {
+        if !point_at(&self.points, place).book().has_match(criteria) {
             return Ok(Reply::Unknown);
         }
         if let Some(refusal) = self.refusal_to_call(place) {
             return Err(refusal);
         }
-        let Ok(call) = PreparedCall::new(self.alloc, CallBody::Clear(*criteria)) else {
-            return Err(Refusal::OutOfMemory);
-        };
-        clear_at(&mut self.books, place, criteria)?;
-        add_at(&mut self.outboxes, place, call);
+        self.points[place].clear(self.alloc, criteria)?;
         self.numbers.version += 1;
         Ok(Reply::Accepted)
     }
@@ -251,14 +224,15 @@ impl Machine {
         connector: u32,
         begin: Begin,
     ) -> Result<Reply, (Refusal, Begin)>
-        requires { place < length self.old.books }
-        ensures made { IfOk result
-            (λ reply. IsMade (starts self.old connector begin place) reply self.new) }
-        ensures refused { IfErr result (λ refused.
-            IsNotMade self.old (starts self.old connector begin place) refused.0 self.new) }
+        requires within { place < length self.old.points }
+        ensures made { IfOk result (λ reply. IsMade
+            (told_at self.old (starts self.old.numbers connector begin) place) reply self.new) }
+        ensures refused { IfErr result (λ refused. IsNotMade self.old
+            (told_at self.old (starts self.old.numbers connector begin) place)
+            refused.0 self.new) }
         ensures back { IfErr result (λ refused. refused.1 ≡ begin) }
     {
-        let book = book_at(&self.books, place).book();
+        let book = point_at(&self.points, place).book();
         if connector == 0 || connector > book.connectors() {
             return Err((Refusal::UnknownConnector, begin));
         }
@@ -269,7 +243,7 @@ impl Machine {
     }
 
     fn refusal_to_start(&self) -> Option<Refusal>
-        ensures { result ≡ refusal_to_start self.now }
+        ensures { result ≡ refusal_to_start self.now.numbers }
     {
         if let Some(refusal) = self.version_refusal() {
             return Some(refusal);
@@ -287,25 +261,21 @@ impl Machine {
         connector: u32,
         begin: Begin,
     ) -> Result<Reply, (Refusal, Begin)>
-        requires within { place < length self.old.books }
+        requires within { place < length self.old.points }
         requires above { 0 < connector }
         requires connector { connector ≤ length (book_at self.old place).ceilings }
-        ensures made { IfOk result (λ reply.
-            IsMade (starts_as Began.Fresh self.old connector begin place) reply self.new) }
-        ensures refused { IfErr result (λ refused. IsNotMade self.old
-            (starts_as Began.Fresh self.old connector begin place) refused.0 self.new) }
+        requires new { began (book_at self.old place).transactions connector begin ≡ Began.Fresh }
+        ensures made { IfOk result (λ reply. IsMade (done_at self.old place
+            (starts_as Began.Fresh self.old.numbers connector begin)) reply self.new) }
+        ensures refused { IfErr result (λ refused. IsNotMade self.old (done_at self.old place
+            (starts_as Began.Fresh self.old.numbers connector begin)) refused.0 self.new) }
         ensures back { IfErr result (λ refused. refused.1 ≡ begin) }
     {
         if let Some(refusal) = self.refusal_to_start() {
             return Err((refusal, begin));
         }
         let number = (self.numbers.transaction + 1) as i32;
-        let starting = Starting {
-            connector,
-            begin,
-            number,
-        };
-        match start_at(&mut self.books, place, starting) {
+        match self.points[place].start(connector, begin, number) {
             Ok(()) => {
                 self.numbers.version += 1;
                 self.numbers.transaction += 1;
@@ -317,13 +287,13 @@ impl Machine {
 
     /// Ends the transaction of this number, where it is active at the point at a place.
     fn stop_at(&mut self, place: usize, number: i32) -> Result<Reply, Refusal>
-        requires { place < length self.old.books }
-        ensures made { IfOk result
-            (λ reply. IsMade (stops self.old number place) reply self.new) }
-        ensures refused { IfErr result
-            (λ refusal. IsNotMade self.old (stops self.old number place) refusal self.new) }
+        requires { place < length self.old.points }
+        ensures made { IfOk result (λ reply. IsMade
+            (told_at self.old (stops self.old.numbers number) place) reply self.new) }
+        ensures refused { IfErr result (λ refusal. IsNotMade self.old
+            (told_at self.old (stops self.old.numbers number) place) refusal self.new) }
     {
-        if book_at(&self.books, place)
+        if point_at(&self.points, place)
             .book()
             .connector_of(number)
             .is_none()
@@ -333,8 +303,12 @@ impl Machine {
         if let Some(refusal) = self.version_refusal() {
             return Err(refusal);
         }
-        stop_at(&mut self.books, place, number)?;
-        self.numbers.version += 1;
-        Ok(Reply::Ended)
+        match self.points[place].stop(number) {
+            Ok(()) => {
+                self.numbers.version += 1;
+                Ok(Reply::Ended)
+            }
+            Err(_) => Err(Refusal::OutOfMemory),
+        }
     }
 }

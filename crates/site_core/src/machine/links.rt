@@ -1,12 +1,12 @@
 //! The steps of links to points, and of the calls that are sent over them.
 
 ghost use Rattle.std.specs.Prelude.{◌≡◌, ◌<◌, Some, IfOk, IfErr, length};
-ghost use Rattle.site_core.specs.Step.{at_point, attaches, at_link, sends, confirms, loses, cause_of};
+ghost use Rattle.site_core.specs.Step.{at_point, attaches, at_link, told_at, sends, confirms, loses, cause_of};
 ghost use Rattle.site_core.specs.ByCases.Made.{IsMade, IsNotMade, linked_place_in};
 
+use crate::charge_points::point_at;
 use crate::machine::Machine;
 use crate::numbers::MAX_NUMBER;
-use crate::outboxes::{attach_at, confirm_at, lose_at, outbox_at, send_at};
 use crate::point_id::PointId;
 use crate::reply::Reply;
 use ocpp_scalars::Refusal;
@@ -16,9 +16,9 @@ impl Machine {
     #[inline(never)]
     pub(super) fn attach(&mut self, point: &PointId) -> Result<Reply, Refusal>
         ensures made { IfOk result (λ reply.
-            IsMade (at_point self.old point.now (attaches self.old)) reply self.new) }
+            IsMade (at_point self.old point.now (told_at self.old (attaches self.old.numbers))) reply self.new) }
         ensures refused { IfErr result (λ refusal.
-            (cause_of (at_point self.old point.now (attaches self.old)) ≡ Some refusal)
+            (cause_of (at_point self.old point.now (told_at self.old (attaches self.old.numbers))) ≡ Some refusal)
             × (self.new ≡ self.old)) }
     {
         let place = self.place_at(point)?;
@@ -26,7 +26,7 @@ impl Machine {
             return Err(Refusal::VersionsExhausted);
         }
         let link = self.numbers.link + 1;
-        attach_at(&mut self.outboxes, place, link);
+        self.points[place].attach(link);
         self.numbers.link = link;
         Ok(Reply::Attached(link))
     }
@@ -35,12 +35,12 @@ impl Machine {
     #[inline(never)]
     pub(super) fn send(&mut self, point: &PointId, link: u64) -> Result<Reply, Refusal>
         ensures made { IfOk result (λ reply.
-            IsMade (at_link self.old point.now link (sends self.old)) reply self.new) }
+            IsMade (at_link self.old point.now link (told_at self.old sends)) reply self.new) }
         ensures refused { IfErr result (λ refusal. IsNotMade self.old
-            (at_link self.old point.now link (sends self.old)) refusal self.new) }
+            (at_link self.old point.now link (told_at self.old sends)) refusal self.new) }
     {
         let place = self.linked_place(point, link)?;
-        match send_at(&mut self.outboxes, place)? {
+        match self.points[place].send()? {
             Some(call) => Ok(Reply::Sent(call)),
             None => Ok(Reply::Nothing),
         }
@@ -55,13 +55,13 @@ impl Machine {
         number: u64,
     ) -> Result<Reply, Refusal>
         ensures made { IfOk result (λ reply.
-            IsMade (at_link self.old point.now link (confirms self.old number)) reply self.new) }
+            IsMade (at_link self.old point.now link (told_at self.old (confirms number))) reply self.new) }
         ensures refused { IfErr result (λ refusal.
-            (cause_of (at_link self.old point.now link (confirms self.old number)) ≡ Some refusal)
+            (cause_of (at_link self.old point.now link (told_at self.old (confirms number))) ≡ Some refusal)
             × (self.new ≡ self.old)) }
     {
         let place = self.linked_place(point, link)?;
-        if confirm_at(&mut self.outboxes, place, number) {
+        if self.points[place].confirm(number) {
             Ok(Reply::Confirmed)
         } else {
             Err(Refusal::NothingInFlight)
@@ -72,13 +72,13 @@ impl Machine {
     #[inline(never)]
     pub(super) fn lose(&mut self, point: &PointId, link: u64) -> Result<Reply, Refusal>
         ensures made { IfOk result (λ reply.
-            IsMade (at_link self.old point.now link (loses self.old)) reply self.new) }
+            IsMade (at_link self.old point.now link (told_at self.old loses)) reply self.new) }
         ensures refused { IfErr result (λ refusal.
-            (cause_of (at_link self.old point.now link (loses self.old)) ≡ Some refusal)
+            (cause_of (at_link self.old point.now link (told_at self.old loses)) ≡ Some refusal)
             × (self.new ≡ self.old)) }
     {
         let place = self.linked_place(point, link)?;
-        lose_at(&mut self.outboxes, place);
+        self.points[place].lose();
         Ok(Reply::LinkLost)
     }
 
@@ -86,7 +86,7 @@ impl Machine {
     /// stopped. The refusals are `Stopped` and `Superseded`.
     fn linked_place(&self, point: &PointId, link: u64) -> Result<usize, Refusal>
         ensures place { result ≡ linked_place_in self.now point.now link }
-        ensures within { IfOk result (λ place. place < length self.now.outboxes) }
+        ensures within { IfOk result (λ place. place < length self.now.points) }
     {
         if self.is_stopped {
             return Err(Refusal::Stopped);
@@ -94,7 +94,7 @@ impl Machine {
         let Some(place) = self.site.place_of(point.as_str()) else {
             return Err(Refusal::Superseded);
         };
-        if outbox_at(&self.outboxes, place).link() == Some(link) {
+        if point_at(&self.points, place).outbox().link() == Some(link) {
             Ok(place)
         } else {
             Err(Refusal::Superseded)

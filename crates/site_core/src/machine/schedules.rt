@@ -6,7 +6,7 @@ ghost use Rattle.site_core.specs.Step.{at_point, refusal_to_take, takes, Compile
 ghost use Rattle.site_core.specs.ByCases.Made.{IsMade, IsNotMade};
 
 use crate::ask::ask_at;
-use crate::books::book_at;
+use crate::charge_points::point_at;
 use crate::machine::Machine;
 use crate::numbers::MAX_NUMBER;
 use crate::reply::Reply;
@@ -51,18 +51,18 @@ impl Machine {
 
     /// Keeps a request for a schedule of the point at a place.
     fn take_at(&mut self, place: usize, take: &Take) -> Result<Reply, Refusal>
-        requires { place < length self.old.books }
+        requires { place < length self.old.points }
         ensures { MatchResult result
             (λ reply. IsMade (takes self.old take.now place) reply self.new)
             (λ refusal. IsNotMade self.old (takes self.old take.now place) refusal self.new) }
     {
-        let ask = ask_at(self.site.unit(), book_at(&self.books, place).book(), take)?;
+        let ask = ask_at(self.site.unit(), point_at(&self.points, place).book(), take)?;
         if let Some(refusal) = self.refusal_to_take(take) {
             return Err(refusal);
         }
-        let book = book_at(&self.books, place);
-        let kept = book.share()?;
-        let told = book.share()?;
+        let point = point_at(&self.points, place);
+        let kept = point.share_book()?;
+        let told = point.share_book()?;
         let number = self.numbers.request + 1;
         let reply = taken(number, told, &ask);
         self.requests.push(Request {

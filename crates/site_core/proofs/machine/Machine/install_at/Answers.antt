@@ -1,12 +1,18 @@
--- A book with as many connectors stands in the place of another, the call is added, and the version isn't the last.
-use Rattle.std.proofs.Common.{◌≡◌, None, refl}
-use Rattle.site_core.proofs.MachineLemmas.{called_fits, install_calls}
-use Rattle.site_core.specs.Step.{refusal_to_call}
+-- A point with as many connectors stands in the place of another, and the version isn't the last.
+use Rattle.std.proofs.Common.{◌≡◌, ◌<◌, None, length, ap, subst, sym}
+use Rattle.site_core.specs.State.{MachineState, point_at, connectors_in_book}
 use Rattle.site_core.specs.contracts.machine.Machine.{the_view}
+use Rattle.site_core.specs.Step.{refusal_to_call}
+use Rattle.site_core.proofs.MachineLemmas.{changed_fits, call_draws_version, install_calls}
 use Rattle.site_core.proofs.machine.Machine.install_at.Goals as goal
 
 pub invariant_of-self : goal.invariant_of-self
 invariant_of-self c =
     let old = the_view c.self.inside in
-    let none : None ≡ refusal_to_call old c.args.place = install_calls old c.args.point.now c.args.row c.args.place (rw (← c.self.view_is) at c.in_default.ensures.refusal) in
-    called_fits old c.args.place _ _ _ _ c.self.invariant refl none c.in-Ok-install_at.ensures.books c.add_at.ensures
+    let point = point_at old c.args.place in
+    let within : c.args.place < length old.points =
+    subst (λ (s : MachineState). c.args.place < length s.points) (sym c.self.view_is) c.requires.within in
+    let none : None ≡ refusal_to_call old.numbers point =
+    install_calls old.site old.numbers c.args.point.now c.args.row point (rw (← c.self.view_is) at c.in_default.ensures.refusal) in
+    changed_fits old c.args.place c.index_mut.result.now c.install.new.self c.self.invariant within c.index_mut.ensures.value
+    (ap connectors_in_book c.in-Ok.ensures.point) (call_draws_version old.numbers point none)

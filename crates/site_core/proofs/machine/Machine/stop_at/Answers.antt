@@ -1,8 +1,14 @@
--- A book with as many connectors stands in the place of another, and the version isn't the last.
-use Rattle.std.proofs.Common.{refl}
-use Rattle.site_core.proofs.MachineLemmas.{changed_fits}
+-- A point with as many connectors stands in the place of another, and the version isn't the last.
+use Rattle.std.proofs.Common.{◌≡◌, ◌<◌, None, length, ap, subst, sym}
+use Rattle.site_core.specs.State.{MachineState, point_at, connectors_in_book}
 use Rattle.site_core.specs.contracts.machine.Machine.{the_view}
+use Rattle.site_core.proofs.MachineLemmas.{changed_fits}
 use Rattle.site_core.proofs.machine.Machine.stop_at.Goals as goal
 
-pub invariant_of-self-2 : goal.invariant_of-self-2
-invariant_of-self-2 c = changed_fits (the_view c.self.inside) c.args.place _ _ _ c.self.invariant refl (rw (← c.self.view_is) at c.in_default.ensures) c.in_ok-stop_at.ensures.books refl
+pub invariant_of-self : goal.invariant_of-self
+invariant_of-self c =
+    let old = the_view c.self.inside in
+    let within : c.args.place < length old.points =
+    subst (λ (s : MachineState). c.args.place < length s.points) (sym c.self.view_is) c.requires in
+    changed_fits old c.args.place c.index_mut.result.now c.stop.new.self c.self.invariant within c.index_mut.ensures.value
+    (ap connectors_in_book c.in-Ok.ensures.point) (rw (← c.self.view_is) at c.in_default.ensures)

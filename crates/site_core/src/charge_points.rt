@@ -1,0 +1,28 @@
+//! The points of a site, each at its place.
+
+ghost use Rattle.std.specs.Prelude.{◌≡◌, ◌<◌, IfOk, length, map};
+ghost use Rattle.site_core.specs.ChargePoint.{opening_point};
+ghost use Rattle.site_core.specs.State.{point_in};
+
+use crate::charge_point::ChargePoint;
+use site_rules::Site;
+use std::alloc::{AllocError, Global};
+
+/// The points of a site with nothing installed, no active transaction and no link.
+pub(crate) fn opening_points(alloc: Global, site: &Site) -> Result<Vec<ChargePoint>, AllocError>
+    ensures { IfOk result (λ points. points.items ≡ map opening_point site.now.points) }
+{
+    let mut points = Vec::with_capacity(alloc, site.len())?;
+    while let Some(point) = site.point(points.len()) {
+        points.push(ChargePoint::new(alloc, &point)?)?;
+    }
+    Ok(points)
+}
+
+/// The point at a place.
+pub(crate) fn point_at(points: &Vec<ChargePoint>, place: usize) -> &ChargePoint
+    requires { place < length points.now.items }
+    ensures { result.now ≡ point_in points.now.items place }
+{
+    &points[place]
+}
