@@ -1,6 +1,6 @@
 -- One step of the central system: what it replies and what it changes, or the first cause why it is
 -- refused. All that a step doesn't name stays as it was, and a refused step changes nothing.
-use Rattle.std.specs.Prelude.{ℕ, ℤ, pos, ◌≡◌, ◌+◌, nat_lt, nat_le, ◌==◌, ◌||◌, Bool, true, false, List, [], ◌∷◌, ◌++◌, length, Option, Some, None, is_some, Result, Ok, Err, IfOk, slice_set, if◌then◌else◌}
+use Rattle.std.specs.Prelude.{ℕ, ℤ, pos, ◌≡◌, ◌≤◌, ◌+◌, not, nat_lt, nat_le, ◌==◌, ◌||◌, Bool, true, false, List, [], ◌∷◌, ◌++◌, length, Option, Some, None, is_some, Result, Ok, Err, IfOk, slice_set, if◌then◌else◌}
 use Rattle.std.specs.List.{list_any}
 use Rattle.ocpp_scalars.specs.declared.refusal.Refusal.{Refusal}
 use Rattle.ocpp_scalars.specs.declared.refusal.Refusal.TheVariants.{UnknownPoint, UnknownConnector, OutboxFull, TooManyOpen, VersionsExhausted, TransactionsExhausted, Behind, OutOfMemory, UnknownRequest, AlreadyAnswered, Superseded, NothingInFlight}
@@ -322,6 +322,34 @@ pub record Compiles (old : MachineState) (number : ℕ) (reply : Reply) (new : M
 abbrev pub Steps : MachineState → Step → Reply → MachineState → Type 0
 Steps old (steps.Compile number) reply new = Compiles old number reply new
 Steps old step reply new = stepped no_answer old step ≡ Ok (record { reply = reply; after = new })
+
+-- ---- what replies tell
+
+-- a book that is replied with an ask has the connector that is asked
+abbrev pub HasAskedConnector : Reply → Type 0
+HasAskedConnector (Taken number book ask) = ask.connector ≤ length book.ceilings
+HasAskedConnector (Answered book ask answer) = ask.connector ≤ length book.ceilings
+HasAskedConnector other = Unit {0}
+
+-- Whether a step with its reply is an event. What is answered without a change isn't: Unknown,
+-- Repeated, NoSuch, NotYet, Nothing, and a Finish once the central system is stopped.
+abbrev pub is_event : MachineState → Reply → Bool
+is_event old Accepted = true
+is_event old Unknown = false
+is_event old (Started number) = true
+is_event old (Repeated number) = false
+is_event old Ended = true
+is_event old NoSuch = false
+is_event old (Taken number book ask) = true
+is_event old Compiled = true
+is_event old (Answered book ask answer) = true
+is_event old NotYet = false
+is_event old Finished = not old.is_stopped
+is_event old (Attached link) = true
+is_event old (Sent call) = true
+is_event old Nothing = false
+is_event old Confirmed = true
+is_event old LinkLost = true
 
 -- ---- refusals
 

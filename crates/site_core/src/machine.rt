@@ -4,7 +4,7 @@ ghost use Rattle.std.specs.Prelude.{◌≡◌, ◌<◌, ◌≤◌, Some, IfOk, I
 ghost use Rattle.site_rules.specs.Site.{place_of};
 ghost use Rattle.site_core.specs.State.{AreNumbers, link_of, link_to_send, opening, opening_at, outbox_len};
 ghost use Rattle.site_core.specs.State.{IsMachine};
-ghost use Rattle.site_core.specs.Step.{Steps, IsRefused, IsRefusalOf, stepped, no_answer};
+ghost use Rattle.site_core.specs.Step.{HasAskedConnector, Steps, IsRefused, IsRefusalOf, stepped, no_answer};
 ghost use Rattle.site_core.specs.Run.{HasOutcome, Runs};
 ghost use Rattle.site_core.specs.ByCases.Made.{place_in, KeepsNothing};
 
@@ -114,6 +114,13 @@ impl Machine {
         self.requests.len()
     }
 
+    /// Whether it is stopped, so that no step but compiling, answering and finishing is made any more.
+    pub fn is_stopped(&self) -> bool
+        ensures { result ≡ self.now.is_stopped }
+    {
+        self.is_stopped
+    }
+
     /// The present link of the point of an identity, if it has one.
     pub fn link_of(&self, point: &str) -> Option<u64>
         ensures { result ≡ link_of self.now point.now }
@@ -146,10 +153,11 @@ impl Machine {
     /// Makes a step, or says why not: then nothing has changed, and the step comes back. The refusal is
     /// the first cause. It is `OutOfMemory` only where no other cause is there and the step would do what
     /// wants memory: an install, a clear that removes a profile, a start that isn't told again, a stop, a
-    /// take, and a sending.
+    /// take, and a sending. A book that is replied with an ask has the connector that is asked.
     pub fn step(&mut self, step: Step) -> Result<Reply, Refused>
         ensures made { MatchResult result (λ reply. Steps self.old step reply self.new)
             (λ refused. IsRefused self.old step refused self.new) }
+        ensures asked { IfOk result HasAskedConnector }
     {
         match step {
             Step::Install { point, row } => self.install_step(point, row),
@@ -170,6 +178,7 @@ impl Machine {
         ensures made { IfOk result (λ reply. Steps self.old step.now reply self.new) }
         ensures refused { IfErr result (λ refusal.
             IsRefusalOf (stepped no_answer self.old step.now) refusal × (self.new ≡ self.old)) }
+        ensures asked { IfOk result HasAskedConnector }
     {
         match step {
             Step::Clear { point, criteria } => self.clear(point, criteria),

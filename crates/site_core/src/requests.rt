@@ -1,10 +1,11 @@
 //! The kept requests: finding one by its number, compiling it, and handing out its answer.
 
-ghost use Rattle.std.specs.Prelude.{◌≡◌, ◌≤◌, ◌==◌, length, Some, Ok, Err, true, is_some, MatchResult, option_map};
+ghost use Rattle.std.specs.Prelude.{◌≡◌, ◌≤◌, ◌==◌, length, Some, Ok, Err, true, is_some, MatchResult, IfOk, option_map};
 ghost use Rattle.site_core.specs.declared.reply.Reply.{Reply};
 ghost use Rattle.std.specs.List.{position};
 ghost use Rattle.site_core.specs.State.{Kept};
 ghost use Rattle.site_core.specs.Requests.{request_of, stopped_request, all_stopped};
+ghost use Rattle.site_core.specs.Step.{HasAskedConnector};
 ghost use Rattle.site_core.specs.ByCases.Requests.{refusal_to_compile, IsCompiledIn, handed_out};
 
 use crate::reply::Reply;
@@ -55,6 +56,7 @@ pub(crate) fn hand_out(requests: &mut Vec<Request>, number: u64) -> Result<Reply
         (handed_out number requests.old.items ≡ Err refusal)
         × (requests.new.items ≡ requests.old.items)) }
     ensures many { length requests.new.items ≤ length requests.old.items }
+    ensures asked { IfOk result HasAskedConnector }
 {
     let Some(place) = place_of(requests, number) else {
         return Err(Refusal::UnknownRequest);
@@ -75,7 +77,9 @@ fn is_answered(request: &Request) -> bool
 /// The answer to a request, which has one, with what it is for.
 fn reply_of(request: Request) -> Reply
     requires { is_some request.answer ≡ true }
-    ensures { Some result ≡ option_map (Reply.Answered request.book request.ask) request.answer }
+    ensures reply { Some result
+        ≡ option_map (Reply.Answered request.book request.ask) request.answer }
+    ensures asked { HasAskedConnector result }
 {
     Reply::Answered {
         book: request.book,

@@ -5,7 +5,7 @@ ghost use Rattle.site_rules.specs.Site.{place_of};
 ghost use Rattle.transactions.specs.declared.active_table.Began.{Began};
 ghost use Rattle.site_core.specs.declared.step.Step.{Step};
 ghost use Rattle.site_core.specs.State.{point_at, book_at, outbox_at};
-ghost use Rattle.site_core.specs.Step.{at_point, told_at, done_at, version_refusal, refusal_to_call, refusal_to_install, installs, clears, refusal_to_start, starts_as, starts, stops, Steps, IsRefused};
+ghost use Rattle.site_core.specs.Step.{HasAskedConnector, at_point, told_at, done_at, version_refusal, refusal_to_call, refusal_to_install, installs, clears, refusal_to_start, starts_as, starts, stops, Steps, IsRefused};
 ghost use Rattle.site_core.specs.ByCases.Made.{IsMade, IsNotMade};
 ghost use Rattle.site_core.specs.Limits.{max_number, max_calls};
 ghost use Rattle.transactions.specs.ActiveTable.{began};
@@ -27,9 +27,10 @@ impl Machine {
     /// Installs a row at a point. On a refusal the step comes back.
     #[inline(never)]
     pub(super) fn install_step(&mut self, point: PointId, row: Row) -> Result<Reply, Refused>
-        ensures { MatchResult result
+        ensures made { MatchResult result
             (λ reply. Steps self.old (Step.Install point row) reply self.new)
             (λ refused. IsRefused self.old (Step.Install point row) refused self.new) }
+        ensures asked { IfOk result HasAskedConnector }
     {
         match self.install(&point, row) {
             Ok(reply) => Ok(reply),
@@ -49,9 +50,10 @@ impl Machine {
         connector: u32,
         begin: Begin,
     ) -> Result<Reply, Refused>
-        ensures { MatchResult result
+        ensures made { MatchResult result
             (λ reply. Steps self.old (Step.Start point connector begin) reply self.new)
             (λ refused. IsRefused self.old (Step.Start point connector begin) refused self.new) }
+        ensures asked { IfOk result HasAskedConnector }
     {
         match self.start(&point, connector, begin) {
             Ok(reply) => Ok(reply),
@@ -74,6 +76,7 @@ impl Machine {
             (at_point self.old point.now (told_at self.old
             (installs self.old.site self.old.numbers point.now row))) refused.0 self.new) }
         ensures back { IfErr result (λ refused. refused.1 ≡ row) }
+        ensures asked { IfOk result HasAskedConnector }
     {
         match self.place_at(point) {
             Ok(place) => self.install_at(point, place, row),
@@ -88,6 +91,7 @@ impl Machine {
             (told_at self.old (clears self.old.numbers criteria.now))) reply self.new) }
         ensures refused { IfErr result (λ refusal. IsNotMade self.old (at_point self.old point.now
             (told_at self.old (clears self.old.numbers criteria.now))) refusal self.new) }
+        ensures asked { IfOk result HasAskedConnector }
     {
         let place = self.place_at(point)?;
         self.clear_at(place, criteria)
@@ -106,6 +110,7 @@ impl Machine {
         ensures refused { IfErr result (λ refused. IsNotMade self.old (at_point self.old point.now
             (told_at self.old (starts self.old.numbers connector begin))) refused.0 self.new) }
         ensures back { IfErr result (λ refused. refused.1 ≡ begin) }
+        ensures asked { IfOk result HasAskedConnector }
     {
         match self.place_at(point) {
             Ok(place) => self.start_at(place, connector, begin),
@@ -120,6 +125,7 @@ impl Machine {
             (told_at self.old (stops self.old.numbers number))) reply self.new) }
         ensures refused { IfErr result (λ refusal. IsNotMade self.old (at_point self.old point.now
             (told_at self.old (stops self.old.numbers number))) refusal self.new) }
+        ensures asked { IfOk result HasAskedConnector }
     {
         let place = self.place_at(point)?;
         self.stop_at(place, number)
@@ -183,6 +189,7 @@ impl Machine {
         ensures refused { IfErr result (λ refused. IsNotMade self.old (told_at self.old
             (installs self.old.site self.old.numbers point.now row) place) refused.0 self.new) }
         ensures back { IfErr result (λ refused. refused.1 ≡ row) }
+        ensures asked { IfOk result HasAskedConnector }
     {
         if let Some(refusal) = self.refusal_to_install(point, place, &row) {
             return Err((refusal, row));
@@ -199,11 +206,12 @@ impl Machine {
     /// Removes the profiles that match each criterion that is given from the point at a place.
     fn clear_at(&mut self, place: usize, criteria: &Criteria) -> Result<Reply, Refusal>
         requires { place < length self.old.points }
-        ensures { MatchResult result
+        ensures made { MatchResult result
             (λ reply. IsMade (told_at self.old (clears self.old.numbers criteria.now) place)
             reply self.new)
             (λ refusal. IsNotMade self.old
             (told_at self.old (clears self.old.numbers criteria.now) place) refusal self.new) }
+        ensures asked { IfOk result HasAskedConnector }
     {
         if !point_at(&self.points, place).book().has_match(criteria) {
             return Ok(Reply::Unknown);
@@ -231,6 +239,7 @@ impl Machine {
             (told_at self.old (starts self.old.numbers connector begin) place)
             refused.0 self.new) }
         ensures back { IfErr result (λ refused. refused.1 ≡ begin) }
+        ensures asked { IfOk result HasAskedConnector }
     {
         let book = point_at(&self.points, place).book();
         if connector == 0 || connector > book.connectors() {
@@ -270,6 +279,7 @@ impl Machine {
         ensures refused { IfErr result (λ refused. IsNotMade self.old (done_at self.old place
             (starts_as Began.Fresh self.old.numbers connector begin)) refused.0 self.new) }
         ensures back { IfErr result (λ refused. refused.1 ≡ begin) }
+        ensures asked { IfOk result HasAskedConnector }
     {
         if let Some(refusal) = self.refusal_to_start() {
             return Err((refusal, begin));
@@ -292,6 +302,7 @@ impl Machine {
             (told_at self.old (stops self.old.numbers number) place) reply self.new) }
         ensures refused { IfErr result (λ refusal. IsNotMade self.old
             (told_at self.old (stops self.old.numbers number) place) refusal self.new) }
+        ensures asked { IfOk result HasAskedConnector }
     {
         if point_at(&self.points, place)
             .book()

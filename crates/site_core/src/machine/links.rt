@@ -1,7 +1,7 @@
 //! The steps of links to points, and of the calls that are sent over them.
 
 ghost use Rattle.std.specs.Prelude.{◌≡◌, ◌<◌, Some, IfOk, IfErr, length};
-ghost use Rattle.site_core.specs.Step.{at_point, attaches, at_link, told_at, sends, confirms, loses, cause_of};
+ghost use Rattle.site_core.specs.Step.{HasAskedConnector, at_point, attaches, at_link, told_at, sends, confirms, loses, cause_of};
 ghost use Rattle.site_core.specs.ByCases.Made.{IsMade, IsNotMade, linked_place_in};
 
 use crate::charge_points::point_at;
@@ -20,6 +20,7 @@ impl Machine {
         ensures refused { IfErr result (λ refusal.
             (cause_of (at_point self.old point.now (told_at self.old (attaches self.old.numbers))) ≡ Some refusal)
             × (self.new ≡ self.old)) }
+        ensures asked { IfOk result HasAskedConnector }
     {
         let place = self.place_at(point)?;
         if self.numbers.link == MAX_NUMBER {
@@ -38,6 +39,7 @@ impl Machine {
             IsMade (at_link self.old point.now link (told_at self.old sends)) reply self.new) }
         ensures refused { IfErr result (λ refusal. IsNotMade self.old
             (at_link self.old point.now link (told_at self.old sends)) refusal self.new) }
+        ensures asked { IfOk result HasAskedConnector }
     {
         let place = self.linked_place(point, link)?;
         match self.points[place].send()? {
@@ -59,6 +61,7 @@ impl Machine {
         ensures refused { IfErr result (λ refusal.
             (cause_of (at_link self.old point.now link (told_at self.old (confirms number))) ≡ Some refusal)
             × (self.new ≡ self.old)) }
+        ensures asked { IfOk result HasAskedConnector }
     {
         let place = self.linked_place(point, link)?;
         if self.points[place].confirm(number) {
@@ -76,6 +79,7 @@ impl Machine {
         ensures refused { IfErr result (λ refusal.
             (cause_of (at_link self.old point.now link (told_at self.old loses)) ≡ Some refusal)
             × (self.new ≡ self.old)) }
+        ensures asked { IfOk result HasAskedConnector }
     {
         let place = self.linked_place(point, link)?;
         self.points[place].lose();

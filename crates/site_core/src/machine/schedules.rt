@@ -2,7 +2,7 @@
 
 ghost use Rattle.std.specs.Prelude.{◌≡◌, ◌<◌, Some, IfOk, IfErr, MatchResult, length};
 ghost use Rattle.site_core.specs.declared.reply.Reply.{Reply};
-ghost use Rattle.site_core.specs.Step.{at_point, refusal_to_take, takes, Compiles, no_answer, compiles, answers, finishes, cause_of};
+ghost use Rattle.site_core.specs.Step.{HasAskedConnector, at_point, refusal_to_take, takes, Compiles, no_answer, compiles, answers, finishes, cause_of};
 ghost use Rattle.site_core.specs.ByCases.Made.{IsMade, IsNotMade};
 
 use crate::ask::ask_at;
@@ -25,6 +25,7 @@ impl Machine {
             IsMade (at_point self.old take.now.point (takes self.old take.now)) reply self.new) }
         ensures refused { IfErr result (λ refusal. IsNotMade self.old
             (at_point self.old take.now.point (takes self.old take.now)) refusal self.new) }
+        ensures asked { IfOk result HasAskedConnector }
     {
         let place = self.place_at(&take.point)?;
         self.take_at(place, take)
@@ -52,9 +53,10 @@ impl Machine {
     /// Keeps a request for a schedule of the point at a place.
     fn take_at(&mut self, place: usize, take: &Take) -> Result<Reply, Refusal>
         requires { place < length self.old.points }
-        ensures { MatchResult result
+        ensures made { MatchResult result
             (λ reply. IsMade (takes self.old take.now place) reply self.new)
             (λ refusal. IsNotMade self.old (takes self.old take.now place) refusal self.new) }
+        ensures asked { IfOk result HasAskedConnector }
     {
         let ask = ask_at(self.site.unit(), point_at(&self.points, place).book(), take)?;
         if let Some(refusal) = self.refusal_to_take(take) {
@@ -83,6 +85,7 @@ impl Machine {
         ensures refused { IfErr result (λ refusal.
             (cause_of (compiles self.old number no_answer) ≡ Some refusal)
             × (self.new ≡ self.old)) }
+        ensures asked { IfOk result HasAskedConnector }
     {
         compile_request(self.alloc, &mut self.requests, number)?;
         Ok(Reply::Compiled)
@@ -94,6 +97,7 @@ impl Machine {
         ensures made { IfOk result (λ reply. IsMade (answers self.old number) reply self.new) }
         ensures refused { IfErr result (λ refusal.
             (cause_of (answers self.old number) ≡ Some refusal) × (self.new ≡ self.old)) }
+        ensures asked { IfOk result HasAskedConnector }
     {
         hand_out(&mut self.requests, number)
     }
@@ -101,7 +105,8 @@ impl Machine {
     /// Stops the central system.
     #[inline(never)]
     pub(super) fn finish(&mut self) -> Reply
-        ensures { finishes self.old ≡ record { reply = result; after = self.new } }
+        ensures made { finishes self.old ≡ record { reply = result; after = self.new } }
+        ensures asked { HasAskedConnector result }
     {
         if !self.is_stopped {
             stop_all(&mut self.requests);

@@ -19,4 +19,4 @@ returns-then-not-is_answered-clause-made c =
 pub returns-clause-made : goal.returns-clause-made
 returns-clause-made c =
     let found : Some c.in-Some.place ≡ position (has_number c.args.number) c.args.requests.now.items = rw c.deref.ensures.value at c.in-Some.ensures in
-    rw c.remove-request.ensures.items (handed c.args.number c.args.requests.now.items c.in-Some.place c.remove-request.result c.reply_of.result found c.remove-request.ensures.value c.reply_of.ensures)
+    rw c.remove-request.ensures.items (handed c.args.number c.args.requests.now.items c.in-Some.place c.remove-request.result c.reply_of.result found c.remove-request.ensures.value c.reply_of.ensures.reply)
