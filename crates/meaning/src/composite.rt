@@ -5,7 +5,7 @@ ghost use Rattle.std.specs.Prelude.{◌≡◌, IfOk};
 use std::alloc::AllocError;
 use std::marker::Model;
 
-/// The most periods that a composite schedule has.
+/// The most periods of a schedule that is an answer. A [`Composite`] by itself may have more.
 pub const MAX_COMPOSITE_PERIODS: usize = 1_000;
 
 /// One step of a composite schedule (chapter 7, ChargingSchedulePeriod).

@@ -1,4 +1,4 @@
-//! The numbers of requests and calls in a text, from 1 on, in decimal without leading zeros.
+//! Numbers in a text from 1 on, in decimal without leading zeros: of requests, and of calls after call 0.
 
 ghost use Rattle.std.specs.Prelude.{◌≡◌, ◌↔◌, ℕ, Some};
 ghost use Rattle.replay.specs.Number.{IsDecimalOf};

@@ -38,6 +38,7 @@ impl Turns {
     }
 
     /// The limit that is asked, at an instant and in tenths, which is one turn.
+    // The counter evaluates by itself, so that whoever evaluates by it can't forget to count.
     pub(crate) fn limit_at(&mut self, asked: &AskedLimit<'_>, instant: Instant) -> u32
         requires room { self.old + 1 < 2 ^ 64 }
         ensures limit { result ≡ limit asked.now.state asked.now.connector asked.now.asked instant }
