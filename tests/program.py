@@ -275,8 +275,10 @@ def memory_problems(program, folder):
             problems.append(f"only {refused} allocations were refused")
         yield f"{name}: each of {refused} allocations refused", problems
     for crate, test, in_a_row, least in (
-        ("site_core", "tests::a_step_is_made_again_where_memory_was_refused", 1, 20),
-        ("site_core", "tests::a_run_goes_on_where_memory_was_refused", 1, 2),
+        ("core_tests", "runs::a_step_is_made_again_where_memory_was_refused", 1, 20),
+        ("core_tests", "runs::a_run_goes_on_where_memory_was_refused", 1, 2),
+        # From each allocation on all are refused: past its beginning the test makes none, until its last step.
+        ("core_tests", "runs::a_step_without_an_event_wants_no_memory", 1_000_000, 1),
         # A chunk of the arena that is refused is asked for at half its size, and so on: all of that is refused.
         ("text_tests", "frame_texts::a_text_is_read_again_where_memory_was_refused", 20, 30),
     ):

@@ -1,8 +1,17 @@
-//! A test of `site_core` from outside, by its public names alone: a charge point that obeys its calls
-//! stays in step with the machine. It stands here, since a crate with tests of its own is proved twice.
+//! Tests of `site_core` from outside, by its public names alone: runs of steps with what comes of each,
+//! the largest sizes, and a charge point that obeys its calls and so stays in step with the machine. They
+//! stand here, since a crate with tests of its own is proved twice.
 #![tactic(auto)]
 
 #[cfg(test)]
+mod largest_sizes;
+#[cfg(test)]
 mod obeying_point;
 #[cfg(test)]
+mod outboxes;
+#[cfg(test)]
 mod random_run;
+#[cfg(test)]
+mod runs;
+#[cfg(test)]
+mod told_steps;

@@ -2,13 +2,12 @@
 //! obeys has what the store had after the call's change.
 
 use crate::obeying_point::{Keys, RandomNumbers, lasting, obey};
-use ocpp_scalars::{IdTag, Instant};
-use profile::{Period, PeriodList, Profile, ProfileKind, ProfileParts, Row, ScheduleParts, Unit};
+use book_tests::{begin_of, instant_at, row_of, told};
+use profile::Row;
 use site_core::{Machine, PointId, Reply, Step, Take};
 use site_rules::read_site;
 use std::alloc::{AllocError, Global};
 use std::test::Fail;
-use transactions::Begin;
 
 const SITE: &str =
     r#"{"unit":"A","points":[{"id":"CP1","ceiling":32.0,"connectors":[16.0,16.0]}]}"#;
@@ -167,16 +166,11 @@ fn id(alloc: Global) -> Result<PointId, AllocError> {
     PointId::copied(alloc, "CP1")
 }
 
-/// 2025-01-01T00:00:00Z.
-fn midnight() -> Result<Instant, Fail> {
-    Ok(Instant::try_new(1_735_689_600).ok_or("past the last")?)
-}
-
 fn take(alloc: Global) -> Result<Step, Fail> {
     Ok(Step::Take(Take {
         point: id(alloc)?,
         connector: 0,
-        start: midnight()?,
+        start: instant_at(0)?,
         duration: 60,
         unit: None,
         seen: 0,
@@ -184,50 +178,15 @@ fn take(alloc: Global) -> Result<Step, Fail> {
 }
 
 fn start(alloc: Global, connector: u32) -> Result<Step, Fail> {
-    let id_tag = IdTag::try_new(String::from_str(alloc, "ann")?);
     Ok(Step::Start {
         point: id(alloc)?,
         connector,
-        begin: Begin {
-            id_tag: id_tag.ok().ok_or("too long a tag")?,
-            meter_start: 0,
-            timestamp: midnight()?,
-        },
+        begin: begin_of(alloc, "ann", 0, 0)?,
     })
 }
 
 fn row(alloc: Global, keys: Keys) -> Result<Row, Fail> {
-    let mut periods = Vec::new(alloc);
-    periods.push(Period {
-        start: 0,
-        limit: 160,
-        number_phases: None,
-    })?;
-    let parts = ProfileParts {
-        id: keys.id,
-        transaction: None,
-        stack_level: keys.level,
-        purpose: keys.purpose,
-        kind: ProfileKind::Absolute,
-        recurrency: None,
-        valid_from: None,
-        valid_to: None,
-        schedule: ScheduleParts {
-            duration: None,
-            start: None,
-            unit: Unit::A,
-            periods: PeriodList::try_new(periods).ok().ok_or("no period")?,
-            min_charging_rate: None,
-        },
-    };
-    let Ok(profile) = Profile::try_new(parts) else {
-        return Err(Fail::new("a refused profile"));
-    };
-    Ok(Row {
-        connector: keys.connector,
-        moment: midnight()?,
-        profile,
-    })
+    row_of(alloc, told(keys.id, keys.connector, keys.purpose, keys.level))
 }
 
 /// A machine whose point has a row of before, which call 0 is to remove.

@@ -9,8 +9,6 @@ mod limit;
 mod plain_compiler;
 mod prevailing;
 mod schedule_laws;
-#[cfg(test)]
-mod tests;
 mod view;
 
 pub use ask::{Ask, MAX_DURATION};

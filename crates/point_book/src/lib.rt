@@ -7,6 +7,3 @@ mod book;
 mod refusal;
 
 pub use book::PointBook;
-
-#[cfg(test)]
-mod tests;

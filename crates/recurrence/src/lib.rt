@@ -9,6 +9,3 @@ mod turns;
 
 pub use next::sooner;
 pub use places::{next_change, rate_at};
-
-#[cfg(test)]
-mod tests;

@@ -42,8 +42,3 @@ pub use reply::Reply;
 pub use request::MAX_REQUESTS;
 pub use shared_book::SharedBook;
 pub use step::{Step, Take};
-
-#[cfg(test)]
-mod outbox_tests;
-#[cfg(test)]
-mod tests;

@@ -15,6 +15,3 @@ pub use point::SitePoint;
 pub use reading::{MAX_SITE_BYTES, read_site};
 pub use site::Site;
 pub use site_laws::site_files;
-
-#[cfg(test)]
-mod tests;

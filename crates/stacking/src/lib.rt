@@ -10,6 +10,3 @@ mod rows;
 
 pub use candidates::Candidates;
 pub use rows::{MAX_ROWS, Rows};
-
-#[cfg(test)]
-mod tests;

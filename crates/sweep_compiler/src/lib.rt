@@ -16,6 +16,3 @@ mod turns;
 
 pub use compiler::compile;
 pub use turns::Turns;
-
-#[cfg(test)]
-mod tests;

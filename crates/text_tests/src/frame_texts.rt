@@ -113,7 +113,13 @@ Dropped 2,"5","Heartbeat",{}
 Dropped [2,"5","Heartbeat",{}],
 Dropped [2,"5","Heartbeat",{},]
 Dropped [2,"5","Heartbeat",{"x":1-2}]
-Dropped [2,"5","Heartbeat",{1:2}]"#;
+Dropped [2,"5","Heartbeat",{1:2}]
+Call [2,"🔌🔌🔌🔌🔌🔌🔌🔌🔌🔌🔌🔌🔌🔌🔌🔌🔌🔌🔌🔌🔌🔌🔌🔌🔌🔌🔌🔌🔌🔌🔌🔌🔌🔌🔌🔌","Heartbeat",{}]
+Formation [2,"🔌🔌🔌🔌🔌🔌🔌🔌🔌🔌🔌🔌🔌🔌🔌🔌🔌🔌🔌🔌🔌🔌🔌🔌🔌🔌🔌🔌🔌🔌🔌🔌🔌🔌🔌🔌"]
+Reply [3,"🔌🔌🔌🔌🔌🔌🔌🔌🔌🔌🔌🔌🔌🔌🔌🔌🔌🔌🔌🔌🔌🔌🔌🔌🔌🔌🔌🔌🔌🔌🔌🔌🔌🔌🔌🔌"]
+Fault [4,"🔌🔌🔌🔌🔌🔌🔌🔌🔌🔌🔌🔌🔌🔌🔌🔌🔌🔌🔌🔌🔌🔌🔌🔌🔌🔌🔌🔌🔌🔌🔌🔌🔌🔌🔌🔌"]
+Dropped [2,"🔌🔌🔌🔌🔌🔌🔌🔌🔌🔌🔌🔌🔌🔌🔌🔌🔌🔌🔌🔌🔌🔌🔌🔌🔌🔌🔌🔌🔌🔌🔌🔌🔌🔌🔌🔌🔌","Heartbeat",{}]
+Dropped [3,"aaaaaaaaaaaaaaaaaaaaaaaaaaaaaaaaaaaaa"]"#;
 
 #[test]
 fn texts_are_frames_by_their_elements(rt: HostRuntime) -> Result<(), Fail> {

@@ -10,6 +10,3 @@ mod transaction;
 pub use active_table::{ActiveTable, Began};
 pub use begin::Begin;
 pub use transaction::Transaction;
-
-#[cfg(test)]
-mod tests;

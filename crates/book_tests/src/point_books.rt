@@ -1,86 +1,20 @@
 //! Changes and refusals from outside, and that memory suffices.
 
-use crate::book::PointBook;
-use ocpp_scalars::{IdTag, Instant, Refusal};
-use profile::{
-    Criteria, Period, PeriodList, Profile, ProfileKind, ProfileParts, Purpose, Row, ScheduleParts,
-    Unit,
+use crate::fixtures::{
+    ANY, DEFAULT, MAX, RowTold, TX, begin_of, periods_by_turns, row_of, told,
 };
+use ocpp_scalars::Refusal;
+use point_book::PointBook;
+use profile::{Criteria, Purpose, Row};
 use std::alloc::Global;
 use std::process::Abort;
 use std::test::Fail;
-use transactions::{Began, Begin};
+use transactions::Began;
 
-const MAX: Purpose = Purpose::ChargePointMaxProfile;
-
-const DEFAULT: Purpose = Purpose::TxDefaultProfile;
-
-const TX: Purpose = Purpose::TxProfile;
-
-/// 2025-01-01T00:00:00Z.
-const MIDNIGHT: u64 = 1_735_689_600;
-
-/// What tells one row from another here. Its moment counts from midnight.
-#[derive(Clone, Copy)]
-struct RowTold {
-    id: i32,
-    connector: u32,
-    purpose: Purpose,
-    level: u32,
-    transaction: Option<i32>,
-    second: u32,
-}
-
-fn told(id: i32, connector: u32, purpose: Purpose, level: u32) -> RowTold {
-    RowTold {
-        id,
-        connector,
-        purpose,
-        level,
-        transaction: None,
-        second: 0,
-    }
-}
-
-fn of_transaction(id: i32, connector: u32, purpose: Purpose, transaction: i32) -> RowTold {
+fn of_transaction(id: i32, connector: u32, purpose: Purpose, transaction: i32) -> RowTold<'static> {
     RowTold {
         transaction: Some(transaction),
         ..told(id, connector, purpose, 0)
-    }
-}
-
-fn row(alloc: Global, told: RowTold) -> Result<Row, Fail> {
-    let mut periods = Vec::new(alloc);
-    periods.push(Period {
-        start: 0,
-        limit: 160,
-        number_phases: None,
-    })?;
-    let parts = ProfileParts {
-        id: told.id,
-        transaction: told.transaction,
-        stack_level: told.level,
-        purpose: told.purpose,
-        kind: ProfileKind::Absolute,
-        recurrency: None,
-        valid_from: None,
-        valid_to: None,
-        schedule: ScheduleParts {
-            duration: None,
-            start: None,
-            unit: Unit::A,
-            periods: PeriodList::try_new(periods).ok().ok_or("no period")?,
-            min_charging_rate: None,
-        },
-    };
-    let moment = Instant::try_new(MIDNIGHT + u64::from(told.second)).ok_or("past the last")?;
-    match Profile::try_new(parts) {
-        Ok(profile) => Ok(Row {
-            connector: told.connector,
-            moment,
-            profile,
-        }),
-        Err((refusal, _)) => Err(refusal)?,
     }
 }
 
@@ -95,19 +29,19 @@ fn book(alloc: Global, ceiling: u32, connectors: u32) -> Result<PointBook, Fail>
 
 /// A row, and why it is refused, if it is.
 #[derive(Clone, Copy)]
-struct Case {
-    told: RowTold,
+struct Case<'a> {
+    told: RowTold<'a>,
     refusal: Option<Refusal>,
 }
 
-fn accepted(told: RowTold) -> Case {
+fn accepted(told: RowTold<'_>) -> Case<'_> {
     Case {
         told,
         refusal: None,
     }
 }
 
-fn refused(told: RowTold, refusal: Refusal) -> Case {
+fn refused(told: RowTold<'_>, refusal: Refusal) -> Case<'_> {
     Case {
         told,
         refusal: Some(refusal),
@@ -119,11 +53,11 @@ fn install(
     rt: &impl Abort,
     alloc: Global,
     book: &mut PointBook,
-    cases: &[Case],
+    cases: &[Case<'_>],
 ) -> Result<(), Fail> {
     for case in cases {
         let before = book.copy()?;
-        let refusal = refusal_of(rt, book, row(alloc, case.told)?);
+        let refusal = refusal_of(rt, book, row_of(alloc, case.told)?);
         assert_eq!(rt; refusal, case.refusal, "row {}", case.told.id);
         assert_eq!(rt;
             book.same(&before),
@@ -155,12 +89,7 @@ fn start(
     (connector, tag): (u32, &str),
     next: i32,
 ) -> Result<Began, Fail> {
-    let id_tag = IdTag::try_new(String::from_str(alloc, tag)?);
-    let begin = Begin {
-        id_tag: id_tag.ok().ok_or("too long a tag")?,
-        meter_start: 0,
-        timestamp: Instant::try_new(MIDNIGHT).ok_or("past the last")?,
-    };
+    let begin = begin_of(alloc, tag, 0, 0)?;
     assert!(rt; connector > 0);
     assert!(rt; connector <= book.connectors());
     Ok(book.start(connector, begin, next))
@@ -194,16 +123,23 @@ fn refuses_by_the_transaction(rt: HostRuntime) -> Result<(), Fail> {
     Ok(())
 }
 
-/// A point of 64 connectors, of which the last has no transaction, with 100 rows: ids from 1 and
-/// levels from 0.
+/// As long as an idTag may be, of characters of four bytes.
+const LONGEST_TAG: &str = "🔌🔌🔌🔌🔌🔌🔌🔌🔌🔌🔌🔌🔌🔌🔌🔌🔌🔌🔌🔌";
+
+/// A point of 64 connectors, of which the last has no transaction, with 100 rows of 200 periods: ids from
+/// 1 and levels from 0.
 fn full(rt: &impl Abort, alloc: Global) -> Result<PointBook, Fail> {
     let mut book = book(alloc, 320, 64)?;
     for connector in 1..64u32 {
-        start(rt, alloc, &mut book, (connector, "ann"), 1)?;
+        start(rt, alloc, &mut book, (connector, LONGEST_TAG), 1)?;
     }
+    let periods = periods_by_turns(alloc, 200, 60)?;
     for level in 0..100u32 {
-        let case = accepted(told(level as i32 + 1, 0, DEFAULT, level));
-        install(rt, alloc, &mut book, &[case])?;
+        let told = RowTold {
+            periods: periods.as_slice(),
+            ..told(level as i32 + 1, 0, DEFAULT, level)
+        };
+        install(rt, alloc, &mut book, &[accepted(told)])?;
     }
     Ok(book)
 }
@@ -265,10 +201,8 @@ fn drops_profiles_where_one_stops(rt: HostRuntime) -> Result<(), Fail> {
     stop(&rt, &mut book, 2, None);
     expect(&rt, &book, &[1, 3, 4]);
     let at_one = Criteria {
-        id: None,
         connector: Some(1),
-        purpose: None,
-        stack_level: None,
+        ..ANY
     };
     assert_eq!(rt; book.clear(&at_one), 2);
     expect(&rt, &book, &[4]);
@@ -281,7 +215,7 @@ fn with_row(
     alloc: Global,
     mut book: PointBook,
     tag: &str,
-    told: RowTold,
+    told: RowTold<'_>,
 ) -> Result<PointBook, Fail> {
     start(rt, alloc, &mut book, (1, tag), 1)?;
     install(rt, alloc, &mut book, &[accepted(told)])?;
@@ -292,7 +226,7 @@ fn with_row(
 fn compares_all_that_it_has(rt: HostRuntime) -> Result<(), Fail> {
     let alloc = rt.alloc();
     let row = told(1, 1, TX, 0);
-    let later = RowTold { second: 1, ..row };
+    let later = RowTold { moment: 1, ..row };
     let books = [
         (320, 2, "ann", row, true),
         (321, 2, "ann", row, false),

@@ -1,91 +1,24 @@
 //! Installs and clears from outside, and that memory suffices.
 
-use crate::rows::Rows;
-use ocpp_scalars::{Instant, Refusal};
-use profile::{
-    Criteria, Period, PeriodList, Profile, ProfileKind, ProfileParts, Purpose, Row, ScheduleParts,
-    Unit,
-};
+use crate::fixtures::{ANY, DEFAULT, MAX, RowTold, TX, row_of, told};
+use ocpp_scalars::Refusal;
+use profile::{Criteria, Purpose};
+use stacking::Rows;
 use std::alloc::Global;
 use std::process::Abort;
 use std::test::Fail;
 
-const MAX: Purpose = Purpose::ChargePointMaxProfile;
-
-const DEFAULT: Purpose = Purpose::TxDefaultProfile;
-
-const TX: Purpose = Purpose::TxProfile;
-
-const ANY: Criteria = Criteria {
-    id: None,
-    connector: None,
-    purpose: None,
-    stack_level: None,
-};
-
-/// The fields by which rows replace one another.
-#[derive(Clone, Copy)]
-struct RowKeys {
-    id: i32,
-    connector: u32,
-    purpose: Purpose,
-    level: u32,
-}
-
-fn keys(id: i32, connector: u32, purpose: Purpose, level: u32) -> RowKeys {
-    RowKeys {
-        id,
-        connector,
-        purpose,
-        level,
-    }
-}
-
-fn row(alloc: Global, keys: RowKeys) -> Result<Row, Fail> {
-    let mut periods = Vec::new(alloc);
-    periods.push(Period {
-        start: 0,
-        limit: 160,
-        number_phases: None,
-    })?;
-    let parts = ProfileParts {
-        id: keys.id,
-        transaction: None,
-        stack_level: keys.level,
-        purpose: keys.purpose,
-        kind: ProfileKind::Absolute,
-        recurrency: None,
-        valid_from: None,
-        valid_to: None,
-        schedule: ScheduleParts {
-            duration: None,
-            start: None,
-            unit: Unit::A,
-            periods: PeriodList::try_new(periods).ok().ok_or("no period")?,
-            min_charging_rate: None,
-        },
-    };
-    match Profile::try_new(parts) {
-        Ok(profile) => Ok(Row {
-            connector: keys.connector,
-            moment: Instant::try_new(1_735_689_600).ok_or("past the last instant")?,
-            profile,
-        }),
-        Err((refusal, _)) => Err(refusal)?,
-    }
-}
-
-fn install(alloc: Global, rows: &mut Rows, keys: RowKeys) -> Result<(), Fail> {
-    match rows.install(row(alloc, keys)?) {
+fn install(alloc: Global, rows: &mut Rows, told: RowTold<'_>) -> Result<(), Fail> {
+    match rows.install(row_of(alloc, told)?) {
         Ok(()) => Ok(()),
         Err((refusal, _)) => Err(refusal)?,
     }
 }
 
-fn rows_of(alloc: Global, installs: &[RowKeys]) -> Result<Rows, Fail> {
+fn rows_of(alloc: Global, installs: &[RowTold<'_>]) -> Result<Rows, Fail> {
     let mut rows = Rows::new(alloc);
-    for keys in installs {
-        install(alloc, &mut rows, *keys)?;
+    for told in installs {
+        install(alloc, &mut rows, *told)?;
     }
     Ok(rows)
 }
@@ -94,7 +27,7 @@ fn rows_of(alloc: Global, installs: &[RowKeys]) -> Result<Rows, Fail> {
 fn full(alloc: Global) -> Result<Rows, Fail> {
     let mut rows = Rows::new(alloc);
     for level in 0..100u32 {
-        install(alloc, &mut rows, keys(level as i32 + 1, 0, DEFAULT, level))?;
+        install(alloc, &mut rows, told(level as i32 + 1, 0, DEFAULT, level))?;
     }
     Ok(rows)
 }
@@ -110,14 +43,14 @@ fn expect(rt: &impl Abort, rows: &Rows, ids: &[i32]) {
 fn yields_the_highest_level_first(rt: HostRuntime) -> Result<(), Fail> {
     let alloc = rt.alloc();
     let installs = [
-        keys(3, 0, DEFAULT, 0),
-        keys(1, 0, DEFAULT, 1),
-        keys(2, 1, DEFAULT, 1),
-        keys(4, 0, MAX, 1),
-        keys(5, 1, TX, 0),
-        keys(6, 1, MAX, 2),
-        keys(7, 2, TX, 99),
-        keys(8, 2, TX, 1),
+        told(3, 0, DEFAULT, 0),
+        told(1, 0, DEFAULT, 1),
+        told(2, 1, DEFAULT, 1),
+        told(4, 0, MAX, 1),
+        told(5, 1, TX, 0),
+        told(6, 1, MAX, 2),
+        told(7, 2, TX, 99),
+        told(8, 2, TX, 1),
     ];
     let rows = rows_of(alloc, &installs)?;
     let expected: [(Purpose, u32, &[i32]); 9] = [
@@ -144,23 +77,23 @@ fn yields_the_highest_level_first(rt: HostRuntime) -> Result<(), Fail> {
 #[test]
 fn replaces_by_id_and_by_key(rt: HostRuntime) -> Result<(), Fail> {
     let alloc = rt.alloc();
-    let mut rows = rows_of(alloc, &[keys(7, 1, DEFAULT, 3), keys(8, 2, DEFAULT, 3)])?;
-    install(alloc, &mut rows, keys(7, 2, DEFAULT, 3))?;
+    let mut rows = rows_of(alloc, &[told(7, 1, DEFAULT, 3), told(8, 2, DEFAULT, 3)])?;
+    install(alloc, &mut rows, told(7, 2, DEFAULT, 3))?;
     expect(&rt, &rows, &[7]);
     assert_eq!(rt; rows.clear(&Criteria { id: Some(8), ..ANY }), 0);
     assert_eq!(rt; rows.clear(&Criteria { id: Some(7), ..ANY }), 1);
     expect(&rt, &rows, &[]);
     // Another connector, purpose or level is another key, and an id is one of the whole point.
     for other in [
-        keys(1, 0, DEFAULT, 3),
-        keys(2, 1, TX, 3),
-        keys(3, 1, DEFAULT, 2),
+        told(1, 0, DEFAULT, 3),
+        told(2, 1, TX, 3),
+        told(3, 1, DEFAULT, 2),
     ] {
         install(alloc, &mut rows, other)?;
     }
-    install(alloc, &mut rows, keys(4, 1, DEFAULT, 3))?;
+    install(alloc, &mut rows, told(4, 1, DEFAULT, 3))?;
     expect(&rt, &rows, &[1, 2, 3, 4]);
-    install(alloc, &mut rows, keys(1, 2, TX, 0))?;
+    install(alloc, &mut rows, told(1, 2, TX, 0))?;
     expect(&rt, &rows, &[2, 3, 4, 1]);
     Ok(())
 }
@@ -171,20 +104,20 @@ fn keeps_its_limit(rt: HostRuntime) -> Result<(), Fail> {
     let mut rows = full(alloc)?;
     let before = rows.copy()?;
     assert!(rt; before.same(&rows));
-    let Err((refusal, back)) = rows.install(row(alloc, keys(101, 1, DEFAULT, 0))?) else {
+    let Err((refusal, back)) = rows.install(row_of(alloc, told(101, 1, DEFAULT, 0))?) else {
         return Err("101 rows")?;
     };
     assert_eq!(rt; refusal, Refusal::TooManyProfiles);
     assert_eq!(rt; back.profile.id, 101);
     assert!(rt; before.same(&rows));
-    install(alloc, &mut rows, keys(101, 0, DEFAULT, 5))?;
+    install(alloc, &mut rows, told(101, 0, DEFAULT, 5))?;
     assert_eq!(rt; rows.as_slice().len(), 100);
     assert_eq!(rt; rows.as_slice().last().map(|row| row.profile.id), Some(101));
     assert!(rt; !before.same(&rows));
     // The row of one id and that of one key go at once, and so there is room for one more.
-    install(alloc, &mut rows, keys(3, 0, DEFAULT, 10))?;
+    install(alloc, &mut rows, told(3, 0, DEFAULT, 10))?;
     assert_eq!(rt; rows.as_slice().len(), 99);
-    install(alloc, &mut rows, keys(102, 1, DEFAULT, 0))?;
+    install(alloc, &mut rows, told(102, 1, DEFAULT, 0))?;
     assert_eq!(rt; rows.as_slice().len(), 100);
     Ok(())
 }
@@ -193,10 +126,10 @@ fn keeps_its_limit(rt: HostRuntime) -> Result<(), Fail> {
 fn clears_by_each_criterion(rt: HostRuntime) -> Result<(), Fail> {
     let alloc = rt.alloc();
     let installs = [
-        keys(1, 0, DEFAULT, 0),
-        keys(2, 1, DEFAULT, 0),
-        keys(3, 1, TX, 1),
-        keys(4, 0, MAX, 2),
+        told(1, 0, DEFAULT, 0),
+        told(2, 1, DEFAULT, 0),
+        told(3, 1, TX, 1),
+        told(4, 0, MAX, 2),
     ];
     let by_id = Criteria { id: Some(1), ..ANY };
     let at_zero = Criteria {

@@ -1,12 +1,9 @@
 //! Site files with their faults, limits at their edges, and where profiles may stand.
 
-use crate::admission::admit;
-use crate::fault::SiteFault;
-use crate::reading::{MAX_SITE_BYTES, read_site};
+use crate::fixtures::{DEFAULT, MAX, RowTold, TX, WHOLE_POINT, profile_of, site_text};
 use ocpp_scalars::Refusal;
-use profile::{
-    Period, PeriodList, Profile, ProfileKind, ProfileParts, Purpose, ScheduleParts, Unit,
-};
+use profile::Unit;
+use site_rules::{MAX_SITE_BYTES, SiteFault, admit, read_site};
 use std::alloc::Global;
 use std::test::Fail;
 
@@ -91,29 +88,6 @@ fn keeps_the_points_in_order(rt: HostRuntime) -> Result<(), Fail> {
     Ok(())
 }
 
-/// A text of so many points, each with so many connectors and an identity of so many characters.
-fn text_of_size(
-    alloc: Global,
-    points: usize,
-    connectors: usize,
-    width: usize,
-) -> Result<String, Fail> {
-    let mut text = String::from_str(alloc, r#"{"unit":"W","points":["#)?;
-    for place in 0..points {
-        if place > 0 {
-            text.push(',')?;
-        }
-        text.push_str(&format!(in alloc; r#"{{"id":"{place:0>width$}","ceiling":1,"#)?)?;
-        text.push_str(r#""connectors":[1"#)?;
-        for _ in 1..connectors {
-            text.push_str(",1")?;
-        }
-        text.push_str("]}")?;
-    }
-    text.push_str("]}")?;
-    Ok(text)
-}
-
 #[test]
 fn keeps_its_limits(rt: HostRuntime) -> Result<(), Fail> {
     let alloc = rt.alloc();
@@ -123,10 +97,11 @@ fn keeps_its_limits(rt: HostRuntime) -> Result<(), Fail> {
         (2, 64, 1, None),
         (2, 65, 1, Some(SiteFault::BadConnectors)),
         (2, 1, 48, None),
+        (1_000, 64, 48, None),
         (2, 1, 49, Some(SiteFault::BadId)),
     ];
     for (points, connectors, width, fault) in sizes {
-        let text = text_of_size(alloc, points, connectors, width)?;
+        let text = site_text(alloc, points, connectors, width)?;
         assert_eq!(rt; fault_of(alloc, text.as_bytes()), fault);
     }
     Ok(())
@@ -143,42 +118,6 @@ fn reads_a_file_of_16_mebibytes(rt: HostRuntime) -> Result<(), Fail> {
     assert_eq!(rt; fault_of(alloc, text.as_slice()), Some(SiteFault::TooLarge));
     assert_eq!(rt; fault_of(alloc, b"{\xff}"), Some(SiteFault::NotUtf8));
     Ok(())
-}
-
-const MAX: Purpose = Purpose::ChargePointMaxProfile;
-
-const DEFAULT: Purpose = Purpose::TxDefaultProfile;
-
-const TX: Purpose = Purpose::TxProfile;
-
-fn profile(alloc: Global, purpose: Purpose, unit: Unit) -> Result<Profile, Fail> {
-    let mut periods = Vec::new(alloc);
-    periods.push(Period {
-        start: 0,
-        limit: 160,
-        number_phases: None,
-    })?;
-    let parts = ProfileParts {
-        id: 1,
-        transaction: None,
-        stack_level: 0,
-        purpose,
-        kind: ProfileKind::Absolute,
-        recurrency: None,
-        valid_from: None,
-        valid_to: None,
-        schedule: ScheduleParts {
-            duration: None,
-            start: None,
-            unit,
-            periods: PeriodList::try_new(periods).ok().ok_or("no period")?,
-            min_charging_rate: None,
-        },
-    };
-    match Profile::try_new(parts) {
-        Ok(profile) => Ok(profile),
-        Err((refusal, _)) => Err(refusal)?,
-    }
 }
 
 #[test]
@@ -198,7 +137,12 @@ fn admits_by_five_rules(rt: HostRuntime) -> Result<(), Fail> {
         ("B", 2, TX, Unit::A, None),
     ];
     for (point, connector, purpose, unit, refusal) in asks {
-        let profile = profile(alloc, purpose, unit)?;
+        let told = RowTold {
+            purpose,
+            unit,
+            ..WHOLE_POINT
+        };
+        let profile = profile_of(alloc, told)?;
         let admitted = admit(&site, point, connector, &profile);
         assert_eq!(rt; admitted.err(), refusal, "at {connector} of {point}");
     }

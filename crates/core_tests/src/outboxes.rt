@@ -1,11 +1,10 @@
 //! What an outbox sends from outside, and that memory suffices. A refused allocation of a call or of a
 //! sending is made again, so that the tests pass whichever of these is refused.
 
-use crate::outbox::{Outbox, PreparedCall};
+use book_tests::{ANY, RowTold, WHOLE_POINT, periods_by_turns, profile_of};
 use messages::{Call, CallBody};
-use profile::{
-    Criteria, Period, PeriodList, Profile, ProfileKind, ProfileParts, Purpose, ScheduleParts, Unit,
-};
+use profile::{Criteria, ProfileKind};
+use site_core::{Outbox, PreparedCall};
 use std::alloc::{AllocError, Global};
 use std::process::Abort;
 use std::test::Fail;
@@ -13,43 +12,24 @@ use std::test::Fail;
 fn clear(id: i32) -> CallBody {
     CallBody::Clear(Criteria {
         id: Some(id),
-        connector: None,
-        purpose: None,
-        stack_level: None,
+        ..ANY
     })
 }
 
 fn set(alloc: Global, id: i32) -> Result<CallBody, Fail> {
-    let mut periods = Vec::new(alloc);
-    periods.push(Period {
-        start: 0,
-        limit: 160,
-        number_phases: Some(3),
-    })?;
-    let parts = ProfileParts {
+    let periods = periods_by_turns(alloc, 200, 60)?;
+    let told = RowTold {
         id,
-        transaction: None,
-        stack_level: 1,
-        purpose: Purpose::TxDefaultProfile,
+        level: 1,
         kind: ProfileKind::Relative,
-        recurrency: None,
-        valid_from: None,
-        valid_to: None,
-        schedule: ScheduleParts {
-            duration: Some(60),
-            start: None,
-            unit: Unit::A,
-            periods: PeriodList::try_new(periods).ok().ok_or("no period")?,
-            min_charging_rate: None,
-        },
+        duration: Some(60),
+        periods: periods.as_slice(),
+        ..WHOLE_POINT
     };
-    match Profile::try_new(parts) {
-        Ok(profile) => Ok(CallBody::Set {
-            connector: 1,
-            profile,
-        }),
-        Err((refusal, _)) => Err(refusal)?,
-    }
+    Ok(CallBody::Set {
+        connector: 1,
+        profile: profile_of(alloc, told)?,
+    })
 }
 
 /// The chargingProfileId that a call has, none where it clears all profiles.

@@ -1,14 +1,13 @@
 //! Starts and stops from outside, and that memory suffices.
 
-use crate::active_table::{ActiveTable, Began};
-use crate::begin::Begin;
-use ocpp_scalars::{IdTag, Instant};
+use crate::fixtures::{begin_of, instant_at};
 use std::alloc::Global;
 use std::process::Abort;
 use std::test::Fail;
+use transactions::{ActiveTable, Began};
 
-/// 2025-01-01T00:00:00Z.
-const MIDNIGHT: u64 = 1_735_689_600;
+/// As long as an idTag may be, of characters of four bytes.
+const LONGEST_TAG: &str = "🔌🔌🔌🔌🔌🔌🔌🔌🔌🔌🔌🔌🔌🔌🔌🔌🔌🔌🔌🔌";
 
 /// A start at a connector; the second counts from midnight.
 #[derive(Clone, Copy)]
@@ -35,13 +34,7 @@ fn start(
     told: StartTold<'_>,
     next: i32,
 ) -> Result<Began, Fail> {
-    let text = String::from_str(alloc, told.tag)?;
-    let instant = Instant::try_new(MIDNIGHT + u64::from(told.second));
-    let begin = Begin {
-        id_tag: IdTag::try_new(text).ok().ok_or("too long a tag")?,
-        meter_start: told.meter_start,
-        timestamp: instant.ok_or("past the last instant")?,
-    };
+    let begin = begin_of(alloc, told.tag, told.meter_start, u64::from(told.second))?;
     assert!(rt; told.connector > 0);
     assert!(rt; told.connector as usize <= table.starts().len());
     Ok(table.start(told.connector, begin, next))
@@ -124,7 +117,7 @@ fn has_room_for_its_starts(rt: HostRuntime) -> Result<(), Fail> {
     for connector in 1..65 {
         let told = told(
             connector,
-            "\u{1f50c}\u{1f50c}\u{1f50c}\u{1f50c}\u{1f50c}\u{1f50c}\u{1f50c}\u{1f50c}\u{1f50c}\u{1f50c}",
+            LONGEST_TAG,
             0,
             connector,
         );
@@ -137,6 +130,6 @@ fn has_room_for_its_starts(rt: HostRuntime) -> Result<(), Fail> {
     let starts = table.starts();
     assert_eq!(rt; starts.len(), 64);
     assert_eq!(rt; starts.first(), Some(&None));
-    assert_eq!(rt; starts.last(), Some(&Instant::try_new(MIDNIGHT + 64)));
+    assert_eq!(rt; starts.last(), Some(&Some(instant_at(64)?)));
     Ok(())
 }

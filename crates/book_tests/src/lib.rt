@@ -1,0 +1,26 @@
+//! Tests of the crates of a point's book, `transactions`, `stacking`, `recurrence`, `meaning`,
+//! `site_rules`, `point_book` and `sweep_compiler`, by their public names alone: a file for each, and what
+//! they are made of. They stand here, since a crate with tests of its own is proved twice.
+#![tactic(auto)]
+
+mod fixtures;
+
+pub use fixtures::{
+    ANY, DEFAULT, MAX, MIDNIGHT, RowTold, TX, WHOLE_POINT, begin_of, instant_at, periods_by_turns,
+    profile_of, row_of, site_text, told,
+};
+
+#[cfg(test)]
+mod limits_of_a_profile;
+#[cfg(test)]
+mod point_books;
+#[cfg(test)]
+mod rows_of_a_point;
+#[cfg(test)]
+mod schedules_by_seconds;
+#[cfg(test)]
+mod schedules_by_sweeps;
+#[cfg(test)]
+mod site_files;
+#[cfg(test)]
+mod starts_and_stops;
