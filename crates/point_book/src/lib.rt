@@ -4,9 +4,11 @@
 #![tactic(auto)]
 
 mod book;
+mod install_laws;
 mod refusal;
 
 pub use book::PointBook;
+pub use install_laws::installs;
 
 #[cfg(test)]
 mod tests;
