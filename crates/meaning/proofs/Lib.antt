@@ -1,3 +1,4 @@
+pub mod AskCauses
 pub mod AskLemmas
 pub mod Sums
 pub mod GreatestLemmas

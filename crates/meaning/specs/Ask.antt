@@ -1,7 +1,8 @@
 -- What may be asked of a connector (OCPP 1.6, 5.7).
-use Rattle.std.specs.Prelude.{ℕ, ◌+◌, nat_le, nat_lt, Result, Ok}
+use Rattle.std.specs.Prelude.{ℕ, ◌≡◌, ◌+◌, ◌<◌, ◌⊎◌, nat_le, nat_lt, List, [], ◌∷◌, Result, Ok}
 use Rattle.ocpp_scalars.specs.declared.refusal.Refusal.{Refusal}
 use Rattle.ocpp_scalars.specs.declared.refusal.Refusal.TheVariants.{BadDuration, PastCalendar}
+use Rattle.ocpp_scalars.specs.Causes.{Cause, ◌because◌}
 use Rattle.ocpp_scalars.specs.Limits.{last_second}
 use Rattle.ocpp_scalars.specs.ResultSteps.{◌>>=◌}
 use Rattle.profile.specs.Refusing.{fact_or}
@@ -9,8 +10,26 @@ use Rattle.meaning.specs.declared.ask.Ask.{Ask}
 use Rattle.meaning.specs.Limits.{max_duration}
 use Rattle.meaning.specs.ByCases.Ask.{ask_with}
 
--- The ask of a connector from a start on for so many seconds, or why there is none, the first cause in
--- this order: a duration of 0 or above the longest, and a last second past the last instant.
+-- a second that is asked lies past the last instant
+pub record IsPastCalendar (start duration : ℕ) : Type 0 where
+  pub second : ℕ
+  pub asked : second < duration
+  pub past : last_second < start + second
+
+-- Why so many seconds from a start on may not be asked, in the order in which the causes are checked.
+abbrev pub ask_causes : ℕ → ℕ → List Cause
+ask_causes start duration =
+    (BadDuration because (duration ≡ 0) ⊎ (max_duration < duration))
+    ∷ (PastCalendar because IsPastCalendar start duration)
+    ∷ []
+
+pub record IsAskOf (connector start duration : ℕ) (ask : Ask) : Type 0 where
+  pub connector_is : ask.connector ≡ connector
+  pub start_is : ask.start ≡ start
+  pub duration_is : ask.duration ≡ duration
+
+-- The ask of a connector from a start on for so many seconds, or why there is none. By the law `asks` it is
+-- refused by the first of these causes, and is else the ask of these numbers.
 abbrev pub ask_of : ℕ → ℕ → ℕ → Result Ask Refusal
 ask_of connector start duration = do
   some ← fact_or BadDuration (nat_lt 0 duration)

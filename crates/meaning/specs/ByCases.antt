@@ -1,2 +1,3 @@
 pub mod Exact
 pub mod Ask
+pub mod PlainCompiler

@@ -6,6 +6,5 @@ pub mod Composite
 pub mod Exact
 pub mod Compiled
 pub mod Ask
-pub mod PlainCompiler
 pub mod ByCases
 pub mod Theory

@@ -4,6 +4,7 @@
 #![tactic(auto)]
 
 mod ask;
+mod ask_laws;
 mod composite;
 mod limit;
 mod plain_compiler;
@@ -12,6 +13,7 @@ mod schedule_laws;
 mod view;
 
 pub use ask::{Ask, MAX_DURATION};
+pub use ask_laws::asks;
 pub use composite::{Composite, CompositePeriod, MAX_COMPOSITE_PERIODS};
 pub use limit::limit_at;
 pub use plain_compiler::{add_second, compile_plain};

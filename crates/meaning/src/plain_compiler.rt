@@ -5,7 +5,7 @@ ghost use Rattle.meaning.specs.Limits.{max_composite_periods};
 ghost use Rattle.meaning.specs.View.{point_state};
 ghost use Rattle.meaning.specs.Limit.{limit_asked};
 ghost use Rattle.meaning.specs.Compiled.{IsCompiled};
-ghost use Rattle.meaning.specs.PlainCompiler.{period_added, IsAddRefused};
+ghost use Rattle.meaning.specs.ByCases.PlainCompiler.{period_added, IsAddRefused};
 
 use crate::ask::Ask;
 use crate::composite::{Composite, CompositePeriod, MAX_COMPOSITE_PERIODS};

@@ -1,5 +1,5 @@
 -- What a CALL asks for by its action and its payload, or its first fault (OCPP 1.6, chapters 4 to 6).
-use Rattle.std.specs.Prelude.{⊤, ℕ, List, Option, Some, None, Result, Ok, Err}
+use Rattle.std.specs.Prelude.{ℕ, List, Option, Some, None, Result, Ok, Err}
 use Rattle.ocppj_frame.specs.Tree.{Tree}
 use Rattle.ocppj_frame.specs.Message.{Message, call}
 use Rattle.messages.specs.declared.action.Action.{Action}
@@ -53,4 +53,4 @@ kind_asked _ = None
 abbrev pub NeedsNoMemory : Option ActionKind → Type 0
 NeedsNoMemory (Some kinds.SetChargingProfile) = ⊥
 NeedsNoMemory (Some kinds.StartTransaction) = ⊥
-NeedsNoMemory _ = ⊤
+NeedsNoMemory _ = Unit {0}

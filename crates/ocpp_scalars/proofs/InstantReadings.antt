@@ -1,13 +1,16 @@
 -- Instants are read as their grammar has them, and only so; and a printed instant is read as itself.
-use Rattle.std.proofs.Common.{◌≡◌, ℕ, ◌/◌, ◌%◌, ◌≤◌, ◌⊎◌, ◌↔◌, inl, inr, List, [], ◌∷◌, ℤ, pos, negsuc, ◌<ℤ◌, Option, Some, None, Result, Ok, Err, refl, sym, ap, subst, ◌∙◌, arith}
+use Rattle.std.proofs.Common.{◌≡◌, ℕ, ◌+◌, ◌/◌, ◌%◌, ◌≤◌, ◌<◌, ◌⊎◌, ◌↔◌, inl, inr, List, [], ◌∷◌, ◌++◌, ℤ, pos, negsuc, ◌<ℤ◌, Option, Some, None, Result, Ok, Err, refl, sym, ap, subst, ◌∙◌, arith}
+use Rattle.std.specs.Prelude.{codes}
 use Rattle.std.proofs.lemmas.Int.{ints}
 use Rattle.std.proofs.lemmas.Bool.{cases_lt}
 use Rattle.ocpp_scalars.specs.declared.instant_text.InstantFault.{InstantFault}
 use Rattle.ocpp_scalars.specs.declared.instant_text.InstantFault.TheVariants.{Form, Range}
-use Rattle.ocpp_scalars.specs.CalendarDay.{calendar_day}
-use Rattle.ocpp_scalars.specs.InstantText.{SpellsInstant, SpellsOnlyInstant, no_second_fraction, capital_z, IsInstantReading}
+use Rattle.jiff_core.proofs.CalendarLemmas.{days_in_month_bounds}
+use Rattle.ocpp_scalars.specs.CalendarDay.{CalendarDay, calendar_day}
+use Rattle.ocpp_scalars.specs.Digits.{two_digits, four_digits}
+use Rattle.ocpp_scalars.specs.InstantText.{date_text, time_text, SpellsInstant, SpellsOnlyInstant, no_second_fraction, capital_z, IsInstantReading}
 use Rattle.ocpp_scalars.specs.Limits.{last_second}
-use Rattle.ocpp_scalars.specs.Writing.{instant_text}
+use Rattle.ocpp_scalars.specs.Writing.{in_digits, day_text, time_of_day_text, instant_text}
 use Rattle.ocpp_scalars.specs.ByCases.InstantText.{seconds_of, in_range, reading, instant_of}
 use Rattle.ocpp_scalars.proofs.Calendar.{calendar_day-number, calendar_day-year, calendar_day-civil}
 use Rattle.ocpp_scalars.proofs.Cases.{same-some}
@@ -58,6 +61,37 @@ pub instant_reading : (text : List ℕ) (r : Result ℕ InstantFault) → (insta
 instant_reading text r =
     (λ e. subst (λ (r : Result ℕ InstantFault). IsInstantReading text r) e (instant_found text), instant_only text r)
 
+-- printed numbers are written as they are read
+two_printed : (n : ℕ) → n ≤ 99 → in_digits 2 n ≡ two_digits n
+two_printed n h =
+    let tens : n / 10 % 10 ≡ n / 10 = omega arith in
+    ap (λ (digit : ℕ). (48 + digit) ∷ (48 + n % 10) ∷ []) tens
+
+four_printed : (n : ℕ) → n ≤ 9999 → in_digits 4 n ≡ four_digits n
+four_printed n h =
+    let first : n / 10 / 10 / 10 % 10 ≡ n / 100 / 10 = omega arith in
+    let second : n / 10 / 10 % 10 ≡ n / 100 % 10 = omega arith in
+    let third : n / 10 % 10 ≡ n % 100 / 10 = omega arith in
+    let fourth : n % 10 ≡ n % 100 % 10 = omega arith in
+    ap (λ (digit : ℕ). (48 + digit) ∷ (48 + n / 10 / 10 % 10) ∷ (48 + n / 10 % 10) ∷ (48 + n % 10) ∷ []) first
+    ∙ ap (λ (digit : ℕ). (48 + n / 100 / 10) ∷ (48 + digit) ∷ (48 + n / 10 % 10) ∷ (48 + n % 10) ∷ []) second
+    ∙ ap (λ (digit : ℕ). (48 + n / 100 / 10) ∷ (48 + n / 100 % 10) ∷ (48 + digit) ∷ (48 + n % 10) ∷ []) third
+    ∙ ap (λ (digit : ℕ). (48 + n / 100 / 10) ∷ (48 + n / 100 % 10) ∷ (48 + n % 100 / 10) ∷ (48 + digit) ∷ []) fourth
+
+day_printed : (d : CalendarDay) → d.year ≤ 9999 → d.month ≤ 99 → d.day ≤ 99 → day_text d ≡ date_text d.year d.month d.day
+unfolding day_text
+day_printed d year month day =
+    ap (λ (text : List ℕ). text ++ codes "-" ++ in_digits 2 d.month ++ codes "-" ++ in_digits 2 d.day) (four_printed d.year year)
+    ∙ ap (λ (text : List ℕ). four_digits d.year ++ codes "-" ++ text ++ codes "-" ++ in_digits 2 d.day) (two_printed d.month month)
+    ∙ ap (λ (text : List ℕ). four_digits d.year ++ codes "-" ++ two_digits d.month ++ codes "-" ++ text) (two_printed d.day day)
+
+time_printed : (s : ℕ) → s < 86_400 → time_of_day_text s ≡ time_text (s / 3600) (s / 60 % 60) (s % 60)
+unfolding time_of_day_text
+time_printed s h =
+    ap (λ (text : List ℕ). text ++ codes ":" ++ in_digits 2 (s / 60 % 60) ++ codes ":" ++ in_digits 2 (s % 60)) (two_printed (s / 3600) (omega arith))
+    ∙ ap (λ (text : List ℕ). two_digits (s / 3600) ++ codes ":" ++ text ++ codes ":" ++ in_digits 2 (s % 60)) (two_printed (s / 60 % 60) (omega arith))
+    ∙ ap (λ (text : List ℕ). two_digits (s / 3600) ++ codes ":" ++ two_digits (s / 60 % 60) ++ codes ":" ++ text) (two_printed (s % 60) (omega arith))
+
 -- the printed text spells its own instant
 printed : (i : ℕ) → i ≤ last_second → SpellsInstant (instant_text i) (pos i)
 unfolding instant_text
@@ -65,6 +99,10 @@ printed i h =
     let n = i / 86_400 in
     let d = calendar_day n in
     let number = (calendar_day-number n).number in
+    let year = calendar_day-year n (omega arith) in
+    let civil = calendar_day-civil n (omega arith) in
+    let date : day_text d ≡ date_text d.year d.month d.day = day_printed d year (omega (arith, civil.1.1)) (omega (arith, civil.2.1, days_in_month_bounds (pos d.year) d.month)) in
+    let time = time_printed (i % 86_400) (omega arith) in
     record {
       year = d.year;
       month = d.month;
@@ -76,9 +114,11 @@ printed i h =
       fraction = [];
       offset = pos 0;
       offset_text = 90 ∷ [];
-      is_text = refl;
-      is_year = calendar_day-year n (omega arith);
-      is_date = calendar_day-civil n (omega arith);
+      is_text =
+          ap (λ (text : List ℕ). text ++ codes "T" ++ time_of_day_text (i % 86_400) ++ codes "Z") date
+          ∙ ap (λ (text : List ℕ). date_text d.year d.month d.day ++ codes "T" ++ text ++ codes "Z") time;
+      is_year = year;
+      is_date = civil;
       is_separator = inl refl;
       is_clock = (omega arith, omega arith);
       is_second = omega arith;

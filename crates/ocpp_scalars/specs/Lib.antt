@@ -2,6 +2,7 @@ pub mod Appending
 pub mod Ascii
 pub mod ByCases
 pub mod CalendarDay
+pub mod Causes
 pub mod Digits
 pub mod InstantText
 pub mod Limits
@@ -11,4 +12,5 @@ pub mod OptionSteps
 pub mod Reading
 pub mod Refusal
 pub mod ResultSteps
+pub mod Theory
 pub mod Writing

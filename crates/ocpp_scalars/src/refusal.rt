@@ -62,6 +62,9 @@ pub enum Refusal {
     Superseded,
     /// No call of this number is in flight to the point.
     NothingInFlight,
+    /// What is posted to a request is for another book or another ask than the request has (given by
+    /// who posts an answer from outside).
+    StrangerInput,
 }
 
 impl Refusal {
@@ -96,6 +99,7 @@ impl Refusal {
             Refusal::AlreadyAnswered => "AlreadyAnswered",
             Refusal::Superseded => "Superseded",
             Refusal::NothingInFlight => "NothingInFlight",
+            Refusal::StrangerInput => "StrangerInput",
         }
     }
 }

@@ -3,10 +3,8 @@ ghost use Rattle.std.specs.Prelude.{◌≡◌, ℕ, ◌+◌, ◌*◌, ◌/◌, �
 ghost use Rattle.jiff_core.specs.Date.{epoch_day};
 ghost use Rattle.ocpp_scalars.specs.Appending.{BeginsWith};
 ghost use Rattle.ocpp_scalars.specs.CalendarDay.{calendar_day};
-ghost use Rattle.ocpp_scalars.specs.Digits.{two_digits, four_digits};
 ghost use Rattle.ocpp_scalars.specs.Limits.{last_day, last_second};
-ghost use Rattle.ocpp_scalars.specs.Writing.{day_text, time_of_day_text, instant_text, tenths_text};
-ghost use Rattle.ocpp_scalars.specs.InstantText.{clock_text};
+ghost use Rattle.ocpp_scalars.specs.Writing.{in_digits, day_text, time_of_day_text, instant_text, tenths_text};
 
 use crate::instant::Instant;
 use crate::refusal::Refusal;
@@ -49,6 +47,7 @@ fn push_seconds(out: &mut String, seconds: u64) -> Result<(), AllocError>
 }
 
 /// Appends the date of the day that comes so many days after 1 January 1970.
+#[tactic(auto, unfolding(crate::specs::Writing::day_text))]
 fn push_day(out: &mut String, day: u64) -> Result<(), AllocError>
     requires { day ≤ last_day }
     ensures text { OnOk result
@@ -77,6 +76,7 @@ fn civil_date(day: u64) -> (u16, u8, u8)
 }
 
 /// Appends a time of day, `hh:mm:ss`.
+#[tactic(auto, unfolding(crate::specs::Writing::time_of_day_text))]
 fn push_time(out: &mut String, seconds: u32) -> Result<(), AllocError>
     requires { seconds < 86_400 }
     ensures text { OnOk result
@@ -93,7 +93,7 @@ fn push_time(out: &mut String, seconds: u32) -> Result<(), AllocError>
 /// Appends a number below 100 in two digits.
 fn push_two(out: &mut String, number: u8) -> Result<(), AllocError>
     requires { number < 100 }
-    ensures text { OnOk result (string_bytes out.new ≡ string_bytes out.old ++ two_digits number) }
+    ensures text { OnOk result (string_bytes out.new ≡ string_bytes out.old ++ in_digits 2 number) }
     ensures kept { OnErr result (BeginsWith (string_bytes out.new) (string_bytes out.old)) }
 {
     out.push((b'0' + number / 10) as char)?;

@@ -1,5 +1,5 @@
 -- The message that a frame holds.
-use Rattle.std.specs.Prelude.{◌≡◌, true, ⊤}
+use Rattle.std.specs.Prelude.{◌≡◌, true}
 use Rattle.ocppj_frame.specs.Message.{Message, call, call_result, call_error, other}
 use Rattle.ocppj_frame.specs.Payload.{tree_in}
 use Rattle.ocppj_frame.specs.Tree.{is_object}
@@ -16,5 +16,5 @@ message_in Other = other
 abbrev pub HasObject : Frame → Type 0
 HasObject (Call id action payload) = is_object (tree_in payload) ≡ true
 HasObject (Reply id payload) = is_object (tree_in payload) ≡ true
-HasObject (Fault id) = ⊤
-HasObject Other = ⊤
+HasObject (Fault id) = Unit {0}
+HasObject Other = Unit {0}

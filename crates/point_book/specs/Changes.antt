@@ -1,12 +1,14 @@
 -- What an install, a clear, a start and a stop change of a charge point's book, and why an install is
 -- refused. `record book { .. }` is the book with these fields changed and all else as it was.
-use Rattle.std.specs.Prelude.{ℕ, ◌≡◌, nat_le, ℤ, Bool, false, not, is_none, List, length, Option, Some, None, if◌then◌else◌}
+use Rattle.std.specs.Prelude.{ℕ, ◌≡◌, ◌≢◌, ◌<◌, nat_le, ℤ, Bool, false, not, is_none, List, [], ◌∷◌, length, Option, Some, None, if◌then◌else◌}
 use Rattle.std.specs.Ordering.{int_eq}
 use Rattle.ocpp_scalars.specs.declared.refusal.Refusal.{Refusal}
 use Rattle.ocpp_scalars.specs.declared.refusal.Refusal.TheVariants.{NoTransaction, OtherTransaction, TooManyProfiles, OutOfMemory}
+use Rattle.ocpp_scalars.specs.Causes.{Cause, ◌because◌}
 use Rattle.profile.specs.declared.charging_profile.Profile.{Profile}
 use Rattle.profile.specs.declared.criteria.Criteria.{Criteria}
 use Rattle.profile.specs.declared.row.Row.{Row}
+use Rattle.profile.specs.declared.purpose.Purpose.TheVariants.{TxProfile}
 use Rattle.profile.specs.Purpose.{is_tx}
 use Rattle.profile.specs.Changes.{installed, cleared, without_transaction_profiles}
 use Rattle.stacking.specs.Limits.{max_rows}
@@ -17,6 +19,30 @@ use Rattle.transactions.specs.ActiveTable.{began, started, connector_of, stopped
 use Rattle.point_book.specs.Book.{Book, active_on}
 
 -- ---- SetChargingProfile (OCPP 1.6, 5.16)
+
+-- a TxProfile where no transaction is active
+pub record LacksTransaction (active : Option ℤ) (profile : Profile) : Type 0 where
+  pub of_transaction : profile.purpose ≡ TxProfile
+  pub inactive : active ≡ None
+
+-- a TxProfile whose transactionId is another than the active transaction's
+pub record NamesAnother (active : Option ℤ) (profile : Profile) : Type 0 where
+  pub of_transaction : profile.purpose ≡ TxProfile
+  pub asked : ℤ
+  pub running : ℤ
+  pub names : profile.transaction ≡ Some asked
+  pub is_active : active ≡ Some running
+  pub other : asked ≢ running
+
+-- Why a profile isn't installed, in the order in which the causes are checked: a TxProfile is for the
+-- transaction that is active at its connector (3.13.1), and no more profiles than the limit stand after an
+-- install.
+abbrev pub install_causes : Book → Row → List Cause
+install_causes book row =
+    (NoTransaction because LacksTransaction (active_on book.transactions row.connector) row.profile)
+    ∷ (OtherTransaction because NamesAnother (active_on book.transactions row.connector) row.profile)
+    ∷ (TooManyProfiles because max_rows < length (installed book.rows row))
+    ∷ []
 
 -- whether a transactionId is present, and isn't the active transaction's
 abbrev pub names_another : Option ℤ → Option ℤ → Bool
@@ -41,7 +67,7 @@ abbrev pub first_cause : Option Refusal → Option Refusal → Option Refusal
 first_cause None next = next
 first_cause (Some cause) next = Some cause
 
--- why a profile isn't installed, the first cause in this order
+-- why a profile isn't installed: by the law `installs` the first of these causes
 abbrev pub install_refusal : Book → Row → Option Refusal
 install_refusal book row =
     first_cause

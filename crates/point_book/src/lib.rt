@@ -4,6 +4,8 @@
 #![tactic(auto)]
 
 mod book;
+mod install_laws;
 mod refusal;
 
 pub use book::PointBook;
+pub use install_laws::installs;

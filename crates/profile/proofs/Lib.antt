@@ -1,3 +1,4 @@
 pub mod GreatestLemmas
+pub mod PartLemmas
 pub mod PeriodLemmas
 pub mod ProfileLemmas

@@ -1,8 +1,11 @@
 -- What the fields of a charging profile make: a well-formed profile, or the first cause of a refusal.
-use Rattle.std.specs.Prelude.{◌≡◌, nat_le, length, Some, Result, Ok}
+use Rattle.std.specs.Prelude.{◌≡◌, ◌<◌, ◌≤◌, nat_le, List, [], ◌∷◌, ◌++◌, length, Some, None, Result, Ok}
 use Rattle.ocpp_scalars.specs.declared.refusal.Refusal.{Refusal}
 use Rattle.ocpp_scalars.specs.declared.refusal.Refusal.TheVariants.{LevelTooHigh, TooManyPeriods, PeriodsOutOfOrder, NoRecurrency}
+use Rattle.ocpp_scalars.specs.Causes.{Cause, ◌because◌}
+use Rattle.profile.specs.declared.kind.ProfileKind.TheVariants.{Recurring}
 use Rattle.profile.specs.declared.parts.ProfileParts.{ProfileParts}
+use Rattle.profile.specs.declared.period.Period.{Period}
 use Rattle.profile.specs.declared.charging_profile.Profile.{Profile}
 use Rattle.profile.specs.Limits.{max_stack_level, max_periods}
 use Rattle.profile.specs.Kind.{kind_of, start_of}
@@ -28,8 +31,27 @@ pub record IsProfileOf (parts : ProfileParts) (profile : Profile) : Type 0 where
   pub periods : profile.schedule.periods ≡ parts.schedule.periods
   pub min_charging_rate : profile.schedule.min_charging_rate ≡ parts.schedule.min_charging_rate
 
--- The profile that these fields make, or why they make none, the first cause in this order. That there
--- is a period is no question here: a list of periods that came in has one by its type.
+-- a period that doesn't start later than the one before it (OCPP 1.6, chapter 7, ChargingSchedulePeriod)
+pub record IsOutOfOrder (periods : List Period) : Type 0 where
+  pub before : List Period
+  pub period : Period
+  pub next : Period
+  pub after : List Period
+  pub stands : periods ≡ before ++ (period ∷ next ∷ after)
+  pub not_later : next.start ≤ period.start
+
+-- Why fields make no profile, in the order in which the causes are checked. That there is a period is
+-- no question here: a list of periods that came in has one by its type.
+abbrev pub part_causes : ProfileParts → List Cause
+part_causes parts =
+    (LevelTooHigh because max_stack_level < parts.stack_level)
+    ∷ (TooManyPeriods because max_periods < length parts.schedule.periods)
+    ∷ (PeriodsOutOfOrder because IsOutOfOrder parts.schedule.periods)
+    ∷ (NoRecurrency because (parts.kind ≡ Recurring) × (parts.recurrency ≡ None))
+    ∷ []
+
+-- The profile that these fields make, or why they make none. By the law `profile_parts` it is refused by
+-- the first of these causes, and is else the profile of these fields.
 abbrev pub profile_of_parts : ProfileParts → Result Profile Refusal
 profile_of_parts parts = do
   low ← fact_or LevelTooHigh (nat_le parts.stack_level max_stack_level)

@@ -1,2 +1,3 @@
 -- Lemmas that crates above cite: nothing here has to be believed.
 pub mod Periods
+pub mod Refusing

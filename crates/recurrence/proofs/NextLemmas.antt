@@ -4,7 +4,7 @@ use Rattle.std.specs.Ordering.{nat_cmp}
 use Rattle.std.proofs.Math.Nat.{div-add-mod}
 use Rattle.std.proofs.lemmas.Nat.{mod-mul-add}
 use Rattle.std.proofs.lemmas.Bool.Decides.{nat_tests}
-use Rattle.recurrence.specs.Next.{sooner}
+use Rattle.recurrence.specs.ByCases.Sooner.{sooner}
 use Rattle.recurrence.specs.Theory.Next.{sooner_number}
 use Rattle.recurrence.specs.ByCases.Next.{IsFirstAfter, IsNext}
 

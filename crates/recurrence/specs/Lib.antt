@@ -1,4 +1,3 @@
-pub mod Next
 pub mod NextChange
 pub mod ByCases
 pub mod Theory

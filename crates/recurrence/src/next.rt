@@ -1,7 +1,7 @@
 //! The next of two, and a number that is next.
 
 ghost use Rattle.std.specs.Prelude.{◌≡◌, ◌==◌, ℕ};
-ghost use Rattle.recurrence.specs.Next.{sooner};
+ghost use Rattle.recurrence.specs.ByCases.Sooner.{sooner};
 ghost use Rattle.recurrence.specs.ByCases.Next.{IsNext};
 
 /// A number, where it is greater than another.

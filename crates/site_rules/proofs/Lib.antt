@@ -1,3 +1,4 @@
+pub mod AdmissionCauses
 pub mod PointLemmas
 pub mod CeilingsRead
 pub mod SiteLemmas

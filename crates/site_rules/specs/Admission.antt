@@ -1,16 +1,33 @@
 -- Where a profile may stand.
-use Rattle.std.specs.Prelude.{ℕ, nat_lt, ◌==◌, not, ◌&&◌, List, length, Option, Some, None, if◌then◌else◌}
+use Rattle.std.specs.Prelude.{ℕ, ◌≡◌, ◌≢◌, ◌<◌, nat_lt, ◌==◌, not, ◌&&◌, List, [], ◌∷◌, length, Option, Some, None, if◌then◌else◌}
+use Rattle.std.specs.List.{AllByRecursion}
 use Rattle.ocpp_scalars.specs.declared.refusal.Refusal.{Refusal}
 use Rattle.ocpp_scalars.specs.declared.refusal.Refusal.TheVariants.{UnknownPoint, UnknownConnector, MaxNotAtZero, TxAtZero, WrongUnit}
+use Rattle.ocpp_scalars.specs.Causes.{Cause, ◌because◌}
+use Rattle.profile.specs.declared.purpose.Purpose.TheVariants.{ChargePointMaxProfile, TxProfile}
 use Rattle.profile.specs.Purpose.{is_charge_point_max, is_tx}
 use Rattle.profile.specs.Unit.{unit_eq}
 use Rattle.profile.specs.declared.unit.Unit.{Unit}
 use Rattle.profile.specs.declared.charging_profile.Profile.{Profile}
-use Rattle.site_rules.specs.Site.{PointEntry, SiteState, entry_of}
+use Rattle.site_rules.specs.Site.{PointEntry, SiteState, HasConnector, entry_of}
 
--- A connector that the point has; connector 0 is the whole point. A ChargePointMaxProfile stands at
--- connector 0 alone, a TxProfile never does (OCPP 1.6, 3.13.1 and 5.16.4), and a schedule's unit is the
--- site's (this system's choice).
+-- no point of the site has the identity
+abbrev pub HasNoPoint : SiteState → List ℕ → Type 0
+HasNoPoint site id = AllByRecursion (λ (point : PointEntry). id ≢ point.id) site.points
+
+-- Why a profile may not stand at a connector of a point of the site, in the order in which the causes are
+-- checked. Connector 0 is the whole point: a ChargePointMaxProfile stands there alone, a TxProfile never
+-- does (OCPP 1.6, 3.13.1 and 5.16.4), and a schedule's unit is the site's (this system's choice).
+abbrev pub admission_causes : SiteState → List ℕ → ℕ → Profile → List Cause
+admission_causes site id connector profile =
+    (UnknownPoint because HasNoPoint site id)
+    ∷ (UnknownConnector because ¬ HasConnector site id connector)
+    ∷ (MaxNotAtZero because (profile.purpose ≡ ChargePointMaxProfile) × (0 < connector))
+    ∷ (TxAtZero because (profile.purpose ≡ TxProfile) × (connector ≡ 0))
+    ∷ (WrongUnit because profile.schedule.unit ≢ site.unit)
+    ∷ []
+
+-- the same by tests one after another, of the point that is found
 abbrev pub refusal_at : Unit → Option PointEntry → ℕ → Profile → Option Refusal
 refusal_at unit None connector profile = Some UnknownPoint
 refusal_at unit (Some point) connector profile =
@@ -20,7 +37,8 @@ refusal_at unit (Some point) connector profile =
     else if not (unit_eq profile.schedule.unit unit) then Some WrongUnit
     else None
 
--- why a profile may not stand at a connector of a point of the site, the first cause in this order
+-- why a profile may not stand at a connector of a point of the site: by the law `admissions` the first of
+-- these causes
 abbrev pub admission_refusal : SiteState → List ℕ → ℕ → Profile → Option Refusal
 admission_refusal site id connector profile =
     refusal_at site.unit (entry_of site id) connector profile

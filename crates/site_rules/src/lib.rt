@@ -14,4 +14,4 @@ pub use fault::SiteFault;
 pub use point::SitePoint;
 pub use reading::{MAX_SITE_BYTES, read_site};
 pub use site::Site;
-pub use site_laws::site_files;
+pub use site_laws::{admissions, site_files};

@@ -1,10 +1,14 @@
-//! The law of site files, on a function that does nothing.
+//! The laws of site files and of admissions, on functions that do nothing.
 
-ghost use Rattle.std.specs.Prelude.{◌≡◌, ◌↔◌, ℕ, List, Ok, Err};
+ghost use Rattle.std.specs.Prelude.{◌≡◌, ◌↔◌, ℕ, List, Option, Ok, Err};
+ghost use Rattle.ocpp_scalars.specs.declared.refusal.Refusal.{Refusal};
+ghost use Rattle.ocpp_scalars.specs.Causes.{IsFirstCause};
+ghost use Rattle.profile.specs.declared.charging_profile.Profile.{Profile};
 ghost use Rattle.site_rules.specs.declared.fault.SiteFault.{SiteFault};
 ghost use Rattle.site_rules.specs.Site.{SiteState};
 ghost use Rattle.site_rules.specs.SiteFile.{IsSiteFile};
 ghost use Rattle.site_rules.specs.SiteFaults.{IsSiteFault};
+ghost use Rattle.site_rules.specs.Admission.{admission_causes, admission_refusal};
 ghost use Rattle.site_rules.specs.ByCases.SiteReading.{site_of};
 
 /// The law of all site files: a site is read exactly where the bytes are a file that describes it, and a
@@ -14,4 +18,13 @@ pub fn site_files()
         → (site_of bytes ≡ Ok site) ↔ IsSiteFile bytes site }
     ensures fault { (bytes : List ℕ) (fault : SiteFault)
         → (site_of bytes ≡ Err fault) ↔ IsSiteFault bytes fault }
+{}
+
+/// The law of admissions: a profile is refused exactly where the cause of the refusal holds and none
+/// before it does, and is let in exactly where no cause holds.
+pub fn admissions()
+    ensures { (site : SiteState) (id : List ℕ) (connector : ℕ) (profile : Profile)
+        (refusal : Option Refusal)
+        → (admission_refusal site id connector profile ≡ refusal)
+        ↔ IsFirstCause (admission_causes site id connector profile) refusal }
 {}

@@ -12,10 +12,10 @@ use Rattle.meaning.specs.View.{PointState, ceiling_of}
 use Rattle.meaning.specs.Prevailing.{counted, prevailing}
 use Rattle.meaning.specs.Limit.{or_else, at_most, own_limit, active_connectors, limit, limit_by}
 use Rattle.sweep_compiler.specs.Places.{is_place_for, is_place_at, is_place_asked, looked_at}
-use Rattle.recurrence.specs.Next.{sooner}
+use Rattle.recurrence.specs.ByCases.Sooner.{sooner}
 use Rattle.sweep_compiler.specs.ByCases.NextChange.{IsNextChange}
 use Rattle.sweep_compiler.specs.ByCases.NextPlace.{IsNextOfFirst, IsNextOfAll}
-use Rattle.sweep_compiler.specs.ByCases.Seen.{SeenRow, SeenConnector, AreGathered, is_place_seen, first_limit, inserted, by_falling_level, seen_from, rows_seen, connector_seen, own_limit_seen, is_place_looked}
+use Rattle.sweep_compiler.specs.ByCases.Seen.{SeenRow, SeenConnector, AreGathered, is_place_seen, first_limit, inserted, by_falling_level, seen_from, rows_seen, connector_seen, own_limit_seen, is_place_looked, largest_limit}
 use Rattle.sweep_compiler.proofs.ByLevel.{first_prevails, any_falling}
 use Rattle.sweep_compiler.proofs.NextChanges.{change_as, change_both}
 
@@ -113,7 +113,7 @@ places_are state connector asked instant most looked h =
 
 -- the lesser of what connectors may draw together, stopped at the most that there is, and a limit within that
 pub limit_is : (state : PointState) (connector asked instant : ℕ) (most : List SeenRow) (looked : List SeenConnector) (point sum : ℕ) → AreGathered state connector asked most looked
-    → point ≡ at_most state.ceiling (first_limit instant most) → point ≤ 4294967295 → sum ≡ min (sum_by (own_limit_seen instant) looked) 4294967295
+    → point ≡ at_most state.ceiling (first_limit instant most) → point ≤ largest_limit → sum ≡ min (sum_by (own_limit_seen instant) looked) largest_limit
     → min point sum ≡ limit state connector asked instant
 limit_is state connector asked instant most looked point sum h p within s =
     let whole : min point sum ≡ min point (sum_by (own_limit_seen instant) looked) = omega (arith, within, s) in

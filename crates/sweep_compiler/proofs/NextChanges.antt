@@ -8,7 +8,7 @@ use Rattle.std.proofs.lemmas.List.Folds.{list_any-append}
 use Rattle.std.proofs.lemmas.List.Sums.{sum_by_push}
 use Rattle.std.proofs.lemmas.Bool.Decides.{nat_tests}
 use Rattle.meaning.specs.Limit.{or_else}
-use Rattle.recurrence.specs.Next.{sooner}
+use Rattle.recurrence.specs.ByCases.Sooner.{sooner}
 use Rattle.recurrence.specs.Theory.Next.{sooner_number}
 use Rattle.sweep_compiler.specs.ByCases.NextChange.{IsNextChange}
 use Rattle.sweep_compiler.specs.ByCases.Seen.{SeenRow, SeenConnector, limit_seen, is_place_seen, first_limit, own_limit_seen, is_place_looked}

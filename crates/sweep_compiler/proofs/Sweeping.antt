@@ -7,7 +7,7 @@ use Rattle.std.proofs.lemmas.List.Sums.{sum_by_push, count_by-le-length}
 use Rattle.std.proofs.lemmas.Bool.{eq-eqb}
 use Rattle.meaning.specs.declared.composite.CompositePeriod.{CompositePeriod}
 use Rattle.meaning.specs.ByCases.Exact.{begins_period, period_from, exact_periods}
-use Rattle.meaning.specs.PlainCompiler.{differs, period_added}
+use Rattle.meaning.specs.ByCases.PlainCompiler.{differs, period_added}
 use Rattle.meaning.specs.Theory.Ranges.{range_more}
 use Rattle.meaning.specs.Theory.ExactPeriods.{periods_more}
 use Rattle.meaning.specs.Theory.PlainCompiler.{limit_before, periods_added}

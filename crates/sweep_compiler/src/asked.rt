@@ -4,7 +4,7 @@ ghost use Rattle.std.specs.Prelude.{◌≡◌, ◌≤◌, length, min, IfOk};
 ghost use Rattle.std.specs.List.{sum_by};
 ghost use Rattle.meaning.specs.View.{point_state};
 ghost use Rattle.meaning.specs.Limit.{limit};
-ghost use Rattle.sweep_compiler.specs.ByCases.Seen.{own_limit_seen};
+ghost use Rattle.sweep_compiler.specs.ByCases.Seen.{largest_limit, own_limit_seen};
 ghost use Rattle.sweep_compiler.specs.ByCases.NextPlace.{IsNextAsked, IsNextOfAll};
 
 use crate::falling::{first_limit, next_after};
@@ -93,7 +93,7 @@ impl<'a> AskedLimit<'a> {
 
 /// What connectors may draw together at an instant, or the most that there is where that is less.
 fn sum_of(looked: &[Looked<'_>], instant: Instant) -> u32
-    ensures { result ≡ min (sum_by (own_limit_seen instant) looked.now) 4294967295 }
+    ensures { result ≡ min (sum_by (own_limit_seen instant) looked.now) largest_limit }
 {
     let mut sum: u32 = 0;
     for connector in looked {

@@ -1,10 +1,8 @@
 //! The compiler of composite schedules.
 
 ghost use Rattle.std.specs.Prelude.{◌≡◌, ℕ, ◌+◌, ◌<◌, ◌≤◌, ◌^◌, length, IfOk};
-ghost use Rattle.meaning.specs.Limit.{limit_asked};
-ghost use Rattle.meaning.specs.Compiled.{IsCompiled};
-ghost use Rattle.point_book.specs.Book.{state_of};
 ghost use Rattle.sweep_compiler.specs.Places.{places};
+ghost use Rattle.sweep_compiler.specs.Right.{IsCompiledFor};
 
 use crate::asked::AskedLimit;
 use crate::gatherer::Gatherer;
@@ -29,8 +27,7 @@ pub fn compile(
 ) -> Result<Composite, Refusal>
     requires has_connector { ask.now.connector ≤ length book.now.ceilings }
     requires fresh { turns.old < 2 ^ 63 }
-    ensures compiled { IsCompiled (limit_asked (state_of book.now) ask.now.connector ask.now.start)
-        ask.now.duration result }
+    ensures compiled { IsCompiledFor book.now ask.now result }
     ensures bound { turns.new ≤ turns.old + (1 + places book.now ask.now) }
     ensures counted { turns.old ≤ turns.new }
     ensures each { IfOk result (λ schedule. turns.old + length schedule.periods ≤ turns.new) }

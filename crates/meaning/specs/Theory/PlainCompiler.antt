@@ -8,7 +8,7 @@ use Rattle.meaning.specs.declared.composite.CompositePeriod.{CompositePeriod}
 use Rattle.meaning.specs.Limits.{max_composite_periods}
 use Rattle.meaning.specs.ByCases.Exact.{begins_period, period_from, exact_periods}
 use Rattle.meaning.specs.Compiled.{IsTooLong, IsPermitted}
-use Rattle.meaning.specs.PlainCompiler.{differs, period_added, IsAddRefused}
+use Rattle.meaning.specs.ByCases.PlainCompiler.{differs, period_added, IsAddRefused}
 use Rattle.meaning.specs.Theory.ExactPeriods.{exact_is, periods_more, periods_grow}
 
 -- the limit at the second before, where there is one

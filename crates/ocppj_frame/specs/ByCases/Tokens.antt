@@ -1,9 +1,9 @@
 -- Tokens without numbers. Of private clauses.
-use Rattle.std.specs.Prelude.{List, [], ◌∷◌, ⊤}
+use Rattle.std.specs.Prelude.{List, [], ◌∷◌}
 use Rattle.json.specs.Token.{Token, begin_object, end_object, begin_array, end_array, key, string, number, boolean, null, bad}
 
 abbrev pub HaveNoNumber : List Token → Type 0
-HaveNoNumber [] = ⊤
+HaveNoNumber [] = Unit {0}
 HaveNoNumber (begin_object ∷ ts) = HaveNoNumber ts
 HaveNoNumber (end_object ∷ ts) = HaveNoNumber ts
 HaveNoNumber (begin_array ∷ ts) = HaveNoNumber ts

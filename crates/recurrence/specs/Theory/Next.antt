@@ -3,7 +3,7 @@
 use Rattle.std.proofs.Common.{◌≡◌, ℕ, ◌==◌, nat_lt, Bool, true, false, cond, Some, refl}
 use Rattle.std.specs.Ordering.{is_lt, nat_cmp}
 use Rattle.std.specs.declared.cmp.Ordering.TheVariants.{Less, Equal, Greater}
-use Rattle.recurrence.specs.Next.{sooner}
+use Rattle.recurrence.specs.ByCases.Sooner.{sooner}
 
 pub sooner_number : (a b : ℕ) → sooner nat_cmp (Some a) (Some b) ≡ cond (nat_lt b a) (Some b) (Some a)
 sooner_number a b = go (nat_lt b a) (b == a)

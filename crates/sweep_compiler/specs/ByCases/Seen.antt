@@ -68,6 +68,10 @@ connector_seen state asked connector = record {
 abbrev pub connectors_seen : PointState → ℕ → ℕ → List SeenConnector
 connectors_seen state connector asked = map (connector_seen state asked) (looked_at state connector)
 
+-- the largest limit that a `u32` holds, in tenths: a larger sum is kept as this one
+abbrev pub largest_limit : ℕ
+largest_limit = 4_294_967_295
+
 abbrev pub own_limit_seen : ℕ → SeenConnector → ℕ
 own_limit_seen instant seen = at_most seen.ceiling (or_else (first_limit instant seen.own) (first_limit instant seen.default))
 

@@ -3,7 +3,7 @@ use Rattle.std.proofs.Common.{rules, ◌≡◌, ℕ, Option, ap, sym, subst, ◌
 use Rattle.std.specs.Ordering.{nat_cmp}
 use Rattle.profile.specs.ChargingProfile.{offset}
 use Rattle.profile.specs.Places.{is_at, is_turn_at, is_place}
-use Rattle.recurrence.specs.Next.{sooner}
+use Rattle.recurrence.specs.ByCases.Sooner.{sooner}
 use Rattle.recurrence.specs.ByCases.Next.{IsNext}
 use Rattle.recurrence.proofs.NextLemmas.{next_or}
 use Rattle.recurrence.proofs.places.next_place.Goals as goal

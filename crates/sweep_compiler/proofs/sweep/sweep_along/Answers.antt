@@ -2,7 +2,7 @@
 use Rattle.std.proofs.Common.{◌≡◌, ℕ, ◌<◌, ◌∙◌, ap, Some, None, length, arith}
 use Rattle.std.proofs.lemmas.Result.{err_from_is_err_and}
 use Rattle.std.proofs.lemmas.List.{length-append}
-use Rattle.meaning.specs.PlainCompiler.{period_added}
+use Rattle.meaning.specs.ByCases.PlainCompiler.{period_added}
 use Rattle.meaning.specs.Theory.ExactAnswers.{exact_answer, is_schedule}
 use Rattle.meaning.specs.Theory.PlainCompiler.{permitted}
 use Rattle.sweep_compiler.specs.ByCases.Curve.{LeadsOn}

@@ -1,4 +1,4 @@
--- The sooner of two.
+-- The sooner of two, by cases: of the clause of `sooner` alone.
 use Rattle.std.specs.Prelude.{Option, Some, None}
 use Rattle.std.specs.Ordering.{ord_min}
 use Rattle.std.specs.declared.cmp.Ordering.{Ordering}

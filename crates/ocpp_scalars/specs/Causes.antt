@@ -1,0 +1,19 @@
+-- Why something is refused: the causes in the order in which they are checked, and the first that holds.
+use Rattle.std.specs.Prelude.{◌≡◌, ◌⊎◌, List, [], ◌∷◌, Option, Some, None}
+use Rattle.ocpp_scalars.specs.declared.refusal.Refusal.{Refusal}
+
+-- a refusal, and what has to hold for it
+pub record Cause : Type 1 where
+  pub refusal : Refusal
+  pub holds : Type 0
+
+infix 0 ◌because◌
+abbrev pub ◌because◌ : Refusal → Type 0 → Cause
+refusal because holds = record { refusal = refusal; holds = holds }
+
+-- The refusal is that of a cause that holds, where none before it does; and there is none exactly
+-- where no cause holds.
+abbrev pub IsFirstCause : List Cause → Option Refusal → Type 0
+IsFirstCause [] refusal = refusal ≡ None
+IsFirstCause (cause ∷ later) refusal =
+    (cause.holds × (refusal ≡ Some cause.refusal)) ⊎ ((¬ cause.holds) × IsFirstCause later refusal)
