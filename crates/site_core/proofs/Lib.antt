@@ -11,6 +11,7 @@ pub mod HistoryLemmas
 pub mod TakenRequests
 pub mod KeptRequests
 pub mod BooksOfHistories
+pub mod SiteOfRuns
 pub mod WorkedExamples
 pub mod ObeyOrderLemmas
 pub mod OutboxExamples
