@@ -15,18 +15,21 @@ use Rattle.replay.specs.Run.{Played, played_more}
 use Rattle.replay.specs.Output.{AppendsPrefix}
 
 -- what is printed is kept
-lines_grow : (before : Played) (lines : List (List ℕ)) → (more : List PrintedLine) × ((fold played_more before lines).lines ≡ before.lines ++ more)
+lines_grow : (before : Played) (lines : List (List ℕ))
+    → (more : List PrintedLine) × ((fold played_more before lines).lines ≡ before.lines ++ more)
 lines_grow before [] = ([], sym (append-nil before.lines))
 lines_grow before (line ∷ lines) =
     let next = lines_grow (played_more before line) lines in
     let printed = (line_played before.state before.number line).printed in
     (printed ++ next.0, next.1 ∙ append_assoc before.lines printed next.0)
 
-pub texts-append : (one other : List PrintedLine) → printed_texts (one ++ other) ≡ printed_texts one ++ printed_texts other
+pub texts-append : (one other : List PrintedLine)
+    → printed_texts (one ++ other) ≡ printed_texts one ++ printed_texts other
 texts-append one other = flat_map-append printed_text one other
 
 pub output_grows : (before : Played) (lines : List (List ℕ))
-    → (more : List ℕ) × (printed_texts (fold played_more before lines).lines ≡ printed_texts before.lines ++ more)
+    → (more : List ℕ)
+    × (printed_texts (fold played_more before lines).lines ≡ printed_texts before.lines ++ more)
 output_grows before lines =
     let grown = lines_grow before lines in
     (printed_texts grown.0, ap printed_texts grown.1 ∙ texts-append before.lines grown.0)

@@ -1,5 +1,7 @@
 -- What is printed, found again in the run that the script is.
-use Rattle.std.proofs.Common.{◌≡◌, ◌⊎◌, inl, inr, ℕ, zero, suc, Bool, true, false, cond, List, [], ◌∷◌, ◌++◌, take, slice_get, append-nil, Some, Result, Ok, Err, refl, sym, ap, ◌∙◌, subst}
+use Rattle.std.proofs.Common.{◌≡◌, ◌⊎◌, inl, inr, ℕ, suc, Bool, true, false, cond, List, [], ◌∷◌}
+use Rattle.std.proofs.Common.{◌++◌, take, slice_get, append-nil, Some, Ok, Err, refl, sym, ap, ◌∙◌}
+use Rattle.std.proofs.Common.{subst}
 use Rattle.std.specs.List.{flat_map}
 use Rattle.std.proofs.lemmas.Grind.{flat_map-append}
 use Rattle.profile.specs.declared.unit.Unit.{Unit}
@@ -16,17 +18,18 @@ use Rattle.site_core.specs.declared.reply.Reply.{Reply}
 use Rattle.site_core.specs.declared.reply.Reply.TheVariants.{Answered, Sent}
 use Rattle.site_core.specs.declared.outcome.Outcome.{Outcome}
 use Rattle.site_core.specs.declared.outcome.Outcome.TheVariants.{Done, Refused}
-use Rattle.site_core.specs.State.{MachineState, opening}
-use Rattle.site_core.specs.Run.{Runs}
+use Rattle.site_core.specs.State.{opening}
 use Rattle.site_core.specs.History.{Event, history_of}
 use Rattle.site_core.specs.Headline.{AnswersAreRight}
 use Rattle.site_core.specs.CallOrder.{is_at, names, events_at, calls_sent}
 use Rattle.site_core.specs.CallOrder as order
 use Rattle.replay.specs.PrintedLine.{PrintedLine}
 use Rattle.replay.specs.PrintedLine as lines
-use Rattle.replay.specs.Run.{played, lines_of}
+use Rattle.replay.specs.Run.{lines_of}
 use Rattle.replay.proofs.ScriptRunLemmas.{Laws, script_part}
-use Rattle.replay.specs.ScriptRun.{schedules_on, schedules_printed, schedule_told, schedules_by, schedules_by_event, schedules_answered, calls_printed, calls_of_step, calls_of_event, calls_replied, calls_on_for, calls_printed_for, ScriptRun, IsPrintedRight}
+use Rattle.replay.specs.ScriptRun.{schedules_on, schedules_printed, schedule_told, schedules_by}
+use Rattle.replay.specs.ScriptRun.{schedules_answered, calls_printed, calls_of_step, calls_of_event}
+use Rattle.replay.specs.ScriptRun.{calls_replied, calls_printed_to, ScriptRun, IsPrintedRight}
 
 -- ---- the Answer of a schedule
 
@@ -77,7 +80,8 @@ record IsHandedAt (unit : Unit) (steps : List Step) (outcomes : List Outcome)
 -- one step more before it
 later : (unit : Unit) (step : Step) (steps : List Step) (outcome : Outcome)
     (outcomes : List Outcome) (front earlier : List ScheduleResponse) (told : ScheduleResponse)
-    → ((n : ℕ) → schedules_answered unit (history_of (step ∷ take n steps) (outcome ∷ take n outcomes))
+    → ((n : ℕ)
+    → schedules_answered unit (history_of (step ∷ take n steps) (outcome ∷ take n outcomes))
     ≡ front ++ schedules_answered unit (history_of (take n steps) (take n outcomes)))
     → IsHandedAt unit steps outcomes earlier told
     → IsHandedAt unit (step ∷ steps) (outcome ∷ outcomes) (front ++ earlier) told
@@ -134,7 +138,8 @@ after_handed unit step steps reply outcomes rest hands [] told after is =
 after_handed unit step steps reply outcomes rest hands (one ∷ earlier) told after is =
     let handed = schedule_told unit hands.ask hands.schedule in
     let first : handed ≡ one = cc is in
-    let others : schedules_answered unit (history_of steps outcomes) ≡ earlier ++ told ∷ after = cc is in
+    let others : schedules_answered unit (history_of steps outcomes) ≡ earlier ++ told ∷ after =
+    cc is in
     subst (λ (s : ScheduleResponse).
     IsHandedAt unit (step ∷ steps) (Done reply ∷ outcomes) (s ∷ earlier) told) first
     (later unit step steps (Done reply) outcomes (handed ∷ []) earlier told
@@ -204,7 +209,7 @@ abbrev for_place : SiteState → ℕ → List (List ℕ × Call) → List Call
 for_place site place calls = flat_map (call_for_place site place) calls
 
 printed_for : (site : SiteState) (place : ℕ) (printed : List PrintedLine)
-    → calls_printed_for site place printed ≡ for_place site place (calls_printed printed)
+    → calls_printed_to site place printed ≡ for_place site place (calls_printed printed)
 printed_for site place [] = refl
 printed_for site place (lines.answer id response ∷ others) = printed_for site place others
 printed_for site place (lines.call point call ∷ others) =
@@ -237,7 +242,8 @@ sent_more site place (acts.Send point link) (Sent call) named =
     ∙ ap (λ l. l ++ flat_map order.calls_by_event named)
     (sym (append-nil (cond (is_at site place point) (call ∷ []) [])))
 sent_more site place (acts.Send point link) reply named =
-    no_call (is_at site place point) (record { step = acts.Send point link; reply = reply }) named refl
+    no_call (is_at site place point) (record { step = acts.Send point link; reply = reply }) named
+    refl
 sent_more site place step reply named =
     no_call (names site place step) (record { step = step; reply = reply }) named refl
 
@@ -253,7 +259,7 @@ sent_for site place (event ∷ others) =
 -- the calls that are printed for a point are those that are sent to it
 pub calls_of_place : (site : SiteState) (place : ℕ) (printed : List PrintedLine)
     (history : List Event) → calls_printed printed ≡ calls_replied history
-    → calls_printed_for site place printed ≡ calls_sent site place history
+    → calls_printed_to site place printed ≡ calls_sent site place history
 calls_of_place site place printed history same =
     printed_for site place printed
     ∙ (ap (for_place site place) same ∙ sym (sent_for site place history))
@@ -269,7 +275,7 @@ script_run laws site script =
       run = part.run;
       schedules = part.schedules;
       calls = part.calls;
-      calls_for =
+      calls_to_place =
           λ place. calls_of_place site place (lines_of site script)
           (history_of part.steps part.outcomes) part.calls;
     }

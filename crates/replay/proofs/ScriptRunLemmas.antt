@@ -1,5 +1,6 @@
 -- A script is a run of the machine, line after line, and prints what this run replied.
-use Rattle.std.proofs.Common.{◌≡◌, ℕ, ◌==◌, Bool, true, false, cond, List, [], ◌∷◌, ◌++◌, length, Option, Some, None, Result, Ok, Err, IfOk, refl, sym, ap, ◌∙◌, subst}
+use Rattle.std.proofs.Common.{◌≡◌, ℕ, ◌==◌, Bool, true, false, cond, List, [], ◌∷◌, ◌++◌, length}
+use Rattle.std.proofs.Common.{Option, Some, None, Result, Ok, Err, IfOk, refl, sym, ap, ◌∙◌, subst}
 use Rattle.std.specs.List.{fold}
 use Rattle.std.proofs.lemmas.Grind.{flat_map-append}
 use Rattle.ocpp_scalars.specs.declared.refusal.Refusal.{Refusal}
@@ -27,20 +28,29 @@ use Rattle.replay.specs.declared.script.line.ScriptLine.TheVariants.{Text, Hold,
 use Rattle.replay.specs.declared.session.todo.Todo.{Todo}
 use Rattle.replay.specs.declared.session.todo.Todo.TheVariants as todos
 use Rattle.replay.specs.SentText as texts
-use Rattle.replay.specs.Held.{id_held, let_go}
+use Rattle.replay.specs.Held.{id_held}
 use Rattle.replay.specs.Player.{PlayerState, with_machine}
-use Rattle.replay.specs.MachineSteps.{Stepped, stepped_exactly, handed_out, at_once, stepped_at_once, attached_unless, attached_once, call_sent, sent_over, sent_first, confirmed_over, confirmed_by}
-use Rattle.replay.specs.Todo.{todo_of, asks_schedule, hold_of}
+use Rattle.replay.specs.MachineSteps.{stepped_exactly, handed_out, at_once, stepped_at_once}
+use Rattle.replay.specs.MachineSteps.{attached_unless, attached_once, call_sent, sent_over}
+use Rattle.replay.specs.MachineSteps.{sent_first, confirmed_over, confirmed_by}
+use Rattle.replay.specs.Todo.{todo_of, asks_schedule}
 use Rattle.replay.specs.Answer.{refused_response}
 use Rattle.replay.specs.Line.{line_of}
 use Rattle.replay.specs.Lines.{script_lines}
 use Rattle.replay.specs.PrintedLine.{PrintedLine}
 use Rattle.replay.specs.PrintedLine as lines
-use Rattle.replay.specs.Play.{Handled, PlayedLine, answer_if, outcome_lines, call_lines, answered, todo_handled, point_handled, text_handled, hold_answered, hold_stepped, hold_handled, release_handled, text_played, fault_played, hold_played, release_played, said_played, read_played, line_played}
+use Rattle.replay.specs.Play.{Handled, PlayedLine, answer_if, outcome_lines, call_lines}
+use Rattle.replay.specs.Play.{todo_handled, point_handled, text_handled, hold_answered}
+use Rattle.replay.specs.Play.{hold_stepped, hold_handled, fault_played, hold_played, release_played}
+use Rattle.replay.specs.Play.{said_played, read_played, line_played}
 use Rattle.replay.specs.Run.{Played, first_played, played_more, played, lines_of}
-use Rattle.replay.specs.ScriptRun.{schedules_on, schedules_printed, schedules_by_event, schedules_answered, calls_on, calls_printed, calls_of_event, calls_replied}
+use Rattle.replay.specs.ScriptRun.{schedules_on, schedules_printed, schedules_by_event}
+use Rattle.replay.specs.ScriptRun.{schedules_answered, calls_on, calls_printed, calls_of_event}
+use Rattle.replay.specs.ScriptRun.{calls_replied}
 use Rattle.replay.proofs.MachineLemmas.{Law-answer, Law-too_long}
-use Rattle.replay.proofs.StepRunLemmas.{outcome_for, steps_run, IsOfCall, HandsOutNone, calls_hand_out_none, IsNoAnswer, IsNoSend, of_call_no_answer}
+use Rattle.replay.proofs.StepRunLemmas.{outcome_for, steps_run, IsOfCall, HandsOutNone}
+use Rattle.replay.proofs.StepRunLemmas.{calls_hand_out_none, IsNoAnswer, IsNoSend}
+use Rattle.replay.proofs.StepRunLemmas.{of_call_no_answer}
 use Rattle.replay.proofs.TodoLemmas.{AsksByCall, asks_by_call}
 
 -- the laws that are cited
@@ -99,8 +109,8 @@ join laws old middle new one other first second =
     let unit = old.site.unit in
     let was = history_of first.steps first.outcomes in
     let more = history_of second.steps second.outcomes in
-    let parts : history_of (first.steps ++ second.steps) (first.outcomes ++ second.outcomes) ≡ was ++ more =
-    history_of-append old middle first.steps second.steps first.outcomes second.outcomes first.run in
+    let parts = history_of-append old middle first.steps second.steps first.outcomes
+    second.outcomes first.run in
     record {
       steps = first.steps ++ second.steps;
       outcomes = first.outcomes ++ second.outcomes;
@@ -280,7 +290,8 @@ sent_part : Laws → (old : MachineState) (point : List ℕ)
 sent_part laws old point = over (link_of old point)
   where
     over : (link : Option ℕ)
-        → Part old (sent_over link old point).after (call_lines point (sent_over link old point).call)
+        → Part old (sent_over link old point).after
+        (call_lines point (sent_over link old point).call)
     over None = nothing old
     over (Some link) =
         let outcome = (stepped_exactly old (acts.Send point link)).outcome in
@@ -387,7 +398,8 @@ line_part laws old number line = by_test (length line == 0)
     empty = record { printed = []; is_fault = false; after = old }
 
     by_test : (is_empty : Bool)
-        → PlayedPart old (cond is_empty empty (read_played old number (line_of old.machine.site line)))
+        → PlayedPart old
+        (cond is_empty empty (read_played old number (line_of old.machine.site line)))
     by_test true = nothing old.machine
     by_test false = read_part laws old number (line_of old.machine.site line)
 

@@ -1,5 +1,7 @@
 -- One exact step of the machine is a run of one step, and which steps hand out no schedule.
-use Rattle.std.proofs.Common.{◌≡◌, ◌↔◌, ℕ, ℤ, ◌<◌, ◌==◌, ◌||◌, nat_lt, Bool, true, false, cond, is_some, List, length, Option, Some, None, Result, Ok, Err, IfOk, refl, sym, ap, ◌∙◌, subst}
+use Rattle.std.proofs.Common.{◌≡◌, ℕ, ℤ, ◌<◌, ◌==◌, ◌||◌, nat_lt, Bool, true, false, cond, is_some}
+use Rattle.std.proofs.Common.{List, length, Option, Some, None, Result, Ok, Err, IfOk, refl, sym}
+use Rattle.std.proofs.Common.{ap, ◌∙◌, subst}
 use Rattle.std.specs.List.{list_any}
 use Rattle.ocpp_scalars.specs.declared.refusal.Refusal.{Refusal}
 use Rattle.ocpp_scalars.specs.declared.refusal.Refusal.TheVariants as refusals
@@ -30,7 +32,9 @@ use Rattle.site_core.specs.Requests.{request_of}
 use Rattle.site_core.specs.Ask.{ask_at}
 use Rattle.site_core.specs.Right.{IsCompiledFor}
 use Rattle.site_core.specs.Run.{HasOutcome}
-use Rattle.site_core.specs.Step.{Made, Steps, unless, at_place, at_point, installs, clears, starts, starts_as, began_at, stops, takes, takes_ask, compiles, compiles_kept, stepped, no_answer, cause_of, first_refusal, IsRefused}
+use Rattle.site_core.specs.Step.{Made, Steps, unless, at_place, at_point, installs, clears, starts}
+use Rattle.site_core.specs.Step.{starts_as, began_at, stops, takes, takes_ask, compiles_kept}
+use Rattle.site_core.specs.Step.{stepped, no_answer, cause_of, first_refusal, IsRefused}
 use Rattle.replay.specs.MachineSteps.{Stepped, made_or_refused, exact_answer, stepped_exactly}
 use Rattle.replay.proofs.MachineLemmas.{Law-answer, Law-too_long, with_compiled, compiles_by}
 
@@ -187,8 +191,8 @@ place_none (Some place) made_at each = each place
 point_none : (old : MachineState) (point : List ℕ) (made_at : ℕ → Result Made Refusal)
     → ((place : ℕ) → IsNone (made_at place)) → IsNone (at_point old point made_at)
 point_none old point made_at each =
-    either_none old.is_stopped (Err refusals.Stopped) (at_place (place_of old.site point) made_at) tt
-    (place_none (place_of old.site point) made_at each)
+    either_none old.is_stopped (Err refusals.Stopped) (at_place (place_of old.site point) made_at)
+    tt (place_none (place_of old.site point) made_at each)
 
 clears_none : (old : MachineState) (criteria : Criteria) (place : ℕ)
     → IsNone (clears old criteria place)

@@ -1,5 +1,6 @@
 -- The run of the central system that a script is, and that what it prints is what this run replied.
-use Rattle.std.specs.Prelude.{ℕ, ◌≡◌, Bool, if◌then◌else◌, List, [], ◌∷◌, ◌++◌, take, slice_get, Some, Ok}
+use Rattle.std.specs.Prelude.{ℕ, ◌≡◌, Bool, if◌then◌else◌, Some, Ok}
+use Rattle.std.specs.Prelude.{List, [], ◌∷◌, ◌++◌, take, slice_get}
 use Rattle.std.specs.List.{flat_map, AllByRecursion}
 use Rattle.profile.specs.declared.row.Row.{Row}
 use Rattle.profile.specs.declared.unit.Unit.{Unit}
@@ -16,14 +17,15 @@ use Rattle.site_core.specs.declared.reply.Reply.{Reply}
 use Rattle.site_core.specs.declared.reply.Reply.TheVariants.{Answered, Sent}
 use Rattle.site_core.specs.declared.outcome.Outcome.{Outcome}
 use Rattle.site_core.specs.declared.outcome.Outcome.TheVariants.{Done}
-use Rattle.site_core.specs.State.{MachineState, opening, book_at}
+use Rattle.site_core.specs.State.{opening, book_at}
 use Rattle.site_core.specs.Run.{Runs}
 use Rattle.site_core.specs.History.{Event, history_of}
 use Rattle.site_core.specs.Headline.{IsRightAfter}
 use Rattle.site_core.specs.OutboxOrder.{AreInSendingOrder}
 use Rattle.site_core.specs.Obey.{Obeying, numbers_of, last_number, obeyed, lasting}
 use Rattle.site_core.specs.ObeyOrder.{obeyed_numbers, IsObeyed}
-use Rattle.site_core.specs.CallOrder.{is_at, calls_sent, numbers_of_calls, calls_confirmed_at, bodies_of, Moment}
+use Rattle.site_core.specs.CallOrder.{is_at, calls_sent, numbers_of_calls, calls_confirmed_at}
+use Rattle.site_core.specs.CallOrder.{bodies_of, Moment}
 use Rattle.replay.specs.PrintedLine.{PrintedLine, answer, call}
 use Rattle.replay.specs.Run.{played, lines_of}
 
@@ -80,13 +82,13 @@ abbrev pub calls_replied : List Event → List (List ℕ × Call)
 calls_replied history = flat_map calls_of_event history
 
 -- the call that a line prints, if that goes out to the point at a place
-abbrev pub calls_on_for : SiteState → ℕ → PrintedLine → List Call
-calls_on_for site place (call point sent) = if is_at site place point then sent ∷ [] else []
-calls_on_for site place line = []
+abbrev pub calls_to : SiteState → ℕ → PrintedLine → List Call
+calls_to site place (call point sent) = if is_at site place point then sent ∷ [] else []
+calls_to site place line = []
 
 -- the calls that are printed for the point at a place, in the order of their lines
-abbrev pub calls_printed_for : SiteState → ℕ → List PrintedLine → List Call
-calls_printed_for site place lines = flat_map (calls_on_for site place) lines
+abbrev pub calls_printed_to : SiteState → ℕ → List PrintedLine → List Call
+calls_printed_to site place lines = flat_map (calls_to site place) lines
 
 -- ---- the run
 
@@ -98,20 +100,23 @@ pub record ScriptRun (site : SiteState) (script : List ℕ) : Type 0 where
   pub outcomes : List Outcome
   -- which lead from the opening state to the one at the script's end.
   pub run : Runs (opening site) steps outcomes (played site script).state.machine
-  -- The schedules that are printed are those that its Answers handed out, all of them, in the same order.
+  -- The schedules that are printed are those that its Answers handed out: all of them, in the same
+  -- order.
   pub schedules :
       schedules_printed (lines_of site script)
       ≡ schedules_answered site.unit (history_of steps outcomes)
-  -- The calls that are printed, each with its point, are those that its Sends sent, in the same order.
+  -- The calls that are printed, each with its point, are those that its Sends sent: all of them, in
+  -- the same order.
   pub calls : calls_printed (lines_of site script) ≡ calls_replied (history_of steps outcomes)
-  -- So are those that are printed for one point.
-  pub calls_for :
+  -- So are those that are printed for one point, the one at a place of the site file.
+  pub calls_to_place :
       (place : ℕ)
-      → calls_printed_for site place (lines_of site script)
+      → calls_printed_to site place (lines_of site script)
       ≡ calls_sent site place (history_of steps outcomes)
 
 -- the events of a run of a script
-abbrev pub history_of_run : (site : SiteState) (script : List ℕ) → ScriptRun site script → List Event
+abbrev pub history_of_run : (site : SiteState) (script : List ℕ) → ScriptRun site script
+    → List Event
 history_of_run site script run = history_of run.steps run.outcomes
 
 -- ---- what holds of what is printed
@@ -144,7 +149,8 @@ pub record IsPrintedRight (site : SiteState) (script : List ℕ) (run : ScriptRu
       number book ask (Ok schedule)
 
 -- each schedule that is printed, wherever, is right
-abbrev pub PrintedSchedulesAreRight : (site : SiteState) (script : List ℕ) → ScriptRun site script → Type 0
+abbrev pub PrintedSchedulesAreRight : (site : SiteState) (script : List ℕ) → ScriptRun site script
+    → Type 0
 PrintedSchedulesAreRight site script run =
     (earlier later : List PrintedLine) (id : List ℕ) (told : ScheduleResponse)
     → lines_of site script ≡ earlier ++ answer id (responses.Schedule told) ∷ later
@@ -154,14 +160,14 @@ PrintedSchedulesAreRight site script run =
 abbrev pub PrintedCallsAreInOrder : SiteState → List ℕ → Type 0
 PrintedCallsAreInOrder site script =
     (point : List ℕ) (place : ℕ) → place_of site point ≡ Some place
-    → AreInSendingOrder (numbers_of_calls (calls_printed_for site place (lines_of site script)))
+    → AreInSendingOrder (numbers_of_calls (calls_printed_to site place (lines_of site script)))
 
--- the numbers of the calls that the point at a place obeys, where for each that is printed for it in
--- turn it is said whether the point does
+-- the numbers of the calls that the point at a place obeys, where for each call that is printed for
+-- it in turn it is said whether the point does
 abbrev pub printed_numbers_obeyed : SiteState → List ℕ → ℕ → List Bool → List ℕ
 printed_numbers_obeyed site script place are_obeyed =
     obeyed_numbers are_obeyed
-    (numbers_of_calls (calls_printed_for site place (lines_of site script)))
+    (numbers_of_calls (calls_printed_to site place (lines_of site script)))
 
 -- A point obeys what is printed for it, in the order of the lines, though any of it may be lost: it
 -- obeys each call at least once that it confirms. Its lasting rows are then those that the central

@@ -1,9 +1,11 @@
 //! What a line of a script prints, and what its player does at it.
 
 ghost use Rattle.std.specs.Prelude.{◌≡◌, ◌++◌, true, false, IfOk, OnOk, string_bytes};
-ghost use Rattle.replay.specs.PrintedLine.{answer_line, sent_line, held_line, fault_line, printed_texts};
-ghost use Rattle.replay.specs.Play.{outcome_lines, call_lines, todo_handled, point_handled, text_handled};
-ghost use Rattle.replay.specs.Play.{hold_handled, release_played, said_played, line_played, IsPlayed, IsHandled};
+ghost use Rattle.replay.specs.PrintedLine.{answer_line, sent_line, held_line, fault_line};
+ghost use Rattle.replay.specs.PrintedLine.{printed_texts};
+ghost use Rattle.replay.specs.Play.{outcome_lines, call_lines};
+ghost use Rattle.replay.specs.Play.{todo_handled, point_handled, text_handled, hold_handled};
+ghost use Rattle.replay.specs.Play.{release_played, said_played, line_played, IsPlayed, IsHandled};
 ghost use Rattle.replay.specs.Todo.{todo_of};
 ghost use Rattle.replay.specs.ByCases.Todo.{AsksNoCompile};
 ghost use Rattle.replay.specs.Held.{id_held};

@@ -37,7 +37,7 @@ returns-clause-order c = λ site script point place here.
     let run = script_run laws site script in
     let state = (played site script).state.machine in
     subst (λ (calls : List Call). AreInSendingOrder (numbers_of_calls calls))
-    (sym (run.calls_for place))
+    (sym (run.calls_to_place place))
     (c.histories_send_calls_in_order.ensures.order site no_numbers
     (history_of_run site script run) state
     (c.runs_are_legal.ensures (opening site) state run.steps run.outcomes run.run)
@@ -53,8 +53,8 @@ returns-clause-obeying c =
     point place here are_obeyed
     (subst (λ (calls : List Call).
     AllByRecursion (IsObeyed (obeyed_numbers are_obeyed (numbers_of_calls calls)))
-    (calls_confirmed_at site place history)) (run.calls_for place) confirmed)
+    (calls_confirmed_at site place history)) (run.calls_to_place place) confirmed)
     first others rows
     (numbers ∙ ap (λ (calls : List Call). obeyed_numbers are_obeyed (numbers_of_calls calls))
-    (run.calls_for place))
+    (run.calls_to_place place))
     moment
