@@ -6,5 +6,8 @@ pub mod NumberLemmas
 pub mod OutputLemmas
 pub mod PlayLemmas
 pub mod ScriptLemmas
+pub mod StepRunLemmas
+pub mod ScriptRunLemmas
+pub mod PrintedLemmas
 pub mod TodoLemmas
 pub mod WriteLemmas

@@ -42,10 +42,10 @@ caused (Ok made) refusal e = absurd (cc)
 caused (Err first) refusal e = cc
 
 -- a compile that is made
-abbrev with_compiled : MachineState → ℕ → ScheduleAnswer → Made
+abbrev pub with_compiled : MachineState → ℕ → ScheduleAnswer → Made
 with_compiled old number answer = record { reply = Compiled; after = record old { requests = answered number answer old.requests } }
 
-abbrev compiles_by : Bool → Made → Result Made Refusal
+abbrev pub compiles_by : Bool → Made → Result Made Refusal
 compiles_by b made = cond b (Err AlreadyAnswered) (Ok made)
 
 -- whether a request can be compiled doesn't hang on the answer
@@ -117,10 +117,10 @@ told mid number kept answer (Err refusal) new here made =
     let none : cause_of (answers mid number) ≡ None = ap (λ (k : Option Kept). cause_of (answers_kept mid k)) here in
     absurd (cc (none, made.0))
 
-abbrev Law-answer : Type 0
+abbrev pub Law-answer : Type 0
 Law-answer = (limit : ℕ → ℕ) (duration : ℕ) (schedule : Schedule) → 0 < duration → IsExactAnswer limit duration schedule ↔ (exact_schedule limit duration ≡ Ok schedule)
 
-abbrev Law-too_long : Type 0
+abbrev pub Law-too_long : Type 0
 Law-too_long = (limit : ℕ → ℕ) (duration : ℕ) → 0 < duration → IsTooLong limit duration ↔ (exact_schedule limit duration ≡ Err ResultTooLong)
 
 -- a compiler's answer is the exact one, unless memory ran out

@@ -4,21 +4,35 @@ use Rattle.std.specs.List.{fold}
 use Rattle.std.specs.Io.KnownBytes.{Appends}
 use Rattle.std.proofs.KnownBytes.{Appends-nil, Appends-trans}
 use Rattle.std.proofs.lemmas.Bool.{cases_lt}
+use Rattle.std.proofs.lemmas.Grind.{flat_map-append}
 use Rattle.std.proofs.lemmas.List.{take-append-le, take_all, nil_from_length}
 use Rattle.std.proofs.Math.Seq.{take-append-add, take-length}
 use mir.Val.{bool_byte}
 use Rattle.replay.specs.Lines.{script_lines}
+use Rattle.replay.specs.PrintedLine.{PrintedLine, printed_text, printed_texts}
 use Rattle.replay.specs.Play.{line_played}
 use Rattle.replay.specs.Run.{Played, played_more}
 use Rattle.replay.specs.Output.{AppendsPrefix}
 
 -- what is printed is kept
-pub output_grows : (before : Played) (lines : List (List ℕ)) → (more : List ℕ) × ((fold played_more before lines).output ≡ before.output ++ more)
-output_grows before [] = ([], sym (append-nil before.output))
-output_grows before (line ∷ lines) =
-    let next = output_grows (played_more before line) lines in
+lines_grow : (before : Played) (lines : List (List ℕ))
+    → (more : List PrintedLine) × ((fold played_more before lines).lines ≡ before.lines ++ more)
+lines_grow before [] = ([], sym (append-nil before.lines))
+lines_grow before (line ∷ lines) =
+    let next = lines_grow (played_more before line) lines in
     let printed = (line_played before.state before.number line).printed in
-    (printed ++ next.0, next.1 ∙ append_assoc before.output printed next.0)
+    (printed ++ next.0, next.1 ∙ append_assoc before.lines printed next.0)
+
+pub texts-append : (one other : List PrintedLine)
+    → printed_texts (one ++ other) ≡ printed_texts one ++ printed_texts other
+texts-append one other = flat_map-append printed_text one other
+
+pub output_grows : (before : Played) (lines : List (List ℕ))
+    → (more : List ℕ)
+    × (printed_texts (fold played_more before lines).lines ≡ printed_texts before.lines ++ more)
+output_grows before lines =
+    let grown = lines_grow before lines in
+    (printed_texts grown.0, ap printed_texts grown.1 ∙ texts-append before.lines grown.0)
 
 -- the next line was played
 pub next_line : (before all : Played) (rest line others : List ℕ) → script_lines rest ≡ line ∷ script_lines others

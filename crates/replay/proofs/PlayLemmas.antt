@@ -1,14 +1,15 @@
 -- What the text of a point prints, from what its parts print.
 use Rattle.std.proofs.Common.{◌≡◌, ℕ, List, ◌++◌, Option, sym, ap, ◌∙◌, append_assoc}
+use Rattle.std.proofs.lemmas.Grind.{flat_map-append}
 use Rattle.messages.specs.declared.call.Call.{Call}
-use Rattle.site_core.specs.State.{MachineState}
 use Rattle.replay.specs.declared.player.held.Held.{Held}
 use Rattle.replay.specs.SentText.{Sent}
 use Rattle.replay.specs.Todo.{todo_of}
 use Rattle.replay.specs.Player.{PlayerState, with_machine}
-use Rattle.replay.specs.MachineSteps.{attached_once, sent_first}
+use Rattle.replay.specs.MachineSteps.{Sending, attached_once, sent_first}
 use Rattle.replay.specs.ByCases.Player.{Sends}
-use Rattle.replay.specs.Play.{Handled, call_line, todo_handled, call_handled, with_call, point_handled, IsHandled}
+use Rattle.replay.specs.PrintedLine.{printed_text, printed_texts}
+use Rattle.replay.specs.Play.{Handled, call_lines, todo_handled, call_handled, with_call, point_handled, IsHandled}
 
 -- five texts, one after another
 pub five : (old a b c d e one two three four new : List ℕ) → one ≡ old ++ a → two ≡ one ++ b → three ≡ two ++ c → four ≡ three ++ d → new ≡ four ++ e
@@ -17,23 +18,34 @@ five old a b c d e one two three four new first second third fourth last =
     last ∙ rw (fourth, third, second, first) (append_assoc (old ++ a ++ b ++ c) d e ∙ append_assoc (old ++ a ++ b) c (d ++ e)
     ∙ append_assoc (old ++ a) b (c ++ (d ++ e)) ∙ append_assoc old a (b ++ (c ++ (d ++ e))))
 
-abbrev ending : PlayerState → MachineState → List ℕ → Handled
-ending was machine printed = record { printed = printed; after = with_machine was machine }
-
 -- a link, the answer, and a call
-pub point_made : (old linked answered new : PlayerState) (text : Sent) (first second third line printed : List ℕ) (call : Option Call)
+pub point_made : (old linked answered new : PlayerState) (text : Sent)
+    (first second third line printed : List ℕ) (call : Option Call)
     → first ≡ text.point → second ≡ text.point → third ≡ text.point
     → linked ≡ with_machine old (attached_once old.machine first)
     → IsHandled (todo_handled linked (todo_of text)) line answered
     → Sends answered (sent_first answered.machine second) call new
-    → printed ≡ line ++ call_line third call
+    → printed ≡ line ++ printed_texts (call_lines third call)
     → IsHandled (point_handled old text) printed new
-point_made old linked answered new text first second third line printed call one two three attach answer send push =
-    let start : linked ≡ with_machine old (attached_once old.machine text.point) = attach ∙ ap (λ p. with_machine old (attached_once old.machine p)) one in
-    let step : sent_first answered.machine text.point ≡ record { call = call; after = new.machine } = ap (sent_first answered.machine) (sym two) ∙ send.0 in
-    let all : line ++ call_line text.point call ≡ printed = ap (λ p. line ++ call_line p call) (sym three) ∙ sym push in
+point_made old linked answered new text first second third line printed call one two three attach
+    answer send push =
+    let start : linked ≡ with_machine old (attached_once old.machine text.point) =
+    attach ∙ ap (λ p. with_machine old (attached_once old.machine p)) one in
+    let handled : Handled = todo_handled linked (todo_of text) in
+    let sending : Sending = record { call = call; after = new.machine } in
+    let step : sent_first handled.after.machine text.point ≡ sending =
+    ap (λ (p : PlayerState). sent_first p.machine text.point) answer.1
+    ∙ (ap (sent_first answered.machine) (sym two) ∙ send.0) in
+    let same : point_handled old text ≡ call_handled handled text.point sending =
     ap (λ (p : PlayerState). with_call text.point (todo_handled p (todo_of text))) (sym start)
-    ∙ ap (with_call text.point) answer
-    ∙ ap (call_handled (record { printed = line; after = answered }) text.point) step
-    ∙ ap (ending answered new.machine) all
-    ∙ ap (λ (h : List Held). record { printed = printed; after = record { machine = new.machine; held = h } }) (sym send.1)
+    ∙ ap (call_handled handled text.point) step in
+    let texts : printed_texts (handled.printed ++ call_lines text.point call) ≡ printed =
+    flat_map-append printed_text handled.printed (call_lines text.point call)
+    ∙ (ap (λ l. l ++ printed_texts (call_lines text.point call)) answer.0
+    ∙ (ap (λ p. line ++ printed_texts (call_lines p call)) (sym three) ∙ sym push)) in
+    let kept : with_machine handled.after new.machine ≡ new =
+    ap (λ (p : PlayerState). with_machine p new.machine) answer.1
+    ∙ ap (λ (h : List Held). record { machine = new.machine; held = h }) (sym send.1) in (
+      ap (λ (h : Handled). printed_texts h.printed) same ∙ texts,
+      ap (λ (h : Handled). h.after) same ∙ kept,
+    )

@@ -10,7 +10,9 @@ pub mod Number
 pub mod Form
 pub mod Line
 pub mod Lines
+pub mod PrintedLine
 pub mod Play
 pub mod Run
+pub mod ScriptRun
 pub mod Output
 pub mod Input

@@ -1,14 +1,11 @@
 -- What a line of a script prints, and what is known after it.
-use Rattle.std.specs.Prelude.{ℕ, ◌≡◌, ◌==◌, Bool, true, false, if◌then◌else◌, List, [], ◌∷◌, ◌++◌, length, codes, string_bytes, Option, Some, None, Result, Ok, Err}
-use Rattle.std.specs.Fmt.{decimal}
+use Rattle.std.specs.Prelude.{ℕ, ◌≡◌, ◌==◌, Bool, true, false, if◌then◌else◌, List, [], ◌∷◌, ◌++◌, length, string_bytes, Option, Some, None, Result, Ok, Err}
 use Rattle.ocpp_scalars.specs.declared.refusal.Refusal.{Refusal}
 use Rattle.profile.specs.declared.unit.Unit.{Unit}
 use Rattle.messages.specs.declared.action_kind.ActionKind.{ActionKind}
 use Rattle.messages.specs.declared.action_kind.ActionKind.TheVariants.{GetCompositeSchedule}
 use Rattle.messages.specs.declared.response.Response.{Response}
 use Rattle.messages.specs.declared.call.Call.{Call}
-use Rattle.messages.specs.CallText.{call_text}
-use Rattle.messages.specs.ResponseText.{response_text}
 use Rattle.messages.specs.declared.side.Side.{Side}
 use Rattle.messages.specs.declared.side.Side.TheVariants as sides
 use Rattle.site_core.specs.declared.reply.Reply.{Reply}
@@ -27,50 +24,36 @@ use Rattle.replay.specs.SentText as texts
 use Rattle.replay.specs.MachineSteps.{Stepped, Sending, stepped_exactly, handed_out, stepped_at_once, attached_once, sent_first, confirmed_by}
 use Rattle.replay.specs.Todo.{todo_of, hold_of}
 use Rattle.replay.specs.Answer.{response_of}
-use Rattle.replay.specs.Line.{line_of, fault_name}
+use Rattle.replay.specs.Line.{line_of}
+use Rattle.replay.specs.PrintedLine.{PrintedLine, printed_texts}
+use Rattle.replay.specs.PrintedLine as lines
 
 -- ---- what is printed
 
--- `> ANSWER`
-abbrev pub answer_line : List ℕ → Response → List ℕ
-answer_line id response = codes "> " ++ (response_text id response ++ codes "\n")
-
-abbrev pub answer_if : List ℕ → Option Response → List ℕ
+-- the answer to the CALL of this id, if there is one
+abbrev pub answer_if : List ℕ → Option Response → List PrintedLine
 answer_if id None = []
-answer_if id (Some response) = answer_line id response
+answer_if id (Some response) = lines.answer id response ∷ []
 
 -- the answer to the CALL of this id, on a site of this unit
-abbrev pub outcome_line : Unit → List ℕ → ActionKind → Result Reply Refusal → List ℕ
-outcome_line unit id kind outcome = answer_if id (response_of unit kind outcome)
-
--- `* ID FRAME`
-abbrev pub sent_line : List ℕ → Call → List ℕ
-sent_line point call = codes "* " ++ (point ++ (codes " " ++ (call_text call ++ codes "\n")))
+abbrev pub outcome_lines : Unit → List ℕ → ActionKind → Result Reply Refusal → List PrintedLine
+outcome_lines unit id kind outcome = answer_if id (response_of unit kind outcome)
 
 -- the call that goes out to a point, if one does
-abbrev pub call_line : List ℕ → Option Call → List ℕ
-call_line point None = []
-call_line point (Some call) = sent_line point call
-
--- `held N`
-abbrev pub held_line : ℕ → List ℕ
-held_line number = codes "held " ++ (decimal number ++ codes "\n")
-
--- `! LINE NAME`
-abbrev pub fault_line : ℕ → LineFault → List ℕ
-fault_line number fault =
-    codes "! " ++ (decimal number ++ (codes " " ++ (fault_name fault ++ codes "\n")))
+abbrev pub call_lines : List ℕ → Option Call → List PrintedLine
+call_lines point None = []
+call_lines point (Some call) = lines.call point call ∷ []
 
 -- ---- texts
 
 -- what is printed, and what is known then
 pub record Handled : Type 0 where
-  pub printed : List ℕ
+  pub printed : List PrintedLine
   pub after : PlayerState
 
 abbrev pub answered : PlayerState → List ℕ → ActionKind → Stepped → Handled
 answered old id kind step = record {
-  printed = outcome_line old.machine.site.unit id kind step.outcome;
+  printed = outcome_lines old.machine.site.unit id kind step.outcome;
   after = record old { machine = step.after };
 }
 
@@ -78,7 +61,7 @@ answered old id kind step = record {
 abbrev pub todo_handled : PlayerState → Todo → Handled
 todo_handled old todo.Nothing = record { printed = []; after = old }
 todo_handled old (todo.Answer id response) =
-    record { printed = answer_line id response; after = old }
+    record { printed = lines.answer id response ∷ []; after = old }
 todo_handled old (todo.Step id kind step) = answered old id kind (stepped_at_once old.machine step)
 todo_handled old (todo.Confirm point number) =
     record { printed = []; after = with_machine old (confirmed_by old.machine point number) }
@@ -88,7 +71,7 @@ todo_handled old (todo.Confirm point number) =
 -- after what was printed comes the call that goes out now
 abbrev pub call_handled : Handled → List ℕ → Sending → Handled
 call_handled text point sending = record {
-  printed = text.printed ++ call_line point sending.call;
+  printed = text.printed ++ call_lines point sending.call;
   after = with_machine text.after sending.after;
 }
 
@@ -118,7 +101,7 @@ with_held old taken number id = record {
 abbrev pub hold_answered : PlayerState → List ℕ → ActionKind → Result Reply Refusal → MachineState
     → Handled
 hold_answered old id kind (Ok (Taken number book ask)) taken =
-    record { printed = held_line number; after = with_held old taken number id }
+    record { printed = lines.held number ∷ []; after = with_held old taken number id }
 hold_answered old id kind outcome after =
     answered old id kind (record { outcome = outcome; after = after })
 
@@ -140,7 +123,7 @@ release_handled old number id =
 
 -- what a line prints, whether it has a fault, and what is known after it
 pub record PlayedLine : Type 0 where
-  pub printed : List ℕ
+  pub printed : List PrintedLine
   pub is_fault : Bool
   pub after : PlayerState
 
@@ -149,7 +132,7 @@ text_played text = record { printed = text.printed; is_fault = false; after = te
 
 abbrev pub fault_played : PlayerState → ℕ → LineFault → PlayedLine
 fault_played old line fault =
-    record { printed = fault_line line fault; is_fault = true; after = old }
+    record { printed = lines.fault line fault ∷ []; is_fault = true; after = old }
 
 abbrev pub hold_played : PlayerState → ℕ → Option Todo → PlayedLine
 hold_played old line None = fault_played old line NotComposite
@@ -178,8 +161,9 @@ line_played old number line =
 -- a line was played so
 abbrev pub IsPlayed : PlayedLine → Printed → PlayerState → Type 0
 IsPlayed line printed new =
-    line ≡ record { printed = string_bytes printed.text; is_fault = printed.is_fault; after = new }
+    (printed_texts line.printed ≡ string_bytes printed.text)
+    × (line.is_fault ≡ printed.is_fault) × (line.after ≡ new)
 
 -- a text was handled so
 abbrev pub IsHandled : Handled → List ℕ → PlayerState → Type 0
-IsHandled text printed new = text ≡ record { printed = printed; after = new }
+IsHandled text printed new = (printed_texts text.printed ≡ printed) × (text.after ≡ new)

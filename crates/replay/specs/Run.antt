@@ -8,6 +8,7 @@ use Rattle.replay.specs.declared.script.run.ReplayFault.TheVariants.{Read, Scrip
 use Rattle.replay.specs.Lines.{script_lines}
 use Rattle.site_rules.specs.Site.{SiteState}
 use Rattle.replay.specs.Player.{PlayerState, first_state}
+use Rattle.replay.specs.PrintedLine.{PrintedLine, printed_texts}
 use Rattle.replay.specs.Play.{PlayedLine, line_played}
 
 -- how far a script was played
@@ -16,19 +17,19 @@ pub record Played : Type 0 where
   pub number : ℕ
   -- how many lines had a fault
   pub faults : ℕ
-  -- what the lines printed
-  pub output : List ℕ
+  -- what they printed
+  pub lines : List PrintedLine
   -- what is known
   pub state : PlayerState
 
 abbrev pub first_played : SiteState → Played
-first_played site = record { number = 1; faults = 0; output = []; state = first_state site }
+first_played site = record { number = 1; faults = 0; lines = []; state = first_state site }
 
 abbrev pub with_line : Played → PlayedLine → Played
 with_line before line = record {
   number = before.number + 1;
   faults = before.faults + (if line.is_fault then 1 else 0);
-  output = before.output ++ line.printed;
+  lines = before.lines ++ line.printed;
   state = line.after;
 }
 
@@ -40,9 +41,13 @@ played_more before line = with_line before (line_played before.state before.numb
 unfoldable pub played : SiteState → List ℕ → Played
 played site script = fold played_more (first_played site) (script_lines script)
 
--- what a script prints
+-- what a script prints, line by line
+abbrev pub lines_of : SiteState → List ℕ → List PrintedLine
+lines_of site script = (played site script).lines
+
+-- the bytes of these lines
 abbrev pub output_of : SiteState → List ℕ → List ℕ
-output_of site script = (played site script).output
+output_of site script = printed_texts (lines_of site script)
 
 -- how many lines of a script have a fault
 abbrev pub fault_count : SiteState → List ℕ → ℕ

@@ -6,9 +6,11 @@
 mod number;
 mod player;
 mod script;
+mod script_laws;
 mod session;
 #[cfg(test)]
 mod tests;
 
 pub use script::input::{InputFault, read_all};
 pub use script::run::{MAX_SCRIPT_BYTES, ReplayFault, Summary, replay};
+pub use script_laws::scripts_are_runs;

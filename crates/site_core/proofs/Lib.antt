@@ -12,6 +12,7 @@ pub mod HistoryLemmas
 pub mod TakenRequests
 pub mod KeptRequests
 pub mod PointsOfHistories
+pub mod SiteOfRuns
 pub mod WorkedExamples
 pub mod ObeyOrderLemmas
 pub mod OutboxExamples

@@ -57,6 +57,12 @@ pub fn runs_join()
         → Runs old (steps ++ more) (outcomes ++ others) new }
 {}
 
+/// The law that no run changes the site.
+pub fn runs_keep_the_site()
+    ensures { (old new : MachineState) (steps : List Step) (outcomes : List Outcome)
+        → Runs old steps outcomes new → new.site ≡ old.site }
+{}
+
 /// The law that what the points have after a legal history is determined by its events: of two states that
 /// it may lead to, which differ in answers that aren't handed out yet, each has the same points.
 pub fn points_follow_events()

@@ -1,7 +1,11 @@
 //! What a line of a script prints, and what its player does at it.
 
 ghost use Rattle.std.specs.Prelude.{◌≡◌, ◌++◌, true, false, IfOk, OnOk, string_bytes};
-ghost use Rattle.replay.specs.Play.{answer_line, outcome_line, sent_line, call_line, held_line, fault_line, todo_handled, point_handled, text_handled, hold_handled, release_played, said_played, line_played, IsPlayed, IsHandled};
+ghost use Rattle.replay.specs.PrintedLine.{answer_line, sent_line, held_line, fault_line};
+ghost use Rattle.replay.specs.PrintedLine.{printed_texts};
+ghost use Rattle.replay.specs.Play.{outcome_lines, call_lines};
+ghost use Rattle.replay.specs.Play.{todo_handled, point_handled, text_handled, hold_handled};
+ghost use Rattle.replay.specs.Play.{release_played, said_played, line_played, IsPlayed, IsHandled};
 ghost use Rattle.replay.specs.Todo.{todo_of};
 ghost use Rattle.replay.specs.ByCases.Todo.{AsksNoCompile};
 ghost use Rattle.replay.specs.Held.{id_held};
@@ -120,7 +124,8 @@ fn point_lines(player: &mut Player, text: &SentText<'_>) -> Result<String, Alloc
 /// Appends the line with the call that goes out to a point, if one does.
 fn push_call_line(lines: &mut String, point: &str, call: &Option<Call>) -> Result<(), AllocError>
     ensures { OnOk result
-        (string_bytes lines.new ≡ string_bytes lines.old ++ call_line point.now call.now) }
+        (string_bytes lines.new
+        ≡ string_bytes lines.old ++ printed_texts (call_lines point.now call.now)) }
 {
     match call {
         Some(call) => push_sent(lines, point, call),
@@ -209,7 +214,7 @@ fn outcome_line(
     outcome: StepOutcome,
 ) -> Result<String, AllocError>
     ensures { IfOk result
-        (λ line. string_bytes line ≡ outcome_line unit id.now kind outcome) }
+        (λ line. string_bytes line ≡ printed_texts (outcome_lines unit id.now kind outcome)) }
 {
     match response_of(unit, kind, outcome) {
         Some(response) => response_line(alloc, id.as_str(), &response),

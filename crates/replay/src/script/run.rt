@@ -5,6 +5,7 @@ ghost use Rattle.std.specs.Io.KnownBytes.{Appends, Consumes, Keeps};
 ghost use Rattle.replay.specs.Limits.{max_script_bytes};
 ghost use Rattle.replay.specs.Input.{GaveAtMost, GaveMoreThan};
 ghost use Rattle.replay.specs.Output.{AppendsPrefix, AppendsProperPrefix};
+ghost use Rattle.replay.specs.PrintedLine.{printed_texts};
 ghost use Rattle.replay.specs.Play.{line_played};
 ghost use Rattle.replay.specs.Run.{output_of, fault_count, IsReading, IsWriting};
 
@@ -183,16 +184,16 @@ fn write_line<W: Write>(
 ) -> Result<bool, ReplayFault>
     ensures whole { OnOk result
         (Appends (W.contents writer.old) (W.contents writer.new)
-        (line_played player.old number line.now).printed) }
+        (printed_texts (line_played player.old number line.now).printed)) }
     ensures fault { IfOk result
         (λ is_fault. is_fault ≡ (line_played player.old number line.now).is_fault) }
     ensures after { OnOk result
         (player.new ≡ (line_played player.old number line.now).after) }
     ensures prefix { AppendsPrefix (W.contents writer.old) (W.contents writer.new)
-        (line_played player.old number line.now).printed }
+        (printed_texts (line_played player.old number line.now).printed) }
     ensures part { IsErrOf result ReplayFault.Write
         → AppendsProperPrefix (W.contents writer.old) (W.contents writer.new)
-        (line_played player.old number line.now).printed }
+        (printed_texts (line_played player.old number line.now).printed) }
     ensures late { IfErr result IsWriting }
 {
     let printed = play_line(player, number, line)?;

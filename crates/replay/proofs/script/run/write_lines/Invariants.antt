@@ -1,15 +1,16 @@
 -- What was written so far is what the lines so far print, and the other lines follow from there.
-use Rattle.std.proofs.Common.{◌≡◌, ◌≤◌, List, ℕ, ◌+◌, length}
+use Rattle.std.proofs.Common.{◌≡◌, ◌≤◌, List, ◌+◌, length}
 use Rattle.std.specs.List.{fold}
 use Rattle.std.specs.Io.KnownBytes.{Appends}
 use Rattle.replay.specs.Lines.{script_lines}
+use Rattle.replay.specs.PrintedLine.{PrintedLine, printed_texts}
 use Rattle.replay.specs.Run.{played, played_more}
 use Rattle.replay.proofs.script.run.write_lines.Given as goal
 
 abbrev pub invariant-loop-rest : goal.invariant-loop-rest
 invariant-loop-rest g l = record {
-  played : (done : List ℕ) × Appends (g.W.Write.contents l.fn.writer) (g.W.Write.contents l.writer) done
-      × (fold played_more (record { number = l.number; faults = l.script_faults; output = done; state = l.player }) (script_lines l.rest)
+  played : (done : List PrintedLine) × Appends (g.W.Write.contents l.fn.writer) (g.W.Write.contents l.writer) (printed_texts done)
+      × (fold played_more (record { number = l.number; faults = l.script_faults; lines = done; state = l.player }) (script_lines l.rest)
       ≡ played l.fn.site l.script);
   few : (l.script_faults + 1 ≤ l.number) × (l.number + length l.rest ≤ length l.script + 1);
 }

@@ -1,0 +1,267 @@
+-- One exact step of the machine is a run of one step, and which steps hand out no schedule.
+use Rattle.std.proofs.Common.{◌≡◌, ℕ, ℤ, ◌<◌, ◌==◌, ◌||◌, nat_lt, Bool, true, false, cond, is_some}
+use Rattle.std.proofs.Common.{List, length, Option, Some, None, Result, Ok, Err, IfOk, refl, sym}
+use Rattle.std.proofs.Common.{ap, ◌∙◌, subst}
+use Rattle.std.specs.List.{list_any}
+use Rattle.ocpp_scalars.specs.declared.refusal.Refusal.{Refusal}
+use Rattle.ocpp_scalars.specs.declared.refusal.Refusal.TheVariants as refusals
+use Rattle.profile.specs.declared.criteria.Criteria.{Criteria}
+use Rattle.profile.specs.Changes.{matches}
+use Rattle.transactions.specs.declared.begin.Begin.{Begin}
+use Rattle.transactions.specs.declared.active_table.Began.{Began}
+use Rattle.transactions.specs.declared.active_table.Began.TheVariants.{Fresh, Repeat}
+use Rattle.transactions.specs.ActiveTable.{connector_of}
+use Rattle.meaning.specs.declared.ask.Ask.{Ask}
+use Rattle.meaning.specs.Composite.{Schedule}
+use Rattle.meaning.specs.Compiled.{IsCompiled}
+use Rattle.meaning.specs.Limit.{limit_asked}
+use Rattle.meaning.specs.Limits.{max_composite_periods}
+use Rattle.meaning.specs.ByCases.Exact.{exact_periods, exact_schedule}
+use Rattle.site_rules.specs.Site.{place_of}
+use Rattle.point_book.specs.Book.{state_of}
+use Rattle.point_book.specs.Changes.{IsCause}
+use Rattle.site_core.specs.declared.step.Step.{Step}
+use Rattle.site_core.specs.declared.step.Step.TheVariants as acts
+use Rattle.site_core.specs.declared.step.Take.{Take}
+use Rattle.site_core.specs.declared.reply.Reply.{Reply}
+use Rattle.site_core.specs.declared.reply.Reply.TheVariants.{Answered}
+use Rattle.site_core.specs.declared.outcome.Outcome.{Outcome}
+use Rattle.site_core.specs.declared.outcome.Outcome.TheVariants.{Done, Refused}
+use Rattle.site_core.specs.State.{MachineState, Kept, book_at}
+use Rattle.site_core.specs.Requests.{request_of}
+use Rattle.site_core.specs.Ask.{ask_at}
+use Rattle.site_core.specs.Right.{IsCompiledFor}
+use Rattle.site_core.specs.Run.{HasOutcome}
+use Rattle.site_core.specs.Step.{Made, Steps, unless, at_place, at_point, installs, clears, starts}
+use Rattle.site_core.specs.Step.{starts_as, began_at, stops, takes, takes_ask, compiles_kept}
+use Rattle.site_core.specs.Step.{stepped, no_answer, cause_of, first_refusal, IsRefused}
+use Rattle.replay.specs.MachineSteps.{Stepped, made_or_refused, exact_answer, stepped_exactly}
+use Rattle.replay.proofs.MachineLemmas.{Law-answer, Law-too_long, with_compiled, compiles_by}
+
+-- ---- a step as a run of one step
+
+abbrev pub outcome_for : Step → Result Reply Refusal → Outcome
+outcome_for step (Ok reply) = Done reply
+outcome_for step (Err refusal) = Refused (record { refusal = refusal; step = step })
+
+abbrev pub HasStepped : MachineState → Step → Stepped → Type 0
+HasStepped old step comes = HasOutcome old step (outcome_for step comes.outcome) comes.after
+
+refused : (old : MachineState) (step : Step) (refusal : Refusal)
+    → first_refusal old step ≡ Some refusal
+    → IsRefused old step (record { refusal = refusal; step = step }) old
+refused old step refusal is = record {
+  cause = subst (λ (c : Option Refusal). IsCause c refusal) (sym is) refl;
+  unchanged = refl;
+  back = refl;
+}
+
+-- a step that no answer is given
+plain : (old : MachineState) (step : Step)
+    → ((reply : Reply) (new : MachineState)
+    → stepped no_answer old step ≡ Ok (record { reply = reply; after = new })
+    → Steps old step reply new)
+    → HasStepped old step (made_or_refused old (stepped no_answer old step))
+plain old step makes = go (stepped no_answer old step) refl
+  where
+    go : (made : Result Made Refusal) → stepped no_answer old step ≡ made
+        → HasStepped old step (made_or_refused old made)
+    go (Ok made) is = makes made.reply made.after is
+    go (Err refusal) is = refused old step refusal (ap cause_of is)
+
+-- ---- a compile
+
+exact_right : Law-answer → Law-too_long → (limit : ℕ → ℕ) (duration : ℕ) → 0 < duration
+    → IsCompiled limit duration (exact_schedule limit duration)
+exact_right answer too_long limit duration some =
+    go (nat_lt max_composite_periods (length (exact_periods limit duration))) refl
+  where
+    exact : Schedule
+    exact = record { duration = duration; periods = exact_periods limit duration }
+
+    either : Bool → Result Schedule Refusal
+    either test = cond test (Err refusals.ResultTooLong) (Ok exact)
+
+    go : (test : Bool)
+        → nat_lt max_composite_periods (length (exact_periods limit duration)) ≡ test
+        → IsCompiled limit duration (cond test (Err refusals.ResultTooLong) (Ok exact))
+    go true is = (too_long limit duration some).1 (ap either is)
+    go false is = (answer limit duration exact some).1 (ap either is)
+
+kept_right : Law-answer → Law-too_long → (kept : Kept)
+    → IsCompiledFor kept.book kept.ask (exact_answer (Some kept))
+kept_right answer too_long kept =
+    exact_right answer too_long
+    (limit_asked (state_of kept.book) kept.ask.connector kept.ask.start) kept.ask.duration
+    kept.ask.some
+
+-- the cause against a compile, whatever the answer
+compile_cause : MachineState → ℕ → Option Kept → Option Refusal
+compile_cause old number kept = cause_of (compiles_kept old number no_answer kept)
+
+compile_has : Law-answer → Law-too_long → (old : MachineState) (number : ℕ) (kept : Kept)
+    → request_of number old.requests ≡ Some kept
+    → (has : Bool) → is_some kept.answer ≡ has
+    → HasStepped old (acts.Compile number)
+    (made_or_refused old (compiles_by has (with_compiled old number (exact_answer (Some kept)))))
+compile_has answer too_long old number kept is true has =
+    refused old (acts.Compile number) refusals.AlreadyAnswered
+    (ap (λ (k : Option Kept). cause_of (compiles_kept old number no_answer k)) is
+    ∙ ap (λ (b : Bool). cause_of (compiles_by b (with_compiled old number no_answer))) has)
+compile_has answer too_long old number kept is false has = record {
+  kept = kept;
+  is_kept = is;
+  answer = exact_answer (Some kept);
+  right = kept_right answer too_long kept;
+  made =
+      ap (λ (k : Option Kept). compiles_kept old number (exact_answer (Some kept)) k) is
+      ∙ ap (λ (b : Bool). compiles_by b (with_compiled old number (exact_answer (Some kept)))) has;
+}
+
+compile_found : Law-answer → Law-too_long → (old : MachineState) (number : ℕ) (kept : Option Kept)
+    → request_of number old.requests ≡ kept
+    → HasStepped old (acts.Compile number)
+    (made_or_refused old (compiles_kept old number (exact_answer kept) kept))
+compile_found answer too_long old number None is =
+    refused old (acts.Compile number) refusals.UnknownRequest
+    (ap (λ (k : Option Kept). cause_of (compiles_kept old number no_answer k)) is)
+compile_found answer too_long old number (Some kept) is =
+    compile_has answer too_long old number kept is (is_some kept.answer) refl
+
+-- ---- each step
+
+pub steps_run : Law-answer → Law-too_long → (old : MachineState) (step : Step)
+    → HasStepped old step (stepped_exactly old step)
+unfolding stepped_exactly
+steps_run answer too_long old (acts.Install point row) =
+    plain old (acts.Install point row) (λ reply new is. is)
+steps_run answer too_long old (acts.Clear point criteria) =
+    plain old (acts.Clear point criteria) (λ reply new is. is)
+steps_run answer too_long old (acts.Start point connector begin) =
+    plain old (acts.Start point connector begin) (λ reply new is. is)
+steps_run answer too_long old (acts.Stop point number) =
+    plain old (acts.Stop point number) (λ reply new is. is)
+steps_run answer too_long old (acts.Take take) = plain old (acts.Take take) (λ reply new is. is)
+steps_run answer too_long old (acts.Compile number) =
+    compile_found answer too_long old number (request_of number old.requests) refl
+steps_run answer too_long old (acts.Answer number) =
+    plain old (acts.Answer number) (λ reply new is. is)
+steps_run answer too_long old acts.Finish = plain old acts.Finish (λ reply new is. is)
+steps_run answer too_long old (acts.Attach point) =
+    plain old (acts.Attach point) (λ reply new is. is)
+steps_run answer too_long old (acts.Send point link) =
+    plain old (acts.Send point link) (λ reply new is. is)
+steps_run answer too_long old (acts.Confirm point link number) =
+    plain old (acts.Confirm point link number) (λ reply new is. is)
+steps_run answer too_long old (acts.Lost point link) =
+    plain old (acts.Lost point link) (λ reply new is. is)
+
+-- ---- the steps that CALLs ask for, which hand out no schedule
+
+abbrev pub IsOfCall : Step → Type 0
+IsOfCall (acts.Install point row) = Unit {0}
+IsOfCall (acts.Clear point criteria) = Unit {0}
+IsOfCall (acts.Start point connector begin) = Unit {0}
+IsOfCall (acts.Stop point number) = Unit {0}
+IsOfCall (acts.Take take) = Unit {0}
+IsOfCall step = ⊥
+
+abbrev pub HandsOutNone : Reply → Type 0
+HandsOutNone (Answered book ask answer) = ⊥
+HandsOutNone reply = Unit {0}
+
+abbrev IsNone : Result Made Refusal → Type 0
+IsNone made = IfOk made (λ (m : Made). HandsOutNone m.reply)
+
+unless_none : (refusal : Option Refusal) (made : Made) → HandsOutNone made.reply
+    → IsNone (unless refusal made)
+unless_none None made none = none
+unless_none (Some refusal) made none = tt
+
+either_none : (test : Bool) (one other : Result Made Refusal) → IsNone one → IsNone other
+    → IsNone (cond test one other)
+either_none true one other first second = first
+either_none false one other first second = second
+
+place_none : (place : Option ℕ) (made_at : ℕ → Result Made Refusal)
+    → ((place : ℕ) → IsNone (made_at place)) → IsNone (at_place place made_at)
+place_none None made_at each = tt
+place_none (Some place) made_at each = each place
+
+point_none : (old : MachineState) (point : List ℕ) (made_at : ℕ → Result Made Refusal)
+    → ((place : ℕ) → IsNone (made_at place)) → IsNone (at_point old point made_at)
+point_none old point made_at each =
+    either_none old.is_stopped (Err refusals.Stopped) (at_place (place_of old.site point) made_at)
+    tt (place_none (place_of old.site point) made_at each)
+
+clears_none : (old : MachineState) (criteria : Criteria) (place : ℕ)
+    → IsNone (clears old criteria place)
+clears_none old criteria place =
+    either_none (list_any (matches criteria) (book_at old place).rows) _ _
+    (unless_none _ _ tt) tt
+
+start_none : (began : Began) (old : MachineState) (connector : ℕ) (begin : Begin) (place : ℕ)
+    → IsNone (starts_as began old connector begin place)
+start_none (Repeat number) old connector begin place = tt
+start_none Fresh old connector begin place = unless_none _ _ tt
+
+starts_none : (old : MachineState) (connector : ℕ) (begin : Begin) (place : ℕ)
+    → IsNone (starts old connector begin place)
+starts_none old connector begin place =
+    either_none ((connector == 0) || nat_lt (length (book_at old place).ceilings) connector) _ _ tt
+    (start_none (began_at old place connector begin) old connector begin place)
+
+stops_none : (old : MachineState) (number : ℤ) (place : ℕ) → IsNone (stops old number place)
+stops_none old number place =
+    either_none (is_some (connector_of (book_at old place).transactions number)) _ _
+    (unless_none _ _ tt) tt
+
+takes_none : (old : MachineState) (take : Take) (place : ℕ) → IsNone (takes old take place)
+takes_none old take place = asked (ask_at old.site.unit (book_at old place) take)
+  where
+    asked : (ask : Result Ask Refusal) → IsNone (takes_ask old take place ask)
+    asked (Err refusal) = tt
+    asked (Ok ask) = unless_none _ _ tt
+
+outcome_none : (old : MachineState) (made : Result Made Refusal) → IsNone made
+    → IfOk (made_or_refused old made).outcome HandsOutNone
+outcome_none old (Ok made) none = none
+outcome_none old (Err refusal) none = tt
+
+pub calls_hand_out_none : (old : MachineState) (step : Step) → IsOfCall step
+    → IfOk (stepped_exactly old step).outcome HandsOutNone
+unfolding stepped_exactly
+calls_hand_out_none old (acts.Install point row) is =
+    outcome_none old (stepped no_answer old (acts.Install point row))
+    (point_none old point (installs old point row) (λ place. unless_none _ _ tt))
+calls_hand_out_none old (acts.Clear point criteria) is =
+    outcome_none old (stepped no_answer old (acts.Clear point criteria))
+    (point_none old point (clears old criteria) (clears_none old criteria))
+calls_hand_out_none old (acts.Start point connector begin) is =
+    outcome_none old (stepped no_answer old (acts.Start point connector begin))
+    (point_none old point (starts old connector begin) (starts_none old connector begin))
+calls_hand_out_none old (acts.Stop point number) is =
+    outcome_none old (stepped no_answer old (acts.Stop point number))
+    (point_none old point (stops old number) (stops_none old number))
+calls_hand_out_none old (acts.Take take) is =
+    outcome_none old (stepped no_answer old (acts.Take take))
+    (point_none old take.point (takes old take) (takes_none old take))
+calls_hand_out_none old step never = absurd never
+
+-- ---- the steps that are no Answer, and no Send
+
+abbrev pub IsNoAnswer : Step → Type 0
+IsNoAnswer (acts.Answer number) = ⊥
+IsNoAnswer step = Unit {0}
+
+abbrev pub IsNoSend : Step → Type 0
+IsNoSend (acts.Send point link) = ⊥
+IsNoSend step = Unit {0}
+
+pub of_call_no_answer : (step : Step) → IsOfCall step → IsNoAnswer step × IsNoSend step
+of_call_no_answer (acts.Install point row) is = (tt, tt)
+of_call_no_answer (acts.Clear point criteria) is = (tt, tt)
+of_call_no_answer (acts.Start point connector begin) is = (tt, tt)
+of_call_no_answer (acts.Stop point number) is = (tt, tt)
+of_call_no_answer (acts.Take take) is = (tt, tt)
+of_call_no_answer step never = absurd never

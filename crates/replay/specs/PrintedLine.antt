@@ -1,0 +1,48 @@
+-- A line that a script prints: what it tells, and its text.
+use Rattle.std.specs.Prelude.{ℕ, List, ◌++◌, codes}
+use Rattle.std.specs.Fmt.{decimal}
+use Rattle.std.specs.List.{flat_map}
+use Rattle.messages.specs.declared.call.Call.{Call}
+use Rattle.messages.specs.declared.response.Response.{Response}
+use Rattle.messages.specs.CallText.{call_text}
+use Rattle.messages.specs.ResponseText.{response_text}
+use Rattle.replay.specs.declared.script.line.LineFault.{LineFault}
+use Rattle.replay.specs.Line.{fault_name}
+
+pub data PrintedLine : Type 0 where
+  -- the answer to the CALL of this id
+  answer : List ℕ → Response → PrintedLine
+  -- a call that goes out to the point of this identity
+  call : List ℕ → Call → PrintedLine
+  -- the request of this number is held
+  held : ℕ → PrintedLine
+  -- the script's line of this number has this fault
+  fault : ℕ → LineFault → PrintedLine
+
+-- `> ANSWER`
+abbrev pub answer_line : List ℕ → Response → List ℕ
+answer_line id response = codes "> " ++ (response_text id response ++ codes "\n")
+
+-- `* ID FRAME`
+abbrev pub sent_line : List ℕ → Call → List ℕ
+sent_line point sent = codes "* " ++ (point ++ (codes " " ++ (call_text sent ++ codes "\n")))
+
+-- `held N`
+abbrev pub held_line : ℕ → List ℕ
+held_line number = codes "held " ++ (decimal number ++ codes "\n")
+
+-- `! LINE NAME`
+abbrev pub fault_line : ℕ → LineFault → List ℕ
+fault_line number why =
+    codes "! " ++ (decimal number ++ (codes " " ++ (fault_name why ++ codes "\n")))
+
+-- the text of a line
+abbrev pub printed_text : PrintedLine → List ℕ
+printed_text (answer id response) = answer_line id response
+printed_text (call point sent) = sent_line point sent
+printed_text (held number) = held_line number
+printed_text (fault number why) = fault_line number why
+
+-- the texts of lines, one after another
+abbrev pub printed_texts : List PrintedLine → List ℕ
+printed_texts lines = flat_map printed_text lines

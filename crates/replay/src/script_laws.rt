@@ -1,0 +1,39 @@
+//! What scripts print, as runs of the central system: a law, a public function whose clauses range over
+//! all sites and scripts.
+
+ghost use Rattle.std.specs.Prelude.{ℕ, List};
+ghost use Rattle.site_rules.specs.Site.{SiteState};
+ghost use Rattle.replay.specs.ScriptRun.{ScriptRun, PrintedSchedulesAreRight};
+ghost use Rattle.replay.specs.ScriptRun.{PrintedCallsAreInOrder, PrintedCallsKeepPointsInStep};
+
+use meaning::exact_schedules;
+use site_core::{
+    answered_schedules_are_right, histories_keep_points_in_step, histories_send_calls_in_order,
+    runs_are_legal, runs_join, runs_keep_the_site,
+};
+
+/// The laws that tie what is printed to the runs of the central system, for every site and every
+/// script, of whatever bytes. A script is such a run from the opening state: the schedules that are
+/// printed are those that the run's Answers handed out, and the calls that are printed are those that
+/// its Sends sent, all of them and in the same order. In each such run every schedule that is printed
+/// is right for what its point had when it was asked. The calls that are printed for a point have the
+/// numbers 0, 1, .., each perhaps several times before the next. And a point that obeys what is printed
+/// for it, and each call at least once that it confirms, has the ChargePointMaxProfiles and
+/// TxDefaultProfiles that the central system had for it after that call, but for when they were
+/// installed.
+pub fn scripts_are_runs()
+    ensures runs { (site : SiteState) (script : List ℕ) → ScriptRun site script }
+    ensures right { (site : SiteState) (script : List ℕ) (run : ScriptRun site script)
+        → PrintedSchedulesAreRight site script run }
+    ensures order { (site : SiteState) (script : List ℕ) → PrintedCallsAreInOrder site script }
+    ensures obeying { (site : SiteState) (script : List ℕ) (run : ScriptRun site script)
+        → PrintedCallsKeepPointsInStep site script run }
+{
+    exact_schedules();
+    runs_join();
+    runs_keep_the_site();
+    runs_are_legal();
+    answered_schedules_are_right();
+    histories_send_calls_in_order();
+    histories_keep_points_in_step();
+}
