@@ -16,25 +16,20 @@ use Rattle.site_core.specs.State.{MachineState, Kept, ScheduleAnswer}
 use Rattle.site_core.specs.Requests.{request_of, answered, with_answer}
 use Rattle.site_core.specs.Right.{IsCompiledFor}
 use Rattle.site_core.specs.Step.{Made, SendsNothing, unchanged, stepped, compiles_kept, answers, answers_kept, answers_with, cause_of, first_refusal, Steps, Compiles, no_answer}
-use Rattle.replay.specs.MachineSteps.{Stepped, sending_of, sent_over, made_or_refused, exact_answer, stepped_exactly, handed_out}
+use Rattle.replay.specs.MachineSteps.{Stepped, sending_of, sent_over, made_or_refused, exact_answer, answer_given, stepped_exactly, handed_out}
+use Rattle.site_core.specs.Theory.Steps.{CompileOrOther, is_compile, is_other, compile_or_other}
 use Rattle.replay.specs.ByCases.MachineSteps.{ComesOf, IsAsked, is_memory}
 
 -- a step that a text asks for and that is made
 made_exactly : (old : MachineState) (step : Step) (reply : Reply) (new : MachineState) → IsAsked step → Steps old step reply new
     → stepped_exactly old step ≡ record { outcome = Ok reply; after = new }
 unfolding stepped_exactly
-made_exactly old (steps.Install point row) reply new asked made = ap (made_or_refused old) made
-made_exactly old (steps.Clear point criteria) reply new asked made = ap (made_or_refused old) made
-made_exactly old (steps.Start point connector begin) reply new asked made = ap (made_or_refused old) made
-made_exactly old (steps.Stop point number) reply new asked made = ap (made_or_refused old) made
-made_exactly old (steps.Take take) reply new asked made = ap (made_or_refused old) made
-made_exactly old (steps.Compile number) reply new asked made = absurd asked
-made_exactly old (steps.Answer number) reply new asked made = ap (made_or_refused old) made
-made_exactly old steps.Finish reply new asked made = ap (made_or_refused old) made
-made_exactly old (steps.Attach point) reply new asked made = ap (made_or_refused old) made
-made_exactly old (steps.Send point link) reply new asked made = ap (made_or_refused old) made
-made_exactly old (steps.Confirm point link number) reply new asked made = ap (made_or_refused old) made
-made_exactly old (steps.Lost point link) reply new asked made = ap (made_or_refused old) made
+made_exactly old step reply new asked made = by step (compile_or_other step) asked made
+  where
+    by : (one : Step) → CompileOrOther one → IsAsked one → Steps old one reply new → stepped_exactly old one ≡ record { outcome = Ok reply; after = new }
+    by one (is_compile number) is_asked makes = absurd is_asked
+    by one (is_other _ same is_made _) is_asked makes =
+        ap (made_or_refused old) (same (answer_given old one) old ∙ is_made old reply new makes)
 
 -- the cause is that of the refusal
 caused : (made : Result Made Refusal) (refusal : Refusal) → cause_of made ≡ Some refusal → made ≡ Err refusal
@@ -62,19 +57,12 @@ compile_refused old number answer (Some kept) refusal e =
 refused_exactly : (old : MachineState) (step : Step) (refusal : Refusal) → first_refusal old step ≡ Some refusal
     → stepped_exactly old step ≡ record { outcome = Err refusal; after = old }
 unfolding stepped_exactly
-refused_exactly old (steps.Install point row) refusal e = ap (made_or_refused old) (caused _ refusal e)
-refused_exactly old (steps.Clear point criteria) refusal e = ap (made_or_refused old) (caused _ refusal e)
-refused_exactly old (steps.Start point connector begin) refusal e = ap (made_or_refused old) (caused _ refusal e)
-refused_exactly old (steps.Stop point number) refusal e = ap (made_or_refused old) (caused _ refusal e)
-refused_exactly old (steps.Take take) refusal e = ap (made_or_refused old) (caused _ refusal e)
-refused_exactly old (steps.Compile number) refusal e =
-    ap (made_or_refused old) (compile_refused old number (exact_answer (request_of number old.requests)) (request_of number old.requests) refusal e)
-refused_exactly old (steps.Answer number) refusal e = ap (made_or_refused old) (caused _ refusal e)
-refused_exactly old steps.Finish refusal e = absurd (cc (e))
-refused_exactly old (steps.Attach point) refusal e = ap (made_or_refused old) (caused _ refusal e)
-refused_exactly old (steps.Send point link) refusal e = ap (made_or_refused old) (caused _ refusal e)
-refused_exactly old (steps.Confirm point link number) refusal e = ap (made_or_refused old) (caused _ refusal e)
-refused_exactly old (steps.Lost point link) refusal e = ap (made_or_refused old) (caused _ refusal e)
+refused_exactly old step refusal e = by step (compile_or_other step) e
+  where
+    by : (one : Step) → CompileOrOther one → first_refusal old one ≡ Some refusal → stepped_exactly old one ≡ record { outcome = Err refusal; after = old }
+    by one (is_compile number) is =
+        ap (made_or_refused old) (compile_refused old number (exact_answer (request_of number old.requests)) (request_of number old.requests) refusal is)
+    by one (is_other _ same _ _) is = ap (made_or_refused old) (same (answer_given old one) old ∙ caused _ refusal is)
 
 pub exactly : (old : MachineState) (step : Step) (outcome : Result Reply Refusal) (new : MachineState) → IsAsked step → ComesOf old step outcome new
     → stepped_exactly old step ≡ record { outcome = outcome; after = new }

@@ -14,3 +14,4 @@ pub mod OutboxOrder
 pub mod Obey
 pub mod ObeyOrder
 pub mod CallOrder
+pub mod Theory

@@ -1,18 +1,13 @@
 -- The state of the central system: what it knows between two steps.
-use Rattle.std.specs.Prelude.{ℕ, ◌≡◌, ◌≤◌, ◌==◌, Bool, false, List, [], map, length, slice_index_or, Option, None, Some, Result, if◌then◌else◌}
-use Rattle.ocpp_scalars.specs.declared.refusal.Refusal.{Refusal}
+use Rattle.std.specs.Prelude.{ℕ, ◌≡◌, ◌≤◌, ◌==◌, Bool, false, List, [], map, length, slice_index_or, Option, None, Some, if◌then◌else◌}
 use Rattle.meaning.specs.declared.ask.Ask.{Ask}
-use Rattle.meaning.specs.Composite.{Schedule}
+pub use Rattle.sweep_compiler.specs.Right.{ScheduleAnswer}
 use Rattle.site_rules.specs.Site.{PointEntry, SiteState, place_of}
 use Rattle.point_book.specs.Book.{Book, empty_book}
 use Rattle.site_core.specs.declared.numbers.Numbers.{Numbers}
 use Rattle.site_core.specs.Limits.{max_number, max_transaction, max_requests}
 use Rattle.site_core.specs.Outbox.{OutboxState, opening_outbox, sending_link}
 use Rattle.site_core.specs.ChargePoint.{ChargePointState, opening_point}
-
--- the answer to a request for a composite schedule: that schedule, or why there is none
-abbrev pub ScheduleAnswer : Type 0
-ScheduleAnswer = Result Schedule Refusal
 
 -- a request for a composite schedule that is kept until its answer is handed out
 pub record Kept : Type 0 where
