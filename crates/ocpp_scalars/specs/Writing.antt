@@ -1,5 +1,5 @@
--- The texts of instants and of tenths, as they are printed, in words by which no text is read. By the
--- laws `instant_texts` and `number_texts` each spells its own value alone.
+-- The texts of instants and of tenths, as they are printed, in words by which no text is read. By
+-- the laws `instant_texts` and `number_texts` each spells its own value alone.
 use Rattle.std.specs.Prelude.{ℕ, zero, suc, ◌+◌, ◌/◌, ◌%◌, List, [], ◌∷◌, ◌++◌, codes, decimal}
 use Rattle.ocpp_scalars.specs.CalendarDay.{CalendarDay, calendar_day}
 

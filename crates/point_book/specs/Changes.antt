@@ -39,8 +39,8 @@ abbrev pub active_for : Book → Row → Option ℤ
 active_for book row = active_on book.transactions row.connector
 
 -- Why a profile isn't installed, in the order in which the causes are checked: a TxProfile is for
--- the transaction that is active at its connector (3.13.1), and no more profiles than the limit stand
--- after an install.
+-- the transaction that is active at its connector (3.13.1), and no more profiles than the limit
+-- stand after an install.
 abbrev pub install_causes : Book → Row → List Cause
 install_causes book row =
     (NoTransaction because LacksTransaction (active_for book row) row.profile)

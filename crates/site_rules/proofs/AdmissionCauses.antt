@@ -117,35 +117,35 @@ admission_cause site id connector profile = go (entry_of site id) refl
     go None found = inl (none_found site id found, refl)
     go (Some point) found =
         let tests : List Tested =
-            record {
-              refusal = UnknownConnector;
-              holds = ¬ HasConnector site id connector;
-              test = nat_lt (length point.ceilings) connector;
-              found = other_connector site id connector point found;
-              missed = own_connector site id connector point found;
-            }
-            ∷ record {
-              refusal = MaxNotAtZero;
-              holds = (profile.purpose ≡ ChargePointMaxProfile) × (0 < connector);
-              test = is_charge_point_max profile.purpose && nat_lt 0 connector;
-              found = is_max profile.purpose connector;
-              missed = not_max profile.purpose connector;
-            }
-            ∷ record {
-              refusal = TxAtZero;
-              holds = (profile.purpose ≡ TxProfile) × (connector ≡ 0);
-              test = is_tx profile.purpose && (connector == 0);
-              found = is_tx_at_zero profile.purpose connector;
-              missed = not_tx_at_zero profile.purpose connector;
-            }
-            ∷ record {
-              refusal = WrongUnit;
-              holds = profile.schedule.unit ≢ site.unit;
-              test = not (unit_eq profile.schedule.unit site.unit);
-              found = other_unit profile.schedule.unit site.unit;
-              missed = same_unit profile.schedule.unit site.unit;
-            }
-            ∷ []
+        record {
+          refusal = UnknownConnector;
+          holds = ¬ HasConnector site id connector;
+          test = nat_lt (length point.ceilings) connector;
+          found = other_connector site id connector point found;
+          missed = own_connector site id connector point found;
+        }
+        ∷ record {
+          refusal = MaxNotAtZero;
+          holds = (profile.purpose ≡ ChargePointMaxProfile) × (0 < connector);
+          test = is_charge_point_max profile.purpose && nat_lt 0 connector;
+          found = is_max profile.purpose connector;
+          missed = not_max profile.purpose connector;
+        }
+        ∷ record {
+          refusal = TxAtZero;
+          holds = (profile.purpose ≡ TxProfile) × (connector ≡ 0);
+          test = is_tx profile.purpose && (connector == 0);
+          found = is_tx_at_zero profile.purpose connector;
+          missed = not_tx_at_zero profile.purpose connector;
+        }
+        ∷ record {
+          refusal = WrongUnit;
+          holds = profile.schedule.unit ≢ site.unit;
+          test = not (unit_eq profile.schedule.unit site.unit);
+          found = other_unit profile.schedule.unit site.unit;
+          missed = same_unit profile.schedule.unit site.unit;
+        }
+        ∷ []
         in
         inr (one_found site id point found, by_tests tests)
 
@@ -155,5 +155,5 @@ pub admissions : (site : SiteState) (id : List ℕ) (connector : ℕ) (profile :
     ↔ IsFirstCause (admission_causes site id connector profile) refusal
 admissions site id connector profile refusal =
     first_cause_law (admission_causes site id connector profile)
-        (admission_refusal site id connector profile)
-        (admission_cause site id connector profile) refusal
+    (admission_refusal site id connector profile)
+    (admission_cause site id connector profile) refusal
