@@ -6,8 +6,8 @@ ghost use Rattle.ocpp_scalars.specs.Causes.{IsFirstCause};
 ghost use Rattle.meaning.specs.declared.ask.Ask.{Ask};
 ghost use Rattle.meaning.specs.Ask.{IsAskOf, ask_causes, ask_of};
 
-/// The law of asks: numbers are refused exactly where the cause of the refusal holds and none before
-/// it does, and make an ask exactly where no cause holds; it is the one of these numbers.
+/// The law of asks: numbers are refused exactly where the cause of the refusal holds and none
+/// before it does, and make an ask exactly where no cause holds; it is the one of these numbers.
 pub fn asks()
     ensures refused { (connector start duration : ℕ) (refusal : Refusal)
         → (ask_of connector start duration ≡ Err refusal)

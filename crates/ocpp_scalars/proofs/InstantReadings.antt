@@ -67,30 +67,34 @@ two_printed n h =
     let tens : n / 10 % 10 ≡ n / 10 = omega arith in
     ap (λ (digit : ℕ). (48 + digit) ∷ (48 + n % 10) ∷ []) tens
 
+abbrev four : ℕ → ℕ → ℕ → ℕ → List ℕ
+four a b c d = (48 + a) ∷ (48 + b) ∷ (48 + c) ∷ (48 + d) ∷ []
+
 four_printed : (n : ℕ) → n ≤ 9999 → in_digits 4 n ≡ four_digits n
 four_printed n h =
     let first : n / 10 / 10 / 10 % 10 ≡ n / 100 / 10 = omega arith in
     let second : n / 10 / 10 % 10 ≡ n / 100 % 10 = omega arith in
     let third : n / 10 % 10 ≡ n % 100 / 10 = omega arith in
     let fourth : n % 10 ≡ n % 100 % 10 = omega arith in
-    ap (λ (digit : ℕ). (48 + digit) ∷ (48 + n / 10 / 10 % 10) ∷ (48 + n / 10 % 10) ∷ (48 + n % 10) ∷ []) first
-    ∙ ap (λ (digit : ℕ). (48 + n / 100 / 10) ∷ (48 + digit) ∷ (48 + n / 10 % 10) ∷ (48 + n % 10) ∷ []) second
-    ∙ ap (λ (digit : ℕ). (48 + n / 100 / 10) ∷ (48 + n / 100 % 10) ∷ (48 + digit) ∷ (48 + n % 10) ∷ []) third
-    ∙ ap (λ (digit : ℕ). (48 + n / 100 / 10) ∷ (48 + n / 100 % 10) ∷ (48 + n % 100 / 10) ∷ (48 + digit) ∷ []) fourth
+    λ i. four (first i) (second i) (third i) (fourth i)
 
-day_printed : (d : CalendarDay) → d.year ≤ 9999 → d.month ≤ 99 → d.day ≤ 99 → day_text d ≡ date_text d.year d.month d.day
+day_printed : (d : CalendarDay) → d.year ≤ 9999 → d.month ≤ 99 → d.day ≤ 99
+    → day_text d ≡ date_text d.year d.month d.day
 unfolding day_text
-day_printed d year month day =
-    ap (λ (text : List ℕ). text ++ codes "-" ++ in_digits 2 d.month ++ codes "-" ++ in_digits 2 d.day) (four_printed d.year year)
-    ∙ ap (λ (text : List ℕ). four_digits d.year ++ codes "-" ++ text ++ codes "-" ++ in_digits 2 d.day) (two_printed d.month month)
-    ∙ ap (λ (text : List ℕ). four_digits d.year ++ codes "-" ++ two_digits d.month ++ codes "-" ++ text) (two_printed d.day day)
+day_printed d in_year in_month in_day =
+    let year = four_printed d.year in_year in
+    let month = two_printed d.month in_month in
+    let day = two_printed d.day in_day in
+    λ i. year i ++ codes "-" ++ month i ++ codes "-" ++ day i
 
-time_printed : (s : ℕ) → s < 86_400 → time_of_day_text s ≡ time_text (s / 3600) (s / 60 % 60) (s % 60)
+time_printed : (s : ℕ) → s < 86_400
+    → time_of_day_text s ≡ time_text (s / 3600) (s / 60 % 60) (s % 60)
 unfolding time_of_day_text
 time_printed s h =
-    ap (λ (text : List ℕ). text ++ codes ":" ++ in_digits 2 (s / 60 % 60) ++ codes ":" ++ in_digits 2 (s % 60)) (two_printed (s / 3600) (omega arith))
-    ∙ ap (λ (text : List ℕ). two_digits (s / 3600) ++ codes ":" ++ text ++ codes ":" ++ in_digits 2 (s % 60)) (two_printed (s / 60 % 60) (omega arith))
-    ∙ ap (λ (text : List ℕ). two_digits (s / 3600) ++ codes ":" ++ two_digits (s / 60 % 60) ++ codes ":" ++ text) (two_printed (s % 60) (omega arith))
+    let hour = two_printed (s / 3600) (omega arith) in
+    let minute = two_printed (s / 60 % 60) (omega arith) in
+    let second = two_printed (s % 60) (omega arith) in
+    λ i. hour i ++ codes ":" ++ minute i ++ codes ":" ++ second i
 
 -- the printed text spells its own instant
 printed : (i : ℕ) → i ≤ last_second → SpellsInstant (instant_text i) (pos i)
@@ -101,7 +105,9 @@ printed i h =
     let number = (calendar_day-number n).number in
     let year = calendar_day-year n (omega arith) in
     let civil = calendar_day-civil n (omega arith) in
-    let date : day_text d ≡ date_text d.year d.month d.day = day_printed d year (omega (arith, civil.1.1)) (omega (arith, civil.2.1, days_in_month_bounds (pos d.year) d.month)) in
+    let short = days_in_month_bounds (pos d.year) d.month in
+    let date =
+    day_printed d year (omega (arith, civil.1.1)) (omega (arith, civil.2.1, short)) in
     let time = time_printed (i % 86_400) (omega arith) in
     record {
       year = d.year;
@@ -114,9 +120,7 @@ printed i h =
       fraction = [];
       offset = pos 0;
       offset_text = 90 ∷ [];
-      is_text =
-          ap (λ (text : List ℕ). text ++ codes "T" ++ time_of_day_text (i % 86_400) ++ codes "Z") date
-          ∙ ap (λ (text : List ℕ). date_text d.year d.month d.day ++ codes "T" ++ text ++ codes "Z") time;
+      is_text = λ j. date j ++ codes "T" ++ time j ++ codes "Z";
       is_year = year;
       is_date = civil;
       is_separator = inl refl;

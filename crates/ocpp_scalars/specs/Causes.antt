@@ -1,4 +1,4 @@
--- Why something is refused: the causes in the order in which they are checked, and the first that holds.
+-- Why something is refused: the first cause that holds, in the order in which they are checked.
 use Rattle.std.specs.Prelude.{◌≡◌, ◌⊎◌, List, [], ◌∷◌, Option, Some, None}
 use Rattle.ocpp_scalars.specs.declared.refusal.Refusal.{Refusal}
 

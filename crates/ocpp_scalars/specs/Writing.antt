@@ -1,5 +1,5 @@
--- The texts of instants and of tenths, as they are printed, in words of their own: none is one of those
--- by which texts are read. By the laws `instant_texts` and `number_texts` each spells its own value alone.
+-- The texts of instants and of tenths, as they are printed, in words by which no text is read. By
+-- the laws `instant_texts` and `number_texts` each spells its own value alone.
 use Rattle.std.specs.Prelude.{ℕ, zero, suc, ◌+◌, ◌/◌, ◌%◌, List, [], ◌∷◌, ◌++◌, codes, decimal}
 use Rattle.ocpp_scalars.specs.CalendarDay.{CalendarDay, calendar_day}
 
@@ -10,7 +10,8 @@ in_digits (suc count) number = in_digits count (number / 10) ++ (48 + number % 1
 
 -- `YYYY-MM-DD`
 unfoldable pub day_text : CalendarDay → List ℕ
-day_text d = in_digits 4 d.year ++ codes "-" ++ in_digits 2 d.month ++ codes "-" ++ in_digits 2 d.day
+day_text d =
+    in_digits 4 d.year ++ codes "-" ++ in_digits 2 d.month ++ codes "-" ++ in_digits 2 d.day
 
 -- `hh:mm:ss` so many seconds after midnight
 unfoldable pub time_of_day_text : ℕ → List ℕ

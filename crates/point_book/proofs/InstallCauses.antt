@@ -19,75 +19,115 @@ use Rattle.point_book.specs.Changes.{LacksTransaction, NamesAnother, install_cau
 
 -- ---- room
 
-room_cause : (rows : List Row) (row : Row) → IsFirstCause ((TooManyProfiles because max_rows < length (installed rows row)) ∷ []) (room_refusal rows row)
+room_cause : (rows : List Row) (row : Row)
+    → IsFirstCause ((TooManyProfiles because max_rows < length (installed rows row)) ∷ [])
+    (room_refusal rows row)
 room_cause rows row = go (nat_le (length (installed rows row)) max_rows) refl
   where
     go : (fits : Bool) → nat_le (length (installed rows row)) max_rows ≡ fits
-        → IsFirstCause ((TooManyProfiles because max_rows < length (installed rows row)) ∷ []) (if fits then None else Some TooManyProfiles)
-    go true e = inr ((λ many. absurd (omega (arith, leb-true (length (installed rows row)) max_rows e, many))), refl)
+        → IsFirstCause ((TooManyProfiles because max_rows < length (installed rows row)) ∷ [])
+        (if fits then None else Some TooManyProfiles)
+    go true e =
+        let few = leb-true (length (installed rows row)) max_rows e in
+        inr ((λ many. absurd (omega (arith, few, many))), refl)
     go false e = inl (grind (arith, nat_tests), refl)
 
 -- ---- the transaction
 
-module _ (profile : Profile) (active : Option ℤ) (room : Option Refusal) (later : List Cause) (rest : IsFirstCause later room) where
+same_some : (one other : ℤ) → Some one ≡ Some other → one ≡ other
+same_some one other e = cc
+
+module _ (profile : Profile) (active : Option ℤ) (room : Option Refusal) (later : List Cause)
+    (rest : IsFirstCause later room) where
+  abbrev named_causes : List Cause
+  named_causes = (OtherTransaction because NamesAnother active profile) ∷ later
+
   abbrev causes : List Cause
-  causes = (NoTransaction because LacksTransaction active profile) ∷ (OtherTransaction because NamesAnother active profile) ∷ later
+  causes = (NoTransaction because LacksTransaction active profile) ∷ named_causes
 
-  no_transaction_profile : profile.purpose ≢ TxProfile → IsFirstCause causes room
-  no_transaction_profile differs = inr ((λ lacks. differs lacks.of_transaction), inr ((λ names. differs names.of_transaction), rest))
+  abbrev of_names : Bool → Option Refusal
+  of_names another = if another then Some OtherTransaction else None
 
-  of_active : (running : ℤ) → active ≡ Some running → profile.purpose ≡ TxProfile → (asked : Option ℤ) → profile.transaction ≡ asked
-      → IsFirstCause causes (first_cause (if names_another asked (Some running) then Some OtherTransaction else None) room)
-  of_active running is purpose None none = inr ((λ lacks. one_active lacks), inr ((λ names. unnamed names), rest))
-    where
-      one_active : LacksTransaction active profile → ⊥
-      one_active lacks = let both : Some running ≡ None = sym is ∙ lacks.inactive in cc
+  abbrev of_active : Option ℤ → Option Refusal
+  of_active found =
+      if is_none found then Some NoTransaction
+      else of_names (names_another profile.transaction found)
 
-      unnamed : NamesAnother active profile → ⊥
-      unnamed names = let both : None ≡ Some names.asked = sym none ∙ names.names in cc
-  of_active running is purpose (Some asked) named = inr ((λ lacks. one_active lacks), go (int_eq asked running) refl)
-    where
-      one_active : LacksTransaction active profile → ⊥
-      one_active lacks = let both : Some running ≡ None = sym is ∙ lacks.inactive in cc
+  abbrev of_purpose : Purpose → Option Refusal
+  of_purpose purpose = if not (is_tx purpose) then None else of_active active
 
-      same : int_eq asked running ≡ true → NamesAnother active profile → ⊥
-      same e names =
-          let one : names.asked ≡ asked = let both : Some names.asked ≡ Some asked = sym names.names ∙ named in cc in
-          let two : names.running ≡ running = let both : Some names.running ≡ Some running = sym names.is_active ∙ is in cc in
-          names.other (one ∙ ((Decides-int_eq asked running).0 e ∙ sym two))
-
-      go : (equal : Bool) → int_eq asked running ≡ equal
-          → IsFirstCause ((OtherTransaction because NamesAnother active profile) ∷ later) (first_cause (if not equal then Some OtherTransaction else None) room)
-      go true e = inr (same e, rest)
-      go false e = inl (
-        record {
-          of_transaction = purpose;
-          asked = asked;
-          running = running;
-          names = named;
-          is_active = is;
-          other = λ both. true≢false (sym ((Decides-int_eq asked running).1 both) ∙ e);
-        },
-        refl,
+  other_purpose : profile.purpose ≢ TxProfile → IsFirstCause causes room
+  other_purpose differs =
+      inr (
+        (λ lacks. differs lacks.of_transaction),
+        inr ((λ names. differs names.of_transaction), rest),
       )
 
-  of_transaction : profile.purpose ≡ TxProfile → (found : Option ℤ) → active ≡ found
-      → IsFirstCause causes (first_cause (if is_none found then Some NoTransaction else if names_another profile.transaction found then Some OtherTransaction else None) room)
-  of_transaction purpose None is = inl (record { of_transaction = purpose; inactive = is }, refl)
-  of_transaction purpose (Some running) is = of_active running is purpose profile.transaction refl
+  -- an active transaction, and the one that is asked
+  module _ (running : ℤ) (is : active ≡ Some running) (purpose : profile.purpose ≡ TxProfile) where
+    one_active : ¬ LacksTransaction active profile
+    one_active lacks = let both : Some running ≡ None = sym is ∙ lacks.inactive in cc
+
+    none_named : profile.transaction ≡ None → ¬ NamesAnother active profile
+    none_named none names = let both : None ≡ Some names.asked = sym none ∙ names.names in cc
+
+    same_named : (asked : ℤ) → profile.transaction ≡ Some asked → int_eq asked running ≡ true
+        → ¬ NamesAnother active profile
+    same_named asked named e names =
+        let one = same_some names.asked asked (sym names.names ∙ named) in
+        let two = same_some names.running running (sym names.is_active ∙ is) in
+        names.other (one ∙ ((Decides-int_eq asked running).0 e ∙ sym two))
+
+    by_equality : (asked : ℤ) → profile.transaction ≡ Some asked
+        → (equal : Bool) → int_eq asked running ≡ equal
+        → IsFirstCause named_causes (first_cause (of_names (not equal)) room)
+    by_equality asked named true e = inr (same_named asked named e, rest)
+    by_equality asked named false e =
+        let other : asked ≢ running =
+        λ both. true≢false (sym ((Decides-int_eq asked running).1 both) ∙ e) in
+        inl (
+          record {
+            of_transaction = purpose;
+            asked = asked;
+            running = running;
+            names = named;
+            is_active = is;
+            other = other;
+          },
+          refl,
+        )
+
+    by_names : (asked : Option ℤ) → profile.transaction ≡ asked
+        → IsFirstCause causes (first_cause (of_names (names_another asked (Some running))) room)
+    by_names None none = inr (one_active, inr (none_named none, rest))
+    by_names (Some asked) named =
+        inr (one_active, by_equality asked named (int_eq asked running) refl)
+
+  by_active : profile.purpose ≡ TxProfile → (found : Option ℤ) → active ≡ found
+      → IsFirstCause causes (first_cause (of_active found) room)
+  by_active purpose None is = inl (record { of_transaction = purpose; inactive = is }, refl)
+  by_active purpose (Some running) is = by_names running is purpose profile.transaction refl
 
   transaction_cause : (purpose : Purpose) → profile.purpose ≡ purpose
-      → IsFirstCause causes (first_cause (if not (is_tx purpose) then None else if is_none active then Some NoTransaction else if names_another profile.transaction active then Some OtherTransaction else None) room)
-  transaction_cause ChargePointMaxProfile is = no_transaction_profile (λ tx. let both : ChargePointMaxProfile ≡ TxProfile = sym is ∙ tx in cc)
-  transaction_cause TxDefaultProfile is = no_transaction_profile (λ tx. let both : TxDefaultProfile ≡ TxProfile = sym is ∙ tx in cc)
-  transaction_cause TxProfile is = of_transaction is active refl
+      → IsFirstCause causes (first_cause (of_purpose purpose) room)
+  transaction_cause ChargePointMaxProfile is =
+      other_purpose (λ tx. let both : ChargePointMaxProfile ≡ TxProfile = sym is ∙ tx in cc)
+  transaction_cause TxDefaultProfile is =
+      other_purpose (λ tx. let both : TxDefaultProfile ≡ TxProfile = sym is ∙ tx in cc)
+  transaction_cause TxProfile is = by_active is active refl
 
 -- ---- the first cause
 
-install_cause : (book : Book) (row : Row) → IsFirstCause (install_causes book row) (install_refusal book row)
+install_cause : (book : Book) (row : Row)
+    → IsFirstCause (install_causes book row) (install_refusal book row)
 install_cause book row =
-    transaction_cause row.profile (active_on book.transactions row.connector) (room_refusal book.rows row)
-    ((TooManyProfiles because max_rows < length (installed book.rows row)) ∷ []) (room_cause book.rows row) row.profile.purpose refl
+    transaction_cause row.profile (active_on book.transactions row.connector)
+    (room_refusal book.rows row)
+    ((TooManyProfiles because max_rows < length (installed book.rows row)) ∷ [])
+    (room_cause book.rows row) row.profile.purpose refl
 
-pub installs : (book : Book) (row : Row) (refusal : Option Refusal) → (install_refusal book row ≡ refusal) ↔ IsFirstCause (install_causes book row) refusal
-installs book row refusal = first_cause_law (install_causes book row) (install_refusal book row) (install_cause book row) refusal
+pub installs : (book : Book) (row : Row) (refusal : Option Refusal)
+    → (install_refusal book row ≡ refusal) ↔ IsFirstCause (install_causes book row) refusal
+installs book row refusal =
+    first_cause_law (install_causes book row) (install_refusal book row)
+    (install_cause book row) refusal

@@ -34,13 +34,17 @@ pub record NamesAnother (active : Option ℤ) (profile : Profile) : Type 0 where
   pub is_active : active ≡ Some running
   pub other : asked ≢ running
 
--- Why a profile isn't installed, in the order in which the causes are checked: a TxProfile is for the
--- transaction that is active at its connector (3.13.1), and no more profiles than the limit stand after an
--- install.
+-- the transactionId of the active transaction at a row's connector
+abbrev pub active_for : Book → Row → Option ℤ
+active_for book row = active_on book.transactions row.connector
+
+-- Why a profile isn't installed, in the order in which the causes are checked: a TxProfile is for
+-- the transaction that is active at its connector (3.13.1), and no more profiles than the limit
+-- stand after an install.
 abbrev pub install_causes : Book → Row → List Cause
 install_causes book row =
-    (NoTransaction because LacksTransaction (active_on book.transactions row.connector) row.profile)
-    ∷ (OtherTransaction because NamesAnother (active_on book.transactions row.connector) row.profile)
+    (NoTransaction because LacksTransaction (active_for book row) row.profile)
+    ∷ (OtherTransaction because NamesAnother (active_for book row) row.profile)
     ∷ (TooManyProfiles because max_rows < length (installed book.rows row))
     ∷ []
 

@@ -26,18 +26,23 @@ use Rattle.profile.proofs.ProfileLemmas.{profile_made}
 
 -- ---- periods in order
 
-later_start : (before : List Period) (period next : Period) (after : List Period) → are_in_order (before ++ (period ∷ next ∷ after)) ≡ true → period.start < next.start
+later_start : (before : List Period) (period next : Period) (after : List Period)
+    → are_in_order (before ++ (period ∷ next ∷ after)) ≡ true → period.start < next.start
 later_start [] period next after ordered =
-    let parts = and_parts (nat_lt period.start next.start) (are_in_order (next ∷ after)) ordered in grind (arith, nat_tests)
+    let parts = and_parts (nat_lt period.start next.start) (are_in_order (next ∷ after)) ordered in
+    grind (arith, nat_tests)
 later_start (p ∷ []) period next after ordered =
-    let parts = and_parts (nat_lt p.start period.start) (are_in_order (period ∷ next ∷ after)) ordered in later_start [] period next after parts.1
+    let parts = and_parts (nat_lt p.start period.start)
+    (are_in_order (period ∷ next ∷ after)) ordered in later_start [] period next after parts.1
 later_start (p ∷ (q ∷ before)) period next after ordered =
-    let parts = and_parts (nat_lt p.start q.start) (are_in_order (q ∷ (before ++ (period ∷ next ∷ after)))) ordered in
+    let parts = and_parts (nat_lt p.start q.start)
+    (are_in_order (q ∷ (before ++ (period ∷ next ∷ after)))) ordered in
     later_start (q ∷ before) period next after parts.1
 
 in_order : (periods : List Period) → are_in_order periods ≡ true → ¬ IsOutOfOrder periods
 in_order periods ordered out =
-    let later = later_start out.before out.period out.next out.after (subst (λ (ps : List Period). are_in_order ps ≡ true) out.stands ordered) in
+    let later = later_start out.before out.period out.next out.after
+    (subst (λ (ps : List Period). are_in_order ps ≡ true) out.stands ordered) in
     absurd (omega (arith, later, out.not_later))
 
 out_of_order : (periods : List Period) → are_in_order periods ≡ false → IsOutOfOrder periods
@@ -45,21 +50,39 @@ out_of_order [] fails = absurd (true≢false fails)
 out_of_order (p ∷ []) fails = absurd (true≢false fails)
 out_of_order (p ∷ (q ∷ ps)) fails = go (nat_lt p.start q.start) refl fails (out_of_order (q ∷ ps))
   where
-    go : (b : Bool) → nat_lt p.start q.start ≡ b → (b && are_in_order (q ∷ ps)) ≡ false → (are_in_order (q ∷ ps) ≡ false → IsOutOfOrder (q ∷ ps)) → IsOutOfOrder (p ∷ (q ∷ ps))
+    go : (b : Bool) → nat_lt p.start q.start ≡ b → (b && are_in_order (q ∷ ps)) ≡ false
+        → (are_in_order (q ∷ ps) ≡ false → IsOutOfOrder (q ∷ ps)) → IsOutOfOrder (p ∷ (q ∷ ps))
     go true later rest found =
         let out = found rest in
-        record { before = p ∷ out.before; period = out.period; next = out.next; after = out.after; stands = ap (λ (xs : List Period). p ∷ xs) out.stands; not_later = out.not_later }
-    go false late rest found = record { before = []; period = p; next = q; after = ps; stands = refl; not_later = grind (arith, nat_tests) }
+        record {
+          before = p ∷ out.before;
+          period = out.period;
+          next = out.next;
+          after = out.after;
+          stands = ap (λ (xs : List Period). p ∷ xs) out.stands;
+          not_later = out.not_later;
+        }
+    go false late rest found =
+        record {
+          before = [];
+          period = p;
+          next = q;
+          after = ps;
+          stands = refl;
+          not_later = grind (arith, nat_tests);
+        }
 
 -- ---- the kind
 
-no_kind : (kind : ProfileKind) (recurrency : Option Recurrency) → kind_of kind recurrency ≡ None → (kind ≡ Recurring) × (recurrency ≡ None)
+no_kind : (kind : ProfileKind) (recurrency : Option Recurrency) → kind_of kind recurrency ≡ None
+    → (kind ≡ Recurring) × (recurrency ≡ None)
 no_kind Absolute recurrency e = cc
 no_kind Recurring None e = (refl, refl)
 no_kind Recurring (Some recurrency) e = cc
 no_kind Relative recurrency e = cc
 
-some_kind : (given : ProfileKind) (recurrency : Option Recurrency) (kind : Kind) → kind_of given recurrency ≡ Some kind → ¬ ((given ≡ Recurring) × (recurrency ≡ None))
+some_kind : (given : ProfileKind) (recurrency : Option Recurrency) (kind : Kind)
+    → kind_of given recurrency ≡ Some kind → ¬ ((given ≡ Recurring) × (recurrency ≡ None))
 some_kind Absolute recurrency kind e (recurring, none) = cc
 some_kind Recurring None kind e (recurring, none) = cc
 some_kind Recurring (Some recurrency) kind e (recurring, none) = cc
@@ -77,52 +100,76 @@ abbrev kind_causes : ProfileParts → List Cause
 kind_causes parts = (NoRecurrency because (parts.kind ≡ Recurring) × (parts.recurrency ≡ None)) ∷ []
 
 abbrev order_causes : ProfileParts → List Cause
-order_causes parts = (PeriodsOutOfOrder because IsOutOfOrder parts.schedule.periods) ∷ kind_causes parts
+order_causes parts =
+    (PeriodsOutOfOrder because IsOutOfOrder parts.schedule.periods) ∷ kind_causes parts
 
 abbrev many_causes : ProfileParts → List Cause
-many_causes parts = (TooManyPeriods because max_periods < length parts.schedule.periods) ∷ order_causes parts
+many_causes parts =
+    (TooManyPeriods because max_periods < length parts.schedule.periods) ∷ order_causes parts
 
 module _ (parts : ProfileParts) where
   abbrev IsLow : Type 0
   IsLow = nat_le parts.stack_level max_stack_level ≡ true
 
   abbrev of_kind : IsLow → Result Profile Refusal
-  of_kind low = value_or NoRecurrency (kind_of parts.kind parts.recurrency) >>= (λ kind. Ok (profile_with parts kind low))
+  of_kind low =
+      value_or NoRecurrency (kind_of parts.kind parts.recurrency)
+      >>= (λ kind. Ok (profile_with parts kind low))
 
   abbrev of_order : IsLow → Result Profile Refusal
-  of_order low = fact_or PeriodsOutOfOrder (are_in_order parts.schedule.periods) >>= (λ _. of_kind low)
+  of_order low =
+      fact_or PeriodsOutOfOrder (are_in_order parts.schedule.periods) >>= (λ _. of_kind low)
 
   abbrev of_many : IsLow → Result Profile Refusal
-  of_many low = fact_or TooManyPeriods (nat_le (length parts.schedule.periods) max_periods) >>= (λ _. of_order low)
+  of_many low =
+      fact_or TooManyPeriods (nat_le (length parts.schedule.periods) max_periods)
+      >>= (λ _. of_order low)
 
   kind_cause : (low : IsLow) → IsFirstCause (kind_causes parts) (result_err (of_kind low))
   kind_cause low =
-      by_value (kind_of parts.kind parts.recurrency) ((parts.kind ≡ Recurring) × (parts.recurrency ≡ None)) NoRecurrency [] (λ kind. Ok (profile_with parts kind low))
+      by_value (kind_of parts.kind parts.recurrency)
+      ((parts.kind ≡ Recurring) × (parts.recurrency ≡ None)) NoRecurrency []
+      (λ kind. Ok (profile_with parts kind low))
       (no_kind parts.kind parts.recurrency) (some_kind parts.kind parts.recurrency) (λ kind. refl)
 
   order_cause : (low : IsLow) → IsFirstCause (order_causes parts) (result_err (of_order low))
   order_cause low =
-      by_fact (are_in_order parts.schedule.periods) (IsOutOfOrder parts.schedule.periods) PeriodsOutOfOrder (kind_causes parts) (λ _. of_kind low)
+      by_fact (are_in_order parts.schedule.periods)
+      (IsOutOfOrder parts.schedule.periods) PeriodsOutOfOrder (kind_causes parts)
+      (λ _. of_kind low)
       (out_of_order parts.schedule.periods) (in_order parts.schedule.periods) (λ _. kind_cause low)
 
   many_cause : (low : IsLow) → IsFirstCause (many_causes parts) (result_err (of_many low))
   many_cause low =
-      by_fact (nat_le (length parts.schedule.periods) max_periods) (max_periods < length parts.schedule.periods) TooManyPeriods (order_causes parts) (λ _. of_order low)
-      (above (length parts.schedule.periods) max_periods) (not_above (length parts.schedule.periods) max_periods) (λ _. order_cause low)
+      by_fact (nat_le (length parts.schedule.periods) max_periods)
+      (max_periods < length parts.schedule.periods) TooManyPeriods (order_causes parts)
+      (λ _. of_order low)
+      (above (length parts.schedule.periods) max_periods)
+      (not_above (length parts.schedule.periods) max_periods) (λ _. order_cause low)
 
-part_cause : (parts : ProfileParts) → IsFirstCause (part_causes parts) (result_err (profile_of_parts parts))
+part_cause : (parts : ProfileParts)
+    → IsFirstCause (part_causes parts) (result_err (profile_of_parts parts))
 part_cause parts =
-    by_fact (nat_le parts.stack_level max_stack_level) (max_stack_level < parts.stack_level) LevelTooHigh (many_causes parts) (of_many parts)
-    (above parts.stack_level max_stack_level) (not_above parts.stack_level max_stack_level) (many_cause parts)
+    by_fact (nat_le parts.stack_level max_stack_level)
+    (max_stack_level < parts.stack_level) LevelTooHigh (many_causes parts) (of_many parts)
+    (above parts.stack_level max_stack_level) (not_above parts.stack_level max_stack_level)
+    (many_cause parts)
 
-pub parts_refused : (parts : ProfileParts) (refusal : Refusal) → (profile_of_parts parts ≡ Err refusal) ↔ IsFirstCause (part_causes parts) (Some refusal)
-parts_refused parts refusal = refused_law (part_causes parts) (profile_of_parts parts) (part_cause parts) refusal
+pub parts_refused : (parts : ProfileParts) (refusal : Refusal)
+    → (profile_of_parts parts ≡ Err refusal) ↔ IsFirstCause (part_causes parts) (Some refusal)
+parts_refused parts refusal =
+    refused_law (part_causes parts) (profile_of_parts parts) (part_cause parts) refusal
 
 -- ---- the profile
 
-made_of : {F O : Type 0} → (parts : ProfileParts) (profile : Profile) (low : Result (nat_le parts.stack_level max_stack_level ≡ true) Refusal) (few : Result F Refusal) (ordered : Result O Refusal)
+made_of : {F O : Type 0} → (parts : ProfileParts) (profile : Profile)
+    (low : Result (nat_le parts.stack_level max_stack_level ≡ true) Refusal)
+    (few : Result F Refusal) (ordered : Result O Refusal)
     → (kind : Option Kind) → kind ≡ kind_of parts.kind parts.recurrency
-    → (low >>= (λ is_low. few >>= (λ is_few. ordered >>= (λ are_ordered. value_or NoRecurrency kind >>= (λ k. Ok (profile_with parts k is_low)))))) ≡ Ok profile → IsProfileOf parts profile
+    → (low >>= (λ is_low. few
+    >>= (λ is_few. ordered
+    >>= (λ are_ordered. value_or NoRecurrency kind >>= (λ k. Ok (profile_with parts k is_low))))))
+    ≡ Ok profile → IsProfileOf parts profile
 made_of parts profile (Ok low) (Ok few) (Ok ordered) (Some kind) is e =
     let made : profile_with parts kind low ≡ profile = cc in
     subst (IsProfileOf parts) made (record {
@@ -144,17 +191,21 @@ made_of parts profile (Ok low) (Ok few) (Err refusal) kind is e = cc
 made_of parts profile (Ok low) (Err refusal) ordered kind is e = cc
 made_of parts profile (Err refusal) few ordered kind is e = cc
 
-pub parts_made : (parts : ProfileParts) (profile : Profile) → (profile_of_parts parts ≡ Ok profile) ↔ (IsFirstCause (part_causes parts) None × IsProfileOf parts profile)
+pub parts_made : (parts : ProfileParts) (profile : Profile) → (profile_of_parts parts ≡ Ok profile)
+    ↔ (IsFirstCause (part_causes parts) None × IsProfileOf parts profile)
 parts_made parts profile = (
   λ e. (
     none_refused (part_causes parts) (profile_of_parts parts) (part_cause parts) profile e,
     made_of parts profile (fact_or LevelTooHigh (nat_le parts.stack_level max_stack_level))
-        (fact_or TooManyPeriods (nat_le (length parts.schedule.periods) max_periods)) (fact_or PeriodsOutOfOrder (are_in_order parts.schedule.periods)) (kind_of parts.kind parts.recurrency) refl e,
+        (fact_or TooManyPeriods (nat_le (length parts.schedule.periods) max_periods))
+        (fact_or PeriodsOutOfOrder (are_in_order parts.schedule.periods))
+        (kind_of parts.kind parts.recurrency) refl e,
   ),
   λ h. back h.0 h.1,
 )
   where
-    back : IsFirstCause (part_causes parts) None → IsProfileOf parts profile → profile_of_parts parts ≡ Ok profile
+    back : IsFirstCause (part_causes parts) None → IsProfileOf parts profile
+        → profile_of_parts parts ≡ Ok profile
     back (inl here) is = cc (here.1)
     back (inr (low, inl here)) is = cc (here.1)
     back (inr (low, inr (few, inl here))) is = cc (here.1)
@@ -162,6 +213,7 @@ parts_made parts profile = (
         let short : length parts.schedule.periods ≤ max_periods = grind (arith, few) in
         profile_made parts profile short (tested (are_in_order parts.schedule.periods) refl) is
       where
-        tested : (b : Bool) → are_in_order parts.schedule.periods ≡ b → are_in_order parts.schedule.periods ≡ true
+        tested : (b : Bool) → are_in_order parts.schedule.periods ≡ b
+            → are_in_order parts.schedule.periods ≡ true
         tested true e = e
         tested false e = absurd (ordered (out_of_order parts.schedule.periods e))

@@ -31,7 +31,8 @@ pub record IsProfileOf (parts : ProfileParts) (profile : Profile) : Type 0 where
   pub periods : profile.schedule.periods ≡ parts.schedule.periods
   pub min_charging_rate : profile.schedule.min_charging_rate ≡ parts.schedule.min_charging_rate
 
--- a period that doesn't start later than the one before it (OCPP 1.6, chapter 7, ChargingSchedulePeriod)
+-- a period that doesn't start later than the one before it (OCPP 1.6, chapter 7,
+-- ChargingSchedulePeriod)
 pub record IsOutOfOrder (periods : List Period) : Type 0 where
   pub before : List Period
   pub period : Period
@@ -40,8 +41,9 @@ pub record IsOutOfOrder (periods : List Period) : Type 0 where
   pub stands : periods ≡ before ++ (period ∷ next ∷ after)
   pub not_later : next.start ≤ period.start
 
--- Why fields make no profile, in the order in which the causes are checked. That there is a period is
--- no question here: a list of periods that came in has one by its type.
+-- Why fields make no profile, in the order in which the causes are checked (OCPP 1.6, chapter 7;
+-- limits by this system's choice). That there is a period is no question here: a list of periods
+-- that came in has one by its type.
 abbrev pub part_causes : ProfileParts → List Cause
 part_causes parts =
     (LevelTooHigh because max_stack_level < parts.stack_level)
@@ -50,8 +52,8 @@ part_causes parts =
     ∷ (NoRecurrency because (parts.kind ≡ Recurring) × (parts.recurrency ≡ None))
     ∷ []
 
--- The profile that these fields make, or why they make none. By the law `profile_parts` it is refused by
--- the first of these causes, and is else the profile of these fields.
+-- The profile that these fields make, or why they make none. By the law `profile_parts` it is
+-- refused by the first of these causes, and is else the profile of these fields.
 abbrev pub profile_of_parts : ProfileParts → Result Profile Refusal
 profile_of_parts parts = do
   low ← fact_or LevelTooHigh (nat_le parts.stack_level max_stack_level)

@@ -15,9 +15,10 @@ use Rattle.site_rules.specs.Site.{PointEntry, SiteState, HasConnector, entry_of}
 abbrev pub HasNoPoint : SiteState → List ℕ → Type 0
 HasNoPoint site id = AllByRecursion (λ (point : PointEntry). id ≢ point.id) site.points
 
--- Why a profile may not stand at a connector of a point of the site, in the order in which the causes are
--- checked. Connector 0 is the whole point: a ChargePointMaxProfile stands there alone, a TxProfile never
--- does (OCPP 1.6, 3.13.1 and 5.16.4), and a schedule's unit is the site's (this system's choice).
+-- Why a profile may not stand at a connector of a point of the site, in the order in which the
+-- causes are checked. Connector 0 is the whole point: a ChargePointMaxProfile stands there alone, a
+-- TxProfile never does (OCPP 1.6, 3.13.1 and 5.16.4), and a schedule's unit is the site's (this
+-- system's choice).
 abbrev pub admission_causes : SiteState → List ℕ → ℕ → Profile → List Cause
 admission_causes site id connector profile =
     (UnknownPoint because HasNoPoint site id)
@@ -37,8 +38,8 @@ refusal_at unit (Some point) connector profile =
     else if not (unit_eq profile.schedule.unit unit) then Some WrongUnit
     else None
 
--- why a profile may not stand at a connector of a point of the site: by the law `admissions` the first of
--- these causes
+-- why a profile may not stand at a connector of a point of the site: by the law `admissions` the
+-- first of these causes
 abbrev pub admission_refusal : SiteState → List ℕ → ℕ → Profile → Option Refusal
 admission_refusal site id connector profile =
     refusal_at site.unit (entry_of site id) connector profile

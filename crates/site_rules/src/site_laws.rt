@@ -20,8 +20,8 @@ pub fn site_files()
         → (site_of bytes ≡ Err fault) ↔ IsSiteFault bytes fault }
 {}
 
-/// The law of admissions: a profile is refused exactly where the cause of the refusal holds and none
-/// before it does, and is let in exactly where no cause holds.
+/// The law of admissions: a profile is refused exactly where the cause of the refusal holds and
+/// none before it does, and is let in exactly where no cause holds.
 pub fn admissions()
     ensures { (site : SiteState) (id : List ℕ) (connector : ℕ) (profile : Profile)
         (refusal : Option Refusal)

@@ -113,7 +113,8 @@ places_are state connector asked instant most looked h =
 
 -- the lesser of what connectors may draw together, stopped at the most that there is, and a limit within that
 pub limit_is : (state : PointState) (connector asked instant : ℕ) (most : List SeenRow) (looked : List SeenConnector) (point sum : ℕ) → AreGathered state connector asked most looked
-    → point ≡ at_most state.ceiling (first_limit instant most) → point ≤ largest_limit → sum ≡ min (sum_by (own_limit_seen instant) looked) largest_limit
+    → point ≡ at_most state.ceiling (first_limit instant most) → point ≤ largest_limit
+    → sum ≡ min (sum_by (own_limit_seen instant) looked) largest_limit
     → min point sum ≡ limit state connector asked instant
 limit_is state connector asked instant most looked point sum h p within s =
     let whole : min point sum ≡ min point (sum_by (own_limit_seen instant) looked) = omega (arith, within, s) in

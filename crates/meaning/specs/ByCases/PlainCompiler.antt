@@ -1,4 +1,4 @@
--- What one second more adds to the periods of the seconds before it: of the clauses of `add_second` alone.
+-- What one second more adds to the periods before it: of the clauses of `add_second` alone.
 use Rattle.std.specs.Prelude.{ℕ, ◌==◌, ◌<◌, Bool, true, not, List, [], ◌∷◌, Option, Some, None, if◌then◌else◌}
 use Rattle.ocpp_scalars.specs.declared.refusal.Refusal.{Refusal}
 use Rattle.ocpp_scalars.specs.declared.refusal.Refusal.TheVariants.{ResultTooLong, OutOfMemory}

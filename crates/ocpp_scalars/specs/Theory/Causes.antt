@@ -6,7 +6,8 @@ use Rattle.std.specs.Result.{result_err}
 use Rattle.ocpp_scalars.specs.declared.refusal.Refusal.{Refusal}
 use Rattle.ocpp_scalars.specs.Causes.{Cause, ◌because◌, IsFirstCause}
 
-same_first : (causes : List Cause) (one other : Option Refusal) → IsFirstCause causes one → IsFirstCause causes other → one ≡ other
+same_first : (causes : List Cause) (one other : Option Refusal) → IsFirstCause causes one
+    → IsFirstCause causes other → one ≡ other
 same_first [] one other is also = is ∙ sym also
 same_first (cause ∷ later) one other (inl is) (inl also) = is.1 ∙ sym also.1
 same_first (cause ∷ later) one other (inl is) (inr also) = absurd (also.0 is.0)
@@ -41,22 +42,30 @@ pub by_tests : (tests : List Tested) → IsFirstCause (causes_tested tests) (fir
 by_tests [] = refl
 by_tests (one ∷ later) = go one.test one.found one.missed (by_tests later)
   where
-    go : (test : Bool) → (test ≡ true → one.holds) → (test ≡ false → ¬ one.holds) → IsFirstCause (causes_tested later) (first_tested later)
-        → IsFirstCause ((one.refusal because one.holds) ∷ causes_tested later) (if test then Some one.refusal else first_tested later)
+    go : (test : Bool) → (test ≡ true → one.holds) → (test ≡ false → ¬ one.holds)
+        → IsFirstCause (causes_tested later) (first_tested later)
+        → IsFirstCause ((one.refusal because one.holds) ∷ causes_tested later)
+        (if test then Some one.refusal else first_tested later)
     go true found missed rest = inl (found refl, refl)
     go false found missed rest = inr (missed refl, rest)
 
 -- the same of what is made or refused
-refused_err : {X : Type 0} → (found : Result X Refusal) (refusal : Refusal) → result_err found ≡ Some refusal → found ≡ Err refusal
+refused_err : {X : Type 0} → (found : Result X Refusal) (refusal : Refusal)
+    → result_err found ≡ Some refusal → found ≡ Err refusal
 refused_err (Ok x) refusal e = cc
 refused_err (Err other) refusal e = cc
 
-pub refused_law : {X : Type 0} → (causes : List Cause) (found : Result X Refusal) → IsFirstCause causes (result_err found)
+pub refused_law : {X : Type 0} → (causes : List Cause) (found : Result X Refusal)
+    → IsFirstCause causes (result_err found)
     → (refusal : Refusal) → (found ≡ Err refusal) ↔ IsFirstCause causes (Some refusal)
-refused_law causes found is refusal =
-    (λ e. subst (IsFirstCause causes) (ap result_err e) is, λ also. refused_err found refusal (same_first causes (result_err found) (Some refusal) is also))
+refused_law causes found is refusal = (
+  λ e. subst (IsFirstCause causes) (ap result_err e) is,
+  λ also. refused_err found refusal
+      (same_first causes (result_err found) (Some refusal) is also),
+)
 
 -- what is made has no cause
-pub none_refused : {X : Type 0} → (causes : List Cause) (found : Result X Refusal) → IsFirstCause causes (result_err found)
+pub none_refused : {X : Type 0} → (causes : List Cause) (found : Result X Refusal)
+    → IsFirstCause causes (result_err found)
     → (x : X) → found ≡ Ok x → IsFirstCause causes None
 none_refused causes found is x e = subst (IsFirstCause causes) (ap result_err e) is

@@ -16,8 +16,11 @@ returns c =
     let point : c.at_most-most.result ≡ at_most state.ceiling (first_limit c.args.instant self.most.items) =
     c.at_most-most.ensures ∙ ap (at_most state.ceiling) first in
     let short = c.at_most-most.type_inv in
-    let sum : c.sum_of.result ≡ min (sum_by (own_limit_seen c.args.instant) self.looked.items) largest_limit =
-    c.sum_of.ensures ∙ ap (λ (looked : List SeenConnector). min (sum_by (own_limit_seen c.args.instant) looked) largest_limit) c.as_slice-2.ensures.value in
+    let sum : c.sum_of.result ≡ min
+    (sum_by (own_limit_seen c.args.instant) self.looked.items) largest_limit =
+    c.sum_of.ensures
+    ∙ ap (λ (looked : List SeenConnector). min
+    (sum_by (own_limit_seen c.args.instant) looked) largest_limit) c.as_slice-2.ensures.value in
     c.min.ensures
     ∙ (limit_is state self.connector self.asked c.args.instant self.most.items self.looked.items c.at_most-most.result c.sum_of.result
     c.self.invariant point (omega (arith, short)) sum
