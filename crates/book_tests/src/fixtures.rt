@@ -1,8 +1,9 @@
-//! What tests are made of: instants, profiles and their rows, starts of transactions.
+//! What tests are made of: instants, profiles and their rows told in words, starts of transactions, site
+//! files. Tables in words are data, which nothing has to be proved of.
 
 use ocpp_scalars::{IdTag, Instant};
 use profile::{
-    Criteria, Period, PeriodList, Profile, ProfileKind, ProfileParts, Purpose, Recurrency, Row,
+    Criteria, Named, Period, PeriodList, Profile, ProfileKind, ProfileParts, Purpose, Row,
     ScheduleParts, Unit,
 };
 use std::alloc::Global;
@@ -12,67 +13,8 @@ use transactions::Begin;
 /// 2025-01-01T00:00:00Z, a Wednesday.
 pub const MIDNIGHT: u64 = 1_735_689_600;
 
-pub const MAX: Purpose = Purpose::ChargePointMaxProfile;
-
-pub const DEFAULT: Purpose = Purpose::TxDefaultProfile;
-
-pub const TX: Purpose = Purpose::TxProfile;
-
-/// Criteria that every row meets.
-pub const ANY: Criteria = Criteria {
-    id: None,
-    connector: None,
-    purpose: None,
-    stack_level: None,
-};
-
-/// A profile and the row that a point has of it. Instants count from midnight.
-#[derive(Clone, Copy)]
-pub struct RowTold<'a> {
-    pub id: i32,
-    pub connector: u32,
-    pub purpose: Purpose,
-    pub level: u32,
-    pub transaction: Option<i32>,
-    pub kind: ProfileKind,
-    pub recurrency: Option<Recurrency>,
-    pub start: Option<u64>,
-    pub duration: Option<u32>,
-    pub valid: (Option<u64>, Option<u64>),
-    pub unit: Unit,
-    /// Of each period its start and its limit.
-    pub periods: &'a [(u32, u32)],
-    /// When it was installed.
-    pub moment: u64,
-}
-
-/// A TxDefaultProfile of the whole point: 16 A, from the base on.
-pub const WHOLE_POINT: RowTold<'static> = RowTold {
-    id: 1,
-    connector: 0,
-    purpose: DEFAULT,
-    level: 0,
-    transaction: None,
-    kind: ProfileKind::Absolute,
-    recurrency: None,
-    start: None,
-    duration: None,
-    valid: (None, None),
-    unit: Unit::A,
-    periods: &[(0, 160)],
-    moment: 0,
-};
-
-/// The fields by which rows replace one another.
-pub fn told(id: i32, connector: u32, purpose: Purpose, level: u32) -> RowTold<'static> {
-    RowTold {
-        id,
-        connector,
-        purpose,
-        level,
-        ..WHOLE_POINT
-    }
-}
+/// As long as an idTag may be, of characters of four bytes.
+pub const LONGEST_TAG: &str = "🔌🔌🔌🔌🔌🔌🔌🔌🔌🔌🔌🔌🔌🔌🔌🔌🔌🔌🔌🔌";
 
 /// The instant so many seconds after midnight.
 pub fn instant_at(second: u64) -> Result<Instant, Fail> {
@@ -80,43 +22,112 @@ pub fn instant_at(second: u64) -> Result<Instant, Fail> {
     Ok(Instant::try_new(seconds).ok_or("past the last instant")?)
 }
 
-fn instant_at_each(second: Option<u64>) -> Result<Option<Instant>, Fail> {
-    match second {
-        Some(second) => Ok(Some(instant_at(second)?)),
+/// What follows a key in the first of the words that begins with it.
+fn value_in<'a>(words: &'a str, key: &str) -> Option<&'a str> {
+    for word in words.split(' ') {
+        if let Some(value) = word.strip_prefix(key) {
+            return Some(value);
+        }
+    }
+    None
+}
+
+fn number_in(words: &str, key: &str) -> Result<Option<u32>, Fail> {
+    match value_in(words, key) {
+        Some(value) => Ok(Some(value.parse::<u32>()?)),
         None => Ok(None),
     }
 }
 
-fn period_list(alloc: Global, periods: &[(u32, u32)]) -> Result<PeriodList, Fail> {
-    let mut items = Vec::new(alloc);
-    for (start, limit) in periods {
-        items.push(Period {
-            start: *start,
-            limit: *limit,
-            number_phases: None,
-        })?;
+fn whole_in(words: &str, key: &str) -> Result<Option<i32>, Fail> {
+    match value_in(words, key) {
+        Some(value) => Ok(Some(value.parse::<i32>()?)),
+        None => Ok(None),
     }
-    Ok(PeriodList::try_new(items).ok().ok_or("no period")?)
 }
 
-/// The profile that is told.
-pub fn profile_of(alloc: Global, told: RowTold<'_>) -> Result<Profile, Fail> {
+fn instant_in(words: &str, key: &str) -> Result<Option<Instant>, Fail> {
+    match value_in(words, key) {
+        Some(value) => Ok(Some(instant_at(value.parse::<u64>()?)?)),
+        None => Ok(None),
+    }
+}
+
+fn name_in<T: Named + Drop>(words: &str, key: &str) -> Result<Option<T>, Fail> {
+    match value_in(words, key) {
+        Some(value) => Ok(Some(T::named(value).ok_or("no such name")?)),
+        None => Ok(None),
+    }
+}
+
+/// The criteria told in words: `id=`, `connector=`, `purpose=`, `level=`. What isn't told isn't given.
+pub fn criteria_of(words: &str) -> Result<Criteria, Fail> {
+    Ok(Criteria {
+        id: whole_in(words, "id=")?,
+        connector: number_in(words, "connector=")?,
+        purpose: name_in(words, "purpose=")?,
+        stack_level: number_in(words, "level=")?,
+    })
+}
+
+fn period(start: u32, limit: u32) -> Period {
+    Period {
+        start,
+        limit,
+        number_phases: None,
+    }
+}
+
+/// The periods of `periods=0:160,3600:80`, of each its start and its limit.
+fn periods_told(alloc: Global, told: &str) -> Result<Vec<Period>, Fail> {
+    let mut periods = Vec::new(alloc);
+    for one in told.split(',') {
+        let (start, limit) = one.split_once(':').ok_or("no period")?;
+        periods.push(period(start.parse::<u32>()?, limit.parse::<u32>()?))?;
+    }
+    Ok(periods)
+}
+
+/// 200 periods of so many seconds, of 6 A and 10 A by turns.
+fn periods_by_turns(alloc: Global, seconds: u32) -> Result<Vec<Period>, Fail> {
+    let mut periods = Vec::new(alloc);
+    for index in 0..200u32 {
+        let limit = if index % 2 == 0 { 60 } else { 100 };
+        periods.push(period(seconds.saturating_mul(index), limit))?;
+    }
+    Ok(periods)
+}
+
+fn period_list(alloc: Global, words: &str) -> Result<PeriodList, Fail> {
+    let periods = match number_in(words, "turns=")? {
+        Some(seconds) => periods_by_turns(alloc, seconds)?,
+        None => periods_told(alloc, value_in(words, "periods=").unwrap_or("0:160"))?,
+    };
+    Ok(PeriodList::try_new(periods).ok().ok_or("no period")?)
+}
+
+/// The profile told in words: `id=`, `purpose=`, `level=`, `transaction=`, `kind=`, `recurrency=`, `from=`
+/// and `to=` (its validity), `duration=`, `start=`, `unit=`, and `periods=0:160,3600:80` or `turns=432`: 200
+/// periods of so many seconds, of 6 A and 10 A by turns. Instants count from midnight. What isn't told is
+/// that of an Absolute TxDefaultProfile of 16 A without a start, of id 1 and level 0.
+pub fn profile_of(alloc: Global, words: &str) -> Result<Profile, Fail> {
+    let schedule = ScheduleParts {
+        duration: number_in(words, "duration=")?,
+        start: instant_in(words, "start=")?,
+        unit: name_in(words, "unit=")?.unwrap_or(Unit::A),
+        periods: period_list(alloc, words)?,
+        min_charging_rate: None,
+    };
     let parts = ProfileParts {
-        id: told.id,
-        transaction: told.transaction,
-        stack_level: told.level,
-        purpose: told.purpose,
-        kind: told.kind,
-        recurrency: told.recurrency,
-        valid_from: instant_at_each(told.valid.0)?,
-        valid_to: instant_at_each(told.valid.1)?,
-        schedule: ScheduleParts {
-            duration: told.duration,
-            start: instant_at_each(told.start)?,
-            unit: told.unit,
-            periods: period_list(alloc, told.periods)?,
-            min_charging_rate: None,
-        },
+        id: whole_in(words, "id=")?.unwrap_or(1),
+        transaction: whole_in(words, "transaction=")?,
+        stack_level: number_in(words, "level=")?.unwrap_or(0),
+        purpose: name_in(words, "purpose=")?.unwrap_or(Purpose::TxDefaultProfile),
+        kind: name_in(words, "kind=")?.unwrap_or(ProfileKind::Absolute),
+        recurrency: name_in(words, "recurrency=")?,
+        valid_from: instant_in(words, "from=")?,
+        valid_to: instant_in(words, "to=")?,
+        schedule,
     };
     match Profile::try_new(parts) {
         Ok(profile) => Ok(profile),
@@ -124,12 +135,13 @@ pub fn profile_of(alloc: Global, told: RowTold<'_>) -> Result<Profile, Fail> {
     }
 }
 
-/// The row that is told.
-pub fn row_of(alloc: Global, told: RowTold<'_>) -> Result<Row, Fail> {
+/// The row of a profile told in words, with `connector=` and `moment=`, of the whole point and from
+/// midnight where these aren't told.
+pub fn row_of(alloc: Global, words: &str) -> Result<Row, Fail> {
     Ok(Row {
-        connector: told.connector,
-        moment: instant_at(told.moment)?,
-        profile: profile_of(alloc, told)?,
+        connector: number_in(words, "connector=")?.unwrap_or(0),
+        moment: instant_in(words, "moment=")?.unwrap_or(instant_at(0)?),
+        profile: profile_of(alloc, words)?,
     })
 }
 
@@ -141,16 +153,6 @@ pub fn begin_of(alloc: Global, tag: &str, meter_start: i32, second: u64) -> Resu
         meter_start,
         timestamp: instant_at(second)?,
     })
-}
-
-/// So many periods of so many seconds each, of 6 A and 10 A by turns.
-pub fn periods_by_turns(alloc: Global, count: u32, length: u32) -> Result<Vec<(u32, u32)>, Fail> {
-    let mut periods = Vec::new(alloc);
-    for index in 0..count {
-        let limit = if index % 2 == 0 { 60 } else { 100 };
-        periods.push((length.saturating_mul(index), limit))?;
-    }
-    Ok(periods)
 }
 
 /// A site file of so many points of 1,000 A, each with so many connectors of 32 A and an identity of so

@@ -6,8 +6,7 @@
 mod fixtures;
 
 pub use fixtures::{
-    ANY, DEFAULT, MAX, MIDNIGHT, RowTold, TX, WHOLE_POINT, begin_of, instant_at, periods_by_turns,
-    profile_of, row_of, site_text, told,
+    LONGEST_TAG, MIDNIGHT, begin_of, criteria_of, instant_at, profile_of, row_of, site_text,
 };
 
 #[cfg(test)]

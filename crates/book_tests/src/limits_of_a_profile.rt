@@ -1,166 +1,56 @@
 //! Worked changes of a profile's limit, found by hand. Seconds count from 2025-01-01T00:00:00Z.
 
-use crate::fixtures::{RowTold, WHOLE_POINT, instant_at, profile_of};
-use profile::{ProfileKind, Recurrency};
+use crate::fixtures::{instant_at, profile_of};
 use recurrence::{next_change, rate_at};
 use std::alloc::Global;
 use std::process::Abort;
 use std::test::Fail;
 
-/// The midnight with which 9999-12-31 begins.
-const LAST_MIDNIGHT: u64 = 251_666_524_800;
+/// On each line a profile, its base, where to begin, where its limit changes, each with the limit from
+/// there on (`-` for none), and whether these are all up to the end of 9999 (`end`) or not (`on`). In turn:
+/// from 22:00 to 06:00, over a week; a duration and a start past the day, which never come; a weekly one; one
+/// with bounds of its validity; one from its base on, without a limit before its first period; and the last
+/// day, after which none begins.
+const CASES: &str = "\
+kind=Recurring recurrency=Daily start=79200 duration=28800 | 0 | 0 | 79200:160 108000:- 165600:160 194400:- 252000:160 280800:- 338400:160 367200:- 424800:160 453600:- 511200:160 540000:- 597600:160 on
+kind=Recurring recurrency=Daily start=0 duration=100000 periods=0:160,50000:80,90000:60 | 0 | 0 | 50000:80 86400:160 136400:80 172800:160 on
+kind=Recurring recurrency=Weekly start=0 periods=0:160,432000:80 | 0 | 0 | 432000:80 604800:160 1036800:80 1209600:160 on
+start=0 duration=7200 periods=0:160,3600:80 from=1800 to=5400 | 0 | 0 | 1800:160 3600:80 5400:- 7200:- end
+kind=Relative start=0 duration=180 periods=60:160,120:80 | 600 | 0 | 600:- 660:160 720:80 780:- end
+kind=Recurring recurrency=Daily start=0 to=251666611199 | 0 | 251666524799 | 251666524800:160 251666611199:- end";
 
-/// A profile, and where its limit changes, each with the limit from there on.
-#[derive(Clone, Copy)]
-struct Case<'a> {
-    told: RowTold<'a>,
-    base: u64,
-    /// Where to begin.
-    from: u64,
-    changes: &'a [(u64, Option<u32>)],
-    /// Whether these are all up to the end of 9999.
-    ends: bool,
+fn limit_told(word: &str) -> Result<Option<u32>, Fail> {
+    if word == "-" {
+        return Ok(None);
+    }
+    Ok(Some(word.parse::<u32>()?))
 }
 
-const DAILY: RowTold<'static> = RowTold {
-    kind: ProfileKind::Recurring,
-    recurrency: Some(Recurrency::Daily),
-    start: Some(0),
-    ..WHOLE_POINT
-};
-
-const UNENDING: Case<'static> = Case {
-    told: DAILY,
-    base: 0,
-    from: 0,
-    changes: &[],
-    ends: false,
-};
-
-/// From 22:00 to 06:00, over a week.
-const NIGHT: Case<'static> = Case {
-    told: RowTold {
-        start: Some(79_200),
-        duration: Some(28_800),
-        ..DAILY
-    },
-    changes: &[
-        (79_200, Some(160)),
-        (108_000, None),
-        (165_600, Some(160)),
-        (194_400, None),
-        (252_000, Some(160)),
-        (280_800, None),
-        (338_400, Some(160)),
-        (367_200, None),
-        (424_800, Some(160)),
-        (453_600, None),
-        (511_200, Some(160)),
-        (540_000, None),
-        (597_600, Some(160)),
-    ],
-    ..UNENDING
-};
-
-/// A duration and a start past the day never come.
-const LONG: Case<'static> = Case {
-    told: RowTold {
-        duration: Some(100_000),
-        periods: &[(0, 160), (50_000, 80), (90_000, 60)],
-        ..DAILY
-    },
-    changes: &[
-        (50_000, Some(80)),
-        (86_400, Some(160)),
-        (136_400, Some(80)),
-        (172_800, Some(160)),
-    ],
-    ..UNENDING
-};
-
-const WEEKLY: Case<'static> = Case {
-    told: RowTold {
-        recurrency: Some(Recurrency::Weekly),
-        periods: &[(0, 160), (432_000, 80)],
-        ..DAILY
-    },
-    changes: &[
-        (432_000, Some(80)),
-        (604_800, Some(160)),
-        (1_036_800, Some(80)),
-        (1_209_600, Some(160)),
-    ],
-    ..UNENDING
-};
-
-const ABSOLUTE: Case<'static> = Case {
-    told: RowTold {
-        start: Some(0),
-        duration: Some(7_200),
-        periods: &[(0, 160), (3_600, 80)],
-        valid: (Some(1_800), Some(5_400)),
-        ..WHOLE_POINT
-    },
-    changes: &[
-        (1_800, Some(160)),
-        (3_600, Some(80)),
-        (5_400, None),
-        (7_200, None),
-    ],
-    ends: true,
-    ..UNENDING
-};
-
-/// From its base on, and without a limit before its first period. It has a startSchedule that doesn't count.
-const RELATIVE: Case<'static> = Case {
-    told: RowTold {
-        kind: ProfileKind::Relative,
-        start: Some(0),
-        duration: Some(180),
-        periods: &[(60, 160), (120, 80)],
-        ..WHOLE_POINT
-    },
-    base: 600,
-    changes: &[(600, None), (660, Some(160)), (720, Some(80)), (780, None)],
-    ends: true,
-    ..UNENDING
-};
-
-/// The day after the last one doesn't begin.
-const LAST_DAY: Case<'static> = Case {
-    told: RowTold {
-        valid: (None, Some(LAST_MIDNIGHT + 86_399)),
-        ..DAILY
-    },
-    from: LAST_MIDNIGHT - 1,
-    changes: &[
-        (LAST_MIDNIGHT, Some(160)),
-        (LAST_MIDNIGHT + 86_399, None),
-    ],
-    ..ABSOLUTE
-};
-
-fn expect_changes(rt: &impl Abort, alloc: Global, case: &Case<'_>) -> Result<(), Fail> {
-    let profile = profile_of(alloc, case.told)?;
-    let base = instant_at(case.base)?;
-    let mut instant = instant_at(case.from)?;
-    for (second, limit) in case.changes {
-        let next = instant_at(*second)?;
-        assert_eq!(rt; next_change(&profile, base, instant), Some(next));
-        assert_eq!(rt; rate_at(&profile, base, next), *limit);
-        instant = next;
+fn expect_changes(rt: &impl Abort, alloc: Global, line: &str) -> Result<(), Fail> {
+    let mut parts = line.split(" | ");
+    let profile = profile_of(alloc, parts.next().ok_or("no profile")?)?;
+    let base = instant_at(parts.next().ok_or("no base")?.parse::<u64>()?)?;
+    let mut instant = instant_at(parts.next().ok_or("no instant")?.parse::<u64>()?)?;
+    for word in parts.next().ok_or("no changes")?.split(' ') {
+        let found = next_change(&profile, base, instant);
+        match word.split_once(':') {
+            Some((second, limit)) => {
+                let next = instant_at(second.parse::<u64>()?)?;
+                assert_eq!(rt; found, Some(next), "{word}");
+                assert_eq!(rt; rate_at(&profile, base, next), limit_told(limit)?, "{word}");
+                instant = next;
+            }
+            None => assert_eq!(rt; found.is_none(), word == "end", "{line}"),
+        }
     }
-    let last = next_change(&profile, base, instant).is_none();
-    assert_eq!(rt; last, case.ends, "after {}", instant.seconds());
     Ok(())
 }
 
 #[test]
 fn changes_where_it_should(rt: HostRuntime) -> Result<(), Fail> {
     let alloc = rt.alloc();
-    let cases = [NIGHT, LONG, WEEKLY, ABSOLUTE, RELATIVE, LAST_DAY];
-    for case in &cases {
-        expect_changes(&rt, alloc, case)?;
+    for line in CASES.lines() {
+        expect_changes(&rt, alloc, line)?;
     }
     Ok(())
 }

@@ -1,22 +1,12 @@
 //! Changes and refusals from outside, and that memory suffices.
 
-use crate::fixtures::{
-    ANY, DEFAULT, MAX, RowTold, TX, begin_of, periods_by_turns, row_of, told,
-};
-use ocpp_scalars::Refusal;
+use crate::fixtures::{LONGEST_TAG, begin_of, criteria_of, row_of};
 use point_book::PointBook;
-use profile::{Criteria, Purpose, Row};
+use profile::Row;
 use std::alloc::Global;
 use std::process::Abort;
 use std::test::Fail;
 use transactions::Began;
-
-fn of_transaction(id: i32, connector: u32, purpose: Purpose, transaction: i32) -> RowTold<'static> {
-    RowTold {
-        transaction: Some(transaction),
-        ..told(id, connector, purpose, 0)
-    }
-}
 
 /// A point of so many connectors, each with a ceiling of 16 A.
 fn book(alloc: Global, ceiling: u32, connectors: u32) -> Result<PointBook, Fail> {
@@ -27,56 +17,27 @@ fn book(alloc: Global, ceiling: u32, connectors: u32) -> Result<PointBook, Fail>
     Ok(PointBook::try_new(alloc, ceiling, ceilings)?)
 }
 
-/// A row, and why it is refused, if it is.
-#[derive(Clone, Copy)]
-struct Case<'a> {
-    told: RowTold<'a>,
-    refusal: Option<Refusal>,
-}
-
-fn accepted(told: RowTold<'_>) -> Case<'_> {
-    Case {
-        told,
-        refusal: None,
-    }
-}
-
-fn refused(told: RowTold<'_>, refusal: Refusal) -> Case<'_> {
-    Case {
-        told,
-        refusal: Some(refusal),
-    }
-}
-
-/// Installs each row. A refusal hands it back and changes nothing.
-fn install(
-    rt: &impl Abort,
-    alloc: Global,
-    book: &mut PointBook,
-    cases: &[Case<'_>],
-) -> Result<(), Fail> {
-    for case in cases {
+/// Installs the row of each line, with why it is refused, if it is: `id=1 = TooManyProfiles`. A refusal
+/// hands it back and changes nothing.
+fn install(rt: &impl Abort, alloc: Global, book: &mut PointBook, lines: &str) -> Result<(), Fail> {
+    for line in lines.lines() {
+        let (words, wanted) = line.split_once(" = ").unwrap_or((line, "-"));
         let before = book.copy()?;
-        let refusal = refusal_of(rt, book, row_of(alloc, case.told)?);
-        assert_eq!(rt; refusal, case.refusal, "row {}", case.told.id);
-        assert_eq!(rt;
-            book.same(&before),
-            refusal.is_some(),
-            "row {}",
-            case.told.id
-        );
+        let refusal = refusal_of(rt, book, row_of(alloc, words)?);
+        assert_eq!(rt; refusal, wanted, "{line}");
+        assert_eq!(rt; book.same(&before), wanted != "-", "{line}");
     }
     Ok(())
 }
 
-fn refusal_of(rt: &impl Abort, book: &mut PointBook, row: Row) -> Option<Refusal> {
+fn refusal_of(rt: &impl Abort, book: &mut PointBook, row: Row) -> &'static str {
     let id = row.profile.id;
     assert!(rt; row.connector <= book.connectors());
     match book.install(row) {
-        Ok(()) => None,
+        Ok(()) => "-",
         Err((refusal, back)) => {
             assert_eq!(rt; back.profile.id, id);
-            Some(refusal)
+            refusal.name()
         }
     }
 }
@@ -95,36 +56,34 @@ fn start(
     Ok(book.start(connector, begin, next))
 }
 
-fn expect(rt: &impl Abort, book: &PointBook, ids: &[i32]) {
-    let rows = book.view().rows;
-    assert_eq!(rt; rows.len(), ids.len());
-    for (row, id) in rows.iter().zip(ids) {
-        assert_eq!(rt; row.profile.id, *id);
+/// The rows' ids, with a blank before each.
+fn expect(rt: &impl Abort, alloc: Global, book: &PointBook, wanted: &str) -> Result<(), Fail> {
+    let mut text = String::new(alloc);
+    for row in book.view().rows {
+        write!(&mut text, " {}", row.profile.id)?;
     }
+    assert_eq!(rt; text.as_str(), wanted);
+    Ok(())
 }
+
+const BY_THE_TRANSACTION: &str = "\
+id=1 connector=2 purpose=TxProfile = NoTransaction
+id=2 connector=2 purpose=TxProfile transaction=7 = NoTransaction
+id=3 connector=0 purpose=TxProfile = NoTransaction
+id=4 connector=1 purpose=TxProfile transaction=8 = OtherTransaction
+id=5 connector=1 purpose=TxProfile transaction=7
+id=6 connector=1 purpose=TxProfile level=1
+id=7 connector=2 purpose=TxDefaultProfile transaction=8
+id=8 connector=1 purpose=ChargePointMaxProfile";
 
 #[test]
 fn refuses_by_the_transaction(rt: HostRuntime) -> Result<(), Fail> {
     let alloc = rt.alloc();
     let mut book = book(alloc, 320, 2)?;
     start(&rt, alloc, &mut book, (1, "ann"), 7)?;
-    let cases = [
-        refused(told(1, 2, TX, 0), Refusal::NoTransaction),
-        refused(of_transaction(2, 2, TX, 7), Refusal::NoTransaction),
-        refused(told(3, 0, TX, 0), Refusal::NoTransaction),
-        refused(of_transaction(4, 1, TX, 8), Refusal::OtherTransaction),
-        accepted(of_transaction(5, 1, TX, 7)),
-        accepted(told(6, 1, TX, 1)),
-        accepted(of_transaction(7, 2, DEFAULT, 8)),
-        accepted(told(8, 1, MAX, 0)),
-    ];
-    install(&rt, alloc, &mut book, &cases)?;
-    expect(&rt, &book, &[5, 6, 7, 8]);
-    Ok(())
+    install(&rt, alloc, &mut book, BY_THE_TRANSACTION)?;
+    expect(&rt, alloc, &book, " 5 6 7 8")
 }
-
-/// As long as an idTag may be, of characters of four bytes.
-const LONGEST_TAG: &str = "🔌🔌🔌🔌🔌🔌🔌🔌🔌🔌🔌🔌🔌🔌🔌🔌🔌🔌🔌🔌";
 
 /// A point of 64 connectors, of which the last has no transaction, with 100 rows of 200 periods: ids from
 /// 1 and levels from 0.
@@ -133,45 +92,41 @@ fn full(rt: &impl Abort, alloc: Global) -> Result<PointBook, Fail> {
     for connector in 1..64u32 {
         start(rt, alloc, &mut book, (connector, LONGEST_TAG), 1)?;
     }
-    let periods = periods_by_turns(alloc, 200, 60)?;
     for level in 0..100u32 {
-        let told = RowTold {
-            periods: periods.as_slice(),
-            ..told(level as i32 + 1, 0, DEFAULT, level)
-        };
-        install(rt, alloc, &mut book, &[accepted(told)])?;
+        let words = format!(in alloc; "id={} level={level} turns=60", level + 1)?;
+        install(rt, alloc, &mut book, words.as_str())?;
     }
     Ok(book)
 }
+
+const PAST_THE_LAST: &str = "\
+id=101 connector=1 = TooManyProfiles
+id=101 connector=64 purpose=TxProfile = NoTransaction
+id=101 connector=1 purpose=TxProfile transaction=2 = OtherTransaction
+id=101 level=5";
 
 #[test]
 fn has_room_for_its_connectors_and_rows(rt: HostRuntime) -> Result<(), Fail> {
     let alloc = rt.alloc();
     let mut book = full(&rt, alloc)?;
-    let cases = [
-        refused(told(101, 1, DEFAULT, 0), Refusal::TooManyProfiles),
-        refused(told(101, 64, TX, 0), Refusal::NoTransaction),
-        refused(of_transaction(101, 1, TX, 2), Refusal::OtherTransaction),
-        accepted(told(101, 0, DEFAULT, 5)),
-    ];
-    install(&rt, alloc, &mut book, &cases)?;
+    install(&rt, alloc, &mut book, PAST_THE_LAST)?;
     assert_eq!(rt; book.view().rows.len(), 100);
     assert!(rt; book.copy()?.same(&book));
     Ok(())
 }
+
+const FOUR_ROWS: &str = "\
+id=1 connector=1 purpose=TxProfile
+id=2 connector=2 purpose=TxProfile
+id=3 connector=1
+id=4 purpose=ChargePointMaxProfile";
 
 /// Two connectors with transactions 1 and 2, a TxProfile at each, and two other rows.
 fn two_active(rt: &impl Abort, alloc: Global) -> Result<PointBook, Fail> {
     let mut book = book(alloc, 320, 2)?;
     start(rt, alloc, &mut book, (1, "ann"), 1)?;
     start(rt, alloc, &mut book, (2, "ann"), 2)?;
-    let cases = [
-        accepted(told(1, 1, TX, 0)),
-        accepted(told(2, 2, TX, 0)),
-        accepted(told(3, 1, DEFAULT, 0)),
-        accepted(told(4, 0, MAX, 0)),
-    ];
-    install(rt, alloc, &mut book, &cases)?;
+    install(rt, alloc, &mut book, FOUR_ROWS)?;
     Ok(book)
 }
 
@@ -181,63 +136,56 @@ fn drops_profiles_where_another_starts(rt: HostRuntime) -> Result<(), Fail> {
     let mut book = two_active(&rt, alloc)?;
     let again = start(&rt, alloc, &mut book, (1, "aNN"), 3)?;
     assert_eq!(rt; again, Began::Repeat(1));
-    expect(&rt, &book, &[1, 2, 3, 4]);
+    expect(&rt, alloc, &book, " 1 2 3 4")?;
     let fresh = start(&rt, alloc, &mut book, (1, "bob"), 3)?;
     assert_eq!(rt; fresh, Began::Fresh);
-    expect(&rt, &book, &[2, 3, 4]);
-    Ok(())
-}
-
-fn stop(rt: &impl Abort, book: &mut PointBook, id: i32, expected: Option<u32>) {
-    assert_eq!(rt; book.stop(id), expected, "stop {id}");
+    expect(&rt, alloc, &book, " 2 3 4")
 }
 
 #[test]
 fn drops_profiles_where_one_stops(rt: HostRuntime) -> Result<(), Fail> {
-    let mut book = two_active(&rt, rt.alloc())?;
-    stop(&rt, &mut book, 3, None);
-    expect(&rt, &book, &[1, 2, 3, 4]);
-    stop(&rt, &mut book, 2, Some(2));
-    stop(&rt, &mut book, 2, None);
-    expect(&rt, &book, &[1, 3, 4]);
-    let at_one = Criteria {
-        connector: Some(1),
-        ..ANY
-    };
-    assert_eq!(rt; book.clear(&at_one), 2);
-    expect(&rt, &book, &[4]);
-    Ok(())
+    let alloc = rt.alloc();
+    let mut book = two_active(&rt, alloc)?;
+    assert_eq!(rt; book.stop(3), None);
+    expect(&rt, alloc, &book, " 1 2 3 4")?;
+    assert_eq!(rt; book.stop(2), Some(2));
+    assert_eq!(rt; book.stop(2), None);
+    expect(&rt, alloc, &book, " 1 3 4")?;
+    assert_eq!(rt; book.clear(&criteria_of("connector=1")?), 2);
+    expect(&rt, alloc, &book, " 4")
 }
 
-/// A book with one transaction, at connector 1, and one row.
+/// A book of a ceiling and so many connectors, with one transaction, at connector 1, and one row.
 fn with_row(
     rt: &impl Abort,
     alloc: Global,
-    mut book: PointBook,
+    (ceiling, connectors): (u32, u32),
     tag: &str,
-    told: RowTold<'_>,
+    words: &str,
 ) -> Result<PointBook, Fail> {
+    let mut book = book(alloc, ceiling, connectors)?;
     start(rt, alloc, &mut book, (1, tag), 1)?;
-    install(rt, alloc, &mut book, &[accepted(told)])?;
+    install(rt, alloc, &mut book, words)?;
     Ok(book)
 }
+
+const ROW: &str = "id=1 connector=1 purpose=TxProfile";
+
+const LATER_ROW: &str = "id=1 connector=1 purpose=TxProfile moment=1";
 
 #[test]
 fn compares_all_that_it_has(rt: HostRuntime) -> Result<(), Fail> {
     let alloc = rt.alloc();
-    let row = told(1, 1, TX, 0);
-    let later = RowTold { moment: 1, ..row };
-    let books = [
-        (320, 2, "ann", row, true),
-        (321, 2, "ann", row, false),
-        (320, 3, "ann", row, false),
-        (320, 2, "aNn", row, false),
-        (320, 2, "ann", later, false),
-    ];
-    let one = with_row(&rt, alloc, book(alloc, 320, 2)?, "ann", row)?;
-    for (ceiling, connectors, tag, row, expected) in books {
-        let other = with_row(&rt, alloc, book(alloc, ceiling, connectors)?, tag, row)?;
-        assert_eq!(rt; one.same(&other), expected, "{ceiling} {connectors} {tag}");
+    let one = with_row(&rt, alloc, (320, 2), "ann", ROW)?;
+    for (sizes, tag, words, expected) in [
+        ((320, 2), "ann", ROW, true),
+        ((321, 2), "ann", ROW, false),
+        ((320, 3), "ann", ROW, false),
+        ((320, 2), "aNn", ROW, false),
+        ((320, 2), "ann", LATER_ROW, false),
+    ] {
+        let other = with_row(&rt, alloc, sizes, tag, words)?;
+        assert_eq!(rt; one.same(&other), expected, "{tag} {words}");
     }
     Ok(())
 }

@@ -1,112 +1,67 @@
 //! The worked examples by the plain compiler, and copies at their largest, with ample memory.
 
-use crate::fixtures::{RowTold, WHOLE_POINT, instant_at, periods_by_turns, row_of};
-use meaning::{Ask, CompositePeriod, View, compile_plain, limit_at};
+use crate::fixtures::{instant_at, row_of};
+use meaning::{Ask, View, compile_plain, limit_at};
 use ocpp_scalars::Refusal;
-use profile::{ProfileKind, Recurrency};
+use profile::Row;
 use std::alloc::Global;
 use std::process::Abort;
 use std::test::Fail;
 
-/// What is asked of a connector; start counts from midnight.
-#[derive(Clone, Copy)]
-struct Asked {
-    connector: u32,
-    start: u64,
-    duration: u32,
+/// The rows of lines.
+fn rows_of(alloc: Global, lines: &str) -> Result<Vec<Row>, Fail> {
+    let mut rows = Vec::new(alloc);
+    for line in lines.lines() {
+        rows.push(row_of(alloc, line)?)?;
+    }
+    Ok(rows)
 }
 
-fn from_midnight(connector: u32, start: u64, duration: u32) -> Asked {
-    Asked {
-        connector,
-        start,
-        duration,
+/// The schedule of an ask, against what is expected: `1 30 60 = 0:100 30:320` is connector 1, 30 seconds
+/// after midnight, for 60 seconds, and of each period its start and its limit.
+fn expect(rt: &impl Abort, alloc: Global, view: &View<'_>, line: &str) -> Result<(), Fail> {
+    let (asked, expected) = line.split_once(" = ").ok_or("no periods")?;
+    let mut words = asked.split(' ');
+    let connector = words.next().ok_or("no connector")?.parse::<u32>()?;
+    let start = instant_at(words.next().ok_or("no start")?.parse::<u64>()?)?;
+    let duration = words.next().ok_or("no duration")?.parse::<u32>()?;
+    assert!(rt; connector as usize <= view.ceilings.len());
+    let schedule = compile_plain(alloc, view, &Ask::try_new(connector, start, duration)?)?;
+    assert_eq!(rt; schedule.duration(), duration);
+    let mut text = String::new(alloc);
+    for period in schedule.periods() {
+        write!(&mut text, " {}:{}", period.start, period.limit)?;
     }
-}
-
-/// The schedule of an ask, against the periods expected.
-fn expect(
-    rt: &impl Abort,
-    alloc: Global,
-    view: &View<'_>,
-    asked: Asked,
-    expected: &[(u32, u32)],
-) -> Result<(), Fail> {
-    assert!(rt; asked.connector as usize <= view.ceilings.len());
-    let start = instant_at(asked.start)?;
-    let ask = Ask::try_new(asked.connector, start, asked.duration)?;
-    let schedule = compile_plain(alloc, view, &ask)?;
-    assert_eq!(rt; schedule.duration(), asked.duration);
-    assert_eq!(rt; schedule.periods().len(), expected.len());
-    for (period, (start, limit)) in schedule.periods().iter().zip(expected) {
-        assert_eq!(rt;
-            *period,
-            CompositePeriod {
-                start: *start,
-                limit: *limit
-            }
-        );
-    }
+    assert_eq!(rt; text.as_str().strip_prefix(" "), Some(expected), "{line}");
     let first = schedule.periods().first().map(|period| period.limit);
-    assert_eq!(rt; first, Some(limit_at(view, asked.connector, start, start)));
+    assert_eq!(rt; first, Some(limit_at(view, connector, start, start)));
     Ok(())
 }
 
-/// 6 A from 22:00 to 06:00.
-const NIGHT: RowTold<'static> = RowTold {
-    level: 1,
-    kind: ProfileKind::Recurring,
-    recurrency: Some(Recurrency::Daily),
-    start: Some(79_200),
-    duration: Some(28_800),
-    periods: &[(0, 60)],
-    ..WHOLE_POINT
-};
-
-/// 20 A. A recurrencyKind that an Absolute profile has doesn't count.
-const ALWAYS: RowTold<'static> = RowTold {
-    recurrency: Some(Recurrency::Daily),
-    start: Some(0),
-    periods: &[(0, 200)],
-    ..WHOLE_POINT
-};
-
-/// 10 A for a minute.
-const FIRST_MINUTE: RowTold<'static> = RowTold {
-    kind: ProfileKind::Relative,
-    duration: Some(60),
-    periods: &[(0, 100)],
-    ..WHOLE_POINT
-};
+/// 6 A from 22:00 to 06:00, and 20 A below it. A recurrencyKind that an Absolute profile has doesn't count.
+const TWO_LEVELS: &str = "\
+level=1 kind=Recurring recurrency=Daily start=79200 duration=28800 periods=0:60
+kind=Absolute recurrency=Daily start=0 periods=0:200";
 
 #[test]
 fn answers_two_levels(rt: HostRuntime) -> Result<(), Fail> {
     let alloc = rt.alloc();
-    let mut rows = Vec::new(alloc);
-    rows.push(row_of(alloc, NIGHT)?)?;
-    rows.push(row_of(alloc, ALWAYS)?)?;
+    let rows = rows_of(alloc, TWO_LEVELS)?;
     let view = View {
         ceiling: 630,
         ceilings: &[320, 320],
         starts: &[None, None],
         rows: rows.as_slice(),
     };
-    let expected = [(0, 60), (2, 200), (57_602, 60)];
-    expect(
-        &rt,
-        alloc,
-        &view,
-        from_midnight(1, 194_398, 86_400),
-        &expected,
-    )?;
-    expect(&rt, alloc, &view, from_midnight(0, 194_398, 60), &[(0, 0)])
+    expect(&rt, alloc, &view, "1 194398 86400 = 0:60 2:200 57602:60")?;
+    expect(&rt, alloc, &view, "0 194398 60 = 0:0")
 }
 
 #[test]
 fn answers_each_connector_and_the_point(rt: HostRuntime) -> Result<(), Fail> {
     let alloc = rt.alloc();
-    let mut rows = Vec::new(alloc);
-    rows.push(row_of(alloc, FIRST_MINUTE)?)?;
+    let relative = "kind=Relative recurrency=Daily duration=60 periods=0:100";
+    let rows = rows_of(alloc, relative)?;
     let started = Some(instant_at(0)?);
     let view = View {
         ceiling: 630,
@@ -114,23 +69,15 @@ fn answers_each_connector_and_the_point(rt: HostRuntime) -> Result<(), Fail> {
         starts: &[started, None],
         rows: rows.as_slice(),
     };
-    let first = [(0, 100), (30, 320)];
-    expect(&rt, alloc, &view, from_midnight(1, 30, 60), &first)?;
-    expect(&rt, alloc, &view, from_midnight(2, 30, 60), &[(0, 100)])?;
-    expect(&rt, alloc, &view, from_midnight(0, 30, 60), &first)
+    expect(&rt, alloc, &view, "1 30 60 = 0:100 30:320")?;
+    expect(&rt, alloc, &view, "2 30 60 = 0:100")?;
+    expect(&rt, alloc, &view, "0 30 60 = 0:100 30:320")
 }
 
 #[test]
 fn answers_up_to_the_most_periods(rt: HostRuntime) -> Result<(), Fail> {
     let alloc = rt.alloc();
-    let periods = periods_by_turns(alloc, 200, 432)?;
-    let daily = RowTold {
-        kind: ProfileKind::Recurring,
-        periods: periods.as_slice(),
-        ..ALWAYS
-    };
-    let mut rows = Vec::new(alloc);
-    rows.push(row_of(alloc, daily)?)?;
+    let rows = rows_of(alloc, "kind=Recurring recurrency=Daily start=0 turns=432")?;
     let view = View {
         ceiling: 630,
         ceilings: &[320],
@@ -149,22 +96,13 @@ fn answers_up_to_the_most_periods(rt: HostRuntime) -> Result<(), Fail> {
 #[test]
 fn copies_200_periods(rt: HostRuntime) -> Result<(), Fail> {
     let alloc = rt.alloc();
-    let periods = periods_by_turns(alloc, 200, 1)?;
-    let told = RowTold {
-        connector: 1,
-        periods: periods.as_slice(),
-        ..FIRST_MINUTE
-    };
-    let first = row_of(alloc, told)?;
+    let first = row_of(alloc, "connector=1 kind=Relative duration=60 turns=1")?;
     assert!(rt; first.copy()?.same(&first));
     assert!(rt; first.profile.copy()?.same(&first.profile));
     let schedule = &first.profile.schedule;
     assert!(rt; schedule.copy()?.same(schedule));
     assert!(rt; schedule.periods.copy()?.same(&schedule.periods));
-    let shorter = RowTold {
-        periods: &[(0, 60)],
-        ..told
-    };
-    assert!(rt; !row_of(alloc, shorter)?.same(&first));
+    let shorter = row_of(alloc, "connector=1 kind=Relative duration=60 periods=0:60")?;
+    assert!(rt; !shorter.same(&first));
     Ok(())
 }

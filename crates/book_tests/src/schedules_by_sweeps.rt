@@ -1,183 +1,35 @@
 //! Schedules from outside with their turns, beside the plain compiler, and that memory suffices.
 
-use crate::fixtures::{
-    MAX, RowTold, TX, WHOLE_POINT, begin_of, instant_at, periods_by_turns, row_of,
-};
+use crate::fixtures::{begin_of, instant_at, row_of};
 use meaning::{Ask, Composite, compile_plain};
 use ocpp_scalars::Refusal;
 use point_book::PointBook;
-use profile::{ProfileKind, Recurrency};
 use std::alloc::Global;
+use std::process::Abort;
 use std::test::Fail;
 use sweep_compiler::{Turns, compile};
 
-/// A TxDefaultProfile of the whole point, of a kind and from a start on.
-fn told(id: i32, level: u32, kind: ProfileKind, start: u64) -> RowTold<'static> {
-    RowTold {
-        id,
-        level,
-        kind,
-        recurrency: Some(Recurrency::Daily),
-        start: Some(start),
-        ..WHOLE_POINT
+/// A point of so many connectors of 32 A.
+fn point(alloc: Global, ceiling: u32, connectors: u32) -> Result<PointBook, Fail> {
+    let mut ceilings = Vec::new(alloc);
+    for _connector in 0..connectors {
+        ceilings.push(320)?;
     }
+    Ok(PointBook::try_new(alloc, ceiling, ceilings)?)
 }
 
-/// A point of 63 A with two connectors of 32 A.
-fn point(alloc: Global) -> Result<PointBook, Fail> {
-    let ceilings = Vec::from_slice(alloc, &[320, 320])?;
-    Ok(PointBook::try_new(alloc, 630, ceilings)?)
-}
-
-/// Installs a row.
-fn install(alloc: Global, book: &mut PointBook, told: RowTold<'_>) -> Result<(), Fail> {
-    let row = row_of(alloc, told)?;
-    if row.connector > book.connectors() {
-        return Err("no such connector")?;
+/// Installs the rows of lines.
+fn install(alloc: Global, book: &mut PointBook, lines: &str) -> Result<(), Fail> {
+    for line in lines.lines() {
+        let row = row_of(alloc, line)?;
+        if row.connector > book.connectors() {
+            return Err("no such connector")?;
+        }
+        match book.install(row) {
+            Ok(()) => {}
+            Err((refusal, _)) => Err(refusal)?,
+        }
     }
-    match book.install(row) {
-        Ok(()) => Ok(()),
-        Err((refusal, _)) => Err(refusal)?,
-    }
-}
-
-/// What is asked, from a second after midnight on.
-#[derive(Clone, Copy)]
-struct Asked {
-    connector: u32,
-    start: u64,
-    duration: u32,
-}
-
-fn asked_for(connector: u32, start: u64, duration: u32) -> Asked {
-    Asked {
-        connector,
-        start,
-        duration,
-    }
-}
-
-/// What comes of an ask, and its turns.
-fn compiled(
-    alloc: Global,
-    book: &PointBook,
-    asked: Asked,
-) -> Result<(Result<Composite, Refusal>, u64), Fail> {
-    let ask = Ask::try_new(asked.connector, instant_at(asked.start)?, asked.duration)?;
-    if ask.connector > book.connectors() {
-        return Err("no such connector")?;
-    }
-    let mut turns = Turns::new();
-    let result = compile(alloc, book, &ask, &mut turns);
-    Ok((result, turns.count()))
-}
-
-/// How many periods an ask comes to, or its refusal, and its turns.
-fn counts(
-    alloc: Global,
-    book: &PointBook,
-    asked: Asked,
-) -> Result<(Result<usize, Refusal>, u64), Fail> {
-    let (result, turns) = compiled(alloc, book, asked)?;
-    match result {
-        Ok(schedule) => Ok((Ok(schedule.periods().len()), turns)),
-        Err(refusal) => Ok((Err(refusal), turns)),
-    }
-}
-
-/// The schedule of an ask by the plain compiler.
-fn plain(alloc: Global, book: &PointBook, asked: Asked) -> Result<Composite, Fail> {
-    let ask = Ask::try_new(asked.connector, instant_at(asked.start)?, asked.duration)?;
-    if ask.connector > book.connectors() {
-        return Err("no such connector")?;
-    }
-    Ok(compile_plain(alloc, &book.view(), &ask)?)
-}
-
-/// Whether an ask has the schedule of the plain compiler.
-fn is_plain(alloc: Global, book: &PointBook, asked: Asked) -> Result<bool, Fail> {
-    let (schedule, _) = compiled(alloc, book, asked)?;
-    let plain = plain(alloc, book, asked)?;
-    Ok(schedule?.periods() == plain.periods())
-}
-
-/// Whether an ask has the schedule of these periods.
-fn has_schedule(
-    alloc: Global,
-    book: &PointBook,
-    asked: Asked,
-    periods: &[(u32, u32)],
-) -> Result<bool, Fail> {
-    let (schedule, _) = compiled(alloc, book, asked)?;
-    Ok(has_periods(&schedule?, periods))
-}
-
-fn has_periods(schedule: &Composite, expected: &[(u32, u32)]) -> bool {
-    let periods = schedule.periods();
-    periods.len() == expected.len()
-        && periods.iter().zip(expected).all(|(period, (start, limit))| period.start == *start
-            && period.limit == *limit)
-}
-
-#[test]
-fn turns_at_places_alone(rt: HostRuntime) -> Result<(), Fail> {
-    let alloc = rt.alloc();
-    let mut book = point(alloc)?;
-    let night = RowTold {
-        duration: Some(28_800),
-        periods: &[(0, 60)],
-        ..told(1, 1, ProfileKind::Recurring, 79_200)
-    };
-    let always = RowTold {
-        periods: &[(0, 200)],
-        ..told(2, 0, ProfileKind::Absolute, 0)
-    };
-    install(alloc, &mut book, night)?;
-    install(alloc, &mut book, always)?;
-    let day = asked_for(1, 194_398, 86_400);
-    let expected = [(0, 60), (2, 200), (57_602, 60)];
-    assert!(rt; has_schedule(alloc, &book, day, &expected)?);
-    assert_eq!(rt; counts(alloc, &book, day)?, (Ok(3), 3));
-    let week = asked_for(1, 194_398, 604_800);
-    assert_eq!(rt; counts(alloc, &book, week)?, (Ok(15), 15));
-    Ok(())
-}
-
-#[test]
-fn answers_up_to_the_most_periods(rt: HostRuntime) -> Result<(), Fail> {
-    let alloc = rt.alloc();
-    let mut book = point(alloc)?;
-    let periods = periods_by_turns(alloc, 200, 432)?;
-    let daily = RowTold {
-        periods: periods.as_slice(),
-        ..told(1, 0, ProfileKind::Recurring, 0)
-    };
-    install(alloc, &mut book, daily)?;
-    let most = counts(alloc, &book, asked_for(1, 0, 432_000))?;
-    assert_eq!(rt; most, (Ok(1_000), 1_000));
-    let too_long = counts(alloc, &book, asked_for(1, 0, 604_800))?;
-    assert_eq!(rt; too_long, (Err(Refusal::ResultTooLong), 1_001));
-    Ok(())
-}
-
-#[test]
-fn turns_once_where_places_are_shared(rt: HostRuntime) -> Result<(), Fail> {
-    let alloc = rt.alloc();
-    let mut book = point(alloc)?;
-    for level in 0..10 {
-        let periods = [(0, 60 + level), (3_600, 100 + level)];
-        let told = RowTold {
-            periods: &periods,
-            ..told(level as i32, level, ProfileKind::Recurring, 0)
-        };
-        install(alloc, &mut book, told)?;
-    }
-    let two_days = asked_for(2, 0, 172_800);
-    let expected = [(0, 69), (3_600, 109), (86_400, 69), (90_000, 109)];
-    assert!(rt; has_schedule(alloc, &book, two_days, &expected)?);
-    assert_eq!(rt; counts(alloc, &book, two_days)?, (Ok(4), 4));
-    let idle = counts(alloc, &book, asked_for(0, 0, 172_800))?;
-    assert_eq!(rt; idle, (Ok(1), 1));
     Ok(())
 }
 
@@ -190,143 +42,174 @@ fn begin(alloc: Global, book: &mut PointBook, connector: u32, second: u64) -> Re
     Ok(())
 }
 
-#[test]
-fn goes_down_the_most_levels(rt: HostRuntime) -> Result<(), Fail> {
-    let alloc = rt.alloc();
-    let mut book = point(alloc)?;
-    begin(alloc, &mut book, 1, 100)?;
-    for level in 0..100u32 {
-        let periods = [(0, 60 + level)];
-        let told = RowTold {
-            valid: (None, Some(60 * u64::from(100 - level))),
-            periods: &periods,
-            ..told(level as i32, level, ProfileKind::Recurring, 0)
-        };
-        install(alloc, &mut book, told)?;
+/// The ask of words: `1 30 60` is connector 1, 30 seconds after midnight, for 60 seconds.
+fn ask_of(words: &str) -> Result<Ask, Fail> {
+    let mut words = words.split(' ');
+    let connector = words.next().ok_or("no connector")?.parse::<u32>()?;
+    let start = instant_at(words.next().ok_or("no start")?.parse::<u64>()?)?;
+    let duration = words.next().ok_or("no duration")?.parse::<u32>()?;
+    Ok(Ask::try_new(connector, start, duration)?)
+}
+
+/// Of each period its start and its limit.
+fn periods_of(alloc: Global, schedule: &Composite) -> Result<String, Fail> {
+    let mut text = String::new(alloc);
+    for period in schedule.periods() {
+        write!(&mut text, " {}:{}", period.start, period.limit)?;
     }
-    for connector in 0..3 {
-        let minutes = counts(alloc, &book, asked_for(connector, 0, 6_000))?;
-        assert_eq!(rt; minutes, (Ok(100), 100));
+    Ok(text)
+}
+
+/// How many periods an ask comes to, none where it is too long, and its turns.
+fn counts(alloc: Global, book: &PointBook, ask: &Ask) -> Result<(Option<usize>, u64), Fail> {
+    if ask.connector > book.connectors() {
+        return Err("no such connector")?;
+    }
+    let mut turns = Turns::new();
+    let count = match compile(alloc, book, ask, &mut turns) {
+        Ok(schedule) => Some(schedule.periods().len()),
+        Err(Refusal::ResultTooLong) => None,
+        Err(refusal) => return Err(refusal)?,
+    };
+    Ok((count, turns.count()))
+}
+
+/// Asks, each with its count of periods (`-` where they are too many) and of turns.
+fn expect_counts(rt: &impl Abort, alloc: Global, book: &PointBook, lines: &str) -> Result<(), Fail> {
+    for line in lines.lines() {
+        let (asked, wanted) = line.split_once(" = ").ok_or("no counts")?;
+        let (count, turns) = counts(alloc, book, &ask_of(asked)?)?;
+        let found = match count {
+            Some(count) => format!(in alloc; "{count} {turns}")?,
+            None => format!(in alloc; "- {turns}")?,
+        };
+        assert_eq!(rt; found.as_str(), wanted, "{line}");
     }
     Ok(())
 }
 
-/// 10 A, or what is told, for 700 seconds, and then half of it.
-const FROM_BASE: RowTold<'static> = RowTold {
-    id: 3,
-    recurrency: Some(Recurrency::Daily),
-    duration: Some(1_200),
-    periods: &[(0, 90), (700, 45)],
-    ..WHOLE_POINT
-};
+/// Asks, each with its periods, by this compiler and by the plain one.
+fn expect_schedules(
+    rt: &impl Abort,
+    alloc: Global,
+    book: &PointBook,
+    lines: &str,
+) -> Result<(), Fail> {
+    for line in lines.lines() {
+        let (asked, wanted) = line.split_once(" =").ok_or("no periods")?;
+        let ask = ask_of(asked)?;
+        assert!(rt; ask.connector <= book.connectors());
+        let schedule = compile(alloc, book, &ask, &mut Turns::new())?;
+        assert_eq!(rt; periods_of(alloc, &schedule)?.as_str(), wanted, "{line}");
+        let plain = compile_plain(alloc, &book.view(), &ask)?;
+        assert!(rt; schedule.periods() == plain.periods(), "{line}");
+    }
+    Ok(())
+}
+
+/// 6 A from 22:00 to 06:00, and 20 A below it.
+const NIGHT: &str = "\
+id=1 level=1 kind=Recurring recurrency=Daily start=79200 duration=28800 periods=0:60
+id=2 start=0 periods=0:200";
+
+#[test]
+fn turns_at_places_alone(rt: HostRuntime) -> Result<(), Fail> {
+    let alloc = rt.alloc();
+    let mut book = point(alloc, 630, 2)?;
+    install(alloc, &mut book, NIGHT)?;
+    expect_schedules(&rt, alloc, &book, "1 194398 86400 = 0:60 2:200 57602:60")?;
+    expect_counts(&rt, alloc, &book, "1 194398 86400 = 3 3\n1 194398 604800 = 15 15")
+}
+
+#[test]
+fn answers_up_to_the_most_periods(rt: HostRuntime) -> Result<(), Fail> {
+    let alloc = rt.alloc();
+    let mut book = point(alloc, 630, 2)?;
+    install(alloc, &mut book, "kind=Recurring recurrency=Daily start=0 turns=432")?;
+    expect_counts(&rt, alloc, &book, "1 0 432000 = 1000 1000\n1 0 604800 = - 1001")
+}
+
+#[test]
+fn turns_once_where_places_are_shared(rt: HostRuntime) -> Result<(), Fail> {
+    let alloc = rt.alloc();
+    let mut book = point(alloc, 630, 2)?;
+    for level in 0..10u32 {
+        let words = format!(in alloc;
+            "id={level} level={level} kind=Recurring recurrency=Daily start=0 periods=0:{},3600:{}",
+            60 + level,
+            100 + level
+        )?;
+        install(alloc, &mut book, words.as_str())?;
+    }
+    expect_schedules(
+        &rt,
+        alloc,
+        &book,
+        "2 0 172800 = 0:69 3600:109 86400:69 90000:109",
+    )?;
+    expect_counts(&rt, alloc, &book, "2 0 172800 = 4 4\n0 0 172800 = 1 1")
+}
+
+#[test]
+fn goes_down_the_most_levels(rt: HostRuntime) -> Result<(), Fail> {
+    let alloc = rt.alloc();
+    let mut book = point(alloc, 630, 2)?;
+    begin(alloc, &mut book, 1, 100)?;
+    for level in 0..100u32 {
+        let words = format!(in alloc;
+            "id={level} level={level} kind=Recurring recurrency=Daily start=0 to={} periods=0:{}",
+            60 * (100 - level),
+            60 + level
+        )?;
+        install(alloc, &mut book, words.as_str())?;
+    }
+    let minutes = "0 0 6000 = 100 100\n1 0 6000 = 100 100\n2 0 6000 = 100 100";
+    expect_counts(&rt, alloc, &book, minutes)
+}
 
 /// Rows of all purposes and kinds, with and without starts, durations and bounds.
-const ROWS: [RowTold<'static>; 7] = [
-    RowTold {
-        id: 1,
-        level: 1,
-        kind: ProfileKind::Recurring,
-        start: Some(0),
-        duration: None,
-        periods: &[(0, 130), (700, 65)],
-        ..FROM_BASE
-    },
-    RowTold {
-        id: 2,
-        connector: 1,
-        level: 1,
-        start: Some(600),
-        duration: None,
-        periods: &[(0, 110), (700, 55)],
-        ..FROM_BASE
-    },
-    FROM_BASE,
-    RowTold {
-        id: 4,
-        purpose: MAX,
-        periods: &[(0, 100), (700, 50)],
-        ..FROM_BASE
-    },
-    RowTold {
-        id: 5,
-        connector: 1,
-        purpose: TX,
-        kind: ProfileKind::Relative,
-        periods: &[(0, 70), (700, 35)],
-        ..FROM_BASE
-    },
-    RowTold {
-        id: 6,
-        level: 3,
-        kind: ProfileKind::Recurring,
-        recurrency: Some(Recurrency::Weekly),
-        start: Some(300),
-        duration: Some(900),
-        periods: &[(0, 150), (700, 75)],
-        ..FROM_BASE
-    },
-    RowTold {
-        id: 7,
-        level: 4,
-        start: Some(500),
-        duration: None,
-        valid: (None, Some(1_000)),
-        periods: &[(0, 170), (700, 85)],
-        ..FROM_BASE
-    },
-];
+const ROWS: &str = "\
+id=1 level=1 kind=Recurring recurrency=Daily start=0 periods=0:130,700:65
+id=2 connector=1 level=1 recurrency=Daily start=600 periods=0:110,700:55
+id=3 recurrency=Daily duration=1200 periods=0:90,700:45
+id=4 purpose=ChargePointMaxProfile recurrency=Daily duration=1200 periods=0:100,700:50
+id=5 connector=1 purpose=TxProfile kind=Relative recurrency=Daily duration=1200 periods=0:70,700:35
+id=6 level=3 kind=Recurring recurrency=Weekly start=300 duration=900 periods=0:150,700:75
+id=7 level=4 recurrency=Daily start=500 to=1000 periods=0:170,700:85";
 
 #[test]
 fn answers_as_the_plain_compiler(rt: HostRuntime) -> Result<(), Fail> {
     let alloc = rt.alloc();
-    let mut book = point(alloc)?;
+    let mut book = point(alloc, 630, 2)?;
     begin(alloc, &mut book, 1, 100)?;
-    for told in &ROWS {
-        install(alloc, &mut book, *told)?;
-    }
-    for connector in 0..3 {
-        for start in [0, 250, 3_599, 604_000] {
-            let ask = asked_for(connector, start, 7_200);
-            assert!(rt; is_plain(alloc, &book, ask)?, "of {connector} from {start}");
+    install(alloc, &mut book, ROWS)?;
+    for connector in 0..3u32 {
+        for start in [0, 250, 3_599, 604_000u64] {
+            let ask = Ask::try_new(connector, instant_at(start)?, 7_200)?;
+            assert!(rt; ask.connector <= book.connectors());
+            let plain = compile_plain(alloc, &book.view(), &ask)?;
+            let schedule = compile(alloc, &book, &ask, &mut Turns::new())?;
+            assert!(rt; schedule.periods() == plain.periods(), "{connector} {start}");
         }
     }
     Ok(())
 }
 
-/// A point of 64 connectors of 32 A: at the k-th a transaction began k seconds after midnight.
-fn most_connectors(alloc: Global) -> Result<PointBook, Fail> {
-    let mut ceilings = Vec::new(alloc);
-    for _connector in 0..64 {
-        ceilings.push(320)?;
-    }
-    let mut book = PointBook::try_new(alloc, 1_000_000, ceilings)?;
-    for connector in 1..65 {
-        begin(alloc, &mut book, connector, u64::from(connector))?;
-    }
-    Ok(book)
-}
-
-/// Each transaction has 16 A in its first minute. At second 64 the first four have 32 A, and each
-/// second one more, until all have: 64 * 32 A.
+/// The k-th of 64 transactions began k seconds after midnight and has 16 A in its first minute. So at second
+/// 64 the first four have 32 A, and each second one more, until all have: 64 * 32 A.
 #[test]
 fn shares_among_the_most_connectors(rt: HostRuntime) -> Result<(), Fail> {
     let alloc = rt.alloc();
-    let mut book = most_connectors(alloc)?;
-    let first_minute = RowTold {
-        kind: ProfileKind::Relative,
-        duration: Some(60),
-        ..WHOLE_POINT
-    };
-    install(alloc, &mut book, first_minute)?;
-    let ask = asked_for(0, 64, 120);
-    let mut expected = Vec::new(alloc);
-    for second in 0..61 {
-        expected.push((second, 10_880 + 160 * second))?;
+    let mut book = point(alloc, 1_000_000, 64)?;
+    for connector in 1..65u32 {
+        begin(alloc, &mut book, connector, u64::from(connector))?;
     }
-    assert!(rt; has_schedule(alloc, &book, ask, expected.as_slice())?);
-    assert!(rt; has_periods(&plain(alloc, &book, ask)?, expected.as_slice()));
-    assert_eq!(rt; counts(alloc, &book, ask)?, (Ok(61), 61));
-    let last = [(0, 160), (60, 320)];
-    assert!(rt; has_schedule(alloc, &book, asked_for(64, 64, 120), &last)?);
-    Ok(())
+    install(alloc, &mut book, "kind=Relative duration=60 periods=0:160")?;
+    let mut line = String::from_str(alloc, "0 64 120 =")?;
+    for second in 0..61u32 {
+        write!(&mut line, " {second}:{}", 10_880 + 160 * second)?;
+    }
+    expect_schedules(&rt, alloc, &book, line.as_str())?;
+    expect_schedules(&rt, alloc, &book, "64 64 120 = 0:160 60:320")?;
+    expect_counts(&rt, alloc, &book, "0 64 120 = 61 61")
 }

@@ -1,7 +1,6 @@
 //! Site files with their faults, limits at their edges, and where profiles may stand.
 
-use crate::fixtures::{DEFAULT, MAX, RowTold, TX, WHOLE_POINT, profile_of, site_text};
-use ocpp_scalars::Refusal;
+use crate::fixtures::{profile_of, site_text};
 use profile::Unit;
 use site_rules::{MAX_SITE_BYTES, SiteFault, admit, read_site};
 use std::alloc::Global;
@@ -120,31 +119,33 @@ fn reads_a_file_of_16_mebibytes(rt: HostRuntime) -> Result<(), Fail> {
     Ok(())
 }
 
+/// Of a point and a connector a profile, and why it may not stand there, if it may not.
+const ADMISSIONS: &str = "\
+c 3 purpose=ChargePointMaxProfile unit=W = UnknownPoint
+A 0 purpose=TxDefaultProfile unit=A = UnknownPoint
+a 3 purpose=ChargePointMaxProfile unit=W = UnknownConnector
+a 2 purpose=ChargePointMaxProfile unit=W = MaxNotAtZero
+a 0 purpose=TxProfile unit=W = TxAtZero
+a 0 purpose=ChargePointMaxProfile unit=W = WrongUnit
+a 2 purpose=TxProfile unit=W = WrongUnit
+a 0 purpose=ChargePointMaxProfile unit=A = -
+b 0 purpose=TxDefaultProfile unit=A = -
+B 2 purpose=TxProfile unit=A = -";
+
 #[test]
 fn admits_by_five_rules(rt: HostRuntime) -> Result<(), Fail> {
     let alloc = rt.alloc();
     let site = read_site(alloc, SITE.replace(alloc, "@", LIMITS)?.as_bytes())?;
-    let asks = [
-        ("c", 3, MAX, Unit::W, Some(Refusal::UnknownPoint)),
-        ("A", 0, DEFAULT, Unit::A, Some(Refusal::UnknownPoint)),
-        ("a", 3, MAX, Unit::W, Some(Refusal::UnknownConnector)),
-        ("a", 2, MAX, Unit::W, Some(Refusal::MaxNotAtZero)),
-        ("a", 0, TX, Unit::W, Some(Refusal::TxAtZero)),
-        ("a", 0, MAX, Unit::W, Some(Refusal::WrongUnit)),
-        ("a", 2, TX, Unit::W, Some(Refusal::WrongUnit)),
-        ("a", 0, MAX, Unit::A, None),
-        ("b", 0, DEFAULT, Unit::A, None),
-        ("B", 2, TX, Unit::A, None),
-    ];
-    for (point, connector, purpose, unit, refusal) in asks {
-        let told = RowTold {
-            purpose,
-            unit,
-            ..WHOLE_POINT
+    for line in ADMISSIONS.lines() {
+        let (asked, wanted) = line.split_once(" = ").ok_or("no outcome")?;
+        let (point, rest) = asked.split_once(' ').ok_or("no connector")?;
+        let (connector, words) = rest.split_once(' ').ok_or("no profile")?;
+        let profile = profile_of(alloc, words)?;
+        let found = match admit(&site, point, connector.parse::<u32>()?, &profile) {
+            Ok(()) => "-",
+            Err(refusal) => refusal.name(),
         };
-        let profile = profile_of(alloc, told)?;
-        let admitted = admit(&site, point, connector, &profile);
-        assert_eq!(rt; admitted.err(), refusal, "at {connector} of {point}");
+        assert_eq!(rt; found, wanted, "{line}");
     }
     Ok(())
 }

@@ -2,12 +2,11 @@
 //! memory is proved whatever its contract says.
 
 use crate::told_steps::run;
-use book_tests::{
-    RowTold, WHOLE_POINT, begin_of, instant_at, periods_by_turns, row_of, site_text,
-};
+use book_tests::{LONGEST_TAG, begin_of, instant_at, row_of, site_text};
 use meaning::Composite;
+use messages::{Response, ScheduleResponse, write_response};
 use ocpp_scalars::Refusal;
-use profile::{ProfileKind, Recurrency};
+use profile::Unit;
 use site_core::{Machine, PointId, Refused, Reply, Step, Take};
 use site_rules::read_site;
 use std::alloc::Global;
@@ -96,53 +95,65 @@ fn install(
     alloc: Global,
     machine: &mut Machine,
     point: &str,
-    told: RowTold<'_>,
+    words: &str,
 ) -> Result<Option<Refusal>, Fail> {
     let point = PointId::copied(alloc, point)?;
-    let row = row_of(alloc, told)?;
+    let row = row_of(alloc, words)?;
     match machine.step(Step::Install { point, row }) {
         Ok(_) => Ok(None),
         Err(Refused { refusal, .. }) => Ok(Some(refusal)),
     }
 }
 
-/// A limit changes 200 times a day, for five days.
+/// The answer to a request for a schedule, from midnight on.
+fn written(alloc: Global, schedule: Composite) -> Result<String, Fail> {
+    let response = Response::Schedule(ScheduleResponse {
+        connector: 1,
+        start: instant_at(0)?,
+        unit: Unit::A,
+        schedule,
+    });
+    Ok(write_response(alloc, "1", &response)?)
+}
+
+/// The same by hand: 1,000 periods of 432 seconds, of 6 A and 10 A by turns.
+fn written_by_hand(alloc: Global) -> Result<String, Fail> {
+    let mut text = String::from_str(
+        alloc,
+        r#"[3,"1",{"status":"Accepted","connectorId":1,"scheduleStart":"2025-01-01T00:00:00Z","chargingSchedule":{"duration":432000,"chargingRateUnit":"A","chargingSchedulePeriod":["#,
+    )?;
+    for index in 0..1_000u32 {
+        let comma = if index > 0 { "," } else { "" };
+        let limit = if index % 2 == 0 { "6.0" } else { "10.0" };
+        write!(
+            &mut text,
+            r#"{comma}{{"startPeriod":{},"limit":{limit}}}"#,
+            432 * index
+        )?;
+    }
+    text.push_str("]}}]")?;
+    Ok(text)
+}
+
+/// A limit changes 200 times a day: for five days that may be answered, and for no second more.
 #[test]
 fn an_answer_has_1000_periods(rt: HostRuntime) -> Result<(), Fail> {
     let alloc = rt.alloc();
     let mut machine = machine(alloc)?;
-    let periods = periods_by_turns(alloc, 200, 432)?;
-    let daily = RowTold {
-        kind: ProfileKind::Recurring,
-        recurrency: Some(Recurrency::Daily),
-        start: Some(0),
-        periods: periods.as_slice(),
-        ..WHOLE_POINT
-    };
+    let daily = "kind=Recurring recurrency=Daily start=0 turns=432";
     assert_eq!(rt; install(alloc, &mut machine, "CP1", daily)?, None);
-    for (duration, count) in [
-        (432_000, Some(1_000)),
-        (432_001, None),
-        (604_800, None),
-    ] {
-        let answer = answer(alloc, &mut machine, "CP1", (1, duration))?;
-        let found = match answer {
-            Ok(schedule) => Some(schedule.periods().len()),
-            Err(refusal) => {
-                assert_eq!(rt; refusal, Refusal::ResultTooLong);
-                None
-            }
-        };
-        assert_eq!(rt; found, count, "of {duration}");
+    let schedule = answer(alloc, &mut machine, "CP1", (1, 432_000))??;
+    let wanted = written_by_hand(alloc)?;
+    assert_eq!(rt; written(alloc, schedule)?.as_str(), wanted.as_str());
+    for duration in [432_001, 604_800] {
+        let refusal = answer(alloc, &mut machine, "CP1", (1, duration))?.err();
+        assert_eq!(rt; refusal, Some(Refusal::ResultTooLong), "of {duration}");
     }
     Ok(())
 }
 
 /// As long as an identity may be, of the last of the most points.
 const LAST_POINT: &str = "000000000000000000000000000000000000000000000999";
-
-/// As long as an idTag may be, of characters of four bytes.
-const LONGEST_TAG: &str = "🔌🔌🔌🔌🔌🔌🔌🔌🔌🔌🔌🔌🔌🔌🔌🔌🔌🔌🔌🔌";
 
 /// A transaction begins at each of 64 connectors.
 fn start_at_each(rt: &impl Abort, alloc: Global, machine: &mut Machine) -> Result<(), Fail> {
@@ -165,22 +176,12 @@ fn a_point_has_the_most_of_all(rt: HostRuntime) -> Result<(), Fail> {
     let text = site_text(alloc, 1_000, 64, 48)?;
     let mut machine = Machine::new(alloc, read_site(alloc, text.as_bytes())?)?;
     start_at_each(&rt, alloc, &mut machine)?;
-    let periods = periods_by_turns(alloc, 200, 60)?;
     for level in 0..100u32 {
-        let told = RowTold {
-            id: level as i32,
-            level,
-            periods: periods.as_slice(),
-            ..WHOLE_POINT
-        };
-        assert_eq!(rt; install(alloc, &mut machine, LAST_POINT, told)?, None);
+        let words = format!(in alloc; "id={level} level={level} turns=60")?;
+        let refusal = install(alloc, &mut machine, LAST_POINT, words.as_str())?;
+        assert_eq!(rt; refusal, None);
     }
-    let one_more = RowTold {
-        id: 100,
-        connector: 64,
-        ..WHOLE_POINT
-    };
-    let refusal = install(alloc, &mut machine, LAST_POINT, one_more)?;
+    let refusal = install(alloc, &mut machine, LAST_POINT, "id=100 connector=64")?;
     assert_eq!(rt; refusal, Some(Refusal::TooManyProfiles));
     let schedule = answer(alloc, &mut machine, LAST_POINT, (0, 86_400))??;
     assert_eq!(rt; schedule.periods().len(), 200);

@@ -1,9 +1,9 @@
 //! What an outbox sends from outside, and that memory suffices. A refused allocation of a call or of a
 //! sending is made again, so that the tests pass whichever of these is refused.
 
-use book_tests::{ANY, RowTold, WHOLE_POINT, periods_by_turns, profile_of};
+use book_tests::profile_of;
 use messages::{Call, CallBody};
-use profile::{Criteria, ProfileKind};
+use profile::Criteria;
 use site_core::{Outbox, PreparedCall};
 use std::alloc::{AllocError, Global};
 use std::process::Abort;
@@ -12,23 +12,18 @@ use std::test::Fail;
 fn clear(id: i32) -> CallBody {
     CallBody::Clear(Criteria {
         id: Some(id),
-        ..ANY
+        connector: None,
+        purpose: None,
+        stack_level: None,
     })
 }
 
+/// The install of a profile of 200 periods.
 fn set(alloc: Global, id: i32) -> Result<CallBody, Fail> {
-    let periods = periods_by_turns(alloc, 200, 60)?;
-    let told = RowTold {
-        id,
-        level: 1,
-        kind: ProfileKind::Relative,
-        duration: Some(60),
-        periods: periods.as_slice(),
-        ..WHOLE_POINT
-    };
+    let words = format!(in alloc; "id={id} level=1 kind=Relative duration=60 turns=60")?;
     Ok(CallBody::Set {
         connector: 1,
-        profile: profile_of(alloc, told)?,
+        profile: profile_of(alloc, words.as_str())?,
     })
 }
 

@@ -2,8 +2,8 @@
 //! obeys has what the store had after the call's change.
 
 use crate::obeying_point::{Keys, RandomNumbers, lasting, obey};
-use book_tests::{begin_of, instant_at, row_of, told};
-use profile::Row;
+use book_tests::{begin_of, instant_at, row_of};
+use profile::{Purpose, Row};
 use site_core::{Machine, PointId, Reply, Step, Take};
 use site_rules::read_site;
 use std::alloc::{AllocError, Global};
@@ -186,7 +186,18 @@ fn start(alloc: Global, connector: u32) -> Result<Step, Fail> {
 }
 
 fn row(alloc: Global, keys: Keys) -> Result<Row, Fail> {
-    row_of(alloc, told(keys.id, keys.connector, keys.purpose, keys.level))
+    let purpose = match keys.purpose {
+        Purpose::ChargePointMaxProfile => "ChargePointMaxProfile",
+        Purpose::TxDefaultProfile => "TxDefaultProfile",
+        Purpose::TxProfile => "TxProfile",
+    };
+    let words = format!(in alloc;
+        "id={} connector={} purpose={purpose} level={}",
+        keys.id,
+        keys.connector,
+        keys.level
+    )?;
+    row_of(alloc, words.as_str())
 }
 
 /// A machine whose point has a row of before, which call 0 is to remove.

@@ -6,7 +6,7 @@
 //! limit, and its id is the limit's number of tenths; a start is by `ann` at midnight; an ask is of connector 1
 //! for a minute from midnight on.
 
-use book_tests::{ANY, RowTold, WHOLE_POINT, begin_of, instant_at, row_of};
+use book_tests::{begin_of, criteria_of, instant_at, row_of};
 use site_core::{Machine, Outcome, PointId, Reply, Step, Take};
 use std::alloc::Global;
 use std::process::Abort;
@@ -40,17 +40,9 @@ fn words_of(text: &str) -> Result<Words<'_>, Fail> {
 
 /// The install of a limit.
 fn install(alloc: Global, point: PointId, limit: u64) -> Result<Step, Fail> {
-    let limit = u32::try_from(limit).ok().ok_or("too high a limit")?;
-    let periods = [(0, limit)];
-    let told = RowTold {
-        id: i32::try_from(limit).ok().ok_or("too high an id")?,
-        periods: &periods,
-        ..WHOLE_POINT
-    };
-    Ok(Step::Install {
-        point,
-        row: row_of(alloc, told)?,
-    })
+    let words = format!(in alloc; "id={limit} periods=0:{limit}")?;
+    let row = row_of(alloc, words.as_str())?;
+    Ok(Step::Install { point, row })
 }
 
 fn start(alloc: Global, point: PointId, connector: u64) -> Result<Step, Fail> {
@@ -81,7 +73,7 @@ pub(crate) fn step_of(alloc: Global, text: &str) -> Result<Step, Fail> {
         "install" => install(alloc, point, first),
         "clear" => Ok(Step::Clear {
             point,
-            criteria: ANY,
+            criteria: criteria_of("")?,
         }),
         "start" => start(alloc, point, first),
         "stop" => Ok(Step::Stop {
