@@ -1,8 +1,7 @@
 -- What comes to the outbox of a point along a history, and what is sent to it; its profiles; the moments
 -- of its calls.
-use Rattle.std.proofs.Common.{◌≡◌, ℕ, zero, suc, ◌<◌, ◌==◌, Bool, true, false, cond, List, [], ◌∷◌, ◌++◌, length, map, filter, filter_map, flat_map, slice_index_or, slice_get, ◌+◌, Option, Some, None, refl, sym, ap, ap₂, ◌∙◌, subst, arith, append_assoc, length-append, append-nil, ◌≤◌, ◌-◌, inl}
+use Rattle.std.proofs.Common.{◌≡◌, ℕ, zero, suc, ◌==◌, Bool, true, false, cond, List, [], ◌∷◌, ◌++◌, length, map, filter_map, flat_map, slice_index_or, slice_get, ◌+◌, Option, Some, None, refl, sym, ap, ap₂, ◌∙◌, subst, arith, append_assoc, length-append, ◌≤◌, ◌-◌, inl}
 use Rattle.std.proofs.lemmas.List.{length-map, map-append}
-use Rattle.std.proofs.lemmas.Grind.{flat_map-append}
 use Rattle.std.proofs.lemmas.List.Elements.{filter-append, filter_map-append, All-contains_itself, recursion_from_All}
 use Rattle.std.specs.List.{AllByRecursion, Contains, cons_option, range_with_len}
 use Rattle.profile.specs.Changes.{installed, cleared, without_transaction_profiles}
@@ -14,15 +13,15 @@ use Rattle.point_book.specs.Changes.{rows_after_stop}
 use Rattle.messages.specs.declared.call.Call.{Call}
 use Rattle.messages.specs.declared.call.CallBody.{CallBody}
 use Rattle.site_core.specs.declared.numbers.Numbers.{Numbers}
-use Rattle.site_core.specs.Outbox.{numbered, OutboxState, IsOutbox, AreConsecutive, opening_outbox, all_calls, sendable, Traffic, Attach, Lose, Add, Send, Confirm, after, after_all}
+use Rattle.site_core.specs.Outbox.{numbered, OutboxState, opening_outbox, all_calls, sendable, Traffic, Attach, Lose, Add, Send, Confirm, after, after_all}
 use Rattle.site_core.specs.ChargePoint.{ChargePointState, BookChange, Install, Clear, Start, Stop, opening_point, book_with, outbox_with}
-use Rattle.site_core.specs.State.{MachineState, IsMachine, opening, opening_at, no_point, point_at, book_at, outbox_at}
-use Rattle.site_core.specs.OutboxOrder.{GoesOn, sent_at, numbers_sent, number_of, calls_confirmed, confirmed_at, added_at, bodies_added, AreInSendingOrder}
+use Rattle.site_core.specs.State.{MachineState, IsMachine, opening_at, no_point, point_at, book_at, outbox_at}
+use Rattle.site_core.specs.OutboxOrder.{GoesOn, sent_at, numbers_sent, number_of, calls_confirmed, added_at, bodies_added, AreInSendingOrder}
 use Rattle.site_core.specs.Obey.{Change, Installs, Clears, Ends, rows_after, call_of, calls_of, last_number, obeyed, lasting, rows_after_call, Obeying, numbers_of}
 use Rattle.site_core.specs.History.{Event, Legal}
-use Rattle.site_core.specs.CallOrder.{names, events_at, change_by, traffic_by, traffic_of, traffic_by_event, point_by, point_by_all, calls_by_event, calls_sent, confirmed_by_event, numbers_confirmed, numbers_of_calls, calls_made, IsOneOf, first_number, calls_since}
+use Rattle.site_core.specs.CallOrder.{names, events_at, change_by, traffic_of, traffic_by_event, point_by, point_by_all, calls_by_event, calls_sent, confirmed_by_event, numbers_confirmed, numbers_of_calls, calls_made, IsOneOf, first_number, calls_since}
 use Rattle.site_core.specs.CallOrder.{PointsFollowHistories, OutboxesFollowHistories, CallsAreSentInOrder, CallsAreSentAsMade, CallsAreLeftUnlessConfirmed, ConfirmationsAreEvents, CallsGoOnInOrder, CallsAreSentAsKept, CallsStayUnlessConfirmed}
-use Rattle.site_core.specs.CallOrder.{end_at, row_changes, changes_in, changes_by, changes_from, changes_of, opening_at_place, rows_after_all, bodies_of, RowsFollowHistories, RowsGoOn, PointsStayInStep, accepted, Moment, EachCallHasItsMoment, CallsAreObeyedInOrder, ObeyingPointsStayInStep}
+use Rattle.site_core.specs.CallOrder.{end_at, changes_in, changes_by, changes_from, changes_of, opening_at_place, rows_after_all, bodies_of, RowsFollowHistories, RowsGoOn, PointsStayInStep, accepted, Moment, EachCallHasItsMoment, CallsAreObeyedInOrder, ObeyingPointsStayInStep}
 use Rattle.site_core.specs.ObeyOrder.{obeyed_numbers, numbers_obeyed, IsObeyed}
 use Rattle.site_core.proofs.PointLemmas.{as_many}
 use Rattle.site_core.proofs.EffectLemmas.{calls_at, call_list, sent_by_effect, confirmed_by_effect, bodies_in}

@@ -1,5 +1,5 @@
 -- What the steps of a point come to, step by step, agrees with what the laws say of their events.
-use Rattle.std.proofs.Common.{◌≡◌, ℕ, ℤ, ◌+◌, ◌<◌, ◌==◌, ◌||◌, ◌&&◌, Bool, true, false, cond, List, [], ◌∷◌, ◌++◌, map, take, length, slice_set, slice_index_or, Option, Some, None, is_some, nat_lt, Result, Ok, Err, refl, sym, ap, ◌∙◌, subst}
+use Rattle.std.proofs.Common.{◌≡◌, ℕ, ℤ, ◌+◌, ◌<◌, ◌==◌, ◌&&◌, Bool, true, false, cond, List, [], ◌∷◌, take, length, slice_set, slice_index_or, Option, Some, None, is_some, Result, Ok, Err, refl, sym, ap, ◌∙◌, subst}
 use Rattle.std.proofs.lemmas.Bool.{eqb-true, eqb-false}
 use Rattle.std.proofs.lemmas.List.{set-get_or, get_or-set_same, get_or-set_other}
 use Rattle.std.specs.Prelude.{IfOk}
@@ -25,9 +25,9 @@ use Rattle.site_core.specs.declared.reply.Reply.TheVariants as replies
 use Rattle.site_core.specs.Outbox.{OutboxState, sendable, is_number_in_flight, is_number_of_first, Traffic, Attach, Lose, Add, Send, Confirm}
 use Rattle.site_core.specs.OutboxOrder.{confirmed_at, added_at}
 use Rattle.site_core.specs.Obey.{call_of}
-use Rattle.site_core.specs.ChargePoint.{ChargePointState, BookChange, Install, Clear, Start, Stop, Effect, point_after, drawn_by, drawn_by_change, drawn_by_traffic}
-use Rattle.site_core.specs.State.{MachineState, point_at}
-use Rattle.site_core.specs.Step.{Told, Answers, Does, Made, unless, unchanged, affected, done, installing, clearing, effect_alone, traffic_alone, refusal_to_install, refusal_to_call, refusal_to_start, refusal_to_attach, version_refusal, next_transaction, is_at_no_connector, installs, clears, starts, starts_as, stops, attaches, sends, sends_call, confirms, loses}
+use Rattle.site_core.specs.ChargePoint.{ChargePointState, BookChange, Install, Clear, Start, Stop, Effect, drawn_by, drawn_by_change, drawn_by_traffic}
+use Rattle.site_core.specs.State.{MachineState}
+use Rattle.site_core.specs.Step.{Told, Answers, Does, unless, affected, done, installing, clearing, effect_alone, traffic_alone, refusal_to_install, refusal_to_call, refusal_to_start, refusal_to_attach, version_refusal, next_transaction, is_at_no_connector, installs, clears, starts, starts_as, stops, attaches, sends, sends_call, confirms, loses}
 use Rattle.site_core.specs.History.{reply_takes, asks_answer_of}
 use Rattle.site_core.specs.CallOrder.{effect_by, calls_by, confirmed_by, numbers_of_calls, end_at, changes_in}
 

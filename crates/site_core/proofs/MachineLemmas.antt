@@ -1,5 +1,5 @@
 -- What is so of the machine after a change, and what it makes of a step.
-use Rattle.std.proofs.Common.{◌≡◌, ℕ, ◌+◌, ◌≤◌, ◌<◌, get_or, sym, subst, ◌==◌, true, false, cond, List, slice_set, Option, Some, None, IfNone, Result, Ok, Err, length, refl, ap, ◌∙◌, arith}
+use Rattle.std.proofs.Common.{◌≡◌, ℕ, ◌+◌, ◌≤◌, ◌<◌, get_or, ◌==◌, true, false, cond, List, slice_set, Option, Some, None, IfNone, Result, Ok, Err, length, refl, ap, ◌∙◌, arith}
 use Rattle.std.proofs.lemmas.Bool.{eqb-false}
 use Rattle.std.proofs.lemmas.List.{get_or_default}
 use Rattle.ocpp_scalars.specs.declared.refusal.Refusal.{Refusal}

@@ -3,7 +3,6 @@ use Rattle.std.proofs.Common.{◌≡◌, List, [], ◌∷◌, refl, sym, ap, ◌
 use Rattle.std.proofs.lemmas.List.{set-get_or}
 use Rattle.site_core.specs.declared.step.Step.{Step}
 use Rattle.site_core.specs.declared.step.Step.TheVariants as steps
-use Rattle.site_core.specs.ChargePoint.{ChargePointState}
 use Rattle.site_core.specs.State.{MachineState, no_point}
 use Rattle.site_core.specs.Step.{Made}
 use Rattle.site_core.specs.History.{Event, Legal}

@@ -1,6 +1,6 @@
 -- What the steps that are made do at the point that they name, and what they leave of the site, of the kept
 -- requests and of their numbers.
-use Rattle.std.proofs.Common.{◌≡◌, ℕ, ℤ, ◌+◌, ◌<◌, ◌==◌, Bool, true, false, cond, List, [], ◌++◌, Option, Some, None, Result, Ok, Err, slice_set, slice_index_or, length, is_some, refl, sym, ap, ◌∙◌, subst, inl, inr, ◌&&◌}
+use Rattle.std.proofs.Common.{◌≡◌, ℕ, ◌+◌, ◌<◌, ◌==◌, Bool, true, false, cond, List, [], Option, Some, None, Result, Ok, Err, slice_set, slice_index_or, length, is_some, refl, sym, ap, ◌∙◌, subst, inl, inr, ◌&&◌}
 use Rattle.std.proofs.lemmas.Bool.{eqb-true}
 use Rattle.std.proofs.lemmas.List.{length-set}
 use Rattle.std.proofs.lemmas.List.Quantifiers.{position-Some}
@@ -12,21 +12,19 @@ use Rattle.ocpp_scalars.specs.declared.refusal.Refusal.{Refusal}
 use Rattle.ocpp_scalars.specs.declared.refusal.Refusal.TheVariants as refusals
 use Rattle.meaning.specs.declared.ask.Ask.{Ask}
 use Rattle.site_rules.specs.Site.{SiteState, PointEntry, place_of}
-use Rattle.messages.specs.declared.call.Call.{Call}
 use Rattle.site_core.specs.declared.step.Step.{Step}
 use Rattle.site_core.specs.declared.step.Step.TheVariants as steps
 use Rattle.site_core.specs.declared.step.Take.{Take}
 use Rattle.site_core.specs.declared.reply.Reply.{Reply}
 use Rattle.site_core.specs.declared.reply.Reply.TheVariants.{Taken, Compiled, Answered, NotYet, Finished}
-use Rattle.site_core.specs.Outbox.{OutboxState}
 use Rattle.site_core.specs.Obey.{call_of}
-use Rattle.site_core.specs.ChargePoint.{ChargePointState, Effect, point_after, drawn_by}
+use Rattle.site_core.specs.ChargePoint.{ChargePointState, Effect, point_after}
 use Rattle.site_core.specs.State.{MachineState, Kept, ScheduleAnswer, no_point, point_in, point_at, book_at, outbox_at, is_this_number}
 use Rattle.site_core.specs.Requests.{request_of, answered, without, all_stopped}
 use Rattle.site_core.specs.Right.{IsCompiledFor}
 use Rattle.site_core.specs.Ask.{ask_at}
-use Rattle.site_core.specs.Step.{Told, Made, Steps, unless, done, done_at, told_at, affected, at_place, at_point, at_link, at_linked_place, takes, takes_ask, with_request, compiles_kept, answers_kept, answers_with, finishes, unchanged, stepped, no_answer, installs, clears, starts, stops, attaches, sends, confirms, loses}
-use Rattle.site_core.specs.History.{Event, reply_takes, asks_answer_of, has_answer}
+use Rattle.site_core.specs.Step.{Told, Made, Steps, done, done_at, told_at, affected, at_place, at_point, at_link, at_linked_place, takes, takes_ask, with_request, compiles_kept, answers_kept, answers_with, finishes, unchanged, stepped, no_answer, installs, clears, starts, stops, attaches, sends, confirms, loses}
+use Rattle.site_core.specs.History.{reply_takes, asks_answer_of, has_answer}
 use Rattle.site_core.specs.CallOrder.{is_at, place_named, names, effect_by, traffic_by, point_by, calls_by, confirmed_by, numbers_of_calls, change_by, changes_in}
 use Rattle.site_core.proofs.EffectLemmas.{Agrees, told_reply, told_effect, done_is, draws_no_request, changed_in, sent_by_effect, confirmed_by_effect, bodies_in, unless_holds, either_holds}
 use Rattle.site_core.proofs.EffectLemmas.{install_agrees, clear_agrees, start_agrees, stop_agrees, attach_agrees, send_agrees, confirm_agrees, lose_agrees}
@@ -318,8 +316,16 @@ does old (steps.Answer number) reply new made =
     handed (inl is) = subst (Does old (steps.Answer number)) is.is (hands_one number is.kept is.answer is.found is.has)
     handed (inr same) =
         subst (Does old (steps.Answer number)) same
-        (leaves _ _ (record { site = refl; requests = refl; drawn = refl; stopped = refl; no_take = λ number. refl; no_answer = λ other. and_false (number == other); points = refl;
-          acts = λ place many. idle place old (steps.Answer number) (unchanged old NotYet) refl refl refl refl (λ book. refl) }))
+        (leaves _ _ (record {
+          site = refl;
+          requests = refl;
+          drawn = refl;
+          stopped = refl;
+          no_take = λ number. refl;
+          no_answer = λ other. and_false (number == other);
+          points = refl;
+          acts = λ place many. idle place old (steps.Answer number) (unchanged old NotYet) refl refl refl refl (λ book. refl);
+        }))
 does old steps.Finish reply new made = finished (finishes_is old)
   where
     is : finishes old ≡ record { reply = reply; after = new }
@@ -328,8 +334,16 @@ does old steps.Finish reply new made = finished (finishes_is old)
     finished : (unchanged old Finished ≡ finishes old) ⊎ (finishing old ≡ finishes old) → Does old steps.Finish (record { reply = reply; after = new })
     finished (inl same) =
         subst (Does old steps.Finish) (same ∙ is)
-        (leaves _ _ (record { site = refl; requests = refl; drawn = refl; stopped = refl; no_take = λ number. refl; no_answer = λ number. refl; points = refl;
-          acts = λ place many. idle place old steps.Finish (unchanged old Finished) refl refl refl refl (λ book. refl) }))
+        (leaves _ _ (record {
+          site = refl;
+          requests = refl;
+          drawn = refl;
+          stopped = refl;
+          no_take = λ number. refl;
+          no_answer = λ number. refl;
+          points = refl;
+          acts = λ place many. idle place old steps.Finish (unchanged old Finished) refl refl refl refl (λ book. refl);
+        }))
     finished (inr same) = subst (Does old steps.Finish) (same ∙ is) finishes_all
 does old (steps.Attach point) reply new made =
     done_leaves old point (steps.Attach point) _ _ refl made

@@ -1,6 +1,6 @@
 -- What the laws of outboxes and of points that obey say of the machine: the calls and the profiles
 -- of a point along a history.
-use Rattle.std.specs.Prelude.{ℕ, ◌≤◌, ◌≡◌, ◌-◌, Bool, false, List, [], ◌∷◌, ◌++◌, length, map, filter, slice_get, Option, None, Some}
+use Rattle.std.specs.Prelude.{ℕ, ◌≤◌, ◌≡◌, ◌-◌, Bool, List, [], ◌∷◌, ◌++◌, length, map, filter, slice_get, Option, None, Some}
 use Rattle.std.specs.List.{flat_map, filter_map, AllByRecursion, Contains}
 use Rattle.profile.specs.declared.row.Row.{Row}
 use Rattle.transactions.specs.ActiveTable.{connector_of}
@@ -15,7 +15,7 @@ use Rattle.site_core.specs.declared.reply.Reply.{Reply}
 use Rattle.site_core.specs.declared.reply.Reply.TheVariants as replies
 use Rattle.point_book.specs.Book.{Book}
 use Rattle.site_core.specs.Outbox.{OutboxState, IsOutbox, opening_outbox, all_calls, numbered, Traffic, Attach, Lose, Add, Send, Confirm, after_all}
-use Rattle.site_core.specs.ChargePoint.{ChargePointState, BookChange, Install, Clear, Start, Stop, Effect, point_after, opening_point}
+use Rattle.site_core.specs.ChargePoint.{ChargePointState, BookChange, Install, Clear, Start, Stop, Effect, point_after}
 use Rattle.site_core.specs.OutboxOrder.{calls_confirmed, calls_so_far, bodies_added, GoesOn, AreInSendingOrder}
 use Rattle.site_core.specs.Obey.{Change, Installs, Clears, Ends, rows_after, Obeying, numbers_of, last_number, obeyed, lasting}
 use Rattle.site_core.specs.ObeyOrder.{obeyed_numbers, IsObeyed}

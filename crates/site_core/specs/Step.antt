@@ -351,6 +351,17 @@ is_event old Nothing = false
 is_event old Confirmed = true
 is_event old LinkLost = true
 
+-- ---- what would come of a step
+
+-- whether it would be an event, or why it would be refused
+abbrev pub outlook_of : MachineState → Result Made Refusal → Result Bool Refusal
+outlook_of old (Ok made) = Ok (is_event old made.reply)
+outlook_of old (Err refusal) = Err refusal
+
+-- of a step, if memory lasts
+abbrev pub outlook : MachineState → Step → Result Bool Refusal
+outlook old step = outlook_of old (stepped no_answer old step)
+
 -- ---- refusals
 
 abbrev pub cause_of : Result Made Refusal → Option Refusal

@@ -10,6 +10,7 @@ ghost use Rattle.site_core.specs.ByCases.Made.{place_in, KeepsNothing};
 
 mod changes;
 mod links;
+mod outlook;
 mod schedules;
 
 use crate::charge_point::ChargePoint;
@@ -135,7 +136,9 @@ impl Machine {
         ensures { result ≡ link_to_send self.now point.now }
     {
         match self.site.place_of(point) {
-            Some(place) if !self.is_stopped => point_at(&self.points, place).outbox().sending_link(),
+            Some(place) if !self.is_stopped => point_at(&self.points, place)
+                .outbox()
+                .sending_link(),
             _ => None,
         }
     }

@@ -209,7 +209,7 @@ impl Outbox {
 
     /// Whether the call in flight has this number.
     #[tactic(auto, using(crate::proofs::OutboxLemmas::number_in_flight))]
-    fn is_number_in_flight(&self, number: u64) -> bool
+    pub fn is_number_in_flight(&self, number: u64) -> bool
         ensures { result ≡ is_number_in_flight self.now number }
     {
         if !self.is_in_flight {

@@ -6,7 +6,7 @@ ghost use Rattle.std.specs.List.{position};
 ghost use Rattle.site_core.specs.State.{Kept};
 ghost use Rattle.site_core.specs.Requests.{request_of, stopped_request, all_stopped};
 ghost use Rattle.site_core.specs.Step.{HasAskedConnector};
-ghost use Rattle.site_core.specs.ByCases.Requests.{refusal_to_compile, IsCompiledIn, handed_out};
+ghost use Rattle.site_core.specs.ByCases.Requests.{refusal_to_compile, IsCompiledIn, handed_out, compile_outlook, hand_out_outlook};
 
 use crate::reply::Reply;
 use crate::request::Request;
@@ -103,4 +103,27 @@ fn stop(request: &mut Request)
     if request.answer.is_none() {
         request.answer = Some(Err(Refusal::Stopped));
     }
+}
+
+/// What would come of compiling the request of a number: an event, or why it is refused.
+pub(crate) fn compile_outlook(requests: &[Request], number: u64) -> Result<bool, Refusal>
+    ensures { result ≡ compile_outlook (request_of number requests.now) }
+{
+    let Some(place) = place_of(requests, number) else {
+        return Err(Refusal::UnknownRequest);
+    };
+    if is_answered(&requests[place]) {
+        return Err(Refusal::AlreadyAnswered);
+    }
+    Ok(true)
+}
+
+/// What would come of handing out the answer to the request of a number: whether it has one, or why not.
+pub(crate) fn hand_out_outlook(requests: &[Request], number: u64) -> Result<bool, Refusal>
+    ensures { result ≡ hand_out_outlook (request_of number requests.now) }
+{
+    let Some(place) = place_of(requests, number) else {
+        return Err(Refusal::UnknownRequest);
+    };
+    Ok(is_answered(&requests[place]))
 }

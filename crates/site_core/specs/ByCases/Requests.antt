@@ -1,5 +1,5 @@
 -- What a call on the kept requests does, by the request of its number. Of private clauses.
-use Rattle.std.specs.Prelude.{◌≡◌, ℕ, false, List, Option, Some, None, is_some, Result, Ok, Err, if◌then◌else◌}
+use Rattle.std.specs.Prelude.{◌≡◌, ℕ, Bool, true, false, List, Option, Some, None, is_some, Result, Ok, Err, if◌then◌else◌}
 use Rattle.ocpp_scalars.specs.declared.refusal.Refusal.{Refusal}
 use Rattle.ocpp_scalars.specs.declared.refusal.Refusal.TheVariants.{UnknownRequest, AlreadyAnswered}
 use Rattle.site_core.specs.declared.reply.Reply.{Reply}
@@ -34,3 +34,13 @@ handed_kept (Some kept) requests = Ok (handed_with kept kept.answer requests)
 
 abbrev pub handed_out : ℕ → List Kept → Result (Reply × List Kept) Refusal
 handed_out number requests = handed_kept (request_of number requests) requests
+
+-- what would come of compiling a request, and of handing out its answer: whether that is an event, or
+-- why it is refused
+abbrev pub compile_outlook : Option Kept → Result Bool Refusal
+compile_outlook None = Err UnknownRequest
+compile_outlook (Some kept) = if is_some kept.answer then Err AlreadyAnswered else Ok true
+
+abbrev pub hand_out_outlook : Option Kept → Result Bool Refusal
+hand_out_outlook None = Err UnknownRequest
+hand_out_outlook (Some kept) = Ok (is_some kept.answer)

@@ -132,7 +132,12 @@ impl Machine {
     }
 
     /// Why a row isn't installed at a point, which is at this place, if memory lasts.
-    fn refusal_to_install(&self, point: &PointId, place: usize, row: &Row) -> Option<Refusal>
+    pub(super) fn refusal_to_install(
+        &self,
+        point: &PointId,
+        place: usize,
+        row: &Row,
+    ) -> Option<Refusal>
         requires here { place_of self.now.site point.now ≡ Some place }
         requires within { place < length self.now.points }
         ensures refusal { result ≡ refusal_to_install self.now.site self.now.numbers point.now
@@ -153,7 +158,7 @@ impl Machine {
     }
 
     /// Why no call is added for the point at a place, if memory lasts.
-    fn refusal_to_call(&self, place: usize) -> Option<Refusal>
+    pub(super) fn refusal_to_call(&self, place: usize) -> Option<Refusal>
         requires { place < length self.now.points }
         ensures refusal { result ≡ refusal_to_call self.now.numbers (point_at self.now place) }
         ensures room { IfNone result (length (outbox_at self.now place).calls < max_calls) }
@@ -165,7 +170,7 @@ impl Machine {
         }
     }
 
-    fn version_refusal(&self) -> Option<Refusal>
+    pub(super) fn version_refusal(&self) -> Option<Refusal>
         ensures { result ≡ version_refusal self.now.numbers }
     {
         if self.numbers.version == MAX_NUMBER {
@@ -251,7 +256,7 @@ impl Machine {
         }
     }
 
-    fn refusal_to_start(&self) -> Option<Refusal>
+    pub(super) fn refusal_to_start(&self) -> Option<Refusal>
         ensures { result ≡ refusal_to_start self.now.numbers }
     {
         if let Some(refusal) = self.version_refusal() {

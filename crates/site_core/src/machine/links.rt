@@ -88,7 +88,7 @@ impl Machine {
 
     /// The place of the point of an identity, while this is its present link and the central system isn't
     /// stopped. The refusals are `Stopped` and `Superseded`.
-    fn linked_place(&self, point: &PointId, link: u64) -> Result<usize, Refusal>
+    pub(super) fn linked_place(&self, point: &PointId, link: u64) -> Result<usize, Refusal>
         ensures place { result ≡ linked_place_in self.now point.now link }
         ensures within { IfOk result (λ place. place < length self.now.points) }
     {

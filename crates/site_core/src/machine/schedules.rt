@@ -32,7 +32,7 @@ impl Machine {
     }
 
     /// Why a request isn't kept, if memory lasts, though there is an ask.
-    fn refusal_to_take(&self, take: &Take) -> Option<Refusal>
+    pub(super) fn refusal_to_take(&self, take: &Take) -> Option<Refusal>
         ensures { result ≡ refusal_to_take self.now take.now }
     {
         if self.requests.len() >= MAX_REQUESTS {

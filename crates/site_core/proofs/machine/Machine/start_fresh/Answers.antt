@@ -1,6 +1,6 @@
 -- A point with as many connectors stands in the place of another, and neither number is the last.
-use Rattle.std.proofs.Common.{◌≡◌, ◌<◌, None, length, ap, subst, sym}
-use Rattle.site_core.specs.State.{MachineState, point_at, connectors_in_book}
+use Rattle.std.proofs.Common.{◌<◌, length, ap, subst, sym}
+use Rattle.site_core.specs.State.{MachineState, connectors_in_book}
 use Rattle.site_core.specs.contracts.machine.Machine.{the_view}
 use Rattle.site_core.proofs.MachineLemmas.{started_fits}
 use Rattle.site_core.proofs.machine.Machine.start_fresh.Goals as goal

@@ -1,0 +1,21 @@
+-- The request of the number is the one at the first place that has it.
+use Rattle.std.proofs.Common.{ap, sym, refl}
+use Rattle.site_core.specs.ByCases.Requests.{compile_outlook}
+use Rattle.site_core.proofs.RequestLemmas.{none_of, first_of}
+use Rattle.site_core.proofs.requests.compile_outlook.Goals as goal
+
+pub returns-in_default : goal.returns-in_default
+returns-in_default c =
+    sym (ap compile_outlook (none_of c.args.number c.args.requests.now c.in_default.ensures))
+
+pub returns-then-is_answered : goal.returns-then-is_answered
+returns-then-is_answered c =
+    let first = first_of c.args.number c.args.requests.now c.in-Some.place
+    c.index-requests-place.result c.in-Some.ensures c.index-requests-place.is in
+    rw (first.is_kept, ← c.is_answered.ensures, c.if-is_answered.true) refl
+
+pub returns : goal.returns
+returns c =
+    let first = first_of c.args.number c.args.requests.now c.in-Some.place
+    c.index-requests-place.result c.in-Some.ensures c.index-requests-place.is in
+    rw (first.is_kept, ← c.is_answered.ensures, c.if-is_answered.false) refl
