@@ -147,9 +147,7 @@ fn as_many_requests_as_may_be_open(rt: HostRuntime) -> Result<(), Fail> {
     let alloc = rt.alloc();
     let mut machine = Machine::new(alloc, site(alloc)?)?;
     for number in 1..65u64 {
-        let lines = format!(in alloc;
-            "CP1 take = Taken {number}\n- compile {number} = Compiled"
-        )?;
+        let lines = format!(in alloc; "CP1 take = Taken {number}\n- compile {number} = Compiled")?;
         run(&rt, alloc, &mut machine, lines.as_str())?;
     }
     assert_eq!(rt; machine.open_requests(), 64);
@@ -282,11 +280,7 @@ fn links_end(rt: HostRuntime) -> Result<(), Fail> {
 
 /// The reply to a step. Where memory is refused to it, nothing has changed, and the step that comes back is
 /// made again.
-fn made(
-    rt: &impl Abort,
-    machine: &mut Machine,
-    step: Step,
-) -> Result<(&'static str, u64), Fail> {
+fn made(rt: &impl Abort, machine: &mut Machine, step: Step) -> Result<(&'static str, u64), Fail> {
     let before = (machine.version(), machine.open_requests());
     match machine.step(step) {
         Ok(reply) => Ok(reply_told(&reply)),
@@ -400,6 +394,45 @@ fn a_step_without_an_event_wants_no_memory(rt: HostRuntime) -> Result<(), Fail> 
         assert_eq!(rt; told(machine.step(step)), wanted, "{line}");
     }
     let taken = told(machine.step(take));
-    assert!(rt; taken == ("Taken", 1) || taken == ("OutOfMemory", 0), "{}", taken.0);
+    assert!(rt;
+        taken == ("Taken", 1) || taken == ("OutOfMemory", 0),
+        "{}",
+        taken.0
+    );
+    Ok(())
+}
+
+/// What would come of steps at the opening, an event, an answer alone or a refusal.
+const AT_THE_OPENING: &str = "\
+CP1 install 70 = event
+CP1 clear = answer
+CP1 start 1 = event
+CP1 start 3 = UnknownConnector
+CP1 stop 1 = answer
+CP9 take = UnknownPoint
+CP1 take 1 = Behind
+CP1 take = event
+- compile 1 = UnknownRequest
+- answer 1 = UnknownRequest
+CP1 attach = event
+CP1 send 1 = Superseded
+- finish = event";
+
+#[test]
+fn what_would_come_of_a_step_can_be_asked(rt: HostRuntime) -> Result<(), Fail> {
+    let alloc = rt.alloc();
+    let machine = run_anew(&rt, alloc, "")?;
+    for (step, line) in steps_of(alloc, AT_THE_OPENING)?
+        .into_iter()
+        .zip(AT_THE_OPENING.lines())
+    {
+        let told = match machine.outlook(&step) {
+            Ok(true) => "event",
+            Ok(false) => "answer",
+            Err(refusal) => refusal.name(),
+        };
+        let (_, wanted) = parts_of(line)?;
+        assert_eq!(rt; told, wanted.0, "{line}");
+    }
     Ok(())
 }
