@@ -163,7 +163,10 @@ fn start_at_each(rt: &impl Abort, alloc: Global, machine: &mut Machine) -> Resul
             connector,
             begin: begin_of(alloc, LONGEST_TAG, 0, 0)?,
         };
-        assert!(rt; matches!(machine.step(start), Ok(Reply::Started(_))), "{connector}");
+        assert!(rt;
+            matches!(machine.step(start), Ok(Reply::Started(_))),
+            "{connector}"
+        );
     }
     Ok(())
 }

@@ -193,9 +193,7 @@ fn row(alloc: Global, keys: Keys) -> Result<Row, Fail> {
     };
     let words = format!(in alloc;
         "id={} connector={} purpose={purpose} level={}",
-        keys.id,
-        keys.connector,
-        keys.level
+        keys.id, keys.connector, keys.level
     )?;
     row_of(alloc, words.as_str())
 }

@@ -147,9 +147,7 @@ fn as_many_requests_as_may_be_open(rt: HostRuntime) -> Result<(), Fail> {
     let alloc = rt.alloc();
     let mut machine = Machine::new(alloc, site(alloc)?)?;
     for number in 1..65u64 {
-        let lines = format!(in alloc;
-            "CP1 take = Taken {number}\n- compile {number} = Compiled"
-        )?;
+        let lines = format!(in alloc; "CP1 take = Taken {number}\n- compile {number} = Compiled")?;
         run(&rt, alloc, &mut machine, lines.as_str())?;
     }
     assert_eq!(rt; machine.open_requests(), 64);
@@ -282,11 +280,7 @@ fn links_end(rt: HostRuntime) -> Result<(), Fail> {
 
 /// The reply to a step. Where memory is refused to it, nothing has changed, and the step that comes back is
 /// made again.
-fn made(
-    rt: &impl Abort,
-    machine: &mut Machine,
-    step: Step,
-) -> Result<(&'static str, u64), Fail> {
+fn made(rt: &impl Abort, machine: &mut Machine, step: Step) -> Result<(&'static str, u64), Fail> {
     let before = (machine.version(), machine.open_requests());
     match machine.step(step) {
         Ok(reply) => Ok(reply_told(&reply)),
@@ -400,6 +394,10 @@ fn a_step_without_an_event_wants_no_memory(rt: HostRuntime) -> Result<(), Fail> 
         assert_eq!(rt; told(machine.step(step)), wanted, "{line}");
     }
     let taken = told(machine.step(take));
-    assert!(rt; taken == ("Taken", 1) || taken == ("OutOfMemory", 0), "{}", taken.0);
+    assert!(rt;
+        taken == ("Taken", 1) || taken == ("OutOfMemory", 0),
+        "{}",
+        taken.0
+    );
     Ok(())
 }
