@@ -97,7 +97,11 @@ fn replaces_by_id_and_by_key(rt: HostRuntime) -> Result<(), Fail> {
     expect(&rt, alloc, &rows, "")?;
     // Another connector, purpose or level is another key, and an id is one of the whole point.
     install(alloc, &mut rows, "id=1 connector=0 level=3")?;
-    install(alloc, &mut rows, "id=2 connector=1 purpose=TxProfile level=3")?;
+    install(
+        alloc,
+        &mut rows,
+        "id=2 connector=1 purpose=TxProfile level=3",
+    )?;
     install(alloc, &mut rows, "id=3 connector=1 level=2")?;
     install(alloc, &mut rows, "id=4 connector=1 level=3")?;
     expect(&rt, alloc, &rows, " 1 2 3 4")?;

@@ -75,7 +75,12 @@ fn counts(alloc: Global, book: &PointBook, ask: &Ask) -> Result<(Option<usize>, 
 }
 
 /// Asks, each with its count of periods (`-` where they are too many) and of turns.
-fn expect_counts(rt: &impl Abort, alloc: Global, book: &PointBook, lines: &str) -> Result<(), Fail> {
+fn expect_counts(
+    rt: &impl Abort,
+    alloc: Global,
+    book: &PointBook,
+    lines: &str,
+) -> Result<(), Fail> {
     for line in lines.lines() {
         let (asked, wanted) = line.split_once(" = ").ok_or("no counts")?;
         let (count, turns) = counts(alloc, book, &ask_of(asked)?)?;
@@ -118,15 +123,29 @@ fn turns_at_places_alone(rt: HostRuntime) -> Result<(), Fail> {
     let mut book = point(alloc, 630, 2)?;
     install(alloc, &mut book, NIGHT)?;
     expect_schedules(&rt, alloc, &book, "1 194398 86400 = 0:60 2:200 57602:60")?;
-    expect_counts(&rt, alloc, &book, "1 194398 86400 = 3 3\n1 194398 604800 = 15 15")
+    expect_counts(
+        &rt,
+        alloc,
+        &book,
+        "1 194398 86400 = 3 3\n1 194398 604800 = 15 15",
+    )
 }
 
 #[test]
 fn answers_up_to_the_most_periods(rt: HostRuntime) -> Result<(), Fail> {
     let alloc = rt.alloc();
     let mut book = point(alloc, 630, 2)?;
-    install(alloc, &mut book, "kind=Recurring recurrency=Daily start=0 turns=432")?;
-    expect_counts(&rt, alloc, &book, "1 0 432000 = 1000 1000\n1 0 604800 = - 1001")
+    install(
+        alloc,
+        &mut book,
+        "kind=Recurring recurrency=Daily start=0 turns=432",
+    )?;
+    expect_counts(
+        &rt,
+        alloc,
+        &book,
+        "1 0 432000 = 1000 1000\n1 0 604800 = - 1001",
+    )
 }
 
 #[test]
@@ -189,7 +208,10 @@ fn answers_as_the_plain_compiler(rt: HostRuntime) -> Result<(), Fail> {
             assert!(rt; ask.connector <= book.connectors());
             let plain = compile_plain(alloc, &book.view(), &ask)?;
             let schedule = compile(alloc, &book, &ask, &mut Turns::new())?;
-            assert!(rt; schedule.periods() == plain.periods(), "{connector} {start}");
+            assert!(rt;
+                schedule.periods() == plain.periods(),
+                "{connector} {start}"
+            );
         }
     }
     Ok(())
