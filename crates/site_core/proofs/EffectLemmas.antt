@@ -33,11 +33,13 @@ use Rattle.site_core.specs.CallOrder.{effect_by, calls_by, confirmed_by, numbers
 
 -- ---- what holds of whatever comes of a step
 
-pub unless_holds : {X : Type 0} (P : X → Type 0) (refusal : Option Refusal) (x : X) → P x → IfOk (unless refusal x) P
+pub unless_holds : {X : Type 0} (P : X → Type 0) (refusal : Option Refusal) (x : X) → P x
+    → IfOk (unless refusal x) P
 unless_holds P None x h = h
 unless_holds P (Some refusal) x h = tt
 
-pub either_holds : {X : Type 0} (P : X → Type 0) (test : Bool) (one other : Result X Refusal) → IfOk one P → IfOk other P → IfOk (cond test one other) P
+pub either_holds : {X : Type 0} (P : X → Type 0) (test : Bool) (one other : Result X Refusal)
+    → IfOk one P → IfOk other P → IfOk (cond test one other) P
 either_holds P true one other h k = h
 either_holds P false one other h k = k
 
@@ -57,25 +59,37 @@ told_effect (Does reply effect) = effect
 -- where nothing is done, nothing changes
 pub affected_by_nothing : (old : MachineState) (place : ℕ) → affected old place no_effect ≡ old
 affected_by_nothing old place =
-    ap (λ (points : List ChargePointState). record old { points = points }) (set-get_or old.points place _)
+    ap (λ (points : List ChargePointState). record old {
+      points = points;
+    }) (set-get_or old.points place _)
 
 pub done_is : (old : MachineState) (place : ℕ) (told : Told)
-    → done old place told ≡ record { reply = told_reply told; after = affected old place (told_effect told) }
-done_is old place (Answers reply) = ap (λ (s : MachineState). record { reply = reply; after = s }) (sym (affected_by_nothing old place))
+    → done old place told ≡ record {
+      reply = told_reply told;
+      after = affected old place (told_effect told);
+    }
+done_is old place (Answers reply) = ap (λ (s : MachineState). record {
+  reply = reply;
+  after = s;
+}) (sym (affected_by_nothing old place))
 done_is old place (Does reply effect) = refl
 
 -- no effect draws the number of a request
-change_draws_no_request : (change : Option BookChange) (numbers : Numbers) → (drawn_by_change change numbers).request ≡ numbers.request
+change_draws_no_request : (change : Option BookChange) (numbers : Numbers)
+    → (drawn_by_change change numbers).request ≡ numbers.request
 change_draws_no_request None numbers = refl
 change_draws_no_request (Some (Install row)) numbers = refl
 change_draws_no_request (Some (Clear criteria)) numbers = refl
 change_draws_no_request (Some (Start connector begin number)) numbers = refl
 change_draws_no_request (Some (Stop number)) numbers = refl
 
-pub draws_no_request : (effect : Effect) (numbers : Numbers) → (drawn_by effect numbers).request ≡ numbers.request
-draws_no_request effect numbers = by effect.traffic (drawn_by_change effect.change numbers) ∙ change_draws_no_request effect.change numbers
+pub draws_no_request : (effect : Effect) (numbers : Numbers)
+    → (drawn_by effect numbers).request ≡ numbers.request
+draws_no_request effect numbers = by effect.traffic (drawn_by_change effect.change numbers)
+    ∙ change_draws_no_request effect.change numbers
   where
-    by : (traffic : Option Traffic) (drawn : Numbers) → (drawn_by_traffic traffic drawn).request ≡ drawn.request
+    by : (traffic : Option Traffic) (drawn : Numbers)
+        → (drawn_by_traffic traffic drawn).request ≡ drawn.request
     by None drawn = refl
     by (Some (Attach link)) drawn = refl
     by (Some Lose) drawn = refl
@@ -84,7 +98,8 @@ draws_no_request effect numbers = by effect.traffic (drawn_by_change effect.chan
     by (Some (Confirm number)) drawn = refl
 
 -- what is read after the item of a place was changed
-pub changed_in : {X : Type 0} (xs : List X) (there place : ℕ) (change : X → X) (d : X) → there < length xs
+pub changed_in : {X : Type 0} (xs : List X) (there place : ℕ) (change : X → X) (d : X)
+    → there < length xs
     → slice_index_or (slice_set xs there (change (slice_index_or xs there d))) place d
     ≡ cond (there == place) (change (slice_index_or xs place d)) (slice_index_or xs place d)
 changed_in {X} xs there place change d within = go (there == place) refl
@@ -92,9 +107,12 @@ changed_in {X} xs there place change d within = go (there == place) refl
     new : X
     new = change (slice_index_or xs there d)
 
-    go : (b : Bool) → (there == place) ≡ b → slice_index_or (slice_set xs there new) place d ≡ cond b (change (slice_index_or xs place d)) (slice_index_or xs place d)
+    go : (b : Bool) → (there == place) ≡ b → slice_index_or
+        (slice_set xs there new) place d ≡ cond b (change (slice_index_or xs place d))
+        (slice_index_or xs place d)
     go true is =
-        subst (λ (p : ℕ). slice_index_or (slice_set xs there new) p d ≡ change (slice_index_or xs p d)) (eqb-true there place is) (get_or-set_same xs there new d within)
+        subst (λ (p : ℕ). slice_index_or (slice_set xs there new) p d ≡ change
+        (slice_index_or xs p d)) (eqb-true there place is) (get_or-set_same xs there new d within)
     go false is = get_or-set_other xs there place new d (λ e. eqb-false there place is (sym e))
 
 -- ---- the calls that an outbox sends and confirms
@@ -129,98 +147,144 @@ end_is_no_call (Some connector) = refl
 -- what a step at a point comes to is what the laws say of its event
 pub record Agrees (point : ChargePointState) (step : Step) (told : Told) : Type 0 where
   pub effect : effect_by step (told_reply told) ≡ told_effect told
-  pub calls : calls_by step (told_reply told) ≡ sent_by_effect point.outbox (told_effect told).traffic
-  pub confirmed : numbers_of_calls (confirmed_by_effect point.outbox (told_effect told).traffic) ≡ confirmed_by step (told_reply told)
+  pub calls : calls_by step (told_reply told) ≡ sent_by_effect point.outbox
+      (told_effect told).traffic
+  pub confirmed : numbers_of_calls (confirmed_by_effect point.outbox
+      (told_effect told).traffic) ≡ confirmed_by step (told_reply told)
   -- the changes of profiles that are calls are those that the outbox is brought
-  pub bodies : (book : Book) → filter_map call_of (changes_in book (told_effect told).change) ≡ bodies_in (told_effect told).traffic
+  pub bodies : (book : Book) → filter_map call_of (changes_in book
+      (told_effect told).change) ≡ bodies_in (told_effect told).traffic
   pub no_take : (number : ℕ) → reply_takes number (told_reply told) ≡ false
   pub no_answer : (number : ℕ) → asks_answer_of number step ≡ false
 
 -- it does, where its rows of the tables are the same
-all_refl : (point : ChargePointState) (step : Step) (told : Told) → effect_by step (told_reply told) ≡ told_effect told
+all_refl : (point : ChargePointState) (step : Step) (told : Told)
+    → effect_by step (told_reply told) ≡ told_effect told
     → calls_by step (told_reply told) ≡ sent_by_effect point.outbox (told_effect told).traffic
-    → numbers_of_calls (confirmed_by_effect point.outbox (told_effect told).traffic) ≡ confirmed_by step (told_reply told)
-    → ((book : Book) → filter_map call_of (changes_in book (told_effect told).change) ≡ bodies_in (told_effect told).traffic)
-    → ((number : ℕ) → reply_takes number (told_reply told) ≡ false) → ((number : ℕ) → asks_answer_of number step ≡ false) → Agrees point step told
+    → numbers_of_calls (confirmed_by_effect point.outbox
+    (told_effect told).traffic) ≡ confirmed_by step (told_reply told)
+    → ((book : Book) → filter_map call_of (changes_in book (told_effect told).change) ≡ bodies_in
+    (told_effect told).traffic)
+    → ((number : ℕ) → reply_takes number (told_reply told) ≡ false) → ((number : ℕ)
+    → asks_answer_of number step ≡ false) → Agrees point step told
 all_refl point step told effect calls confirmed bodies no_take no_answer =
-    record { effect = effect; calls = calls; confirmed = confirmed; bodies = bodies; no_take = no_take; no_answer = no_answer }
+    record {
+      effect = effect;
+      calls = calls;
+      confirmed = confirmed;
+      bodies = bodies;
+      no_take = no_take;
+      no_answer = no_answer;
+    }
 
-pub install_agrees : (site : SiteState) (numbers : Numbers) (id : List ℕ) (row : Row) (point : ChargePointState)
+pub install_agrees : (site : SiteState) (numbers : Numbers) (id : List ℕ) (row : Row)
+    (point : ChargePointState)
     → IfOk (installs site numbers id row point) (Agrees point (steps.Install id row))
 install_agrees site numbers id row point =
-    unless_holds (Agrees point (steps.Install id row)) (refusal_to_install site numbers id row point) (Does replies.Accepted (installing row))
-    (all_refl point (steps.Install id row) (Does replies.Accepted (installing row)) refl refl refl (λ book. refl) (λ number. refl) (λ number. refl))
+    unless_holds (Agrees point (steps.Install id row))
+    (refusal_to_install site numbers id row point) (Does replies.Accepted (installing row))
+    (all_refl point (steps.Install id row) (Does replies.Accepted (installing row)) refl refl refl
+    (λ book. refl) (λ number. refl) (λ number. refl))
 
-pub clear_agrees : (numbers : Numbers) (id : List ℕ) (criteria : Criteria) (point : ChargePointState)
+pub clear_agrees : (numbers : Numbers) (id : List ℕ) (criteria : Criteria)
+    (point : ChargePointState)
     → IfOk (clears numbers criteria point) (Agrees point (steps.Clear id criteria))
 clear_agrees numbers id criteria point =
     let P = Agrees point (steps.Clear id criteria) in
-    either_holds P (list_any (matches criteria) point.book.rows) (unless (refusal_to_call numbers point) (Does replies.Accepted (clearing criteria))) (Ok (Answers replies.Unknown))
+    either_holds P (list_any (matches criteria) point.book.rows) (unless
+    (refusal_to_call numbers point) (Does replies.Accepted (clearing criteria))) (Ok
+    (Answers replies.Unknown))
     (unless_holds P (refusal_to_call numbers point) (Does replies.Accepted (clearing criteria))
-    (all_refl point (steps.Clear id criteria) (Does replies.Accepted (clearing criteria)) refl refl refl (λ book. refl) (λ number. refl) (λ number. refl)))
-    (all_refl point (steps.Clear id criteria) (Answers replies.Unknown) refl refl refl (λ book. refl) (λ number. refl) (λ number. refl))
+    (all_refl point (steps.Clear id criteria) (Does replies.Accepted
+    (clearing criteria)) refl refl refl (λ book. refl) (λ number. refl) (λ number. refl)))
+    (all_refl point (steps.Clear id criteria) (Answers replies.Unknown) refl refl refl
+    (λ book. refl) (λ number. refl) (λ number. refl))
 
-pub start_agrees : (numbers : Numbers) (id : List ℕ) (connector : ℕ) (begin : Begin) (point : ChargePointState)
+pub start_agrees : (numbers : Numbers) (id : List ℕ) (connector : ℕ) (begin : Begin)
+    (point : ChargePointState)
     → IfOk (starts numbers connector begin point) (Agrees point (steps.Start id connector begin))
 start_agrees numbers id connector begin point =
-    either_holds P (is_at_no_connector point connector) (Err refusals.UnknownConnector) (starts_as (began point.book.transactions connector begin) numbers connector begin)
+    either_holds P (is_at_no_connector point connector) (Err refusals.UnknownConnector) (starts_as
+    (began point.book.transactions connector begin) numbers connector begin)
     tt (by (began point.book.transactions connector begin))
   where
     P : Told → Type 0
     P = Agrees point (steps.Start id connector begin)
 
     new : Told
-    new = Does (replies.Started (next_transaction numbers)) (effect_alone (Start connector begin (next_transaction numbers)))
+    new = Does (replies.Started (next_transaction numbers)) (effect_alone (Start connector begin
+        (next_transaction numbers)))
 
     by : (found : Began) → IfOk (starts_as found numbers connector begin) P
-    by (Repeat number) = all_refl point (steps.Start id connector begin) (Answers (replies.Repeated number)) refl refl refl (λ book. refl) (λ number. refl) (λ number. refl)
-    by Fresh = unless_holds P (refusal_to_start numbers) new (all_refl point (steps.Start id connector begin) new refl refl refl (λ book. refl) (λ number. refl) (λ number. refl))
+    by (Repeat number) = all_refl point (steps.Start id connector begin) (Answers
+        (replies.Repeated number)) refl refl refl (λ book. refl) (λ number. refl) (λ number. refl)
+    by Fresh = unless_holds P (refusal_to_start numbers) new (all_refl point
+        (steps.Start id connector begin) new refl refl refl (λ book. refl) (λ number. refl)
+        (λ number. refl))
 
 pub stop_agrees : (numbers : Numbers) (id : List ℕ) (number : ℤ) (point : ChargePointState)
     → IfOk (stops numbers number point) (Agrees point (steps.Stop id number))
 stop_agrees numbers id number point =
     let P = Agrees point (steps.Stop id number) in
     let ended : Told = Does replies.Ended (effect_alone (Stop number)) in
-    either_holds P (is_some (connector_of point.book.transactions number)) (unless (version_refusal numbers) ended) (Ok (Answers replies.NoSuch))
-    (unless_holds P (version_refusal numbers) ended (all_refl point (steps.Stop id number) ended refl refl refl (λ book. end_is_no_call (connector_of book.transactions number)) (λ n. refl) (λ n. refl)))
-    (all_refl point (steps.Stop id number) (Answers replies.NoSuch) refl refl refl (λ book. refl) (λ n. refl) (λ n. refl))
+    either_holds P (is_some (connector_of point.book.transactions number)) (unless
+    (version_refusal numbers) ended) (Ok (Answers replies.NoSuch))
+    (unless_holds P (version_refusal numbers) ended (all_refl point
+    (steps.Stop id number) ended refl refl refl (λ book. end_is_no_call
+    (connector_of book.transactions number)) (λ n. refl) (λ n. refl)))
+    (all_refl point (steps.Stop id number) (Answers replies.NoSuch) refl refl refl (λ book. refl)
+    (λ n. refl) (λ n. refl))
 
-pub attach_agrees : (numbers : Numbers) (id : List ℕ) (point : ChargePointState) → IfOk (attaches numbers point) (Agrees point (steps.Attach id))
+pub attach_agrees : (numbers : Numbers) (id : List ℕ) (point : ChargePointState)
+    → IfOk (attaches numbers point) (Agrees point (steps.Attach id))
 attach_agrees numbers id point =
-    let linked : Told = Does (replies.Attached (numbers.link + 1)) (traffic_alone (Attach (numbers.link + 1))) in
+    let linked : Told = Does (replies.Attached (numbers.link + 1)) (traffic_alone (Attach
+    (numbers.link + 1))) in
     unless_holds (Agrees point (steps.Attach id)) (refusal_to_attach numbers) linked
-    (all_refl point (steps.Attach id) linked refl refl refl (λ book. refl) (λ number. refl) (λ number. refl))
+    (all_refl point (steps.Attach id) linked refl refl refl (λ book. refl) (λ number. refl)
+    (λ number. refl))
 
-pub send_agrees : (id : List ℕ) (link : ℕ) (point : ChargePointState) → IfOk (sends point) (Agrees point (steps.Send id link))
+pub send_agrees : (id : List ℕ) (link : ℕ) (point : ChargePointState)
+    → IfOk (sends point) (Agrees point (steps.Send id link))
 send_agrees id link point = by (sendable point.outbox) refl
   where
-    by : (call : Option Call) → sendable point.outbox ≡ call → Agrees point (steps.Send id link) (sends_call call)
-    by None first = all_refl point (steps.Send id link) (Answers replies.Nothing) refl refl refl (λ book. refl) (λ number. refl) (λ number. refl)
+    by : (call : Option Call) → sendable point.outbox ≡ call
+        → Agrees point (steps.Send id link) (sends_call call)
+    by None first = all_refl point (steps.Send id link) (Answers replies.Nothing) refl refl refl
+        (λ book. refl) (λ number. refl) (λ number. refl)
     by (Some call) first =
-        all_refl point (steps.Send id link) (Does (replies.Sent call) (traffic_alone Send)) refl (ap call_list (sym first)) refl (λ book. refl) (λ number. refl) (λ number. refl)
+        all_refl point (steps.Send id link) (Does (replies.Sent call) (traffic_alone Send)) refl
+        (ap call_list (sym first)) refl (λ book. refl) (λ number. refl) (λ number. refl)
 
 -- the call in flight that has a number is the first, and has it
 first_confirmed : (outbox : OutboxState) (number : ℕ) → is_number_in_flight outbox number ≡ true
     → numbers_of_calls (confirmed_at outbox (Confirm number)) ≡ number ∷ []
 first_confirmed outbox number is =
-    ap (λ (b : Bool). numbers_of_calls (cond b (take 1 outbox.calls) [])) is ∙ by outbox.is_in_flight outbox.calls is
+    ap (λ (b : Bool). numbers_of_calls (cond b (take 1 outbox.calls) [])) is
+    ∙ by outbox.is_in_flight outbox.calls is
   where
-    by : (flies : Bool) (calls : List Call) → (flies && is_number_of_first calls number) ≡ true → numbers_of_calls (take 1 calls) ≡ number ∷ []
+    by : (flies : Bool) (calls : List Call) → (flies && is_number_of_first calls number) ≡ true
+        → numbers_of_calls (take 1 calls) ≡ number ∷ []
     by false calls h = absurd (cc h)
     by true [] h = absurd (cc h)
     by true (call ∷ later) h = ap (λ (n : ℕ). n ∷ []) (eqb-true call.number number h)
 
-pub confirm_agrees : (id : List ℕ) (link number : ℕ) (point : ChargePointState) → IfOk (confirms number point) (Agrees point (steps.Confirm id link number))
+pub confirm_agrees : (id : List ℕ) (link number : ℕ) (point : ChargePointState)
+    → IfOk (confirms number point) (Agrees point (steps.Confirm id link number))
 confirm_agrees id link number point = by (is_number_in_flight point.outbox number) refl
   where
     confirming : Told
     confirming = Does replies.Confirmed (traffic_alone (Confirm number))
 
     by : (flies : Bool) → is_number_in_flight point.outbox number ≡ flies
-        → IfOk (cond flies (Ok confirming) (Err refusals.NothingInFlight)) (Agrees point (steps.Confirm id link number))
+        → IfOk (cond flies (Ok confirming) (Err refusals.NothingInFlight)) (Agrees point
+        (steps.Confirm id link number))
     by false is = tt
-    by true is = all_refl point (steps.Confirm id link number) confirming refl refl (first_confirmed point.outbox number is) (λ book. refl) (λ n. refl) (λ n. refl)
+    by true is = all_refl point (steps.Confirm id link number) confirming refl refl
+        (first_confirmed point.outbox number is) (λ book. refl) (λ n. refl) (λ n. refl)
 
-pub lose_agrees : (id : List ℕ) (link : ℕ) (point : ChargePointState) → IfOk (loses point) (Agrees point (steps.Lost id link))
+pub lose_agrees : (id : List ℕ) (link : ℕ) (point : ChargePointState)
+    → IfOk (loses point) (Agrees point (steps.Lost id link))
 lose_agrees id link point =
-    all_refl point (steps.Lost id link) (Does replies.LinkLost (traffic_alone Lose)) refl refl refl (λ book. refl) (λ number. refl) (λ number. refl)
+    all_refl point (steps.Lost id link) (Does replies.LinkLost
+    (traffic_alone Lose)) refl refl refl (λ book. refl) (λ number. refl) (λ number. refl)
