@@ -33,15 +33,17 @@ fn expect_changes(rt: &impl Abort, alloc: Global, line: &str) -> Result<(), Fail
     let mut instant = instant_at(parts.next().ok_or("no instant")?.parse::<u64>()?)?;
     for word in parts.next().ok_or("no changes")?.split(' ') {
         let found = next_change(&profile, base, instant);
-        match word.split_once(':') {
-            Some((second, limit)) => {
-                let next = instant_at(second.parse::<u64>()?)?;
-                assert_eq!(rt; found, Some(next), "{word}");
-                assert_eq!(rt; rate_at(&profile, base, next), limit_told(limit)?, "{word}");
-                instant = next;
-            }
-            None => assert_eq!(rt; found.is_none(), word == "end", "{line}"),
-        }
+        let Some((second, told)) = word.split_once(':') else {
+            let is_last = found.is_none();
+            let is_told_last = word == "end";
+            assert_eq!(rt; is_last, is_told_last);
+            continue;
+        };
+        let next = instant_at(second.parse::<u64>()?)?;
+        let limit = limit_told(told)?;
+        assert_eq!(rt; found, Some(next));
+        assert_eq!(rt; rate_at(&profile, base, next), limit);
+        instant = next;
     }
     Ok(())
 }

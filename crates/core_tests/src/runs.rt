@@ -381,12 +381,26 @@ CP1 start 1 = Repeated 1
 CP1 stop 2 = NoSuch
 CP1 send 1 = Nothing";
 
+/// Makes the steps before. Where memory is refused to one of them, that is the failure.
+fn make_way(rt: &impl Abort, alloc: Global, machine: &mut Machine) -> Result<(), Fail> {
+    let steps = steps_of(alloc, BEFORE)?;
+    for (step, line) in steps.into_iter().zip(BEFORE.lines()) {
+        let (_, wanted) = parts_of(line)?;
+        match machine.step(step) {
+            Ok(reply) => assert_eq!(rt; reply_told(&reply), wanted, "{line}"),
+            Err(refused) => return Err(refused.refusal)?,
+        }
+    }
+    Ok(())
+}
+
 /// A step without an event wants no memory: it has its reply where each allocation is refused, as
 /// `tests/program.py` does from each one on. A take wants some, and shows that it was refused.
 #[test]
 fn a_step_without_an_event_wants_no_memory(rt: HostRuntime) -> Result<(), Fail> {
     let alloc = rt.alloc();
-    let mut machine = run_anew(&rt, alloc, BEFORE)?;
+    let mut machine = Machine::new(alloc, site(alloc)?)?;
+    make_way(&rt, alloc, &mut machine)?;
     let take = step_of(alloc, "CP1 take")?;
     let steps = steps_of(alloc, WITHOUT_AN_EVENT)?;
     for (step, line) in steps.into_iter().zip(WITHOUT_AN_EVENT.lines()) {
