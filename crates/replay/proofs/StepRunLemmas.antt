@@ -95,10 +95,6 @@ kept_right answer too_long kept =
     (limit_asked (state_of kept.book) kept.ask.connector kept.ask.start) kept.ask.duration
     kept.ask.some
 
--- the cause against a compile, whatever the answer
-compile_cause : MachineState → ℕ → Option Kept → Option Refusal
-compile_cause old number kept = cause_of (compiles_kept old number no_answer kept)
-
 compile_has : Law-answer → Law-too_long → (old : MachineState) (number : ℕ) (kept : Kept)
     → request_of number old.requests ≡ Some kept
     → (has : Bool) → is_some kept.answer ≡ has
