@@ -12,8 +12,9 @@ use Rattle.site_core.specs.State.{MachineState, Kept, ScheduleAnswer}
 use Rattle.site_core.specs.Requests.{request_of, with_answer, answered, without, stopped_request, all_stopped}
 use Rattle.site_core.specs.Step.{Made, Steps}
 use Rattle.site_core.specs.History.{Event, Legal, answered_event, is_take_of, takes_of, is_answer_of, answers_of, kept_of, IsAnswered}
+use Rattle.site_core.specs.Headline.{RequestsBalance}
 use Rattle.site_core.proofs.StepLemmas.{handing, Does, does, leaves, takes_one, compiles_one, hands_one, finishes_all}
-use Rattle.site_core.proofs.TakenRequests.{Holds, holds_step, holds_at_opening, event_of, found_number, all_answered, all_without}
+use Rattle.site_core.proofs.TakenRequests.{Holds, holds_step, holds_at_base, none_right, event_of, found_number, all_answered, all_without}
 
 -- ---- how many are kept of a number
 
@@ -132,8 +133,29 @@ counts_after opening events old (event ∷ later) new holds counts legal =
 
 pub counts : (opening : MachineState) (events : List Event) (new : MachineState) → opening.requests ≡ [] → Legal opening events new → Counts events new
 counts opening events new none legal =
-    counts_after opening [] opening events new (holds_at_opening opening none)
+    counts_after opening [] opening events new (holds_at_base opening (none_right opening none))
     (record { once = λ number. zero-le; kept = λ number. ap (λ (requests : List Kept). 0 + kept_of number requests) (sym none) }) legal
+
+-- from any state what is taken and was kept is answered or kept
+balances_along : (old : MachineState) (events : List Event) (new : MachineState)
+    → Legal old events new → (number : ℕ)
+    → takes_of number events + kept_of number old.requests
+    ≡ answers_of number events + kept_of number new.requests
+balances_along old [] new legal number = ap (λ (s : MachineState). 0 + kept_of number s.requests) (sym legal)
+balances_along old (event ∷ events) new legal number =
+    let made : Made = record { reply = event.reply; after = legal.0 } in
+    let rest = balances_along legal.0 events new legal.2 number in
+    let here = balances number old event.step made (does old event.step event.reply legal.0 legal.1) in
+    omega (
+      arith,
+      here,
+      rest,
+      sum_by-cons (λ (e : Event). one_if (is_take_of number e)) event events,
+      sum_by-cons (λ (e : Event). one_if (is_answer_of number e)) event events,
+    )
+
+pub requests_balance : RequestsBalance
+requests_balance old events new legal number = balances_along old events new legal number
 
 -- ---- answers stay
 

@@ -1,9 +1,9 @@
 -- What every kept request comes from: one Take of its number, with its book and its ask.
-use Rattle.std.proofs.Common.{◌≡◌, ℕ, ◌+◌, ◌<◌, ◌≤◌, ◌==◌, Bool, true, false, cond, List, [], ◌∷◌, ◌++◌, take, append_assoc, append-nil, Option, Some, None, Result, Ok, Err, unwrap_or, refl, sym, ap, ◌∙◌, subst, arith}
+use Rattle.std.proofs.Common.{◌≡◌, ℕ, zero, ◌+◌, ◌<◌, ◌≤◌, ◌==◌, Bool, true, false, cond, List, [], ◌∷◌, ◌++◌, take, append_assoc, append-nil, Option, Some, None, Result, Ok, Err, unwrap_or, refl, sym, ap, ◌∙◌, subst, arith}
 use Rattle.std.proofs.Common.{inl, inr}
 use Rattle.std.specs.Prelude.{IfOk, IfSome, ◌⊎◌}
 use Rattle.std.specs.List.{AllByRecursion, Contains}
-use Rattle.std.proofs.lemmas.List.Elements.{Contains-append_left, Contains-push}
+use Rattle.std.proofs.lemmas.List.Elements.{Contains-append_left, Contains-append_right, Contains-push}
 use Rattle.std.proofs.lemmas.Bool.Decides.{nat_tests}
 use Rattle.ocpp_scalars.specs.declared.refusal.Refusal.{Refusal}
 use Rattle.ocpp_scalars.specs.declared.refusal.Refusal.TheVariants.{Stopped}
@@ -23,34 +23,25 @@ use Rattle.site_core.specs.Ask.{ask_at}
 use Rattle.site_core.specs.Step.{Made, Steps, unchanged}
 use Rattle.site_core.specs.History.{Event, Legal, taken_event, finish_event, answered_event, reply_takes, is_take_of, takes_of, history_of}
 use Rattle.site_core.specs.Run.{Runs}
-use Rattle.site_core.specs.Headline.{IsRightAfter, AnswersAreRight}
+use Rattle.site_core.specs.Headline.{IsRightAfter, AnswersAreRight, IsKeptRight, KeepsRight, IsTakenIn, IsKeptBefore, IsRightBefore}
+use Rattle.site_core.specs.Headline.{RequestsStayRight, RequestsHaveTheirBooks, AnswersGoOnRight, HasItsBook}
 use Rattle.site_core.proofs.HistoryLemmas.{legal_push, legal_split, runs_legal, run_at, takes_push, takes_once}
 use Rattle.site_core.proofs.StepLemmas.{LeavesRequests, IsHanding, taking, compiling, handing, finishing, Does, does, leaves, takes_one, compiles_one, hands_one, finishes_all, answers_is}
 
 -- ---- the one Take of a number
 
-pub record WasTaken (opening : MachineState) (events : List Event) (number : ℕ) (book : Book) (ask : Ask) : Type 0 where
-  pub before : List Event
-  pub asked : Take
-  pub since : List Event
-  pub in_order : events ≡ before ++ taken_event asked number book ask ∷ since
-  pub first : takes_of number before ≡ 0
-  pub last : takes_of number since ≡ 0
-  pub state : MachineState
-  pub reached : Legal opening before state
-  pub place : ℕ
-  pub point : place_of opening.site asked.point ≡ Some place
-  pub had : book ≡ book_at state place
-  pub asks : ask_at opening.site.unit book asked ≡ Ok ask
-
 -- one event more, which is no Take of it
-abbrev was_taken : (opening : MachineState) (events : List Event) (event : Event) (number : ℕ) (book : Book) (ask : Ask) → is_take_of number event ≡ false
-    → WasTaken opening events number book ask → WasTaken opening (events ++ event ∷ []) number book ask
+abbrev was_taken : (opening : MachineState) (events : List Event) (event : Event) (number : ℕ) (book : Book)
+    (ask : Ask) → is_take_of number event ≡ false
+    → IsTakenIn opening events number book ask
+    → IsTakenIn opening (events ++ event ∷ []) number book ask
 was_taken opening events event number book ask other taken = record {
   before = taken.before;
   asked = taken.asked;
   since = taken.since ++ event ∷ [];
-  in_order = ap (λ (es : List Event). es ++ event ∷ []) taken.in_order ∙ append_assoc taken.before (taken_event taken.asked number book ask ∷ taken.since) (event ∷ []);
+  in_order =
+      ap (λ (es : List Event). es ++ event ∷ []) taken.in_order
+      ∙ append_assoc taken.before (taken_event taken.asked number book ask ∷ taken.since) (event ∷ []);
   first = taken.first;
   last = takes_push number taken.since event other ∙ taken.last;
   state = taken.state;
@@ -61,19 +52,88 @@ was_taken opening events event number book ask other taken = record {
   asks = taken.asks;
 }
 
+abbrev was_kept : (opening : MachineState) (events : List Event) (event : Event) (number : ℕ) (book : Book)
+    (ask : Ask) → is_take_of number event ≡ false
+    → IsKeptBefore opening events number book ask
+    → IsKeptBefore opening (events ++ event ∷ []) number book ask
+was_kept opening events event number book ask other before = record {
+  kept = before.kept;
+  is_kept = before.is_kept;
+  numbered = before.numbered;
+  had = before.had;
+  asks = before.asks;
+  never = takes_push number events event other ∙ before.never;
+}
+
+-- ---- where a request comes from
+
+abbrev pub Origin : MachineState → List Event → ℕ → Book → Ask → Type 0
+Origin opening events number book ask =
+    IsTakenIn opening events number book ask ⊎ IsKeptBefore opening events number book ask
+
+-- the events since then
+abbrev since_of : (opening : MachineState) (events : List Event) (number : ℕ) (book : Book) (ask : Ask)
+    → Origin opening events number book ask → List Event
+since_of opening events number book ask (inl taken) = taken.since
+since_of opening events number book ask (inr before) = events
+
+-- when it may be answered Stopped
+abbrev pub MayBeStopped : (opening : MachineState) (events : List Event) (number : ℕ) (book : Book)
+    (ask : Ask) → Origin opening events number book ask → Type 0
+MayBeStopped opening events number book ask (inl taken) = Contains taken.since finish_event
+MayBeStopped opening events number book ask (inr before) =
+    (opening.is_stopped ≡ true) ⊎ Contains events finish_event
+
+abbrev origin_after : (opening : MachineState) (events : List Event) (event : Event) (number : ℕ) (book : Book)
+    (ask : Ask) → is_take_of number event ≡ false → Origin opening events number book ask
+    → Origin opening (events ++ event ∷ []) number book ask
+origin_after opening events event number book ask other (inl taken) =
+    inl (was_taken opening events event number book ask other taken)
+origin_after opening events event number book ask other (inr before) =
+    inr (was_kept opening events event number book ask other before)
+
+stopped_after : (opening : MachineState) (events : List Event) (event : Event) (number : ℕ) (book : Book)
+    (ask : Ask) (other : is_take_of number event ≡ false) (origin : Origin opening events number book ask)
+    → MayBeStopped opening events number book ask origin
+    → MayBeStopped opening (events ++ event ∷ []) number book ask
+    (origin_after opening events event number book ask other origin)
+stopped_after opening events event number book ask other (inl taken) may =
+    Contains-append_left taken.since (event ∷ []) finish_event may
+stopped_after opening events event number book ask other (inr before) (inl was) = inl was
+stopped_after opening events event number book ask other (inr before) (inr may) =
+    inr (Contains-append_left events (event ∷ []) finish_event may)
+
+since_after : (opening : MachineState) (events : List Event) (event : Event) (number : ℕ) (book : Book)
+    (ask : Ask) (other : is_take_of number event ≡ false) (origin : Origin opening events number book ask)
+    → Contains (since_of opening (events ++ event ∷ []) number book ask
+    (origin_after opening events event number book ask other origin)) event
+since_after opening events event number book ask other (inl taken) = Contains-push taken.since event
+since_after opening events event number book ask other (inr before) = Contains-push events event
+
+-- after a Finish since
+finished_since : (opening : MachineState) (events : List Event) (number : ℕ) (book : Book) (ask : Ask)
+    (origin : Origin opening events number book ask)
+    → Contains (since_of opening events number book ask origin) finish_event
+    → MayBeStopped opening events number book ask origin
+finished_since opening events number book ask (inl taken) finish = finish
+finished_since opening events number book ask (inr before) finish = inr finish
+
 -- ---- kept requests
 
--- It was taken, its answer is right, and Stopped only after a Finish. Its number isn't above the one drawn last.
-pub record IsKept (opening : MachineState) (events : List Event) (drawn : ℕ) (kept : Kept) : Type 0 where
-  pub taken : WasTaken opening events kept.number kept.book kept.ask
+-- It was taken, or kept before; its answer is right, and Stopped only after a Finish. Its number isn't
+-- above the one drawn last.
+pub record IsKept (opening : MachineState) (events : List Event) (drawn : ℕ) (kept : Kept)
+    : Type 0 where
+  pub origin : Origin opening events kept.number kept.book kept.ask
   pub right : IfSome kept.answer (IsRight kept.book kept.ask)
-  pub stopped : kept.answer ≡ Some (Err Stopped) → Contains taken.since finish_event
+  pub stopped : kept.answer ≡ Some (Err Stopped)
+      → MayBeStopped opening events kept.number kept.book kept.ask origin
   pub below : kept.number ≤ drawn
 
 -- it is kept, and was taken before this event
 record IsKeptSince (opening : MachineState) (events : List Event) (event : Event) (drawn : ℕ) (kept : Kept) : Type 0 where
   is : IsKept opening events drawn kept
-  since : Contains is.taken.since event
+  since : Contains (since_of opening events kept.number kept.book kept.ask is.origin) event
 
 kept_after : (opening : MachineState) (events : List Event) (event : Event) (drawn later : ℕ) (requests : List Kept)
     → ((number : ℕ) → number ≤ drawn → is_take_of number event ≡ false) → drawn ≤ later
@@ -81,15 +141,17 @@ kept_after : (opening : MachineState) (events : List Event) (event : Event) (dra
 kept_after opening events event drawn later [] other more all = tt
 kept_after opening events event drawn later (kept ∷ requests) other more all =
     let first = all.0 in
-    let below : kept.number ≤ drawn = first.below in (
+    let below : kept.number ≤ drawn = first.below in
+    let not_it = other kept.number below in (
       record {
         is = record {
-          taken = was_taken opening events event kept.number kept.book kept.ask (other kept.number below) first.taken;
+          origin = origin_after opening events event kept.number kept.book kept.ask not_it first.origin;
           right = first.right;
-          stopped = λ is. Contains-append_left first.taken.since (event ∷ []) finish_event (first.stopped is);
+          stopped = λ is.
+          stopped_after opening events event kept.number kept.book kept.ask not_it first.origin (first.stopped is);
           below = omega arith;
         };
-        since = Contains-push first.taken.since event;
+        since = since_after opening events event kept.number kept.book kept.ask not_it first.origin;
       },
       kept_after opening events event drawn later requests other more all.1,
     )
@@ -166,13 +228,38 @@ pub record Holds (opening : MachineState) (events : List Event) (state : Machine
   pub later : (number : ℕ) → state.numbers.request < number → takes_of number events ≡ 0
   pub kept : AllByRecursion (IsKept opening events state.numbers.request) state.requests
 
-pub holds_at_opening : (opening : MachineState) → opening.requests ≡ [] → Holds opening [] opening
-holds_at_opening opening none = record {
+kept_at_base : (opening : MachineState) (requests : List Kept)
+    → ((kept : Kept) → Contains requests kept → Contains opening.requests kept)
+    → AllByRecursion (IsKeptRight opening) requests
+    → AllByRecursion (IsKept opening [] opening.numbers.request) requests
+kept_at_base opening [] each right = tt
+kept_at_base opening (first ∷ requests) each right = (
+  record {
+    origin = inr (record {
+      kept = first;
+      is_kept = each first (zero, omega arith, refl);
+      numbered = refl;
+      had = refl;
+      asks = refl;
+      never = refl;
+    });
+    right = right.0.right;
+    stopped = λ is. inl (right.0.stopped is);
+    below = right.0.drawn;
+  },
+  kept_at_base opening requests (λ kept is. each kept (Contains-append_right (first ∷ []) requests kept is)) right.1,
+)
+
+pub holds_at_base : (opening : MachineState) → KeepsRight opening → Holds opening [] opening
+holds_at_base opening right = record {
   reached = refl;
   site = refl;
   later = λ number above. refl;
-  kept = subst (λ (requests : List Kept). AllByRecursion (IsKept opening [] opening.numbers.request) requests) (sym none) tt;
+  kept = kept_at_base opening opening.requests (λ kept is. is) right;
 }
+
+pub none_right : (opening : MachineState) → opening.requests ≡ [] → KeepsRight opening
+none_right opening none = subst (AllByRecursion (IsKeptRight opening)) (sym none) tt
 
 -- the event of a step that is made
 abbrev pub event_of : Step → Made → Event
@@ -220,7 +307,7 @@ holds_compiled opening events old number kept answer holds found right =
     let compiled : IsCompiledFor other.book other.ask answer = subst (λ (k : Kept). IsCompiledFor k.book k.ask answer) same right in
     record {
       is = record {
-        taken = has.is.taken;
+        origin = has.is.origin;
         right = right_of other.book other.ask answer compiled;
         stopped = λ stopped. absurd (never_stopped other.book other.ask answer compiled stopped);
         below = has.is.below;
@@ -240,9 +327,10 @@ holds_finished opening events old holds =
     holds_changed opening events old steps.Finish (finishing old) holds refl refl (λ number. refl) (λ all.
     all_finished (IsKeptSince opening (events ++ finish_event ∷ []) finish_event old.numbers.request) old.requests (λ kept has. record {
       is = record {
-        taken = has.is.taken;
+        origin = has.is.origin;
         right = right_when_stopped kept.book kept.ask kept.answer has.is.right;
-        stopped = λ stopped. has.since;
+        stopped = λ stopped.
+        finished_since opening (events ++ finish_event ∷ []) kept.number kept.book kept.ask has.is.origin has.since;
         below = has.is.below;
       };
       since = has.since;
@@ -269,7 +357,7 @@ holds_taken opening events old take place ask holds point asks reached =
           (still_kept opening (events ++ event ∷ []) event (drawn + 1) old.requests
           (kept_after opening events event drawn (drawn + 1) old.requests (next_differs old.numbers.request) (omega arith) holds.kept))
           (record {
-            taken = record {
+            origin = inl (record {
               before = events;
               asked = take;
               since = [];
@@ -282,7 +370,7 @@ holds_taken opening events old take place ask holds point asks reached =
               point = subst (λ (site : SiteState). place_of site take.point ≡ Some place) holds.site point;
               had = refl;
               asks = subst (λ (site : SiteState). ask_at site.unit (book_at old place) take ≡ Ok ask) holds.site asks;
-            };
+            });
             right = tt;
             stopped = λ stopped. cc;
             below = omega arith;
@@ -313,49 +401,94 @@ holds_after opening events old (event ∷ later) new holds legal =
 
 -- ---- the headline
 
--- an answer that is handed out after a legal history is right
-pub handed_out_right : (opening : MachineState) (events : List Event) (middle : MachineState) (number : ℕ) (book : Book) (ask : Ask) (answer : ScheduleAnswer) (next : MachineState)
-    → Holds opening events middle → Steps middle (steps.Answer number) (Answered book ask answer) next → IsRightAfter opening events number book ask answer
+-- an answer that is handed out after a legal history is right, by where its request comes from
+answer_right : (opening : MachineState) (events : List Event) (number : ℕ) (book : Book) (ask : Ask)
+    (answer : ScheduleAnswer) (origin : Origin opening events number book ask) → IsRight book ask answer
+    → (answer ≡ Err Stopped → MayBeStopped opening events number book ask origin)
+    → IsRightAfter opening events number book ask answer
+    ⊎ IsRightBefore opening events number book ask answer
+answer_right opening events number book ask answer (inl taken) right stopped = inl (record {
+  before = taken.before;
+  asked = taken.asked;
+  since = taken.since;
+  in_order = taken.in_order;
+  first = taken.first;
+  last = taken.last;
+  state = taken.state;
+  reached = taken.reached;
+  place = taken.place;
+  point = taken.point;
+  had = taken.had;
+  asks = taken.asks;
+  right = right;
+  stopped = stopped;
+})
+answer_right opening events number book ask answer (inr before) right stopped =
+    inr (record { before = before; right = right; stopped = stopped })
+
+kept_right : (opening : MachineState) (events : List Event) (drawn : ℕ) (kept : Kept)
+    (answer : ScheduleAnswer) → kept.answer ≡ Some answer → IsKept opening events drawn kept
+    → IsRightAfter opening events kept.number kept.book kept.ask answer
+    ⊎ IsRightBefore opening events kept.number kept.book kept.ask answer
+kept_right opening events drawn kept answer has found =
+    answer_right opening events kept.number kept.book kept.ask answer found.origin
+    (subst (λ (o : Option ScheduleAnswer). IfSome o (IsRight kept.book kept.ask)) has found.right)
+    (λ e. found.stopped (has ∙ ap Some e))
+
+abbrev IsRightEither : MachineState → List Event → ℕ → Book → Ask → ScheduleAnswer → Type 0
+IsRightEither opening events number book ask answer =
+    IsRightAfter opening events number book ask answer
+    ⊎ IsRightBefore opening events number book ask answer
+
+pub handed_out_right : (opening : MachineState) (events : List Event) (middle : MachineState)
+    (number : ℕ) (book : Book) (ask : Ask) (answer : ScheduleAnswer) (next : MachineState)
+    → Holds opening events middle
+    → Steps middle (steps.Answer number) (Answered book ask answer) next
+    → IsRightEither opening events number book ask answer
 handed_out_right opening events middle number book ask answer next holds made =
-    handed (subst (λ (r : Result Made Refusal). IfOk r (λ m. IsHanding middle number m ⊎ (unchanged middle NotYet ≡ m))) made (answers_is middle number))
+    handed (subst (λ (r : Result Made Refusal). IfOk r (λ m. IsHanding middle number m ⊎ (unchanged middle NotYet ≡ m)))
+    made (answers_is middle number))
   where
-    handed : IsHanding middle number (record { reply = Answered book ask answer; after = next }) ⊎ (unchanged middle NotYet ≡ record { reply = Answered book ask answer; after = next })
-        → IsRightAfter opening events number book ask answer
+    handed : IsHanding middle number (record { reply = Answered book ask answer; after = next })
+        ⊎ (unchanged middle NotYet ≡ record { reply = Answered book ask answer; after = next })
+        → IsRightEither opening events number book ask answer
     handed (inr same) = let reply : NotYet ≡ Answered book ask answer = ap (λ (m : Made). m.reply) same in cc
     handed (inl is) =
-        let reply : Answered is.kept.book is.kept.ask is.answer ≡ Answered book ask answer = ap (λ (m : Made). m.reply) is.is in
+        let reply : Answered is.kept.book is.kept.ask is.answer ≡ Answered book ask answer =
+        ap (λ (m : Made). m.reply) is.is in
         let books : is.kept.book ≡ book = cc in
         let asks : is.kept.ask ≡ ask = cc in
         let answers : is.answer ≡ answer = cc in
-        let found = found_holds (IsKept opening events middle.numbers.request) number middle.requests is.kept holds.kept is.found in
+        let found = found_holds (IsKept opening events middle.numbers.request) number middle.requests is.kept
+        holds.kept is.found in
         let numbered : is.kept.number ≡ number = found_number number middle.requests is.kept is.found in
-        let given : IsRight is.kept.book is.kept.ask is.answer = subst (λ (o : Option ScheduleAnswer). IfSome o (IsRight is.kept.book is.kept.ask)) is.has found.right in
-        let stopped : answer ≡ Err Stopped → Contains found.taken.since finish_event = λ e. found.stopped (is.has ∙ ap Some (answers ∙ e)) in
-        let right : IsRight book ask answer = subst (λ (b : Book). IsRight b ask answer) books (subst (λ (a : Ask). IsRight is.kept.book a answer) asks (subst (IsRight is.kept.book is.kept.ask) answers given)) in
-        let taken = found.taken in
-        record {
-          before = taken.before;
-          asked = taken.asked;
-          since = taken.since;
-          in_order = taken.in_order ∙ (λ i. taken.before ++ taken_event taken.asked (numbered i) (books i) (asks i) ∷ taken.since);
-          first = ap (λ (n : ℕ). takes_of n taken.before) (sym numbered) ∙ taken.first;
-          last = ap (λ (n : ℕ). takes_of n taken.since) (sym numbered) ∙ taken.last;
-          state = taken.state;
-          reached = taken.reached;
-          place = taken.place;
-          point = taken.point;
-          had = sym books ∙ taken.had;
-          asks = subst (λ (b : Book). ask_at opening.site.unit b taken.asked ≡ Ok ask) books (taken.asks ∙ ap Ok asks);
-          right = right;
-          stopped = stopped;
-        }
+        let right = kept_right opening events middle.numbers.request is.kept is.answer is.has found in
+        subst (λ (n : ℕ). IsRightEither opening events n book ask answer) numbered
+        (subst (λ (b : Book). IsRightEither opening events is.kept.number b ask answer) books
+        (subst (λ (a : Ask). IsRightEither opening events is.kept.number is.kept.book a answer) asks
+        (subst (IsRightEither opening events is.kept.number is.kept.book is.kept.ask) answers right)))
+
+-- where nothing was kept before, it was taken
+after_alone : (opening : MachineState) (events : List Event) (number : ℕ) (book : Book) (ask : Ask)
+    (answer : ScheduleAnswer) → opening.requests ≡ []
+    → IsRightEither opening events number book ask answer
+    → IsRightAfter opening events number book ask answer
+after_alone opening events number book ask answer none (inl right) = right
+after_alone opening events number book ask answer none (inr right) =
+    absurd (nothing_in right.before.kept
+    (subst (λ (requests : List Kept). Contains requests right.before.kept) none right.before.is_kept))
+  where
+    nothing_in : (kept : Kept) → Contains {X = Kept} [] kept → ⊥
+    nothing_in kept is = absurd (omega (arith, is.1))
 
 -- in a legal history from an opening state
 pub history_right : (opening : MachineState) (earlier later : List Event) (number : ℕ) (book : Book) (ask : Ask) (answer : ScheduleAnswer) (new : MachineState)
     → opening.requests ≡ [] → Legal opening (earlier ++ answered_event number book ask answer ∷ later) new → IsRightAfter opening earlier number book ask answer
 history_right opening earlier later number book ask answer new none legal =
     let cut = legal_split opening earlier (answered_event number book ask answer) later new legal in
-    handed_out_right opening earlier cut.0 number book ask answer cut.1 (holds_after opening [] opening earlier cut.0 (holds_at_opening opening none) cut.2) cut.3
+    after_alone opening earlier number book ask answer none
+    (handed_out_right opening earlier cut.0 number book ask answer cut.1
+    (holds_after opening [] opening earlier cut.0 (holds_at_base opening (none_right opening none)) cut.2) cut.3)
 
 pub right_takes_once : (opening : MachineState) (events : List Event) (number : ℕ) (book : Book) (ask : Ask) (answer : ScheduleAnswer)
     → IsRightAfter opening events number book ask answer → takes_of number events ≡ 1
@@ -367,5 +500,79 @@ right_takes_once opening events number book ask answer right =
 pub run_right : (opening : MachineState) (run : List Step) (outcomes : List Outcome) (new : MachineState) → opening.requests ≡ [] → Runs opening run outcomes new → AnswersAreRight opening run outcomes
 run_right opening run outcomes new none runs n number book ask answer here there =
     let cut = run_at opening new run outcomes n (steps.Answer number) (Done (Answered book ask answer)) runs here there in
-    handed_out_right opening (history_of (take n run) (take n outcomes)) cut.0 number book ask answer cut.1
-    (holds_after opening [] opening (history_of (take n run) (take n outcomes)) cut.0 (holds_at_opening opening none) (runs_legal opening cut.0 (take n run) (take n outcomes) cut.2)) cut.3
+    after_alone opening (history_of (take n run) (take n outcomes)) number book ask answer none
+    (handed_out_right opening (history_of (take n run) (take n outcomes)) cut.0 number book ask answer cut.1
+    (holds_after opening [] opening (history_of (take n run) (take n outcomes)) cut.0
+    (holds_at_base opening (none_right opening none)) (runs_legal opening cut.0 (take n run) (take n outcomes) cut.2)) cut.3)
+
+-- ---- from any state
+
+pub answers_go_on_right : AnswersGoOnRight
+answers_go_on_right old earlier later number book ask answer new right legal =
+    let cut = legal_split old earlier (answered_event number book ask answer) later new legal in
+    handed_out_right old earlier cut.0 number book ask answer cut.1
+    (holds_after old [] old earlier cut.0 (holds_at_base old right) cut.2) cut.3
+
+have_their_books : (old : MachineState) (events : List Event) (drawn : ℕ) (requests : List Kept)
+    → AllByRecursion (IsKept old events drawn) requests
+    → AllByRecursion (HasItsBook old events) requests
+have_their_books old events drawn [] all = tt
+have_their_books old events drawn (kept ∷ requests) all =
+    (all.0.origin, have_their_books old events drawn requests all.1)
+
+pub requests_have_their_books : RequestsHaveTheirBooks
+requests_have_their_books old events new right legal =
+    have_their_books old events new.numbers.request new.requests
+    (holds_after old [] old events new (holds_at_base old right) legal).kept
+
+-- what is right in one state is right in a later one
+right_later : (old new : MachineState) (requests : List Kept)
+    → old.numbers.request ≤ new.numbers.request → (old.is_stopped ≡ true → new.is_stopped ≡ true)
+    → AllByRecursion (IsKeptRight old) requests → AllByRecursion (IsKeptRight new) requests
+right_later old new [] more stops all = tt
+right_later old new (kept ∷ requests) more stops all =
+    let drawn = all.0.drawn in (
+      record {
+        drawn = omega (arith, drawn, more);
+        right = all.0.right;
+        stopped = λ is. stops (all.0.stopped is);
+      },
+      right_later old new requests more stops all.1,
+    )
+
+right_step : (old : MachineState) (step : Step) (made : Made) → KeepsRight old → Does old step made
+    → KeepsRight made.after
+right_step old step made right (leaves _ _ is) =
+    subst (AllByRecursion (IsKeptRight made.after)) (sym is.requests)
+    (right_later old made.after old.requests (omega (arith, is.drawn)) (λ e. is.stopped ∙ e) right)
+right_step old step made right (takes_one take place ask point asks going) =
+    all_push (IsKeptRight made.after) old.requests _
+    (right_later old made.after old.requests (omega arith) (λ e. e) right)
+    (record { drawn = omega arith; right = tt; stopped = λ is. cc })
+right_step old step made right (compiles_one number kept answer found unanswered compiled) =
+    all_answered (IsKeptRight made.after) number answer old.requests
+    (right_later old made.after old.requests (omega arith) (λ e. e) right) (λ other here has.
+    let same : kept ≡ other = cc in
+    let is : IsCompiledFor other.book other.ask answer =
+    subst (λ (k : Kept). IsCompiledFor k.book k.ask answer) same compiled in
+    record {
+      drawn = has.drawn;
+      right = right_of other.book other.ask answer is;
+      stopped = λ stopped. absurd (never_stopped other.book other.ask answer is stopped);
+    })
+right_step old step made right (hands_one number kept answer found has) =
+    all_without (IsKeptRight made.after) kept.number old.requests
+    (right_later old made.after old.requests (omega arith) (λ e. e) right)
+right_step old step made right finishes_all =
+    all_finished (IsKeptRight made.after) old.requests (λ kept has. record {
+      drawn = has.drawn;
+      right = right_when_stopped kept.book kept.ask kept.answer has.right;
+      stopped = λ is. refl;
+    }) (right_later old made.after old.requests (omega arith) (λ e. refl) right)
+
+pub requests_stay_right : RequestsStayRight
+requests_stay_right old [] new right legal = subst KeepsRight (sym legal) right
+requests_stay_right old (event ∷ events) new right legal =
+    let made : Made = record { reply = event.reply; after = legal.0 } in
+    requests_stay_right legal.0 events new
+    (right_step old event.step made right (does old event.step event.reply legal.0 legal.1)) legal.2

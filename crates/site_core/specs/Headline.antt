@@ -1,10 +1,10 @@
 -- The headline: after any steps, in any order, every schedule that is handed out is right for what
 -- its point had when the schedule was asked, whatever was changed since (OCPP 1.6, 5.7).
-use Rattle.std.specs.Prelude.{ℕ, ◌≡◌, List, ◌∷◌, ◌++◌, take, slice_get, Some, Ok, Err}
-use Rattle.std.specs.List.{Contains}
+use Rattle.std.specs.Prelude.{ℕ, ◌≡◌, ◌≤◌, ◌+◌, ◌⊎◌, true, List, ◌∷◌, ◌++◌, take, slice_get, Some, IfSome, Ok, Err}
+use Rattle.std.specs.List.{AllByRecursion, Contains}
 use Rattle.ocpp_scalars.specs.declared.refusal.Refusal.TheVariants.{Stopped}
 use Rattle.meaning.specs.declared.ask.Ask.{Ask}
-use Rattle.site_rules.specs.Site.{place_of}
+use Rattle.site_rules.specs.Site.{SiteState, place_of}
 use Rattle.point_book.specs.Book.{Book}
 use Rattle.site_core.specs.declared.step.Step.{Step}
 use Rattle.site_core.specs.declared.step.Step.TheVariants.{Answer}
@@ -12,10 +12,11 @@ use Rattle.site_core.specs.declared.step.Take.{Take}
 use Rattle.site_core.specs.declared.reply.Reply.TheVariants.{Answered}
 use Rattle.site_core.specs.declared.outcome.Outcome.{Outcome}
 use Rattle.site_core.specs.declared.outcome.Outcome.TheVariants.{Done}
-use Rattle.site_core.specs.State.{MachineState, ScheduleAnswer, book_at}
+use Rattle.site_core.specs.declared.numbers.Numbers.{Numbers}
+use Rattle.site_core.specs.State.{MachineState, Kept, ScheduleAnswer, opening_at, book_at}
 use Rattle.site_core.specs.Ask.{ask_at}
 use Rattle.site_core.specs.Right.{IsRight}
-use Rattle.site_core.specs.History.{Event, Legal, history_of, taken_event, finish_event, takes_of}
+use Rattle.site_core.specs.History.{Event, Legal, history_of, taken_event, answered_event, finish_event, takes_of, answers_of, kept_of}
 
 -- An answer that is handed out to the request of a number, with a book and an ask, after these
 -- events from an opening state, is right:
@@ -58,3 +59,95 @@ AnswersAreRight opening steps outcomes =
     → slice_get outcomes position ≡ Some (Done (Answered book ask answer))
     → IsRightAfter opening (history_of (take position steps) (take position outcomes))
     number book ask answer
+
+-- ---- the same from any state
+
+-- In a state a kept request is right: its number was drawn, and its answer, if it has one, is right
+-- for its book and its ask, and Stopped only where the central system is stopped.
+pub record IsKeptRight (state : MachineState) (kept : Kept) : Type 0 where
+  pub drawn : kept.number ≤ state.numbers.request
+  pub right : IfSome kept.answer (IsRight kept.book kept.ask)
+  pub stopped : kept.answer ≡ Some (Err Stopped) → state.is_stopped ≡ true
+
+abbrev pub KeepsRight : MachineState → Type 0
+KeepsRight state = AllByRecursion (IsKeptRight state) state.requests
+
+-- A request of a number, with a book and an ask, was taken in these events from a state:
+pub record IsTakenIn (old : MachineState) (events : List Event) (number : ℕ) (book : Book)
+    (ask : Ask) : Type 0 where
+  -- there were events before, its Take, and events since,
+  pub before : List Event
+  pub asked : Take
+  pub since : List Event
+  pub in_order : events ≡ before ++ taken_event asked number book ask ∷ since
+  -- and no other Take of its number.
+  pub first : takes_of number before ≡ 0
+  pub last : takes_of number since ≡ 0
+  -- The book is what the point had in the state to which the events before had led.
+  pub state : MachineState
+  pub reached : Legal old before state
+  pub place : ℕ
+  pub point : place_of old.site asked.point ≡ Some place
+  pub had : book ≡ book_at state place
+  pub asks : ask_at old.site.unit book asked ≡ Ok ask
+
+-- A request of a number, with a book and an ask, was kept in a state already, and no Take in these
+-- events since has its number.
+pub record IsKeptBefore (old : MachineState) (events : List Event) (number : ℕ) (book : Book)
+    (ask : Ask) : Type 0 where
+  pub kept : Kept
+  pub is_kept : Contains old.requests kept
+  pub numbered : kept.number ≡ number
+  pub had : kept.book ≡ book
+  pub asks : kept.ask ≡ ask
+  pub never : takes_of number events ≡ 0
+
+-- a kept request was taken in these events, with what its point had then, or was kept before
+abbrev pub HasItsBook : MachineState → List Event → Kept → Type 0
+HasItsBook old events kept =
+    IsTakenIn old events kept.number kept.book kept.ask
+    ⊎ IsKeptBefore old events kept.number kept.book kept.ask
+
+-- An answer to a request that was kept before is right for it, and Stopped only where the central
+-- system was stopped before, or since.
+pub record IsRightBefore (old : MachineState) (events : List Event) (number : ℕ) (book : Book)
+    (ask : Ask) (answer : ScheduleAnswer) : Type 0 where
+  pub before : IsKeptBefore old events number book ask
+  pub right : IsRight book ask answer
+  pub stopped : answer ≡ Err Stopped → (old.is_stopped ≡ true) ⊎ Contains events finish_event
+
+-- the opening keeps no request
+abbrev pub OpeningsKeepRight : Type 0
+OpeningsKeepRight = (site : SiteState) (numbers : Numbers) → KeepsRight (opening_at site numbers)
+
+-- from a state that keeps what is right, every legal history leads to such a one
+abbrev pub RequestsStayRight : Type 0
+RequestsStayRight =
+    (old : MachineState) (events : List Event) (new : MachineState)
+    → KeepsRight old → Legal old events new → KeepsRight new
+
+-- each kept request has the book that its Take, or the old state, gave it
+abbrev pub RequestsHaveTheirBooks : Type 0
+RequestsHaveTheirBooks =
+    (old : MachineState) (events : List Event) (new : MachineState)
+    → KeepsRight old → Legal old events new
+    → AllByRecursion (HasItsBook old events) new.requests
+
+-- each answer that is handed out is right: for what the point had at the request's Take, or for what
+-- the old state kept
+abbrev pub AnswersGoOnRight : Type 0
+AnswersGoOnRight =
+    (old : MachineState) (earlier later : List Event) (number : ℕ) (book : Book) (ask : Ask)
+    (answer : ScheduleAnswer) (new : MachineState)
+    → KeepsRight old
+    → Legal old (earlier ++ answered_event number book ask answer ∷ later) new
+    → IsRightAfter old earlier number book ask answer
+    ⊎ IsRightBefore old earlier number book ask answer
+
+-- no request is lost, and none is answered twice
+abbrev pub RequestsBalance : Type 0
+RequestsBalance =
+    (old : MachineState) (events : List Event) (new : MachineState) → Legal old events new
+    → (number : ℕ)
+    → takes_of number events + kept_of number old.requests
+    ≡ answers_of number events + kept_of number new.requests

@@ -14,6 +14,9 @@ ghost use Rattle.site_core.specs.Run.{Runs};
 ghost use Rattle.site_core.specs.History.{Event, Legal, history_of, answered_event};
 ghost use Rattle.site_core.specs.History.{takes_of, answers_of, kept_of, IsAnswered};
 ghost use Rattle.site_core.specs.Headline.{IsRightAfter, AnswersAreRight};
+ghost use Rattle.site_core.specs.Headline.{OpeningsKeepRight, RequestsStayRight};
+ghost use Rattle.site_core.specs.Headline.{RequestsHaveTheirBooks, AnswersGoOnRight};
+ghost use Rattle.site_core.specs.Headline.{RequestsBalance};
 
 /// The law that the steps that a run made are a legal history.
 pub fn runs_are_legal()
@@ -97,4 +100,16 @@ pub fn stopped_requests_are_answered()
     ensures { (site : SiteState) (numbers : Numbers) (events : List Event) (state : MachineState)
         → Legal (opening_at site numbers) events state → IsTrue state.is_stopped
         → All IsAnswered state.requests }
+{}
+
+/// The laws of requests from any state that keeps what is right, as the opening does, along every legal
+/// history. It leads to such a state again. Each kept request has the book that its point had at its Take,
+/// or that the old state kept for it. Each answer that is handed out is right for that book and the ask.
+/// And from whatever state, no request is lost and none is answered twice.
+pub fn requests_go_on_from_any_state()
+    ensures opening { OpeningsKeepRight }
+    ensures stay { RequestsStayRight }
+    ensures books { RequestsHaveTheirBooks }
+    ensures answers { AnswersGoOnRight }
+    ensures balance { RequestsBalance }
 {}

@@ -28,8 +28,8 @@ pub use call_laws::{
 };
 pub use headline::{
     answered_schedules_are_right, answers_are_right, answers_follow_one_take, answers_stay,
-    points_follow_events, requests_are_answered_once, runs_are_legal, runs_join,
-    runs_keep_the_site, stopped_requests_are_answered,
+    points_follow_events, requests_are_answered_once, requests_go_on_from_any_state,
+    runs_are_legal, runs_join, runs_keep_the_site, stopped_requests_are_answered,
 };
 pub use machine::Machine;
 pub use numbers::{MAX_NUMBER, Numbers};
