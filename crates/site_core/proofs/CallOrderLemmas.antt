@@ -114,7 +114,8 @@ each_at_its_number (body ∷ later) number before many =
     ) in
     let rest = each_at_its_number later (number + 1) (before ++ call ∷ []) longer in (
       subst (λ (n : ℕ). slice_get (before ++ call ∷ numbered
-          (number + 1) later) n ≡ Some call) many (at_seam before call (numbered (number + 1) later)),
+          (number + 1) later) n ≡ Some call) many (at_seam before call (numbered
+          (number + 1) later)),
       subst (λ (all : List Call). AllByRecursion (IsOneOf all) (numbered (number + 1) later))
           (append_assoc before (call ∷ []) (numbered (number + 1) later)) rest,
     )

@@ -17,20 +17,26 @@ use Rattle.site_core.specs.Obey.{Change, Installs, Clears, Ends, Obeying, at_mom
 
 -- ---- filters
 
-filter_kept : {X : Type 0} (test : X → Bool) (x : X) (xs : List X) → test x ≡ true → filter test (x ∷ xs) ≡ x ∷ filter test xs
+filter_kept : {X : Type 0} (test : X → Bool) (x : X) (xs : List X) → test x ≡ true
+    → filter test (x ∷ xs) ≡ x ∷ filter test xs
 filter_kept test x xs is = rw is refl
 
-filter_gone : {X : Type 0} (test : X → Bool) (x : X) (xs : List X) → test x ≡ false → filter test (x ∷ xs) ≡ filter test xs
+filter_gone : {X : Type 0} (test : X → Bool) (x : X) (xs : List X) → test x ≡ false
+    → filter test (x ∷ xs) ≡ filter test xs
 filter_gone test x xs is = rw is refl
 
-filter_again : {X : Type 0} (test : X → Bool) (xs : List X) → filter test (filter test xs) ≡ filter test xs
+filter_again : {X : Type 0} (test : X → Bool) (xs : List X)
+    → filter test (filter test xs) ≡ filter test xs
 filter_again test [] = refl
 filter_again {X = X} test (x ∷ xs) = go (test x) refl (filter_again test xs)
   where
-    go : (b : Bool) → test x ≡ b → filter test (filter test xs) ≡ filter test xs → filter test (filter test (x ∷ xs)) ≡ filter test (x ∷ xs)
-    go true is rest = ap (filter test) (filter_kept test x xs is) ∙ filter_kept test x (filter test xs) is
+    go : (b : Bool) → test x ≡ b → filter test (filter test xs) ≡ filter test xs
+        → filter test (filter test (x ∷ xs)) ≡ filter test (x ∷ xs)
+    go true is rest = ap (filter test) (filter_kept test x xs is)
+        ∙ filter_kept test x (filter test xs) is
         ∙ ap (λ (ys : List X). x ∷ ys) rest ∙ sym (filter_kept test x xs is)
-    go false is rest = ap (filter test) (filter_gone test x xs is) ∙ rest ∙ sym (filter_gone test x xs is)
+    go false is rest = ap (filter test) (filter_gone test x xs is) ∙ rest
+        ∙ sym (filter_gone test x xs is)
 
 filter_none : {X : Type 0} (xs : List X) → filter (λ _. false) xs ≡ []
 filter_none [] = refl
@@ -41,29 +47,37 @@ filter_none (x ∷ xs) = filter_none xs
 abbrev lasts : Row → Bool
 lasts row = not (is_tx row.profile.purpose)
 
-lasting_kept : (row : Row) (rows : List Row) → lasts row ≡ true → lasting (row ∷ rows) ≡ at_moment 0 row ∷ lasting rows
+lasting_kept : (row : Row) (rows : List Row) → lasts row ≡ true
+    → lasting (row ∷ rows) ≡ at_moment 0 row ∷ lasting rows
 lasting_kept row rows is = ap (map (at_moment 0)) (filter_kept lasts row rows is)
 
-lasting_gone : (row : Row) (rows : List Row) → lasts row ≡ false → lasting (row ∷ rows) ≡ lasting rows
+lasting_gone : (row : Row) (rows : List Row) → lasts row ≡ false
+    → lasting (row ∷ rows) ≡ lasting rows
 lasting_gone row rows is = ap (map (at_moment 0)) (filter_gone lasts row rows is)
 
-lasting_append : (rows others : List Row) → lasting (rows ++ others) ≡ lasting rows ++ lasting others
+lasting_append : (rows others : List Row) → lasting
+    (rows ++ others) ≡ lasting rows ++ lasting others
 lasting_append [] others = refl
 lasting_append (row ∷ rows) others = go (lasts row) refl (lasting_append rows others)
   where
-    go : (b : Bool) → lasts row ≡ b → lasting (rows ++ others) ≡ lasting rows ++ lasting others → lasting ((row ∷ rows) ++ others) ≡ lasting (row ∷ rows) ++ lasting others
-    go true is rest = lasting_kept row (rows ++ others) is ∙ ap (λ (rs : List Row). at_moment 0 row ∷ rs) rest
+    go : (b : Bool) → lasts row ≡ b → lasting (rows ++ others) ≡ lasting rows ++ lasting others
+        → lasting ((row ∷ rows) ++ others) ≡ lasting (row ∷ rows) ++ lasting others
+    go true is rest = lasting_kept row (rows ++ others) is
+        ∙ ap (λ (rs : List Row). at_moment 0 row ∷ rs) rest
         ∙ ap (λ (rs : List Row). rs ++ lasting others) (sym (lasting_kept row rows is))
     go false is rest = lasting_gone row (rows ++ others) is ∙ rest
         ∙ ap (λ (rs : List Row). rs ++ lasting others) (sym (lasting_gone row rows is))
 
 -- a test that reads no moment acts on the lasting rows alone
-lasting_filter : (test : Row → Bool) → ((row : Row) → test (at_moment 0 row) ≡ test row) → (rows : List Row)
+lasting_filter : (test : Row → Bool) → ((row : Row) → test (at_moment 0 row) ≡ test row)
+    → (rows : List Row)
     → lasting (filter test rows) ≡ filter test (lasting rows)
 lasting_filter test same [] = refl
-lasting_filter test same (row ∷ rows) = go (test row) refl (lasts row) refl (lasting_filter test same rows)
+lasting_filter test same (row ∷ rows) = go (test row) refl (lasts row) refl
+    (lasting_filter test same rows)
   where
-    go : (a : Bool) → test row ≡ a → (b : Bool) → lasts row ≡ b → lasting (filter test rows) ≡ filter test (lasting rows)
+    go : (a : Bool) → test row ≡ a → (b : Bool) → lasts row ≡ b
+        → lasting (filter test rows) ≡ filter test (lasting rows)
         → lasting (filter test (row ∷ rows)) ≡ filter test (lasting (row ∷ rows))
     go true passes true stays rest =
         ap lasting (filter_kept test row rows passes) ∙ lasting_kept row (filter test rows) stays
@@ -71,34 +85,41 @@ lasting_filter test same (row ∷ rows) = go (test row) refl (lasts row) refl (l
         ∙ sym (filter_kept test (at_moment 0 row) (lasting rows) (same row ∙ passes))
         ∙ ap (filter test) (sym (lasting_kept row rows stays))
     go true passes false goes rest =
-        ap lasting (filter_kept test row rows passes) ∙ lasting_gone row (filter test rows) goes ∙ rest
+        ap lasting (filter_kept test row rows passes) ∙ lasting_gone row (filter test rows) goes
+        ∙ rest
         ∙ ap (filter test) (sym (lasting_gone row rows goes))
     go false fails true stays rest =
         ap lasting (filter_gone test row rows fails) ∙ rest
         ∙ sym (filter_gone test (at_moment 0 row) (lasting rows) (same row ∙ fails))
         ∙ ap (filter test) (sym (lasting_kept row rows stays))
     go false fails false goes rest =
-        ap lasting (filter_gone test row rows fails) ∙ rest ∙ ap (filter test) (sym (lasting_gone row rows goes))
+        ap lasting (filter_gone test row rows fails) ∙ rest
+        ∙ ap (filter test) (sym (lasting_gone row rows goes))
 
 -- one that all lasting rows pass leaves them
-lasting_within : (test : Row → Bool) → ((row : Row) → lasts row ≡ true → test row ≡ true) → (rows : List Row)
+lasting_within : (test : Row → Bool) → ((row : Row) → lasts row ≡ true → test row ≡ true)
+    → (rows : List Row)
     → lasting (filter test rows) ≡ lasting rows
 lasting_within test each [] = refl
-lasting_within test each (row ∷ rows) = go (test row) refl (lasts row) refl (lasting_within test each rows)
+lasting_within test each (row ∷ rows) = go (test row) refl (lasts row) refl
+    (lasting_within test each rows)
   where
-    go : (a : Bool) → test row ≡ a → (b : Bool) → lasts row ≡ b → lasting (filter test rows) ≡ lasting rows
+    go : (a : Bool) → test row ≡ a → (b : Bool) → lasts row ≡ b
+        → lasting (filter test rows) ≡ lasting rows
         → lasting (filter test (row ∷ rows)) ≡ lasting (row ∷ rows)
     go true passes true stays rest =
         ap lasting (filter_kept test row rows passes) ∙ lasting_kept row (filter test rows) stays
         ∙ ap (λ (rs : List Row). at_moment 0 row ∷ rs) rest ∙ sym (lasting_kept row rows stays)
     go true passes false goes rest =
-        ap lasting (filter_kept test row rows passes) ∙ lasting_gone row (filter test rows) goes ∙ rest
+        ap lasting (filter_kept test row rows passes) ∙ lasting_gone row (filter test rows) goes
+        ∙ rest
         ∙ sym (lasting_gone row rows goes)
     go false fails true stays rest = let passes = each row stays in cc
     go false fails false goes rest =
         ap lasting (filter_gone test row rows fails) ∙ rest ∙ sym (lasting_gone row rows goes)
 
-pub lasting_end : (rows : List Row) (connector : ℕ) → lasting (without_transaction_profiles rows connector) ≡ lasting rows
+pub lasting_end : (rows : List Row) (connector : ℕ)
+    → lasting (without_transaction_profiles rows connector) ≡ lasting rows
 lasting_end rows connector = lasting_within (λ row. not (is_tx_profile_at connector row)) stays rows
   where
     by : (a b : Bool) → not a ≡ true → not (a && b) ≡ true
@@ -109,7 +130,8 @@ lasting_end rows connector = lasting_within (λ row. not (is_tx_profile_at conne
     stays row is = by (is_tx row.profile.purpose) (row.connector == connector) is
 
 -- whatever the moment of a row
-lasting_with_moment : (moment : ℕ) (row : Row) → lasting (at_moment moment row ∷ []) ≡ lasting (row ∷ [])
+lasting_with_moment : (moment : ℕ) (row : Row)
+    → lasting (at_moment moment row ∷ []) ≡ lasting (row ∷ [])
 lasting_with_moment moment row = go (lasts row) refl
   where
     go : (b : Bool) → lasts row ≡ b → lasting (at_moment moment row ∷ []) ≡ lasting (row ∷ [])
@@ -134,16 +156,21 @@ on_lasting (Some (Set connector profile)) rows =
     filter (stays_beside (row_of connector profile)) rows ++ lasting (row_of connector profile ∷ [])
 on_lasting (Some (Clear criteria)) rows = filter (fails_some criteria) rows
 
-lasting_installed : (rows : List Row) (row : Row) → lasting (installed rows row) ≡ on_lasting (call_of (Installs row)) (lasting rows)
+lasting_installed : (rows : List Row) (row : Row)
+    → lasting (installed rows row) ≡ on_lasting (call_of (Installs row)) (lasting rows)
 lasting_installed rows row =
     lasting_append (rows_beside rows row) (row ∷ [])
-    ∙ ap (λ (rs : List Row). rs ++ lasting (row ∷ [])) (lasting_filter (stays_beside row) (λ _. refl) rows)
-    ∙ ap (λ (rs : List Row). filter (stays_beside row) (lasting rows) ++ rs) (sym (lasting_with_moment 0 row))
+    ∙ ap (λ (rs : List Row). rs ++ lasting (row ∷ [])) (lasting_filter (stays_beside row)
+    (λ _. refl) rows)
+    ∙ ap (λ (rs : List Row). filter (stays_beside row) (lasting rows) ++ rs) (sym
+    (lasting_with_moment 0 row))
 
-lasting_cleared : (rows : List Row) (criteria : Criteria) → lasting (cleared rows criteria) ≡ on_lasting (Some (Clear criteria)) (lasting rows)
+lasting_cleared : (rows : List Row) (criteria : Criteria)
+    → lasting (cleared rows criteria) ≡ on_lasting (Some (Clear criteria)) (lasting rows)
 lasting_cleared rows criteria = lasting_filter (fails_some criteria) (λ _. refl) rows
 
-lasting_obeyed : (moment : ℕ) (call : Option CallBody) (rows : List Row) → lasting (obeyed_call moment call rows) ≡ on_lasting call (lasting rows)
+lasting_obeyed : (moment : ℕ) (call : Option CallBody) (rows : List Row)
+    → lasting (obeyed_call moment call rows) ≡ on_lasting call (lasting rows)
 lasting_obeyed moment None rows = refl
 lasting_obeyed moment (Some (Set connector profile)) rows =
     lasting_installed rows (record { connector = connector; moment = moment; profile = profile })
@@ -159,21 +186,25 @@ replaces_itself row = go (lasts row) refl
 
     replaced : stays_beside row (at_moment 0 row) ≡ false
     replaced =
-        by (int_eq row.profile.id row.profile.id) (has_key_of row (at_moment 0 row)) ((Decides-int_eq row.profile.id row.profile.id).1 refl)
+        by (int_eq row.profile.id row.profile.id) (has_key_of row (at_moment 0 row))
+        ((Decides-int_eq row.profile.id row.profile.id).1 refl)
 
     go : (b : Bool) → lasts row ≡ b → filter (stays_beside row) (lasting (row ∷ [])) ≡ []
-    go true is = ap (filter (stays_beside row)) (lasting_kept row [] is) ∙ filter_gone (stays_beside row) (at_moment 0 row) [] replaced
+    go true is = ap (filter (stays_beside row)) (lasting_kept row [] is)
+        ∙ filter_gone (stays_beside row) (at_moment 0 row) [] replaced
     go false is = ap (filter (stays_beside row)) (lasting_gone row [] is)
 
 -- a call that comes again changes nothing
-on_lasting_again : (call : Option CallBody) (rows : List Row) → on_lasting call (on_lasting call rows) ≡ on_lasting call rows
+on_lasting_again : (call : Option CallBody) (rows : List Row)
+    → on_lasting call (on_lasting call rows) ≡ on_lasting call rows
 on_lasting_again None rows = refl
 on_lasting_again (Some (Set connector profile)) rows =
     let row = row_of connector profile in
     let stay = filter (stays_beside row) rows in
     let new = lasting (row ∷ []) in
     ap (λ (rs : List Row). rs ++ new)
-    (filter-append (stays_beside row) stay new ∙ ap (λ (rs : List Row). filter (stays_beside row) stay ++ rs) (replaces_itself row)
+    (filter-append (stays_beside row) stay new
+    ∙ ap (λ (rs : List Row). filter (stays_beside row) stay ++ rs) (replaces_itself row)
     ∙ append-nil (filter (stays_beside row) stay) ∙ filter_again (stays_beside row) rows)
 on_lasting_again (Some (Clear criteria)) rows = filter_again (fails_some criteria) rows
 
@@ -182,17 +213,20 @@ on_lasting_again (Some (Clear criteria)) rows = filter_again (fails_some criteri
 -- after its next call the central system has what that call makes of the lasting rows
 next_call : (changes : List Change) (before : ℕ) (rows : List Row)
     → lasting (rows_after_call (suc before) changes rows)
-    ≡ on_lasting (slice_get (filter_map call_of changes) before) (lasting (rows_after_call before changes rows))
+    ≡ on_lasting (slice_get (filter_map call_of changes) before) (lasting
+    (rows_after_call before changes rows))
 next_call [] zero rows = refl
 next_call [] (suc before) rows = refl
 next_call (Installs row ∷ later) zero rows = lasting_installed rows row
 next_call (Installs row ∷ later) (suc before) rows = next_call later before (installed rows row)
 next_call (Clears criteria ∷ later) zero rows = lasting_cleared rows criteria
-next_call (Clears criteria ∷ later) (suc before) rows = next_call later before (cleared rows criteria)
+next_call (Clears criteria ∷ later) (suc before) rows = next_call later before
+    (cleared rows criteria)
 next_call (Ends connector ∷ later) zero rows =
     next_call later zero (without_transaction_profiles rows connector)
     ∙ ap (on_lasting (slice_get (filter_map call_of later) zero)) (lasting_end rows connector)
-next_call (Ends connector ∷ later) (suc before) rows = next_call later (suc before) (without_transaction_profiles rows connector)
+next_call (Ends connector ∷ later) (suc before) rows = next_call later (suc before)
+    (without_transaction_profiles rows connector)
 
 -- ---- the point
 
@@ -201,41 +235,54 @@ cleared_all : (rows : List Row) → lasting (cleared rows every_profile) ≡ []
 cleared_all rows = ap lasting (filter_none rows)
 
 -- the same call again
-obeyed_again : (moment number : ℕ) (changes : List Change) (rows : List Row) → lasting rows ≡ lasting (rows_after_call number changes [])
-    → lasting (obeyed_call moment (slice_get (calls_of changes) number) rows) ≡ lasting (rows_after_call number changes [])
+obeyed_again : (moment number : ℕ) (changes : List Change) (rows : List Row)
+    → lasting rows ≡ lasting (rows_after_call number changes [])
+    → lasting (obeyed_call moment (slice_get (calls_of changes) number) rows) ≡ lasting
+    (rows_after_call number changes [])
 obeyed_again moment zero changes rows same = cleared_all rows
 obeyed_again moment (suc before) changes rows same =
     let call = slice_get (filter_map call_of changes) before in
     lasting_obeyed moment call rows ∙ ap (on_lasting call) (same ∙ next_call changes before [])
-    ∙ on_lasting_again call (lasting (rows_after_call before changes [])) ∙ sym (next_call changes before [])
+    ∙ on_lasting_again call (lasting (rows_after_call before changes []))
+    ∙ sym (next_call changes before [])
 
 -- the next call
-obeyed_next : (moment before : ℕ) (changes : List Change) (rows : List Row) → lasting rows ≡ lasting (rows_after_call before changes [])
-    → lasting (obeyed_call moment (slice_get (calls_of changes) (suc before)) rows) ≡ lasting (rows_after_call (suc before) changes [])
+obeyed_next : (moment before : ℕ) (changes : List Change) (rows : List Row)
+    → lasting rows ≡ lasting (rows_after_call before changes [])
+    → lasting (obeyed_call moment (slice_get (calls_of changes) (suc before)) rows) ≡ lasting
+    (rows_after_call (suc before) changes [])
 obeyed_next moment before changes rows same =
     let call = slice_get (filter_map call_of changes) before in
     lasting_obeyed moment call rows ∙ ap (on_lasting call) same ∙ sym (next_call changes before [])
 
-obeyed_one : (moment before number : ℕ) (changes : List Change) (rows : List Row) → (number ≡ before) ⊎ (number ≡ before + 1)
+obeyed_one : (moment before number : ℕ) (changes : List Change) (rows : List Row)
+    → (number ≡ before) ⊎ (number ≡ before + 1)
     → lasting rows ≡ lasting (rows_after_call before changes [])
-    → lasting (obeyed_call moment (slice_get (calls_of changes) number) rows) ≡ lasting (rows_after_call number changes [])
+    → lasting (obeyed_call moment (slice_get (calls_of changes) number) rows) ≡ lasting
+    (rows_after_call number changes [])
 obeyed_one moment before number changes rows (inl e) same =
-    obeyed_again moment number changes rows (same ∙ ap (λ (n : ℕ). lasting (rows_after_call n changes [])) (sym e))
+    obeyed_again moment number changes rows (same
+    ∙ ap (λ (n : ℕ). lasting (rows_after_call n changes [])) (sym e))
 obeyed_one moment before number changes rows (inr e) same =
     let next : suc before ≡ number = omega arith in
-    let P : ℕ → Type 0 = λ n. lasting (obeyed_call moment (slice_get (calls_of changes) n) rows) ≡ lasting (rows_after_call n changes []) in
+    let P : ℕ → Type 0 = λ n. lasting (obeyed_call moment (slice_get
+    (calls_of changes) n) rows) ≡ lasting (rows_after_call n changes []) in
     subst P next (obeyed_next moment before changes rows same)
 
 obeyed_all : (later : List Obeying) (before : ℕ) (changes : List Change) (rows : List Row)
     → GoesOn before (numbers_of later) → lasting rows ≡ lasting (rows_after_call before changes [])
-    → lasting (obeyed (calls_of changes) later rows) ≡ lasting (rows_after_call (last_number before later) changes [])
+    → lasting (obeyed (calls_of changes) later rows) ≡ lasting (rows_after_call
+    (last_number before later) changes [])
 obeyed_all [] before changes rows goes same = same
 obeyed_all (obeying ∷ later) before changes rows goes same =
-    obeyed_all later obeying.number changes (obeyed_call obeying.moment (slice_get (calls_of changes) obeying.number) rows) goes.1
+    obeyed_all later obeying.number changes (obeyed_call obeying.moment (slice_get
+    (calls_of changes) obeying.number) rows) goes.1
     (obeyed_one obeying.moment before obeying.number changes rows goes.0 same)
 
 pub stays_in_step : StaysInStep
 stays_in_step changes first later rows order =
-    obeyed_all later first.number changes (obeyed_call first.moment (slice_get (calls_of changes) first.number) rows) order.1
-    (subst (λ (n : ℕ). lasting (obeyed_call first.moment (slice_get (calls_of changes) n) rows) ≡ lasting (rows_after_call n changes []))
+    obeyed_all later first.number changes (obeyed_call first.moment (slice_get
+    (calls_of changes) first.number) rows) order.1
+    (subst (λ (n : ℕ). lasting (obeyed_call first.moment (slice_get
+    (calls_of changes) n) rows) ≡ lasting (rows_after_call n changes []))
     (sym order.0) (cleared_all rows))

@@ -13,7 +13,8 @@ seven = Clear (record { id = Some (pos 7); connector = None; purpose = None; sta
 -- call 1 confirms nothing, one to call 0 does; call 1 is sent, and again over a fourth link
 abbrev day : List Traffic
 day =
-    Attach 1 ∷ (Attach 2 ∷ (Send ∷ (Send ∷ (Lose ∷ (Send ∷ (Attach 3 ∷ (Send ∷ (Add seven ∷ (Confirm 1 ∷ (Confirm 0 ∷ (Confirm 1
+    Attach 1 ∷ (Attach 2 ∷ (Send ∷ (Send ∷ (Lose ∷ (Send ∷ (Attach 3 ∷ (Send ∷ (Add seven ∷
+    (Confirm 1 ∷ (Confirm 0 ∷ (Confirm 1
     ∷ (Send ∷ (Attach 4 ∷ (Confirm 1 ∷ (Send ∷ [])))))))))))))))
 
 sent : numbers_sent opening_outbox day ≡ 0 ∷ (0 ∷ (1 ∷ (1 ∷ [])))

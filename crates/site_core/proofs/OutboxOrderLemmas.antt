@@ -6,14 +6,21 @@ use Rattle.site_core.specs.Outbox.{OutboxState, numbered, Traffic, Attach, Lose,
 use Rattle.site_core.specs.OutboxOrder.{GoesOn, AreInSendingOrder, AreSentInOrder, AreLeftUnlessConfirmed, numbers_sent, calls_confirmed, bodies_added}
 
 abbrev pub outbox : Option ℕ → List Call → ℕ → Bool → OutboxState
-outbox link calls next is_in_flight = record { link = link; calls = calls; next = next; is_in_flight = is_in_flight }
+outbox link calls next is_in_flight = record {
+  link = link;
+  calls = calls;
+  next =
+      next;
+  is_in_flight = is_in_flight;
+}
 
 -- calls of consecutive numbers, from the first to the one before the next
 abbrev pub AreFrom : ℕ → List Call → ℕ → Type 0
 AreFrom first [] next = first ≡ next
 AreFrom first (call ∷ later) next = (call.number ≡ first) × AreFrom (first + 1) later next
 
-pub from_push : (first : ℕ) (calls : List Call) (next : ℕ) (body : CallBody) → AreFrom first calls next
+pub from_push : (first : ℕ) (calls : List Call) (next : ℕ) (body : CallBody)
+    → AreFrom first calls next
     → AreFrom first (calls ++ record { number = next; body = body } ∷ []) (next + 1)
 from_push first [] next body at = (sym at, ap (λ (n : ℕ). n + 1) at)
 from_push first (call ∷ later) next body are = (are.0, from_push (first + 1) later next body are.1)
@@ -21,8 +28,10 @@ from_push first (call ∷ later) next body are = (are.0, from_push (first + 1) l
 -- ---- the order of sendings
 
 -- after the sending of a call, that call or the next one is the first
-pub goes_on : (traffic : List Traffic) (link : Option ℕ) (calls : List Call) (next : ℕ) (is_in_flight : Bool) (last first : ℕ)
-    → AreFrom first calls next → (first ≡ last) ⊎ (first ≡ last + 1) → (is_in_flight ≡ true → first ≡ last)
+pub goes_on : (traffic : List Traffic) (link : Option ℕ) (calls : List Call) (next : ℕ)
+    (is_in_flight : Bool) (last first : ℕ)
+    → AreFrom first calls next → (first ≡ last) ⊎ (first ≡ last + 1) → (is_in_flight ≡ true
+    → first ≡ last)
     → GoesOn last (numbers_sent (outbox link calls next is_in_flight) traffic)
 goes_on [] link calls next is_in_flight last first are near flies = tt
 goes_on (Attach number ∷ later) link calls next is_in_flight last first are near flies =
@@ -30,39 +39,57 @@ goes_on (Attach number ∷ later) link calls next is_in_flight last first are ne
 goes_on (Lose ∷ later) link calls next is_in_flight last first are near flies =
     goes_on later None calls next false last first are near (λ is. cc)
 goes_on (Add body ∷ later) link calls next is_in_flight last first are near flies =
-    goes_on later link (calls ++ record { number = next; body = body } ∷ []) (next + 1) is_in_flight last first
+    goes_on later link (calls ++ record {
+      number = next;
+      body =
+          body;
+    } ∷ []) (next + 1) is_in_flight last first
     (from_push first calls next body are) near flies
-goes_on (Send ∷ later) None calls next is_in_flight last first are near flies = goes_on later None calls next is_in_flight last first are near flies
-goes_on (Send ∷ later) (Some link) calls next true last first are near flies = goes_on later (Some link) calls next true last first are near flies
-goes_on (Send ∷ later) (Some link) [] next false last first are near flies = goes_on later (Some link) [] next false last first are near flies
+goes_on (Send ∷ later) None calls next is_in_flight last first are near flies =
+    goes_on later None calls next is_in_flight last first are near flies
+goes_on (Send ∷ later) (Some link) calls next true last first are near flies =
+    goes_on later (Some link) calls next true last first are near flies
+goes_on (Send ∷ later) (Some link) [] next false last first are near flies =
+    goes_on later (Some link) [] next false last first are near flies
 goes_on (Send ∷ later) (Some link) (call ∷ calls) next false last first are near flies = (
   subst (λ (n : ℕ). (n ≡ last) ⊎ (n ≡ last + 1)) (sym are.0) near,
-  goes_on later (Some link) (call ∷ calls) next true call.number first are (inl (sym are.0)) (λ is. sym are.0),
+  goes_on later (Some link) (call ∷ calls) next true call.number first are (inl (sym are.0))
+      (λ is. sym are.0),
 )
-goes_on (Confirm number ∷ later) link calls next false last first are near flies = goes_on later link calls next false last first are near flies
-goes_on (Confirm number ∷ later) link [] next true last first are near flies = goes_on later link [] next true last first are near flies
+goes_on (Confirm number ∷ later) link calls next false last first are near flies =
+    goes_on later link calls next false last first are near flies
+goes_on (Confirm number ∷ later) link [] next true last first are near flies =
+    goes_on later link [] next true last first are near flies
 goes_on (Confirm number ∷ later) link (call ∷ calls) next true last first are near flies =
     go (call.number == number)
-    (goes_on later link calls next false last (first + 1) are.1 (inr (ap (λ (n : ℕ). n + 1) (flies refl))) (λ is. cc))
+    (goes_on later link calls next false last (first + 1) are.1 (inr (ap (λ (n : ℕ). n + 1)
+    (flies refl))) (λ is. cc))
     (goes_on later link (call ∷ calls) next true last first are near flies)
   where
-    go : (b : Bool) → GoesOn last (numbers_sent (outbox link calls next false) later) → GoesOn last (numbers_sent (outbox link (call ∷ calls) next true) later)
-        → GoesOn last (numbers_sent (cond b (outbox link calls next false) (outbox link (call ∷ calls) next true)) later)
+    go : (b : Bool) → GoesOn last (numbers_sent (outbox link calls next false) later)
+        → GoesOn last (numbers_sent (outbox link (call ∷ calls) next true) later)
+        → GoesOn last (numbers_sent (cond b (outbox link calls next false) (outbox link
+        (call ∷ calls) next true)) later)
     go true gone kept = gone
     go false gone kept = kept
 
 -- before any sending, call 0 is the first
-begins : (traffic : List Traffic) (link : Option ℕ) (calls : List Call) (next : ℕ) → AreFrom 0 calls next
+begins : (traffic : List Traffic) (link : Option ℕ) (calls : List Call) (next : ℕ)
+    → AreFrom 0 calls next
     → AreInSendingOrder (numbers_sent (outbox link calls next false) traffic)
 begins [] link calls next are = tt
 begins (Attach number ∷ later) link calls next are = begins later (Some number) calls next are
 begins (Lose ∷ later) link calls next are = begins later None calls next are
 begins (Add body ∷ later) link calls next are =
-    begins later link (calls ++ record { number = next; body = body } ∷ []) (next + 1) (from_push 0 calls next body are)
+    begins later link (calls ++ record { number = next; body = body } ∷ []) (next + 1)
+    (from_push 0 calls next body are)
 begins (Send ∷ later) None calls next are = begins later None calls next are
 begins (Send ∷ later) (Some link) [] next are = begins later (Some link) [] next are
-begins (Send ∷ later) (Some link) (call ∷ calls) next are =
-    (are.0, goes_on later (Some link) (call ∷ calls) next true call.number 0 are (inl (sym are.0)) (λ is. sym are.0))
+begins (Send ∷ later) (Some link) (call ∷ calls) next are = (
+  are.0,
+  goes_on later (Some link) (call ∷ calls) next true call.number 0 are (inl (sym are.0))
+      (λ is. sym are.0),
+)
 begins (Confirm number ∷ later) link calls next are = begins later link calls next are
 
 pub sent_in_order : AreSentInOrder
@@ -71,11 +98,14 @@ sent_in_order traffic = begins traffic None _ 1 (refl, refl)
 -- ---- the calls that are left
 
 -- the confirmed calls and those that are left are those from before and the added ones
-pub left : (traffic : List Traffic) (link : Option ℕ) (calls : List Call) (next : ℕ) (is_in_flight : Bool)
-    → calls_confirmed (outbox link calls next is_in_flight) traffic ++ (after_all (outbox link calls next is_in_flight) traffic).calls
+pub left : (traffic : List Traffic) (link : Option ℕ) (calls : List Call) (next : ℕ)
+    (is_in_flight : Bool)
+    → calls_confirmed (outbox link calls next is_in_flight) traffic ++ (after_all
+    (outbox link calls next is_in_flight) traffic).calls
     ≡ calls ++ numbered next (bodies_added traffic)
 left [] link calls next is_in_flight = sym (append-nil calls)
-left (Attach number ∷ later) link calls next is_in_flight = left later (Some number) calls next false
+left (Attach number ∷ later) link calls next is_in_flight =
+    left later (Some number) calls next false
 left (Lose ∷ later) link calls next is_in_flight = left later None calls next false
 left (Add body ∷ later) link calls next is_in_flight =
     let call : Call = record { number = next; body = body } in
@@ -84,11 +114,13 @@ left (Add body ∷ later) link calls next is_in_flight =
 left (Send ∷ later) None calls next is_in_flight = left later None calls next is_in_flight
 left (Send ∷ later) (Some link) calls next true = left later (Some link) calls next true
 left (Send ∷ later) (Some link) [] next false = left later (Some link) [] next false
-left (Send ∷ later) (Some link) (call ∷ calls) next false = left later (Some link) (call ∷ calls) next true
+left (Send ∷ later) (Some link) (call ∷ calls) next false = left later (Some link)
+    (call ∷ calls) next true
 left (Confirm number ∷ later) link calls next false = left later link calls next false
 left (Confirm number ∷ later) link [] next true = left later link [] next true
 left (Confirm number ∷ later) link (call ∷ calls) next true =
-    go (call.number == number) (left later link calls next false) (left later link (call ∷ calls) next true)
+    go (call.number == number) (left later link calls next false) (left later link
+    (call ∷ calls) next true)
   where
     gone : OutboxState
     gone = outbox link calls next false
@@ -102,7 +134,8 @@ left (Confirm number ∷ later) link (call ∷ calls) next true =
     go : (b : Bool)
         → calls_confirmed gone later ++ (after_all gone later).calls ≡ calls ++ added
         → calls_confirmed kept later ++ (after_all kept later).calls ≡ (call ∷ calls) ++ added
-        → (cond b (call ∷ []) [] ++ calls_confirmed (cond b gone kept) later) ++ (after_all (cond b gone kept) later).calls
+        → (cond b (call ∷ []) [] ++ calls_confirmed (cond b gone kept) later) ++ (after_all
+        (cond b gone kept) later).calls
         ≡ (call ∷ calls) ++ added
     go true here there = ap (λ (cs : List Call). call ∷ cs) here
     go false here there = there

@@ -11,7 +11,8 @@ use Rattle.site_core.proofs.StepLemmas.{Does, does, leaves, takes_one, compiles_
 
 -- an event says what it makes of the points
 points_are : (old : MachineState) (step : Step) (made : Made) → Does old step made
-    → made.after.points ≡ points_by old.points (place_named old.site step) (effect_by step made.reply)
+    → made.after.points ≡ points_by old.points (place_named old.site step)
+    (effect_by step made.reply)
 points_are old step made (leaves _ _ is) = is.points
 points_are old step made (takes_one take place ask point asks going) =
     sym (set-get_or old.points place no_point)
@@ -21,18 +22,22 @@ points_are old step made (hands_one number kept answer found has) = refl
 points_are old step made finishes_all = refl
 
 -- two states with the same site and points lead by the same events to the same points
-pub same_points : (old another one other : MachineState) (events : List Event) → old.site ≡ another.site → old.points ≡ another.points
+pub same_points : (old another one other : MachineState) (events : List Event)
+    → old.site ≡ another.site → old.points ≡ another.points
     → Legal old events one → Legal another events other → one.points ≡ other.points
 same_points old another one other [] site points legal also =
-    ap (λ (s : MachineState). s.points) legal ∙ (points ∙ ap (λ (s : MachineState). s.points) (sym also))
+    ap (λ (s : MachineState). s.points) legal ∙ (points
+    ∙ ap (λ (s : MachineState). s.points) (sym also))
 same_points old another one other (event ∷ events) site points legal also =
     let made : Made = record { reply = event.reply; after = legal.0 } in
     let made_there : Made = record { reply = event.reply; after = also.0 } in
     let here = does old event.step event.reply legal.0 legal.1 in
     let there = does another event.step event.reply also.0 also.1 in
     same_points legal.0 also.0 one other events
-    (keeps_site old event.step made here ∙ (site ∙ sym (keeps_site another event.step made_there there)))
+    (keeps_site old event.step made here ∙ (site
+    ∙ sym (keeps_site another event.step made_there there)))
     (points_are old event.step made here
-    ∙ ((λ i. points_by (points i) (place_named (site i) event.step) (effect_by event.step event.reply))
+    ∙ ((λ i. points_by (points i) (place_named (site i) event.step)
+    (effect_by event.step event.reply))
     ∙ sym (points_are another event.step made_there there)))
     legal.2 also.2

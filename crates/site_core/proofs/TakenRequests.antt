@@ -31,7 +31,8 @@ use Rattle.site_core.proofs.StepLemmas.{LeavesRequests, IsHanding, taking, compi
 -- ---- the one Take of a number
 
 -- one event more, which is no Take of it
-abbrev was_taken : (opening : MachineState) (events : List Event) (event : Event) (number : ℕ) (book : Book)
+abbrev was_taken : (opening : MachineState) (events : List Event) (event : Event) (number : ℕ)
+    (book : Book)
     (ask : Ask) → is_take_of number event ≡ false
     → IsTakenIn opening events number book ask
     → IsTakenIn opening (events ++ event ∷ []) number book ask
@@ -41,7 +42,8 @@ was_taken opening events event number book ask other taken = record {
   since = taken.since ++ event ∷ [];
   in_order =
       ap (λ (es : List Event). es ++ event ∷ []) taken.in_order
-      ∙ append_assoc taken.before (taken_event taken.asked number book ask ∷ taken.since) (event ∷ []);
+      ∙ append_assoc taken.before (taken_event taken.asked number book ask ∷ taken.since)
+      (event ∷ []);
   first = taken.first;
   last = takes_push number taken.since event other ∙ taken.last;
   state = taken.state;
@@ -52,7 +54,8 @@ was_taken opening events event number book ask other taken = record {
   asks = taken.asks;
 }
 
-abbrev was_kept : (opening : MachineState) (events : List Event) (event : Event) (number : ℕ) (book : Book)
+abbrev was_kept : (opening : MachineState) (events : List Event) (event : Event) (number : ℕ)
+    (book : Book)
     (ask : Ask) → is_take_of number event ≡ false
     → IsKeptBefore opening events number book ask
     → IsKeptBefore opening (events ++ event ∷ []) number book ask
@@ -72,7 +75,8 @@ Origin opening events number book ask =
     IsTakenIn opening events number book ask ⊎ IsKeptBefore opening events number book ask
 
 -- the events since then
-abbrev since_of : (opening : MachineState) (events : List Event) (number : ℕ) (book : Book) (ask : Ask)
+abbrev since_of : (opening : MachineState) (events : List Event) (number : ℕ) (book : Book)
+    (ask : Ask)
     → Origin opening events number book ask → List Event
 since_of opening events number book ask (inl taken) = taken.since
 since_of opening events number book ask (inr before) = events
@@ -84,7 +88,8 @@ MayBeStopped opening events number book ask (inl taken) = Contains taken.since f
 MayBeStopped opening events number book ask (inr before) =
     (opening.is_stopped ≡ true) ⊎ Contains events finish_event
 
-abbrev origin_after : (opening : MachineState) (events : List Event) (event : Event) (number : ℕ) (book : Book)
+abbrev origin_after : (opening : MachineState) (events : List Event) (event : Event) (number : ℕ)
+    (book : Book)
     (ask : Ask) → is_take_of number event ≡ false → Origin opening events number book ask
     → Origin opening (events ++ event ∷ []) number book ask
 origin_after opening events event number book ask other (inl taken) =
@@ -92,8 +97,10 @@ origin_after opening events event number book ask other (inl taken) =
 origin_after opening events event number book ask other (inr before) =
     inr (was_kept opening events event number book ask other before)
 
-stopped_after : (opening : MachineState) (events : List Event) (event : Event) (number : ℕ) (book : Book)
-    (ask : Ask) (other : is_take_of number event ≡ false) (origin : Origin opening events number book ask)
+stopped_after : (opening : MachineState) (events : List Event) (event : Event) (number : ℕ)
+    (book : Book)
+    (ask : Ask) (other : is_take_of number event ≡ false)
+    (origin : Origin opening events number book ask)
     → MayBeStopped opening events number book ask origin
     → MayBeStopped opening (events ++ event ∷ []) number book ask
     (origin_after opening events event number book ask other origin)
@@ -103,15 +110,18 @@ stopped_after opening events event number book ask other (inr before) (inl was) 
 stopped_after opening events event number book ask other (inr before) (inr may) =
     inr (Contains-append_left events (event ∷ []) finish_event may)
 
-since_after : (opening : MachineState) (events : List Event) (event : Event) (number : ℕ) (book : Book)
-    (ask : Ask) (other : is_take_of number event ≡ false) (origin : Origin opening events number book ask)
+since_after : (opening : MachineState) (events : List Event) (event : Event) (number : ℕ)
+    (book : Book)
+    (ask : Ask) (other : is_take_of number event ≡ false)
+    (origin : Origin opening events number book ask)
     → Contains (since_of opening (events ++ event ∷ []) number book ask
     (origin_after opening events event number book ask other origin)) event
 since_after opening events event number book ask other (inl taken) = Contains-push taken.since event
 since_after opening events event number book ask other (inr before) = Contains-push events event
 
 -- after a Finish since
-finished_since : (opening : MachineState) (events : List Event) (number : ℕ) (book : Book) (ask : Ask)
+finished_since : (opening : MachineState) (events : List Event) (number : ℕ) (book : Book)
+    (ask : Ask)
     (origin : Origin opening events number book ask)
     → Contains (since_of opening events number book ask origin) finish_event
     → MayBeStopped opening events number book ask origin
@@ -131,13 +141,16 @@ pub record IsKept (opening : MachineState) (events : List Event) (drawn : ℕ) (
   pub below : kept.number ≤ drawn
 
 -- it is kept, and was taken before this event
-record IsKeptSince (opening : MachineState) (events : List Event) (event : Event) (drawn : ℕ) (kept : Kept) : Type 0 where
+record IsKeptSince (opening : MachineState) (events : List Event) (event : Event) (drawn : ℕ)
+    (kept : Kept) : Type 0 where
   is : IsKept opening events drawn kept
   since : Contains (since_of opening events kept.number kept.book kept.ask is.origin) event
 
-kept_after : (opening : MachineState) (events : List Event) (event : Event) (drawn later : ℕ) (requests : List Kept)
+kept_after : (opening : MachineState) (events : List Event) (event : Event) (drawn later : ℕ)
+    (requests : List Kept)
     → ((number : ℕ) → number ≤ drawn → is_take_of number event ≡ false) → drawn ≤ later
-    → AllByRecursion (IsKept opening events drawn) requests → AllByRecursion (IsKeptSince opening (events ++ event ∷ []) event later) requests
+    → AllByRecursion (IsKept opening events drawn) requests
+    → AllByRecursion (IsKeptSince opening (events ++ event ∷ []) event later) requests
 kept_after opening events event drawn later [] other more all = tt
 kept_after opening events event drawn later (kept ∷ requests) other more all =
     let first = all.0 in
@@ -145,10 +158,12 @@ kept_after opening events event drawn later (kept ∷ requests) other more all =
     let not_it = other kept.number below in (
       record {
         is = record {
-          origin = origin_after opening events event kept.number kept.book kept.ask not_it first.origin;
+          origin = origin_after opening events event kept.number kept.book kept.ask not_it
+              first.origin;
           right = first.right;
           stopped = λ is.
-          stopped_after opening events event kept.number kept.book kept.ask not_it first.origin (first.stopped is);
+              stopped_after opening events event kept.number kept.book kept.ask not_it first.origin
+              (first.stopped is);
           below = omega arith;
         };
         since = since_after opening events event kept.number kept.book kept.ask not_it first.origin;
@@ -156,44 +171,63 @@ kept_after opening events event drawn later (kept ∷ requests) other more all =
       kept_after opening events event drawn later requests other more all.1,
     )
 
-still_kept : (opening : MachineState) (events : List Event) (event : Event) (drawn : ℕ) (requests : List Kept)
-    → AllByRecursion (IsKeptSince opening events event drawn) requests → AllByRecursion (IsKept opening events drawn) requests
+still_kept : (opening : MachineState) (events : List Event) (event : Event) (drawn : ℕ)
+    (requests : List Kept)
+    → AllByRecursion (IsKeptSince opening events event drawn) requests
+    → AllByRecursion (IsKept opening events drawn) requests
 still_kept opening events event drawn [] all = tt
-still_kept opening events event drawn (kept ∷ requests) all = (all.0.is, still_kept opening events event drawn requests all.1)
+still_kept opening events event drawn (kept ∷ requests) all =
+    (all.0.is, still_kept opening events event drawn requests all.1)
 
-all_push : (P : Kept → Type 0) (requests : List Kept) (kept : Kept) → AllByRecursion P requests → P kept → AllByRecursion P (requests ++ kept ∷ [])
+all_push : (P : Kept → Type 0) (requests : List Kept) (kept : Kept) → AllByRecursion P requests
+    → P kept → AllByRecursion P (requests ++ kept ∷ [])
 all_push P [] kept all one = (one, tt)
 all_push P (first ∷ requests) kept all one = (all.0, all_push P requests kept all.1 one)
 
-pub all_answered : (P : Kept → Type 0) (number : ℕ) (answer : ScheduleAnswer) (requests : List Kept) → AllByRecursion P requests
-    → ((kept : Kept) → request_of number requests ≡ Some kept → P kept → P (with_answer kept answer)) → AllByRecursion P (answered number answer requests)
+pub all_answered : (P : Kept → Type 0) (number : ℕ) (answer : ScheduleAnswer)
+    (requests : List Kept) → AllByRecursion P requests
+    → ((kept : Kept) → request_of number requests ≡ Some kept → P kept
+    → P (with_answer kept answer)) → AllByRecursion P (answered number answer requests)
 all_answered P number answer [] all each = tt
-all_answered P number answer (first ∷ requests) all each = go (first.number == number) each (λ e. all_answered P number answer requests all.1 e)
+all_answered P number answer (first ∷ requests) all each = go (first.number == number) each
+    (λ e. all_answered P number answer requests all.1 e)
   where
-    go : (here : Bool) → ((kept : Kept) → cond here (Some first) (request_of number requests) ≡ Some kept → P kept → P (with_answer kept answer))
-        → (((kept : Kept) → request_of number requests ≡ Some kept → P kept → P (with_answer kept answer)) → AllByRecursion P (answered number answer requests))
-        → AllByRecursion P (cond here (with_answer first answer ∷ requests) (first ∷ answered number answer requests))
+    go : (here : Bool) → ((kept : Kept) → cond here (Some first)
+        (request_of number requests) ≡ Some kept → P kept → P (with_answer kept answer))
+        → (((kept : Kept) → request_of number requests ≡ Some kept → P kept
+        → P (with_answer kept answer)) → AllByRecursion P (answered number answer requests))
+        → AllByRecursion P (cond here (with_answer first answer ∷ requests)
+        (first ∷ answered number answer requests))
     go true it rest = (it first refl all.0, all.1)
     go false it rest = (all.0, rest it)
 
-pub all_without : (P : Kept → Type 0) (number : ℕ) (requests : List Kept) → AllByRecursion P requests → AllByRecursion P (without number requests)
+pub all_without : (P : Kept → Type 0) (number : ℕ) (requests : List Kept)
+    → AllByRecursion P requests → AllByRecursion P (without number requests)
 all_without P number [] all = tt
-all_without P number (first ∷ requests) all = go (first.number == number) (all_without P number requests all.1)
+all_without P number (first ∷ requests) all = go (first.number == number)
+    (all_without P number requests all.1)
   where
-    go : (here : Bool) → AllByRecursion P (without number requests) → AllByRecursion P (cond here requests (first ∷ without number requests))
+    go : (here : Bool) → AllByRecursion P (without number requests)
+        → AllByRecursion P (cond here requests (first ∷ without number requests))
     go true rest = all.1
     go false rest = (all.0, rest)
 
-all_finished : (P : Kept → Type 0) (requests : List Kept) → ((kept : Kept) → P kept → P (stopped_request kept)) → AllByRecursion P requests → AllByRecursion P (all_stopped requests)
+all_finished : (P : Kept → Type 0) (requests : List Kept) → ((kept : Kept) → P kept
+    → P (stopped_request kept)) → AllByRecursion P requests
+    → AllByRecursion P (all_stopped requests)
 all_finished P [] each all = tt
 all_finished P (first ∷ requests) each all = (each first all.0, all_finished P requests each all.1)
 
 -- what is found has the number that was looked for
-pub found_number : (number : ℕ) (requests : List Kept) (kept : Kept) → request_of number requests ≡ Some kept → kept.number ≡ number
+pub found_number : (number : ℕ) (requests : List Kept) (kept : Kept)
+    → request_of number requests ≡ Some kept → kept.number ≡ number
 found_number number [] kept is = cc
-found_number number (first ∷ requests) kept is = go (first.number == number) refl is (λ e. found_number number requests kept e)
+found_number number (first ∷ requests) kept is = go (first.number == number) refl is
+    (λ e. found_number number requests kept e)
   where
-    go : (here : Bool) → (first.number == number) ≡ here → cond here (Some first) (request_of number requests) ≡ Some kept → (request_of number requests ≡ Some kept → kept.number ≡ number) → kept.number ≡ number
+    go : (here : Bool) → (first.number == number) ≡ here
+        → cond here (Some first) (request_of number requests) ≡ Some kept
+        → (request_of number requests ≡ Some kept → kept.number ≡ number) → kept.number ≡ number
     go true same is rest =
         let one : first ≡ kept = cc in
         let numbered : first.number ≡ number = grind (arith, nat_tests) in
@@ -201,27 +235,33 @@ found_number number (first ∷ requests) kept is = go (first.number == number) r
     go false same is rest = rest is
 
 -- what holds of each holds of the one that is found
-found_holds : (P : Kept → Type 0) (number : ℕ) (requests : List Kept) (kept : Kept) → AllByRecursion P requests → request_of number requests ≡ Some kept → P kept
+found_holds : (P : Kept → Type 0) (number : ℕ) (requests : List Kept) (kept : Kept)
+    → AllByRecursion P requests → request_of number requests ≡ Some kept → P kept
 found_holds P number [] kept all is = cc
-found_holds P number (first ∷ requests) kept all is = go (first.number == number) is (λ e. found_holds P number requests kept all.1 e)
+found_holds P number (first ∷ requests) kept all is = go (first.number == number) is
+    (λ e. found_holds P number requests kept all.1 e)
   where
-    go : (here : Bool) → cond here (Some first) (request_of number requests) ≡ Some kept → (request_of number requests ≡ Some kept → P kept) → P kept
+    go : (here : Bool) → cond here (Some first) (request_of number requests) ≡ Some kept
+        → (request_of number requests ≡ Some kept → P kept) → P kept
     go true is rest = let one : first ≡ kept = cc in subst P one all.0
     go false is rest = rest is
 
 -- what a compiler may answer is right
-right_of : (book : Book) (ask : Ask) (answer : ScheduleAnswer) → IsCompiledFor book ask answer → IsRight book ask answer
+right_of : (book : Book) (ask : Ask) (answer : ScheduleAnswer) → IsCompiledFor book ask answer
+    → IsRight book ask answer
 right_of book ask (Ok schedule) compiled = compiled
 right_of book ask (Err Stopped) compiled = tt
 right_of book ask (Err refusal) compiled = compiled
 
-right_when_stopped : (book : Book) (ask : Ask) (answer : Option ScheduleAnswer) → IfSome answer (IsRight book ask) → IsRight book ask (unwrap_or answer (Err Stopped))
+right_when_stopped : (book : Book) (ask : Ask) (answer : Option ScheduleAnswer)
+    → IfSome answer (IsRight book ask) → IsRight book ask (unwrap_or answer (Err Stopped))
 right_when_stopped book ask None right = tt
 right_when_stopped book ask (Some answer) right = right
 
 -- ---- what always holds of a history and the state that it leads to
 
-pub record Holds (opening : MachineState) (events : List Event) (state : MachineState) : Type 0 where
+pub record Holds (opening : MachineState) (events : List Event)
+    (state : MachineState) : Type 0 where
   pub reached : Legal opening events state
   pub site : state.site ≡ opening.site
   -- numbers that aren't drawn are not taken
@@ -247,7 +287,8 @@ kept_at_base opening (first ∷ requests) each right = (
     stopped = λ is. inl (right.0.stopped is);
     below = right.0.drawn;
   },
-  kept_at_base opening requests (λ kept is. each kept (Contains-append_right (first ∷ []) requests kept is)) right.1,
+  kept_at_base opening requests (λ kept is. each kept (Contains-append_right
+      (first ∷ []) requests kept is)) right.1,
 )
 
 pub holds_at_base : (opening : MachineState) → KeepsRight opening → Holds opening [] opening
@@ -267,44 +308,65 @@ event_of step made = record { step = step; reply = made.reply }
 
 -- it holds after one event more, where that is a step
 abbrev HoldsAfter : MachineState → List Event → Step → Made → Type 0
-HoldsAfter opening events step made = Legal opening (events ++ event_of step made ∷ []) made.after → Holds opening (events ++ event_of step made ∷ []) made.after
+HoldsAfter opening events step made =
+    Legal opening (events ++ event_of step made ∷ []) made.after
+    → Holds opening (events ++ event_of step made ∷ []) made.after
 
 -- after a step that is no Take, where what holds of the kept requests holds of those after it
-holds_changed : (opening : MachineState) (events : List Event) (old : MachineState) (step : Step) (made : Made) → Holds opening events old
-    → made.after.site ≡ old.site → made.after.numbers.request ≡ old.numbers.request → ((number : ℕ) → reply_takes number made.reply ≡ false)
-    → (AllByRecursion (IsKeptSince opening (events ++ event_of step made ∷ []) (event_of step made) old.numbers.request) old.requests
-    → AllByRecursion (IsKeptSince opening (events ++ event_of step made ∷ []) (event_of step made) old.numbers.request) made.after.requests)
+holds_changed : (opening : MachineState) (events : List Event) (old : MachineState) (step : Step)
+    (made : Made) → Holds opening events old
+    → made.after.site ≡ old.site → made.after.numbers.request ≡ old.numbers.request
+    → ((number : ℕ) → reply_takes number made.reply ≡ false)
+    → (AllByRecursion (IsKeptSince opening (events ++ event_of step made ∷ [])
+    (event_of step made) old.numbers.request) old.requests
+    → AllByRecursion (IsKeptSince opening (events ++ event_of step made ∷ [])
+    (event_of step made) old.numbers.request) made.after.requests)
     → HoldsAfter opening events step made
 holds_changed opening events old step made holds site drawn no_take change reached =
     let event : Event = event_of step made in
-    let before = kept_after opening events event old.numbers.request old.numbers.request old.requests (λ number below. no_take number) (omega arith) holds.kept in
+    let before = kept_after opening events event old.numbers.request old.numbers.request
+    old.requests (λ number below. no_take number) (omega arith) holds.kept in
     record {
       reached = reached;
       site = site ∙ holds.site;
-      later = λ number above. takes_push number events event (no_take number) ∙ holds.later number (omega (arith, drawn, above));
+      later = λ number above. takes_push number events event (no_take number)
+          ∙ holds.later number (omega (arith, drawn, above));
       kept =
-          subst (λ (n : ℕ). AllByRecursion (IsKept opening (events ++ event ∷ []) n) made.after.requests) (sym drawn)
-          (still_kept opening (events ++ event ∷ []) event old.numbers.request made.after.requests (change before));
+          subst (λ (n : ℕ). AllByRecursion (IsKept opening
+          (events ++ event ∷ []) n) made.after.requests) (sym drawn)
+          (still_kept opening (events ++ event ∷ []) event old.numbers.request made.after.requests
+          (change before));
     }
 
-holds_left : (opening : MachineState) (events : List Event) (old : MachineState) (step : Step) (made : Made) → Holds opening events old
+holds_left : (opening : MachineState) (events : List Event) (old : MachineState) (step : Step)
+    (made : Made) → Holds opening events old
     → LeavesRequests old step made → HoldsAfter opening events step made
 holds_left opening events old step made holds is =
     holds_changed opening events old step made holds is.site is.drawn is.no_take
-    (subst (λ (requests : List Kept). AllByRecursion (IsKeptSince opening (events ++ event_of step made ∷ []) (event_of step made) old.numbers.request) requests) (sym is.requests))
+    (subst (λ (requests : List Kept). AllByRecursion (IsKeptSince opening
+    (events ++ event_of step made ∷ []) (event_of step made) old.numbers.request) requests)
+    (sym is.requests))
 
 -- what a compiler answers is never Stopped
-never_stopped : (book : Book) (ask : Ask) (answer : ScheduleAnswer) → IsCompiledFor book ask answer → Some answer ≡ Some (Err Stopped) → ⊥
-never_stopped book ask answer compiled is = let stopped : answer ≡ Err Stopped = cc in subst (IsCompiledFor book ask) stopped compiled
+never_stopped : (book : Book) (ask : Ask) (answer : ScheduleAnswer)
+    → IsCompiledFor book ask answer → Some answer ≡ Some (Err Stopped) → ⊥
+never_stopped book ask answer compiled is = let stopped : answer ≡ Err Stopped =
+    cc in subst (IsCompiledFor book ask) stopped compiled
 
-holds_compiled : (opening : MachineState) (events : List Event) (old : MachineState) (number : ℕ) (kept : Kept) (answer : ScheduleAnswer) → Holds opening events old
-    → request_of number old.requests ≡ Some kept → IsCompiledFor kept.book kept.ask answer → HoldsAfter opening events (steps.Compile number) (compiling old number answer)
+holds_compiled : (opening : MachineState) (events : List Event) (old : MachineState) (number : ℕ)
+    (kept : Kept) (answer : ScheduleAnswer) → Holds opening events old
+    → request_of number old.requests ≡ Some kept → IsCompiledFor kept.book kept.ask answer
+    → HoldsAfter opening events (steps.Compile number) (compiling old number answer)
 holds_compiled opening events old number kept answer holds found right =
     let event : Event = event_of (steps.Compile number) (compiling old number answer) in
-    holds_changed opening events old (steps.Compile number) (compiling old number answer) holds refl refl (λ number. refl) (λ all.
-    all_answered (IsKeptSince opening (events ++ event ∷ []) event old.numbers.request) number answer old.requests all (λ other here has.
+    holds_changed opening events old (steps.Compile number)
+    (compiling old number answer) holds refl refl (λ number. refl) (λ all.
+    all_answered (IsKeptSince opening
+    (events ++ event ∷ []) event old.numbers.request) number answer old.requests all
+    (λ other here has.
     let same : kept ≡ other = cc in
-    let compiled : IsCompiledFor other.book other.ask answer = subst (λ (k : Kept). IsCompiledFor k.book k.ask answer) same right in
+    let compiled : IsCompiledFor other.book other.ask answer =
+    subst (λ (k : Kept). IsCompiledFor k.book k.ask answer) same right in
     record {
       is = record {
         origin = has.is.origin;
@@ -315,22 +377,30 @@ holds_compiled opening events old number kept answer holds found right =
       since = has.since;
     }))
 
-holds_handed : (opening : MachineState) (events : List Event) (old : MachineState) (number : ℕ) (kept : Kept) (answer : ScheduleAnswer) → Holds opening events old
+holds_handed : (opening : MachineState) (events : List Event) (old : MachineState) (number : ℕ)
+    (kept : Kept) (answer : ScheduleAnswer) → Holds opening events old
     → HoldsAfter opening events (steps.Answer number) (handing old kept answer)
 holds_handed opening events old number kept answer holds =
     let event : Event = event_of (steps.Answer number) (handing old kept answer) in
-    holds_changed opening events old (steps.Answer number) (handing old kept answer) holds refl refl (λ number. refl)
-    (all_without (IsKeptSince opening (events ++ event ∷ []) event old.numbers.request) kept.number old.requests)
+    holds_changed opening events old (steps.Answer number)
+    (handing old kept answer) holds refl refl (λ number. refl)
+    (all_without (IsKeptSince opening
+    (events ++ event ∷ []) event old.numbers.request) kept.number old.requests)
 
-holds_finished : (opening : MachineState) (events : List Event) (old : MachineState) → Holds opening events old → HoldsAfter opening events steps.Finish (finishing old)
+holds_finished : (opening : MachineState) (events : List Event) (old : MachineState)
+    → Holds opening events old → HoldsAfter opening events steps.Finish (finishing old)
 holds_finished opening events old holds =
-    holds_changed opening events old steps.Finish (finishing old) holds refl refl (λ number. refl) (λ all.
-    all_finished (IsKeptSince opening (events ++ finish_event ∷ []) finish_event old.numbers.request) old.requests (λ kept has. record {
+    holds_changed opening events old steps.Finish (finishing old) holds refl refl (λ number. refl)
+    (λ all.
+    all_finished (IsKeptSince opening
+    (events ++ finish_event ∷ []) finish_event old.numbers.request) old.requests
+    (λ kept has. record {
       is = record {
         origin = has.is.origin;
         right = right_when_stopped kept.book kept.ask kept.answer has.is.right;
         stopped = λ stopped.
-        finished_since opening (events ++ finish_event ∷ []) kept.number kept.book kept.ask has.is.origin has.since;
+            finished_since opening
+            (events ++ finish_event ∷ []) kept.number kept.book kept.ask has.is.origin has.since;
         below = has.is.below;
       };
       since = has.since;
@@ -343,19 +413,25 @@ next_differs drawn number below = grind (arith, nat_tests)
 next_is_below : (drawn number : ℕ) → drawn + 1 < number → (drawn + 1 == number) ≡ false
 next_is_below drawn number above = grind (arith, nat_tests)
 
-holds_taken : (opening : MachineState) (events : List Event) (old : MachineState) (take : Take) (place : ℕ) (ask : Ask) → Holds opening events old
-    → place_of old.site take.point ≡ Some place → ask_at old.site.unit (book_at old place) take ≡ Ok ask → HoldsAfter opening events (steps.Take take) (taking old place ask)
+holds_taken : (opening : MachineState) (events : List Event) (old : MachineState) (take : Take)
+    (place : ℕ) (ask : Ask) → Holds opening events old
+    → place_of old.site take.point ≡ Some place
+    → ask_at old.site.unit (book_at old place) take ≡ Ok ask
+    → HoldsAfter opening events (steps.Take take) (taking old place ask)
 holds_taken opening events old take place ask holds point asks reached =
     let drawn : ℕ = old.numbers.request in
     let event : Event = taken_event take (drawn + 1) (book_at old place) ask in
     record {
       reached = reached;
       site = holds.site;
-      later = λ number above. takes_push number events event (next_is_below old.numbers.request number above) ∙ holds.later number (omega (arith, above));
+      later = λ number above. takes_push number events event
+          (next_is_below old.numbers.request number above)
+          ∙ holds.later number (omega (arith, above));
       kept =
           all_push (IsKept opening (events ++ event ∷ []) (drawn + 1)) old.requests _
           (still_kept opening (events ++ event ∷ []) event (drawn + 1) old.requests
-          (kept_after opening events event drawn (drawn + 1) old.requests (next_differs old.numbers.request) (omega arith) holds.kept))
+          (kept_after opening events event drawn (drawn + 1) old.requests
+          (next_differs old.numbers.request) (omega arith) holds.kept))
           (record {
             origin = inl (record {
               before = events;
@@ -367,9 +443,11 @@ holds_taken opening events old take place ask holds point asks reached =
               state = old;
               reached = holds.reached;
               place = place;
-              point = subst (λ (site : SiteState). place_of site take.point ≡ Some place) holds.site point;
+              point = subst (λ (site : SiteState). place_of site take.point ≡ Some place)
+                  holds.site point;
               had = refl;
-              asks = subst (λ (site : SiteState). ask_at site.unit (book_at old place) take ≡ Ok ask) holds.site asks;
+              asks = subst (λ (site : SiteState). ask_at site.unit
+                  (book_at old place) take ≡ Ok ask) holds.site asks;
             });
             right = tt;
             stopped = λ stopped. cc;
@@ -379,31 +457,48 @@ holds_taken opening events old take place ask holds point asks reached =
 
 -- ---- every step, and every history
 
-pub holds_done : (opening : MachineState) (events : List Event) (old : MachineState) (step : Step) (made : Made) → Holds opening events old → Does old step made
+pub holds_done : (opening : MachineState) (events : List Event) (old : MachineState) (step : Step)
+    (made : Made) → Holds opening events old → Does old step made
     → HoldsAfter opening events step made
-holds_done opening events old step made holds (leaves _ _ is) = holds_left opening events old step made holds is
-holds_done opening events old step made holds (takes_one take place ask point asks going) = holds_taken opening events old take place ask holds point asks
-holds_done opening events old step made holds (compiles_one number kept answer found unanswered right) = holds_compiled opening events old number kept answer holds found right
-holds_done opening events old step made holds (hands_one number kept answer found has) = holds_handed opening events old number kept answer holds
+holds_done opening events old step made holds (leaves _ _ is) =
+    holds_left opening events old step made holds is
+holds_done opening events old step made holds (takes_one take place ask point asks going) =
+    holds_taken opening events old take place ask holds point asks
+holds_done opening events old step made holds
+    (compiles_one number kept answer found unanswered right) =
+    holds_compiled opening events old number kept answer holds found right
+holds_done opening events old step made holds (hands_one number kept answer found has) =
+    holds_handed opening events old number kept answer holds
 holds_done opening events old step made holds finishes_all = holds_finished opening events old holds
 
-pub holds_step : (opening : MachineState) (events : List Event) (old : MachineState) (event : Event) (new : MachineState) → Holds opening events old
+pub holds_step : (opening : MachineState) (events : List Event) (old : MachineState)
+    (event : Event) (new : MachineState) → Holds opening events old
     → Steps old event.step event.reply new → Holds opening (events ++ event ∷ []) new
 holds_step opening events old event new holds made =
-    holds_done opening events old event.step (record { reply = event.reply; after = new }) holds (does old event.step event.reply new made)
+    holds_done opening events old event.step (record {
+      reply = event.reply;
+      after =
+          new;
+    }) holds (does old event.step event.reply new made)
     (legal_push opening events old event new holds.reached made)
 
-pub holds_after : (opening : MachineState) (events : List Event) (old : MachineState) (later : List Event) (new : MachineState) → Holds opening events old → Legal old later new → Holds opening (events ++ later) new
-holds_after opening events old [] new holds legal = subst (λ (es : List Event). Holds opening es new) (sym (append-nil events)) (subst (Holds opening events) (sym legal) holds)
+pub holds_after : (opening : MachineState) (events : List Event) (old : MachineState)
+    (later : List Event) (new : MachineState) → Holds opening events old → Legal old later new
+    → Holds opening (events ++ later) new
+holds_after opening events old [] new holds legal =
+    subst (λ (es : List Event). Holds opening es new) (sym (append-nil events)) (subst
+    (Holds opening events) (sym legal) holds)
 holds_after opening events old (event ∷ later) new holds legal =
     let one = holds_step opening events old event legal.0 holds legal.1 in
-    subst (λ (es : List Event). Holds opening es new) (append_assoc events (event ∷ []) later) (holds_after opening (events ++ event ∷ []) legal.0 later new one legal.2)
+    subst (λ (es : List Event). Holds opening es new) (append_assoc events (event ∷ []) later)
+    (holds_after opening (events ++ event ∷ []) legal.0 later new one legal.2)
 
 -- ---- the headline
 
 -- an answer that is handed out after a legal history is right, by where its request comes from
 answer_right : (opening : MachineState) (events : List Event) (number : ℕ) (book : Book) (ask : Ask)
-    (answer : ScheduleAnswer) (origin : Origin opening events number book ask) → IsRight book ask answer
+    (answer : ScheduleAnswer) (origin : Origin opening events number book ask)
+    → IsRight book ask answer
     → (answer ≡ Err Stopped → MayBeStopped opening events number book ask origin)
     → IsRightAfter opening events number book ask answer
     ⊎ IsRightBefore opening events number book ask answer
@@ -446,27 +541,33 @@ pub handed_out_right : (opening : MachineState) (events : List Event) (middle : 
     → Steps middle (steps.Answer number) (Answered book ask answer) next
     → IsRightEither opening events number book ask answer
 handed_out_right opening events middle number book ask answer next holds made =
-    handed (subst (λ (r : Result Made Refusal). IfOk r (λ m. IsHanding middle number m ⊎ (unchanged middle NotYet ≡ m)))
+    handed (subst (λ (r : Result Made Refusal). IfOk r (λ m. IsHanding middle number m ⊎
+    (unchanged middle NotYet ≡ m)))
     made (answers_is middle number))
   where
     handed : IsHanding middle number (record { reply = Answered book ask answer; after = next })
         ⊎ (unchanged middle NotYet ≡ record { reply = Answered book ask answer; after = next })
         → IsRightEither opening events number book ask answer
-    handed (inr same) = let reply : NotYet ≡ Answered book ask answer = ap (λ (m : Made). m.reply) same in cc
+    handed (inr same) = let reply : NotYet ≡ Answered book ask answer =
+        ap (λ (m : Made). m.reply) same in cc
     handed (inl is) =
         let reply : Answered is.kept.book is.kept.ask is.answer ≡ Answered book ask answer =
         ap (λ (m : Made). m.reply) is.is in
         let books : is.kept.book ≡ book = cc in
         let asks : is.kept.ask ≡ ask = cc in
         let answers : is.answer ≡ answer = cc in
-        let found = found_holds (IsKept opening events middle.numbers.request) number middle.requests is.kept
+        let found = found_holds
+        (IsKept opening events middle.numbers.request) number middle.requests is.kept
         holds.kept is.found in
-        let numbered : is.kept.number ≡ number = found_number number middle.requests is.kept is.found in
-        let right = kept_right opening events middle.numbers.request is.kept is.answer is.has found in
+        let numbered : is.kept.number ≡ number =
+        found_number number middle.requests is.kept is.found in
+        let right = kept_right opening events middle.numbers.request is.kept is.answer is.has found
+        in
         subst (λ (n : ℕ). IsRightEither opening events n book ask answer) numbered
         (subst (λ (b : Book). IsRightEither opening events is.kept.number b ask answer) books
         (subst (λ (a : Ask). IsRightEither opening events is.kept.number is.kept.book a answer) asks
-        (subst (IsRightEither opening events is.kept.number is.kept.book is.kept.ask) answers right)))
+        (subst (IsRightEither opening events is.kept.number is.kept.book is.kept.ask) answers
+        right)))
 
 -- where nothing was kept before, it was taken
 after_alone : (opening : MachineState) (events : List Event) (number : ℕ) (book : Book) (ask : Ask)
@@ -476,34 +577,46 @@ after_alone : (opening : MachineState) (events : List Event) (number : ℕ) (boo
 after_alone opening events number book ask answer none (inl right) = right
 after_alone opening events number book ask answer none (inr right) =
     absurd (nothing_in right.before.kept
-    (subst (λ (requests : List Kept). Contains requests right.before.kept) none right.before.is_kept))
+    (subst (λ (requests : List Kept). Contains requests right.before.kept) none
+    right.before.is_kept))
   where
     nothing_in : (kept : Kept) → Contains {X = Kept} [] kept → ⊥
     nothing_in kept is = absurd (omega (arith, is.1))
 
 -- in a legal history from an opening state
-pub history_right : (opening : MachineState) (earlier later : List Event) (number : ℕ) (book : Book) (ask : Ask) (answer : ScheduleAnswer) (new : MachineState)
-    → opening.requests ≡ [] → Legal opening (earlier ++ answered_event number book ask answer ∷ later) new → IsRightAfter opening earlier number book ask answer
+pub history_right : (opening : MachineState) (earlier later : List Event) (number : ℕ)
+    (book : Book) (ask : Ask) (answer : ScheduleAnswer) (new : MachineState)
+    → opening.requests ≡ [] → Legal opening
+    (earlier ++ answered_event number book ask answer ∷ later) new
+    → IsRightAfter opening earlier number book ask answer
 history_right opening earlier later number book ask answer new none legal =
     let cut = legal_split opening earlier (answered_event number book ask answer) later new legal in
     after_alone opening earlier number book ask answer none
     (handed_out_right opening earlier cut.0 number book ask answer cut.1
-    (holds_after opening [] opening earlier cut.0 (holds_at_base opening (none_right opening none)) cut.2) cut.3)
+    (holds_after opening [] opening earlier cut.0 (holds_at_base opening
+    (none_right opening none)) cut.2) cut.3)
 
-pub right_takes_once : (opening : MachineState) (events : List Event) (number : ℕ) (book : Book) (ask : Ask) (answer : ScheduleAnswer)
+pub right_takes_once : (opening : MachineState) (events : List Event) (number : ℕ) (book : Book)
+    (ask : Ask) (answer : ScheduleAnswer)
     → IsRightAfter opening events number book ask answer → takes_of number events ≡ 1
 right_takes_once opening events number book ask answer right =
     let same : (number == number) ≡ true = grind (arith, nat_tests) in
-    ap (takes_of number) right.in_order ∙ takes_once number right.before (taken_event right.asked number book ask) right.since same right.first right.last
+    ap (takes_of number) right.in_order ∙ takes_once number right.before
+    (taken_event right.asked number book ask) right.since same right.first right.last
 
 -- in a run from an opening state
-pub run_right : (opening : MachineState) (run : List Step) (outcomes : List Outcome) (new : MachineState) → opening.requests ≡ [] → Runs opening run outcomes new → AnswersAreRight opening run outcomes
+pub run_right : (opening : MachineState) (run : List Step) (outcomes : List Outcome)
+    (new : MachineState) → opening.requests ≡ [] → Runs opening run outcomes new
+    → AnswersAreRight opening run outcomes
 run_right opening run outcomes new none runs n number book ask answer here there =
-    let cut = run_at opening new run outcomes n (steps.Answer number) (Done (Answered book ask answer)) runs here there in
+    let cut = run_at opening new run outcomes n (steps.Answer number) (Done
+    (Answered book ask answer)) runs here there in
     after_alone opening (history_of (take n run) (take n outcomes)) number book ask answer none
-    (handed_out_right opening (history_of (take n run) (take n outcomes)) cut.0 number book ask answer cut.1
+    (handed_out_right opening (history_of (take n run)
+    (take n outcomes)) cut.0 number book ask answer cut.1
     (holds_after opening [] opening (history_of (take n run) (take n outcomes)) cut.0
-    (holds_at_base opening (none_right opening none)) (runs_legal opening cut.0 (take n run) (take n outcomes) cut.2)) cut.3)
+    (holds_at_base opening (none_right opening none)) (runs_legal opening cut.0 (take n run)
+    (take n outcomes) cut.2)) cut.3)
 
 -- ---- from any state
 

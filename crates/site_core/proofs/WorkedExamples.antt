@@ -32,11 +32,27 @@ midnight = 1735689600
 
 -- one point, of the identity A, with a ceiling of 63.0 A and one connector of 32.0 A
 abbrev site : SiteState
-site = record { unit = A; points = record { id = 65 ∷ []; ceiling = 630; ceilings = 320 ∷ [] } ∷ [] }
+site = record {
+  unit = A;
+  points = record {
+    id = 65 ∷ [];
+    ceiling = 630;
+    ceilings =
+        320 ∷ [];
+  } ∷ [];
+}
 
 -- what it is asked, twice: connector 1 from midnight on, for a minute
 abbrev take : Take
-take = record { point = 65 ∷ []; connector = 1; start = midnight; duration = 60; unit = None; seen = 0 }
+take = record {
+  point = 65 ∷ [];
+  connector = 1;
+  start = midnight;
+  duration = 60;
+  unit =
+      None;
+  seen = 0;
+}
 
 abbrev ask : Ask
 ask = ask_with 1 midnight 60 refl refl refl
@@ -54,7 +70,14 @@ row = record {
     kind = Absolute;
     valid_from = None;
     valid_to = None;
-    schedule = record { duration = None; start = Some midnight; unit = A; periods = record { start = 0; limit = 100; number_phases = None } ∷ []; min_charging_rate = None };
+    schedule = record {
+      duration = None;
+      start = Some midnight;
+      unit = A;
+      periods =
+          record { start = 0; limit = 100; number_phases = None } ∷ [];
+      min_charging_rate = None;
+    };
     low = refl;
     own_transaction = refl;
     own_start = refl;
@@ -83,10 +106,16 @@ abbrev taken_again : MachineState
 taken_again = with_request installed after ask 0
 
 abbrev second_compiled : MachineState
-second_compiled = record taken_again { requests = answered 2 (Ok (at_limit 100)) taken_again.requests }
+second_compiled = record taken_again {
+  requests =
+      answered 2 (Ok (at_limit 100)) taken_again.requests;
+}
 
 abbrev both_compiled : MachineState
-both_compiled = record second_compiled { requests = answered 1 (Ok (at_limit 320)) second_compiled.requests }
+both_compiled = record second_compiled {
+  requests =
+      answered 1 (Ok (at_limit 320)) second_compiled.requests;
+}
 
 abbrev second_handed : MachineState
 second_handed = record both_compiled { requests = without 2 both_compiled.requests }
@@ -106,10 +135,12 @@ events =
 
 -- the answers are the exact schedules
 first_right : IsCompiledFor before ask (Ok (at_limit 320))
-first_right = exact_answered (limit_asked (state_of before) 1 midnight) 60 (at_limit 320) ask.some refl
+first_right = exact_answered (limit_asked (state_of before) 1 midnight) 60
+    (at_limit 320) ask.some refl
 
 second_right : IsCompiledFor after ask (Ok (at_limit 100))
-second_right = exact_answered (limit_asked (state_of after) 1 midnight) 60 (at_limit 100) ask.some refl
+second_right = exact_answered (limit_asked (state_of after) 1 midnight) 60
+    (at_limit 100) ask.some refl
 
 pub two_requests : Legal (opening site) events both_handed
 two_requests = (
@@ -123,10 +154,24 @@ two_requests = (
       refl,
       (
         second_compiled,
-        record { kept = _; is_kept = refl; answer = Ok (at_limit 100); right = second_right; made = refl },
+        record {
+          kept = _;
+          is_kept = refl;
+          answer = Ok (at_limit 100);
+          right = second_right;
+          made =
+              refl;
+        },
         (
           both_compiled,
-          record { kept = _; is_kept = refl; answer = Ok (at_limit 320); right = first_right; made = refl },
+          record {
+            kept = _;
+            is_kept = refl;
+            answer = Ok (at_limit 320);
+            right =
+                first_right;
+            made = refl;
+          },
           (
             second_handed,
             refl,
@@ -155,5 +200,6 @@ zero_is_not_one : ◌≡◌ {A = ℕ} 0 1 → ⊥
 zero_is_not_one e = cc
 
 -- Were the newer book handed out for the older request, that last event would be no step.
-pub no_newer_book : (state : MachineState) → ¬ Steps second_handed (steps.Answer 1) (Answered after ask (Ok (at_limit 100))) state
+pub no_newer_book : (state : MachineState) → ¬ Steps second_handed (steps.Answer 1)
+    (Answered after ask (Ok (at_limit 100))) state
 no_newer_book state is = zero_is_not_one (ap rows_made is)
