@@ -26,20 +26,31 @@ cut ((name, Some text) ∷ before) middle after key value =
     ∙ later-append (before ++ ((key, Some value) ∷ middle)) after)
     ∙ sym (append_assoc (field_text name text) (later_texts (filter_map present (before ++ ((key, Some value) ∷ middle)))) (later_texts (filter_map present after)))
 
-pub fields_more : (old : List ℕ) (before middle after : List (List ℕ × Option (List ℕ))) (key value s t : List ℕ) → s ≡ old ++ fields_text (before ++ ((key, Some value) ∷ middle)) → t ≡ s ++ later_fields_text after → t ≡ old ++ fields_text (before ++ ((key, Some value) ∷ (middle ++ after)))
+pub fields_more : (old : List ℕ) (before middle after : List (List ℕ × Option (List ℕ)))
+    (key value s t : List ℕ) → s ≡ old ++ fields_text (before ++ ((key, Some value) ∷ middle))
+    → t ≡ s ++ later_fields_text after → t ≡ old ++ fields_text (before ++ ((key, Some value) ∷
+    (middle ++ after)))
 fields_more old before middle after key value s t p q =
     appended old (fields_text (before ++ ((key, Some value) ∷ middle))) s (later_fields_text after) t p q
     ∙ ap (λ (l : List ℕ). old ++ l) (sym (cut before middle after key value))
 
 -- A key behind a comma, its value and the later fields.
-later_field : (old key value : List ℕ) (after : List (List ℕ × Option (List ℕ))) (a b c : List ℕ) → a ≡ old ++ (codes "," ++ string_text key ++ codes ":") → b ≡ a ++ value → c ≡ b ++ later_fields_text after → c ≡ old ++ later_fields_text ((key, Some value) ∷ after)
+later_field : (old key value : List ℕ) (after : List (List ℕ × Option (List ℕ))) (a b c : List ℕ)
+    → a ≡ old ++ (codes "," ++ string_text key ++ codes ":") → b ≡ a ++ value
+    → c ≡ b ++ later_fields_text after → c ≡ old ++ later_fields_text ((key, Some value) ∷ after)
 unfolding later_fields_text
 later_field old key value after a b c p q r =
     appended old (codes "," ++ string_text key ++ codes ":" ++ value) b (later_texts (filter_map present after)) c
     (appended old (codes "," ++ string_text key ++ codes ":") a value b p q) r
 
 -- An object's fields, a key behind a comma, its value and the later fields.
-pub nested_object : (old : List ℕ) (before middle after : List (List ℕ × Option (List ℕ))) (key value name text s t u v w x : List ℕ) → s ≡ old ++ codes "{" → t ≡ s ++ fields_text (before ++ ((key, Some value) ∷ middle)) → u ≡ t ++ (codes "," ++ string_text name ++ codes ":") → v ≡ u ++ text → w ≡ v ++ later_fields_text after → x ≡ w ++ codes "}" → x ≡ old ++ object_text (before ++ ((key, Some value) ∷ (middle ++ ((name, Some text) ∷ after))))
+pub nested_object : (old : List ℕ) (before middle after : List (List ℕ × Option (List ℕ)))
+    (key value name text s t u v w x : List ℕ) → s ≡ old ++ codes "{"
+    → t ≡ s ++ fields_text (before ++ ((key, Some value) ∷ middle))
+    → u ≡ t ++ (codes "," ++ string_text name ++ codes ":") → v ≡ u ++ text
+    → w ≡ v ++ later_fields_text after → x ≡ w ++ codes "}"
+    → x ≡ old ++ object_text (before ++ ((key, Some value) ∷ (middle ++
+    ((name, Some text) ∷ after))))
 unfolding object_text
 nested_object old before middle after key value name text s t u v w x h i j k l m =
     let fields = fields_more s before middle ((name, Some text) ∷ after) key value t w i (later_field t name text after u v w j k l) in
@@ -47,7 +58,11 @@ nested_object old before middle after key value name text s t u v w x h i j k l 
     appended old (codes "{" ++ whole) w (codes "}") x (appended old (codes "{") s whole w h fields) m
 
 -- The same without later fields.
-pub object_of_two : (old : List ℕ) (middle : List (List ℕ × Option (List ℕ))) (key value name text s t u v x : List ℕ) → s ≡ old ++ codes "{" → t ≡ s ++ fields_text ((key, Some value) ∷ middle) → u ≡ t ++ (codes "," ++ string_text name ++ codes ":") → v ≡ u ++ text → x ≡ v ++ codes "}" → x ≡ old ++ object_text ((key, Some value) ∷ (middle ++ ((name, Some text) ∷ [])))
+pub object_of_two : (old : List ℕ) (middle : List (List ℕ × Option (List ℕ)))
+    (key value name text s t u v x : List ℕ) → s ≡ old ++ codes "{"
+    → t ≡ s ++ fields_text ((key, Some value) ∷ middle)
+    → u ≡ t ++ (codes "," ++ string_text name ++ codes ":") → v ≡ u ++ text → x ≡ v ++ codes "}"
+    → x ≡ old ++ object_text ((key, Some value) ∷ (middle ++ ((name, Some text) ∷ [])))
 unfolding later_fields_text
 object_of_two old middle key value name text s t u v x h i j k m = nested_object old [] middle [] key value name text s t u v v x h i j k (sym (append-nil v)) m
 

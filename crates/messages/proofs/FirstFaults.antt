@@ -70,7 +70,10 @@ action_law (Err fault) fields h = (λ ok. absurd (cc (ok)), λ none. absurd (cc 
 
 -- ---- one field, and then the rest
 
-step : {A B : Type 0} → (reading : Result A CallFault) (next : A → Result B CallFault) (rest : List (Option CallFault)) → ((x : A) → reading ≡ Ok x → result_err (next x) ≡ first_fault rest) → result_err (reading >>= next) ≡ first_fault (result_err reading ∷ rest)
+step : {A B : Type 0} → (reading : Result A CallFault) (next : A
+    → Result B CallFault) (rest : List (Option CallFault)) → ((x : A) → reading ≡ Ok x
+    → result_err (next x) ≡ first_fault rest)
+    → result_err (reading >>= next) ≡ first_fault (result_err reading ∷ rest)
 step (Ok x) next rest h = h x refl
 step (Err fault) next rest h = refl
 
@@ -89,7 +92,11 @@ within (None ∷ fields) rest fault h = within fields rest fault h
 within (Some other ∷ fields) rest fault h = h
 
 -- fields that are read together, and then the rest
-steps : {A B : Type 0} → (reading : Result A CallFault) (next : A → Result B CallFault) (fields rest : List (Option CallFault)) → result_err reading ≡ first_fault fields → ((x : A) → reading ≡ Ok x → result_err (next x) ≡ first_fault rest) → result_err (reading >>= next) ≡ first_fault (fields ++ rest)
+steps : {A B : Type 0} → (reading : Result A CallFault) (next : A
+    → Result B CallFault) (fields rest : List (Option CallFault))
+    → result_err reading ≡ first_fault fields → ((x : A) → reading ≡ Ok x
+    → result_err (next x) ≡ first_fault rest)
+    → result_err (reading >>= next) ≡ first_fault (fields ++ rest)
 steps (Ok x) next fields rest here h = h x refl ∙ sym (after_none fields rest (sym here))
 steps (Err fault) next fields rest here h = sym (within fields rest fault (sym here))
 

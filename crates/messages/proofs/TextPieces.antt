@@ -23,7 +23,9 @@ pub two_values : (old a v b w e s t u x y : List ℕ) → s ≡ old ++ a → t �
 two_values old a v b w e s t u x y h i j k l = simp (l, k, j, i, h, append_assoc, append-nil)
 
 -- The middle one of three values is a string.
-pub three_values : (old a u b v q c w e o r s t x y z : List ℕ) → o ≡ old ++ a → r ≡ o ++ u → s ≡ r ++ b → t ≡ s ++ v → x ≡ t ++ (q ++ c) → y ≡ x ++ w → z ≡ y ++ e → z ≡ old ++ ((a ++ (u ++ (b ++ ((v ++ q) ++ (c ++ (w ++ [])))))) ++ e)
+pub three_values : (old a u b v q c w e o r s t x y z : List ℕ) → o ≡ old ++ a → r ≡ o ++ u
+    → s ≡ r ++ b → t ≡ s ++ v → x ≡ t ++ (q ++ c) → y ≡ x ++ w → z ≡ y ++ e
+    → z ≡ old ++ ((a ++ (u ++ (b ++ ((v ++ q) ++ (c ++ (w ++ [])))))) ++ e)
 three_values old a u b v q c w e o r s t x y z f g h i j k l = simp (l, k, j, i, h, g, f, append_assoc, append-nil)
 
 -- ---- what a refused append leaves

@@ -17,7 +17,14 @@ pub record IsDayNumber (d : CalendarDay) (n : ℕ) : Type 0 where
   pub day_high : d.day ≤ days_in_month (pos d.year) d.month
   pub number : days_from_civil (pos d.year) d.month d.day ≡ pos n
 
-month_step : (d : CalendarDay) (n : ℕ) → IsDayNumber d n → d.day ≡ days_in_month (pos d.year) d.month → (b : Bool) → nat_lt d.month 12 ≡ b → IsDayNumber (if b then record { year = d.year; month = d.month + 1; day = 1 } else record { year = d.year + 1; month = 1; day = 1 }) (suc n)
+month_step : (d : CalendarDay) (n : ℕ) → IsDayNumber d n
+    → d.day ≡ days_in_month (pos d.year) d.month → (b : Bool) → nat_lt d.month 12 ≡ b
+    → IsDayNumber (if b then record {
+      year = d.year;
+      month = d.month + 1;
+      day =
+          1;
+    } else record { year = d.year + 1; month = 1; day = 1 }) (suc n)
 month_step d n h last true e = record {
   month_low = omega arith;
   month_high = omega (arith, ltb-true d.month 12 e);
@@ -37,7 +44,14 @@ month_step d n h last false e =
       number = omega (arith, signed_arith, days_from_civil-next_year (pos d.year) (pos (d.year + 1)) (omega (arith, signed_arith)) refl, here);
     }
 
-day_step : (d : CalendarDay) (n : ℕ) → IsDayNumber d n → (b : Bool) → nat_lt d.day (days_in_month (pos d.year) d.month) ≡ b → IsDayNumber (if b then record { year = d.year; month = d.month; day = d.day + 1 } else first_of_next_month d) (suc n)
+day_step : (d : CalendarDay) (n : ℕ) → IsDayNumber d n → (b : Bool)
+    → nat_lt d.day (days_in_month (pos d.year) d.month) ≡ b
+    → IsDayNumber (if b then record {
+      year = d.year;
+      month = d.month;
+      day =
+          d.day + 1;
+    } else first_of_next_month d) (suc n)
 day_step d n h true e = record {
   month_low = h.month_low;
   month_high = h.month_high;
@@ -64,7 +78,18 @@ calendar_day-number (suc n) =
 year_bound : (d : CalendarDay) (n : ℕ) → IsDayNumber d n → n ≤ 2_932_896 → d.year ≤ 9999
 year_bound d n h low =
     elim (cases_lt 9999 d.year) [
-      | inl past ↦ absurd (omega (arith, signed_arith, h.number, days_from_civil-max, days_from_civil-day_count (pos 9999) 12 31, days_from_civil-day_count (pos d.year) d.month d.day, day_count-lt_year (pos 9999) 12 31 (pos d.year) d.month d.day (search rules) h.day_low (omega (arith, signed_arith))))
+      | inl past ↦ absurd (omega (
+        arith,
+        signed_arith,
+        h.number,
+        days_from_civil-max,
+        days_from_civil-day_count
+            (pos 9999) 12 31,
+        days_from_civil-day_count (pos d.year) d.month d.day,
+        day_count-lt_year
+            (pos 9999) 12 31 (pos d.year) d.month d.day (search rules) h.day_low (omega
+            (arith, signed_arith)),
+      ))
       | inr within ↦ within
     ]
 

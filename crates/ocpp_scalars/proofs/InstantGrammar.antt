@@ -365,7 +365,13 @@ pub seconds_only : (text : List ℕ) (z : ℤ) → SpellsInstant text z → seco
 unfolding seconds_of
 seconds_only text z s =
     let rest = s.fraction ++ s.offset_text in
-    let date : date_at text ≡ Some (days_from_civil (pos s.year) s.month s.day, s.separator ∷ (time_text s.hour s.minute s.second ++ rest)) = ap date_at s.is_text ∙ date_only s.year s.month s.day (s.separator ∷ (time_text s.hour s.minute s.second ++ rest)) s.is_year s.is_date in
+    let date : date_at text ≡ Some (
+      days_from_civil (pos s.year) s.month s.day,
+      s.separator ∷
+          (time_text s.hour s.minute s.second ++ rest),
+    ) = ap date_at s.is_text
+    ∙ date_only s.year s.month s.day (s.separator ∷
+    (time_text s.hour s.minute s.second ++ rest)) s.is_year s.is_date in
     let separated = separator_only s.separator (time_text s.hour s.minute s.second ++ rest) s.is_separator in
     let timed = time_only s.hour s.minute s.second rest s.is_clock s.is_second in
     let fraction = fraction_only s.fraction s.offset_text s.is_fraction (offset_follows s.offset s.offset_text s.is_offset) in

@@ -282,13 +282,18 @@ fraction_stops _ _ rest no_fraction stops = stops
 fraction_stops _ _ rest (decimal_point ds digits) stops = refl
 
 -- the parts of a text that the grammar has
-pub parts_only : (text : List ℕ) (negative : Bool) (digits : ℕ) (power : ℤ) → SpellsNumber text negative digits power → (p : Parts) × (parts_of text ≡ Some p) × (p.negative ≡ negative) × ((number_of_parts p).digits ≡ digits) × ((number_of_parts p).power ≡ power)
+pub parts_only : (text : List ℕ) (negative : Bool) (digits : ℕ) (power : ℤ)
+    → SpellsNumber text negative digits power
+    → (p : Parts) × (parts_of text ≡ Some p) × (p.negative ≡ negative) ×
+    ((number_of_parts p).digits ≡ digits) × ((number_of_parts p).power ≡ power)
 unfolding parts_of
 parts_only text negative digits power n =
     let stops = exponent_stops n.exponent_power n.exponent n.is_exponent in
     let x = exponent_only n.exponent_power n.exponent n.is_exponent in
     let sign : sign_at text ≡ (negative, n.whole ++ (n.fraction ++ n.exponent)) = ap sign_at n.is_text ∙ sign_only negative n.sign n.whole (n.fraction ++ n.exponent) n.is_minus n.is_whole.0 in
-    let whole : whole_at (n.whole ++ (n.fraction ++ n.exponent)) ≡ Some (n.whole, n.fraction ++ n.exponent) = whole_only n.whole (n.fraction ++ n.exponent) n.is_whole (fraction_stops n.fraction_digits n.fraction n.exponent n.is_fraction stops.0) in
+    let whole : whole_at (n.whole ++ (n.fraction ++ n.exponent)) ≡ Some
+    (n.whole, n.fraction ++ n.exponent) = whole_only n.whole (n.fraction ++ n.exponent) n.is_whole
+    (fraction_stops n.fraction_digits n.fraction n.exponent n.is_fraction stops.0) in
     let fraction : fraction_at (n.fraction ++ n.exponent) ≡ Some (n.fraction_digits, n.exponent) = fraction_only n.fraction_digits n.fraction n.exponent n.is_fraction stops.0 stops.1 in (
       record { negative = negative; whole = n.whole; fraction = n.fraction_digits; negative_exponent = x.0.0; exponent = x.0.1 },
       rw sign (rw whole (rw fraction (rw x.1 refl))),

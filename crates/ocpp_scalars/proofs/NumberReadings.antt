@@ -113,14 +113,20 @@ most_tenths-only : (negative : Bool) (n : ℕ) → (negative ≡ true → n ≡ 
 most_tenths-only true n sign h = let nothing : n ≡ 0 = sign refl in omega arith
 most_tenths-only false n sign h = h
 
-pub tenths_of_spelling : (text : List ℕ) (negative : Bool) (digits : ℕ) (power : ℤ) (n : ℕ) → IsShort text → SpellsNumber text negative digits power → IsScaled (10 * digits) power n → (negative ≡ true → n ≡ 0) → n ≤ max_tenths → tenths_of text ≡ Ok n
+pub tenths_of_spelling : (text : List ℕ) (negative : Bool) (digits : ℕ) (power : ℤ) (n : ℕ)
+    → IsShort text → SpellsNumber text negative digits power → IsScaled (10 * digits) power n
+    → (negative ≡ true → n ≡ 0) → n ≤ max_tenths → tenths_of text ≡ Ok n
 unfolding tenths_of
 tenths_of_spelling text negative digits power n short spells scale sign bound =
     let value : times_power digits (power +ℤ pos 1) ≡ Some n = scaled-only digits (power +ℤ pos 1) n (tenths-down digits power n scale) in
     let inside : at_most (most_tenths negative) (Some n) ≡ Some n = at_most-only (most_tenths negative) n (most_tenths-only negative n sign bound) in
     rw (number_in-only text negative digits power short spells, value, inside) refl
 
-tenths_in_bounds : (text : List ℕ) (number : Number) → IsShort text → SpellsNumber text number.negative number.digits number.power → tenths_of text ≡ tenths_of_number (Ok number) → (o : Option ℕ) → at_most (most_tenths number.negative) (times_power number.digits (number.power +ℤ pos 1)) ≡ o → IsTenthsReading text (ok_or o Range)
+tenths_in_bounds : (text : List ℕ) (number : Number) → IsShort text
+    → SpellsNumber text number.negative number.digits number.power
+    → tenths_of text ≡ tenths_of_number (Ok number) → (o : Option ℕ)
+    → at_most (most_tenths number.negative) (times_power number.digits
+    (number.power +ℤ pos 1)) ≡ o → IsTenthsReading text (ok_or o Range)
 tenths_in_bounds text number short spells whole None e = (
   short,
   (number.negative, number.digits, number.power, spells),
@@ -189,7 +195,10 @@ most_whole-only : (negative : Bool) (n : ℕ) → neg_ℤ (pos max_negative_whol
 most_whole-only true n low high = omega (arith, ints)
 most_whole-only false n low high = omega (arith, ints)
 
-whole_of_spelling : (text : List ℕ) (negative : Bool) (digits : ℕ) (power : ℤ) (n : ℕ) (z : ℤ) → IsShort text → SpellsNumber text negative digits power → IsScaled digits power n → z ≡ with_sign negative n → neg_ℤ (pos max_negative_whole) ≤ℤ z → z ≤ℤ pos max_whole → whole_of text ≡ Ok z
+whole_of_spelling : (text : List ℕ) (negative : Bool) (digits : ℕ) (power : ℤ) (n : ℕ) (z : ℤ)
+    → IsShort text → SpellsNumber text negative digits power → IsScaled digits power n
+    → z ≡ with_sign negative n → neg_ℤ (pos max_negative_whole) ≤ℤ z → z ≤ℤ pos max_whole
+    → whole_of text ≡ Ok z
 unfolding whole_of
 whole_of_spelling text negative digits power n z short spells scale is low high =
     let value : times_power digits power ≡ Some n = scaled-only digits power n scale in
@@ -197,7 +206,11 @@ whole_of_spelling text negative digits power n z short spells scale is low high 
     let inside : at_most (most_whole negative) (Some n) ≡ Some n = at_most-only (most_whole negative) n fits in
     rw (number_in-only text negative digits power short spells, value, inside, is) refl
 
-whole_in_bounds : (text : List ℕ) (number : Number) → IsShort text → SpellsNumber text number.negative number.digits number.power → whole_of text ≡ whole_of_number (Ok number) → (o : Option ℕ) → at_most (most_whole number.negative) (times_power number.digits number.power) ≡ o → IsWholeReading text (ok_or (option_map (with_sign number.negative) o) Range)
+whole_in_bounds : (text : List ℕ) (number : Number) → IsShort text
+    → SpellsNumber text number.negative number.digits number.power
+    → whole_of text ≡ whole_of_number (Ok number) → (o : Option ℕ)
+    → at_most (most_whole number.negative) (times_power number.digits number.power) ≡ o
+    → IsWholeReading text (ok_or (option_map (with_sign number.negative) o) Range)
 whole_in_bounds text number short spells whole None e = (
   short,
   (number.negative, number.digits, number.power, spells),

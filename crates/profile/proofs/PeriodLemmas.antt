@@ -46,7 +46,9 @@ AllByRecursion-filter P test (x ∷ xs) h =
     [ true ↦ (h.0, AllByRecursion-filter P test xs h.1) | false ↦ AllByRecursion-filter P test xs h.1 ]
 
 -- one more period in order: its limit where it has begun, else the limit so far
-pub limit_in-more : (ps : List Period) (i : ℕ) (d : Period) (o : ℕ) → i < length ps → are_in_order_after None ps ≡ true → limit_in (take (i + 1) ps) o ≡ cond (nat_le (get_or ps i d).start o) (Some (get_or ps i d).limit) (limit_in (take i ps) o)
+pub limit_in-more : (ps : List Period) (i : ℕ) (d : Period) (o : ℕ) → i < length ps
+    → are_in_order_after None ps ≡ true → limit_in (take (i + 1) ps) o ≡ cond (nat_le
+    (get_or ps i d).start o) (Some (get_or ps i d).limit) (limit_in (take i ps) o)
 limit_in-more ps i d o inside ordered =
     let test : Period → Bool = λ p. nat_le p.start o in
     let start : Period → ℕ = λ p. p.start in

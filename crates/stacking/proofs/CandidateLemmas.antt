@@ -147,7 +147,14 @@ point-keys : (rows : List Row) (connector level : ℕ) (row : Row)
     → is_candidate_at TxDefaultProfile rows connector level row ≡ true → HasKey 0 TxDefaultProfile level row
 point-keys rows connector level row none passes =
     let both = and-both _ _ passes in let more = and-both _ _ both.1 in
-    record { at = eqb-true _ _ (go (is_tx_default row.profile.purpose) (row.connector == connector) (row.profile.stack_level == level) (row.connector == 0) _ more.0 both.0 none more.1); for = tx_default-is _ more.0; of_level = eqb-true _ _ both.0 }
+    record {
+      at = eqb-true _ _ (go (is_tx_default row.profile.purpose)
+          (row.connector == connector) (row.profile.stack_level == level)
+          (row.connector == 0) _ more.0 both.0 none more.1);
+      for = tx_default-is _ more.0;
+      of_level =
+          eqb-true _ _ both.0;
+    }
   where
     go : (d a l z h : Bool) → d ≡ true → l ≡ true → (d && a && l) ≡ false → (a || (z && h)) ≡ true → z ≡ true
     go d a l true h is of_level none passes = refl
