@@ -49,9 +49,9 @@ pub no_place : (number : ℕ) (held : List Held) → None ≡ position (has_numb
 no_place number held none =
     let most = prefix_len-le-length (λ (h : Held). not (has_number number h)) held in
     elim (nat_lt (position_or_len (has_number number) held) (length held)) as (λ b. nat_lt
-        (position_or_len (has_number number) held) (length held) ≡ b
-        → None ≡ cond b (Some (position_or_len (has_number number) held)) None
-        → position_or_len (has_number number) held ≡ length held) [
+    (position_or_len (has_number number) held) (length held) ≡ b
+    → None ≡ cond b (Some (position_or_len (has_number number) held)) None
+    → position_or_len (has_number number) held ≡ length held) [
       | true ↦ λ here e. absurd (cc)
       | false ↦ λ here e. omega (arith, ltb-false _ _ here, most)
     ] refl none
@@ -60,10 +60,10 @@ pub a_place : (number : ℕ) (held : List Held) (place : ℕ) → Some place ≡
     → (position_or_len (has_number number) held < length held) × (place ≡ position_or_len (has_number number) held)
 a_place number held place some =
     elim (nat_lt (position_or_len (has_number number) held) (length held)) as (λ b. nat_lt
-        (position_or_len (has_number number) held) (length held) ≡ b
-        → Some place ≡ cond b (Some (position_or_len (has_number number) held)) None
-        → (position_or_len (has_number number) held < length held) × (place ≡ position_or_len
-        (has_number number) held)) [
+    (position_or_len (has_number number) held) (length held) ≡ b
+    → Some place ≡ cond b (Some (position_or_len (has_number number) held)) None
+    → (position_or_len (has_number number) held < length held) × (place ≡ position_or_len
+    (has_number number) held)) [
       | true ↦ λ here e. (ltb-true _ _ here, cc)
       | false ↦ λ here e. absurd (cc)
     ] refl some

@@ -47,9 +47,9 @@ pub feed_none : (text : List ℕ) → None ≡ position (λ b. b == 10) text →
 feed_none text none =
     let most = prefix_len-le-length (λ b. not (b == 10)) text in
     elim (nat_lt (position_or_len (λ b. b == 10) text) (length text)) as (λ b. nat_lt
-        (position_or_len (λ b. b == 10) text) (length text) ≡ b
-        → None ≡ cond b (Some (position_or_len (λ b. b == 10) text)) None
-        → position_or_len (λ b. b == 10) text ≡ length text) [
+    (position_or_len (λ b. b == 10) text) (length text) ≡ b
+    → None ≡ cond b (Some (position_or_len (λ b. b == 10) text)) None
+    → position_or_len (λ b. b == 10) text ≡ length text) [
       | true ↦ λ here e. absurd (cc)
       | false ↦ λ here e. omega (arith, ltb-false _ _ here, most)
     ] refl none
@@ -58,10 +58,10 @@ pub feed_some : (text : List ℕ) (end : ℕ) → Some end ≡ position (λ b. b
     → (position_or_len (λ b. b == 10) text < length text) × (end ≡ position_or_len (λ b. b == 10) text)
 feed_some text end some =
     elim (nat_lt (position_or_len (λ b. b == 10) text) (length text)) as (λ b. nat_lt
-        (position_or_len (λ b. b == 10) text) (length text) ≡ b
-        → Some end ≡ cond b (Some (position_or_len (λ b. b == 10) text)) None
-        → (position_or_len (λ b. b == 10) text < length text) × (end ≡ position_or_len
-        (λ b. b == 10) text)) [
+    (position_or_len (λ b. b == 10) text) (length text) ≡ b
+    → Some end ≡ cond b (Some (position_or_len (λ b. b == 10) text)) None
+    → (position_or_len (λ b. b == 10) text < length text) × (end ≡ position_or_len
+    (λ b. b == 10) text)) [
       | true ↦ λ here e. (ltb-true _ _ here, cc)
       | false ↦ λ here e. absurd (cc)
     ] refl some
