@@ -4,13 +4,13 @@ use Rattle.std.proofs.lemmas.Bool.Decides.{nat_tests}
 use Rattle.ocpp_scalars.specs.declared.refusal.Refusal.{Refusal}
 use Rattle.ocpp_scalars.specs.declared.refusal.Refusal.TheVariants.{ResultTooLong}
 use Rattle.meaning.specs.Limits.{max_composite_periods}
-use Rattle.meaning.specs.Composite.{Schedule}
+use Rattle.meaning.specs.Composite.{CompositeSchedule}
 use Rattle.meaning.specs.Compiled.{IsExactAnswer, IsTooLong}
 use Rattle.meaning.specs.ByCases.Exact.{exact_periods, exact_schedule}
 use Rattle.meaning.specs.Theory.ExactPeriods.{exact_is, exact_are}
 use Rattle.meaning.specs.Theory.ExactAnswers.{made}
 
-pub computed : (limit : ℕ → ℕ) (duration : ℕ) (schedule : Schedule) → IsExactAnswer limit duration schedule → exact_schedule limit duration ≡ Ok schedule
+pub computed : (limit : ℕ → ℕ) (duration : ℕ) (schedule : CompositeSchedule) → IsExactAnswer limit duration schedule → exact_schedule limit duration ≡ Ok schedule
 computed limit duration schedule answer =
     let same = exact_is limit duration schedule.periods answer.exact in
     let few : length (exact_periods limit duration) ≤ max_composite_periods = rw (sym same) answer.few in
@@ -26,7 +26,7 @@ refused limit duration some long =
 pub too_long-is : (limit : ℕ → ℕ) (duration : ℕ) → exact_schedule limit duration ≡ Err ResultTooLong → IsTooLong limit duration
 too_long-is limit duration is = go (nat_lt max_composite_periods (length (exact_periods limit duration))) refl is
   where
-    go : (b : Bool) → nat_lt max_composite_periods (length (exact_periods limit duration)) ≡ b → ◌≡◌ {A = Result Schedule Refusal} (cond b (Err ResultTooLong) (Ok (made limit duration))) (Err ResultTooLong)
+    go : (b : Bool) → nat_lt max_composite_periods (length (exact_periods limit duration)) ≡ b → ◌≡◌ {A = Result CompositeSchedule Refusal} (cond b (Err ResultTooLong) (Ok (made limit duration))) (Err ResultTooLong)
         → IsTooLong limit duration
     go true long is = record {
       more = λ periods exact. let many : max_composite_periods < length (exact_periods limit duration) = grind (arith, nat_tests) in rw (exact_is limit duration periods exact) many;

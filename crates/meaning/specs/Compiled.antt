@@ -4,11 +4,11 @@ use Rattle.ocpp_scalars.specs.declared.refusal.Refusal.{Refusal}
 use Rattle.ocpp_scalars.specs.declared.refusal.Refusal.TheVariants.{ResultTooLong, OutOfMemory}
 use Rattle.meaning.specs.declared.composite.CompositePeriod.{CompositePeriod}
 use Rattle.meaning.specs.Limits.{max_composite_periods}
-use Rattle.meaning.specs.Composite.{Schedule}
+use Rattle.meaning.specs.Composite.{CompositeSchedule}
 use Rattle.meaning.specs.Exact.{IsExact}
 
 -- the exact schedule, with no more periods than an answer may have
-pub record IsExactAnswer (limit : ℕ → ℕ) (duration : ℕ) (schedule : Schedule) : Type 0 where
+pub record IsExactAnswer (limit : ℕ → ℕ) (duration : ℕ) (schedule : CompositeSchedule) : Type 0 where
   pub lasts : schedule.duration ≡ duration
   pub exact : IsExact limit duration schedule.periods
   pub few : length schedule.periods ≤ max_composite_periods
@@ -26,6 +26,6 @@ IsPermitted limit duration other = ⊥
 
 -- What a compiler returns: the exact schedule, or ResultTooLong where that has too many periods, or that
 -- memory ran out.
-abbrev pub IsCompiled : (ℕ → ℕ) → ℕ → Result Schedule Refusal → Type 0
+abbrev pub IsCompiled : (ℕ → ℕ) → ℕ → Result CompositeSchedule Refusal → Type 0
 IsCompiled limit duration (Ok schedule) = IsExactAnswer limit duration schedule
 IsCompiled limit duration (Err refusal) = IsPermitted limit duration refusal

@@ -4,7 +4,7 @@ use Rattle.std.specs.List.{AllByRecursion}
 use Rattle.meaning.specs.declared.composite.CompositePeriod.{CompositePeriod}
 
 -- limits over so many seconds
-pub record Schedule : Type 0 where
+pub record CompositeSchedule : Type 0 where
   pub duration : ℕ
   pub periods : List CompositePeriod
 

@@ -27,9 +27,9 @@ pub struct Composite {
 }
 
 impl Model for Composite {
-    ghost use Rattle.meaning.specs.Composite.{Schedule, IsSchedule};
+    ghost use Rattle.meaning.specs.Composite.{CompositeSchedule, IsSchedule};
 
-    ghost Value = { Schedule };
+    ghost Value = { CompositeSchedule };
 
     ghost view = { λ c. record { duration = c.duration; periods = c.periods.items } };
 

@@ -5,7 +5,7 @@ ghost use Rattle.ocpp_scalars.specs.declared.refusal.Refusal.TheVariants.{Result
 ghost use Rattle.meaning.specs.declared.composite.CompositePeriod.{CompositePeriod};
 ghost use Rattle.meaning.specs.View.{PointState};
 ghost use Rattle.meaning.specs.Limit.{limit_asked};
-ghost use Rattle.meaning.specs.Composite.{Schedule};
+ghost use Rattle.meaning.specs.Composite.{CompositeSchedule};
 ghost use Rattle.meaning.specs.Exact.{IsExact};
 ghost use Rattle.meaning.specs.Compiled.{IsExactAnswer, IsTooLong};
 ghost use Rattle.meaning.specs.ByCases.Exact.{exact_periods, exact_schedule};
@@ -30,7 +30,7 @@ pub fn one_schedule()
 pub fn exact_schedules()
     ensures periods { (limit : ℕ → ℕ) (duration : ℕ) (periods : List CompositePeriod) → 0 < duration
         → IsExact limit duration periods ↔ (periods ≡ exact_periods limit duration) }
-    ensures answer { (limit : ℕ → ℕ) (duration : ℕ) (schedule : Schedule) → 0 < duration
+    ensures answer { (limit : ℕ → ℕ) (duration : ℕ) (schedule : CompositeSchedule) → 0 < duration
         → IsExactAnswer limit duration schedule ↔ (exact_schedule limit duration ≡ Ok schedule) }
     ensures too_long { (limit : ℕ → ℕ) (duration : ℕ) → 0 < duration
         → IsTooLong limit duration ↔ (exact_schedule limit duration ≡ Err ResultTooLong) }

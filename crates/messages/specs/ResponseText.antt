@@ -6,7 +6,7 @@ use Rattle.ocpp_scalars.specs.Refusal.{refusal_name}
 use Rattle.ocpp_scalars.specs.Writing.{tenths_text}
 use Rattle.profile.specs.declared.unit.Unit.{Unit}
 use Rattle.profile.specs.declared.unit.Unit.TheVariants.{A, W}
-use Rattle.meaning.specs.Composite.{Schedule}
+use Rattle.meaning.specs.Composite.{CompositeSchedule}
 use Rattle.meaning.specs.declared.composite.CompositePeriod.{CompositePeriod}
 use Rattle.ocpp_scalars.specs.declared.refusal.Refusal.TheVariants.{OutOfMemory}
 use Rattle.ocppj_frame.specs.Write.{call_result_text, call_error_text}
@@ -67,7 +67,7 @@ composite_period_text period = object_text (
     ∷ [])
 
 -- OCPP 1.6, chapter 7, ChargingSchedule, of a composite schedule, its limits in a unit
-unfoldable pub composite_schedule_text : Unit → Schedule → List ℕ
+unfoldable pub composite_schedule_text : Unit → CompositeSchedule → List ℕ
 composite_schedule_text unit schedule =
     let periods = map composite_period_text schedule.periods in
     object_text (

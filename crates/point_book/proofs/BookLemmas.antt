@@ -12,7 +12,7 @@ use Rattle.transactions.specs.declared.transaction.Transaction.{Transaction}
 use Rattle.transactions.specs.declared.active_table.Began.{Began}
 use Rattle.transactions.specs.declared.active_table.Began.TheVariants.{Fresh, Repeat}
 use Rattle.transactions.specs.ActiveTable.{began, placed, started, emptied, has_id}
-use Rattle.point_book.specs.Book.{Book, IsBook, MayStand, active_on, empty_book}
+use Rattle.point_book.specs.Book.{BookState, IsBook, MayStand, active_on, empty_book}
 use Rattle.point_book.specs.Changes.{transaction_refusal, rows_after_stop, book_installed, book_stopped}
 
 -- ---- lists
@@ -99,7 +99,7 @@ book-empty ceiling ceilings few = record {
   rows = tt;
 }
 
-pub book-installed : (book : Book) (row : Row) → IsBook book → row.connector ≤ length book.ceilings
+pub book-installed : (book : BookState) (row : Row) → IsBook book → row.connector ≤ length book.ceilings
     → transaction_refusal (active_on book.transactions row.connector) row.profile ≡ None → IsBook (book_installed book row)
 book-installed book row is has allowed = record {
   few = is.few;
@@ -113,7 +113,7 @@ book-installed book row is has allowed = record {
 }
 
 -- whichever profiles go, those that stay may stand where they do
-pub book-filtered : (book : Book) (test : Row → Bool) → IsBook book → IsBook (record book { rows = filter test book.rows })
+pub book-filtered : (book : BookState) (test : Row → Bool) → IsBook book → IsBook (record book { rows = filter test book.rows })
 book-filtered book test is = record {
   few = is.few;
   slots = is.slots;
@@ -121,7 +121,7 @@ book-filtered book test is = record {
 }
 
 -- also where a transaction begins
-pub book-started : (book : Book) (test : Row → Bool) (connector : ℕ) (begin : Begin) (id : ℤ) → IsBook book
+pub book-started : (book : BookState) (test : Row → Bool) (connector : ℕ) (begin : Begin) (id : ℤ) → IsBook book
     → IsBook (record book { rows = filter test book.rows; transactions = started book.transactions connector begin id })
 book-started book test connector begin id is = go (began book.transactions connector begin)
   where
@@ -133,7 +133,7 @@ book-started book test connector begin id is = go (began book.transactions conne
     }
     go (Repeat other) = book-filtered book test is
 
-pub book-stopped : (book : Book) (id : ℤ) → IsBook book → IsBook (book_stopped book id)
+pub book-stopped : (book : BookState) (id : ℤ) → IsBook book → IsBook (book_stopped book id)
 book-stopped book id is = go (position (has_id id) book.transactions)
   where
     go : (at : Option ℕ) → IsBook (record book { rows = rows_after_stop (option_map (λ place. place + 1) at) book.rows; transactions = emptied at book.transactions })

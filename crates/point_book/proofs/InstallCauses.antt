@@ -14,7 +14,7 @@ use Rattle.profile.specs.declared.purpose.Purpose.TheVariants.{ChargePointMaxPro
 use Rattle.profile.specs.Purpose.{is_tx}
 use Rattle.profile.specs.Changes.{installed}
 use Rattle.stacking.specs.Limits.{max_rows}
-use Rattle.point_book.specs.Book.{Book, active_on}
+use Rattle.point_book.specs.Book.{BookState, active_on}
 use Rattle.point_book.specs.Changes.{LacksTransaction, NamesAnother, install_causes, names_another, room_refusal, first_cause, install_refusal}
 
 -- ---- room
@@ -118,7 +118,7 @@ module _ (profile : Profile) (active : Option ℤ) (room : Option Refusal) (late
 
 -- ---- the first cause
 
-install_cause : (book : Book) (row : Row)
+install_cause : (book : BookState) (row : Row)
     → IsFirstCause (install_causes book row) (install_refusal book row)
 install_cause book row =
     transaction_cause row.profile (active_on book.transactions row.connector)
@@ -126,7 +126,7 @@ install_cause book row =
     ((TooManyProfiles because max_rows < length (installed book.rows row)) ∷ [])
     (room_cause book.rows row) row.profile.purpose refl
 
-pub installs : (book : Book) (row : Row) (refusal : Option Refusal)
+pub installs : (book : BookState) (row : Row) (refusal : Option Refusal)
     → (install_refusal book row ≡ refusal) ↔ IsFirstCause (install_causes book row) refusal
 installs book row refusal =
     first_cause_law (install_causes book row) (install_refusal book row)

@@ -7,7 +7,7 @@ use Rattle.transactions.specs.declared.transaction.Transaction.{Transaction}
 use Rattle.transactions.specs.ActiveTable.{active_at, starts}
 use Rattle.meaning.specs.View.{PointState}
 
-pub record Book : Type 0 where
+pub record BookState : Type 0 where
   -- the point's ceiling, in tenths
   pub ceiling : ℕ
   -- the ceilings of connectors 1, 2, ..
@@ -18,7 +18,7 @@ pub record Book : Type 0 where
   pub transactions : List (Option Transaction)
 
 -- a point with nothing installed and no active transaction
-abbrev pub empty_book : ℕ → List ℕ → Book
+abbrev pub empty_book : ℕ → List ℕ → BookState
 empty_book ceiling ceilings = record {
   ceiling = ceiling;
   ceilings = ceilings;
@@ -27,7 +27,7 @@ empty_book ceiling ceilings = record {
 }
 
 -- what limits are read from
-abbrev pub state_of : Book → PointState
+abbrev pub state_of : BookState → PointState
 state_of book = record {
   ceiling = book.ceiling;
   ceilings = book.ceilings;
@@ -47,7 +47,7 @@ pub record MayStand (slots : List (Option Transaction)) (row : Row) : Type 0 whe
 
 -- what a book always is: it has a slot for each connector, as many as connectors have numbers, and each
 -- profile may stand where it does
-pub record IsBook (book : Book) : Type 0 where
+pub record IsBook (book : BookState) : Type 0 where
   pub few : length book.ceilings < 2 ^ 32
   pub slots : length book.transactions ≡ length book.ceilings
   pub rows : AllByRecursion (MayStand book.transactions) book.rows

@@ -16,7 +16,7 @@ use Rattle.transactions.specs.declared.begin.Begin.{Begin}
 use Rattle.transactions.specs.declared.active_table.Began.{Began}
 use Rattle.transactions.specs.declared.active_table.Began.TheVariants.{Fresh, Repeat}
 use Rattle.transactions.specs.ActiveTable.{began, started, connector_of, stopped}
-use Rattle.point_book.specs.Book.{Book, active_on}
+use Rattle.point_book.specs.Book.{BookState, active_on}
 
 -- ---- SetChargingProfile (OCPP 1.6, 5.16)
 
@@ -35,13 +35,13 @@ pub record NamesAnother (active : Option ℤ) (profile : Profile) : Type 0 where
   pub other : asked ≢ running
 
 -- the transactionId of the active transaction at a row's connector
-abbrev pub active_for : Book → Row → Option ℤ
+abbrev pub active_for : BookState → Row → Option ℤ
 active_for book row = active_on book.transactions row.connector
 
 -- Why a profile isn't installed, in the order in which the causes are checked: a TxProfile is for
 -- the transaction that is active at its connector (3.13.1), and no more profiles than the limit
 -- stand after an install.
-abbrev pub install_causes : Book → Row → List Cause
+abbrev pub install_causes : BookState → Row → List Cause
 install_causes book row =
     (NoTransaction because LacksTransaction (active_for book row) row.profile)
     ∷ (OtherTransaction because NamesAnother (active_for book row) row.profile)
@@ -72,7 +72,7 @@ first_cause None next = next
 first_cause (Some cause) next = Some cause
 
 -- why a profile isn't installed: by the law `installs` the first of these causes
-abbrev pub install_refusal : Book → Row → Option Refusal
+abbrev pub install_refusal : BookState → Row → Option Refusal
 install_refusal book row =
     first_cause
     (transaction_refusal (active_on book.transactions row.connector) row.profile)
@@ -84,17 +84,17 @@ IsCause None refusal = refusal ≡ OutOfMemory
 IsCause (Some cause) refusal = refusal ≡ cause
 
 -- nothing has changed, and the row came back
-pub record IsRefused (old : Book) (row : Row) (refused : Refusal × Row) (new : Book) : Type 0 where
+pub record IsRefused (old : BookState) (row : Row) (refused : Refusal × Row) (new : BookState) : Type 0 where
   pub cause : IsCause (install_refusal old row) refused.0
   pub unchanged : new ≡ old
   pub back : refused.1 ≡ row
 
-abbrev pub book_installed : Book → Row → Book
+abbrev pub book_installed : BookState → Row → BookState
 book_installed book row = record book { rows = installed book.rows row }
 
 -- ---- ClearChargingProfile (OCPP 1.6, 5.5)
 
-abbrev pub book_cleared : Book → Criteria → Book
+abbrev pub book_cleared : BookState → Criteria → BookState
 book_cleared book criteria = record book { rows = cleared book.rows criteria }
 
 -- ---- StartTransaction (OCPP 1.6, 4.8)
@@ -104,7 +104,7 @@ abbrev pub rows_after_start : Began → List Row → ℕ → List Row
 rows_after_start Fresh rows connector = without_transaction_profiles rows connector
 rows_after_start (Repeat id) rows connector = rows
 
-abbrev pub book_started : Book → ℕ → Begin → ℤ → Book
+abbrev pub book_started : BookState → ℕ → Begin → ℤ → BookState
 book_started book connector begin id = record book {
   rows = rows_after_start (began book.transactions connector begin) book.rows connector;
   transactions = started book.transactions connector begin id;
@@ -117,7 +117,7 @@ abbrev pub rows_after_stop : Option ℕ → List Row → List Row
 rows_after_stop None rows = rows
 rows_after_stop (Some connector) rows = without_transaction_profiles rows connector
 
-abbrev pub book_stopped : Book → ℤ → Book
+abbrev pub book_stopped : BookState → ℤ → BookState
 book_stopped book id = record book {
   rows = rows_after_stop (connector_of book.transactions id) book.rows;
   transactions = stopped book.transactions id;

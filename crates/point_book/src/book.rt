@@ -32,9 +32,9 @@ pub struct PointBook {
 }
 
 impl Model for PointBook {
-    ghost use Rattle.point_book.specs.Book.{Book, IsBook};
+    ghost use Rattle.point_book.specs.Book.{BookState, IsBook};
 
-    ghost Value = { Book };
+    ghost Value = { BookState };
 
     ghost view = { λ b. record {
       ceiling = b.ceiling;

@@ -4,12 +4,12 @@ ghost use Rattle.std.specs.Prelude.{◌≡◌, ◌↔◌, Option};
 ghost use Rattle.ocpp_scalars.specs.declared.refusal.Refusal.{Refusal};
 ghost use Rattle.ocpp_scalars.specs.Causes.{IsFirstCause};
 ghost use Rattle.profile.specs.declared.row.Row.{Row};
-ghost use Rattle.point_book.specs.Book.{Book};
+ghost use Rattle.point_book.specs.Book.{BookState};
 ghost use Rattle.point_book.specs.Changes.{install_causes, install_refusal};
 
 /// The law of installs: a row is refused exactly where the cause of the refusal holds and none
 /// before it does, and nothing refuses it, if memory lasts, exactly where no cause holds.
 pub fn installs()
-    ensures { (book : Book) (row : Row) (refusal : Option Refusal)
+    ensures { (book : BookState) (row : Row) (refusal : Option Refusal)
         → (install_refusal book row ≡ refusal) ↔ IsFirstCause (install_causes book row) refusal }
 {}

@@ -3,11 +3,11 @@ use Rattle.std.proofs.Common.{◌≡◌, ◌↔◌, ℕ, ◌<◌, ◌==◌, List
 use Rattle.ocpp_scalars.specs.declared.refusal.Refusal.{Refusal}
 use Rattle.ocpp_scalars.specs.declared.refusal.Refusal.TheVariants.{ResultTooLong, OutOfMemory, AlreadyAnswered}
 use Rattle.meaning.specs.declared.ask.Ask.{Ask}
-use Rattle.meaning.specs.Composite.{Schedule}
+use Rattle.meaning.specs.Composite.{CompositeSchedule}
 use Rattle.meaning.specs.Limit.{limit_asked}
 use Rattle.meaning.specs.Compiled.{IsExactAnswer, IsTooLong, IsPermitted}
 use Rattle.meaning.specs.ByCases.Exact.{exact_schedule}
-use Rattle.point_book.specs.Book.{Book, state_of}
+use Rattle.point_book.specs.Book.{BookState, state_of}
 use Rattle.site_core.specs.declared.step.Step.{Step}
 use Rattle.site_core.specs.declared.step.Step.TheVariants as steps
 use Rattle.site_core.specs.declared.reply.Reply.{Reply}
@@ -106,13 +106,13 @@ told mid number kept answer (Err refusal) new here made =
     absurd (cc (none, made.0))
 
 abbrev pub Law-answer : Type 0
-Law-answer = (limit : ℕ → ℕ) (duration : ℕ) (schedule : Schedule) → 0 < duration → IsExactAnswer limit duration schedule ↔ (exact_schedule limit duration ≡ Ok schedule)
+Law-answer = (limit : ℕ → ℕ) (duration : ℕ) (schedule : CompositeSchedule) → 0 < duration → IsExactAnswer limit duration schedule ↔ (exact_schedule limit duration ≡ Ok schedule)
 
 abbrev pub Law-too_long : Type 0
 Law-too_long = (limit : ℕ → ℕ) (duration : ℕ) → 0 < duration → IsTooLong limit duration ↔ (exact_schedule limit duration ≡ Err ResultTooLong)
 
 -- a compiler's answer is the exact one, unless memory ran out
-exact_refusal : (limit : ℕ → ℕ) (ask : Ask) (book : Book) (refusal : Refusal) → IsPermitted limit ask.duration refusal → is_memory (Ok (Answered book ask (Err refusal))) ≡ false
+exact_refusal : (limit : ℕ → ℕ) (ask : Ask) (book : BookState) (refusal : Refusal) → IsPermitted limit ask.duration refusal → is_memory (Ok (Answered book ask (Err refusal))) ≡ false
     → Law-too_long → exact_schedule limit ask.duration ≡ Err refusal
 exact_refusal limit ask book ResultTooLong permitted other law = (law limit ask.duration ask.some).0 permitted
 exact_refusal limit ask book OutOfMemory permitted other law = absurd (cc)

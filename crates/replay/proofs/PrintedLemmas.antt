@@ -6,12 +6,12 @@ use Rattle.std.specs.List.{flat_map}
 use Rattle.std.proofs.lemmas.Grind.{flat_map-append}
 use Rattle.profile.specs.declared.unit.Unit.{Unit}
 use Rattle.meaning.specs.declared.ask.Ask.{Ask}
-use Rattle.meaning.specs.Composite.{Schedule}
+use Rattle.meaning.specs.Composite.{CompositeSchedule}
 use Rattle.messages.specs.declared.call.Call.{Call}
 use Rattle.messages.specs.declared.response.ScheduleResponse.{ScheduleResponse}
 use Rattle.messages.specs.declared.response.Response.TheVariants as responses
 use Rattle.site_rules.specs.Site.{SiteState}
-use Rattle.point_book.specs.Book.{Book}
+use Rattle.point_book.specs.Book.{BookState}
 use Rattle.site_core.specs.declared.step.Step.{Step}
 use Rattle.site_core.specs.declared.step.Step.TheVariants as acts
 use Rattle.site_core.specs.declared.reply.Reply.{Reply}
@@ -36,9 +36,9 @@ use Rattle.replay.specs.ScriptRun.{calls_replied, calls_printed_to, ScriptRun, I
 -- a step that handed out a schedule
 record HandsOut (unit : Unit) (step : Step) (reply : Reply) : Type 0 where
   pub number : ℕ
-  pub book : Book
+  pub book : BookState
   pub ask : Ask
-  pub schedule : Schedule
+  pub schedule : CompositeSchedule
   pub step_is : step ≡ acts.Answer number
   pub reply_is : reply ≡ Answered book ask (Ok schedule)
   pub told : schedules_by unit step reply ≡ schedule_told unit ask schedule ∷ []
@@ -68,9 +68,9 @@ record IsHandedAt (unit : Unit) (steps : List Step) (outcomes : List Outcome)
     (earlier : List ScheduleResponse) (told : ScheduleResponse) : Type 0 where
   pub position : ℕ
   pub number : ℕ
-  pub book : Book
+  pub book : BookState
   pub ask : Ask
-  pub schedule : Schedule
+  pub schedule : CompositeSchedule
   pub answers : slice_get steps position ≡ Some (acts.Answer number)
   pub handed : slice_get outcomes position ≡ Some (Done (Answered book ask (Ok schedule)))
   pub is : told ≡ schedule_told unit ask schedule

@@ -12,7 +12,7 @@ use Rattle.transactions.specs.declared.active_table.Began.{Began}
 use Rattle.transactions.specs.declared.active_table.Began.TheVariants.{Fresh, Repeat}
 use Rattle.transactions.specs.ActiveTable.{began, connector_of}
 use Rattle.meaning.specs.declared.ask.Ask.{Ask}
-use Rattle.meaning.specs.Composite.{Schedule}
+use Rattle.meaning.specs.Composite.{CompositeSchedule}
 use Rattle.meaning.specs.Compiled.{IsCompiled}
 use Rattle.meaning.specs.Limit.{limit_asked}
 use Rattle.meaning.specs.Limits.{max_composite_periods}
@@ -80,10 +80,10 @@ exact_right : Law-answer → Law-too_long → (limit : ℕ → ℕ) (duration : 
 exact_right answer too_long limit duration some =
     go (nat_lt max_composite_periods (length (exact_periods limit duration))) refl
   where
-    exact : Schedule
+    exact : CompositeSchedule
     exact = record { duration = duration; periods = exact_periods limit duration }
 
-    either : Bool → Result Schedule Refusal
+    either : Bool → Result CompositeSchedule Refusal
     either test = cond test (Err refusals.ResultTooLong) (Ok exact)
 
     go : (test : Bool)

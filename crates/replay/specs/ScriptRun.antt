@@ -5,12 +5,12 @@ use Rattle.std.specs.List.{flat_map, AllByRecursion}
 use Rattle.profile.specs.declared.row.Row.{Row}
 use Rattle.profile.specs.declared.unit.Unit.{Unit}
 use Rattle.meaning.specs.declared.ask.Ask.{Ask}
-use Rattle.meaning.specs.Composite.{Schedule}
+use Rattle.meaning.specs.Composite.{CompositeSchedule}
 use Rattle.messages.specs.declared.call.Call.{Call}
 use Rattle.messages.specs.declared.response.ScheduleResponse.{ScheduleResponse}
 use Rattle.messages.specs.declared.response.Response.TheVariants as responses
 use Rattle.site_rules.specs.Site.{SiteState, place_of}
-use Rattle.point_book.specs.Book.{Book}
+use Rattle.point_book.specs.Book.{BookState}
 use Rattle.site_core.specs.declared.step.Step.{Step}
 use Rattle.site_core.specs.declared.step.Step.TheVariants.{Answer, Send}
 use Rattle.site_core.specs.declared.reply.Reply.{Reply}
@@ -41,7 +41,7 @@ abbrev pub schedules_printed : List PrintedLine → List ScheduleResponse
 schedules_printed lines = flat_map schedules_on lines
 
 -- a schedule as the answer to an ask, on a site with limits in this unit
-abbrev pub schedule_told : Unit → Ask → Schedule → ScheduleResponse
+abbrev pub schedule_told : Unit → Ask → CompositeSchedule → ScheduleResponse
 schedule_told unit ask schedule =
     record { connector = ask.connector; start = ask.start; unit = unit; schedule = schedule }
 
@@ -130,9 +130,9 @@ pub record IsPrintedRight (site : SiteState) (script : List ℕ) (run : ScriptRu
   pub number : ℕ
   pub answers : slice_get run.steps position ≡ Some (Answer number)
   -- which handed out a schedule, with a book and an ask,
-  pub book : Book
+  pub book : BookState
   pub ask : Ask
-  pub schedule : Schedule
+  pub schedule : CompositeSchedule
   pub handed :
       slice_get run.outcomes position ≡ Some (Done (Answered book ask (Ok schedule)))
   -- and what is printed is that schedule, for that ask.

@@ -8,7 +8,7 @@ use Rattle.profile.specs.Changes.{installed, cleared, without_transaction_profil
 use Rattle.profile.specs.declared.row.Row.{Row}
 use Rattle.transactions.specs.ActiveTable.{connector_of}
 use Rattle.site_rules.specs.Site.{SiteState, PointEntry, place_of}
-use Rattle.point_book.specs.Book.{Book}
+use Rattle.point_book.specs.Book.{BookState}
 use Rattle.point_book.specs.Changes.{rows_after_stop}
 use Rattle.messages.specs.declared.call.Call.{Call}
 use Rattle.messages.specs.declared.call.CallBody.{CallBody}
@@ -176,7 +176,7 @@ rows_after_end : (found : Option ℕ) (rows : List Row)
 rows_after_end None rows = refl
 rows_after_end (Some connector) rows = refl
 
-rows_changed : (book : Book) (change : Option BookChange)
+rows_changed : (book : BookState) (change : Option BookChange)
     → (book_with change book).rows ≡ rows_after_all (changes_in book change) book.rows
 rows_changed book None = refl
 rows_changed book (Some (Install row)) = refl

@@ -16,7 +16,7 @@ use Rattle.transactions.specs.ActiveTable.{began, connector_of}
 use Rattle.site_rules.specs.Site.{SiteState}
 use Rattle.messages.specs.declared.call.Call.{Call}
 use Rattle.messages.specs.declared.call.CallBody.{CallBody}
-use Rattle.point_book.specs.Book.{Book}
+use Rattle.point_book.specs.Book.{BookState}
 use Rattle.site_core.specs.declared.numbers.Numbers.{Numbers}
 use Rattle.site_core.specs.declared.step.Step.{Step}
 use Rattle.site_core.specs.declared.step.Step.TheVariants as steps
@@ -152,7 +152,7 @@ pub record Agrees (point : ChargePointState) (step : Step) (told : Told) : Type 
   pub confirmed : numbers_of_calls (confirmed_by_effect point.outbox
       (told_effect told).traffic) ≡ confirmed_by step (told_reply told)
   -- the changes of profiles that are calls are those that the outbox is brought
-  pub bodies : (book : Book) → filter_map call_of (changes_in book
+  pub bodies : (book : BookState) → filter_map call_of (changes_in book
       (told_effect told).change) ≡ bodies_in (told_effect told).traffic
   pub no_take : (number : ℕ) → reply_takes number (told_reply told) ≡ false
   pub no_answer : (number : ℕ) → asks_answer_of number step ≡ false
@@ -163,7 +163,7 @@ all_refl : (point : ChargePointState) (step : Step) (told : Told)
     → calls_by step (told_reply told) ≡ sent_by_effect point.outbox (told_effect told).traffic
     → numbers_of_calls (confirmed_by_effect point.outbox
     (told_effect told).traffic) ≡ confirmed_by step (told_reply told)
-    → ((book : Book) → filter_map call_of (changes_in book (told_effect told).change) ≡ bodies_in
+    → ((book : BookState) → filter_map call_of (changes_in book (told_effect told).change) ≡ bodies_in
     (told_effect told).traffic)
     → ((number : ℕ) → reply_takes number (told_reply told) ≡ false) → ((number : ℕ)
     → asks_answer_of number step ≡ false) → Agrees point step told

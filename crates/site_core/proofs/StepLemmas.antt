@@ -7,7 +7,7 @@ use Rattle.std.proofs.lemmas.List.Quantifiers.{position-Some}
 use Rattle.std.specs.Prelude.{IfOk, ◌⊎◌}
 use Rattle.std.specs.Str.{bytes_eq}
 use Rattle.std.specs.List.{filter_map}
-use Rattle.point_book.specs.Book.{Book}
+use Rattle.point_book.specs.Book.{BookState}
 use Rattle.ocpp_scalars.specs.declared.refusal.Refusal.{Refusal}
 use Rattle.ocpp_scalars.specs.declared.refusal.Refusal.TheVariants as refusals
 use Rattle.meaning.specs.declared.ask.Ask.{Ask}
@@ -117,7 +117,7 @@ pub record Acts (place : ℕ) (old : MachineState) (step : Step) (made : Made) :
   pub confirmed : names old.site place step ≡ true
       → numbers_of_calls (confirmed_by_effect (outbox_at old place)
       (traffic_by step made.reply)) ≡ confirmed_by step made.reply
-  pub bodies : (book : Book) → filter_map call_of (changes_in book
+  pub bodies : (book : BookState) → filter_map call_of (changes_in book
       (change_by step made.reply)) ≡ bodies_in (traffic_by step made.reply)
 
 -- the points after an effect at a place, if there is one
@@ -157,7 +157,7 @@ pub idle : (place : ℕ) (old : MachineState) (step : Step) (made : Made)
     → calls_by step made.reply ≡ sent_by_effect (outbox_at old place) (traffic_by step made.reply)
     → numbers_of_calls (confirmed_by_effect (outbox_at old place)
     (traffic_by step made.reply)) ≡ confirmed_by step made.reply
-    → ((book : Book) → filter_map call_of (changes_in book
+    → ((book : BookState) → filter_map call_of (changes_in book
     (change_by step made.reply)) ≡ bodies_in (traffic_by step made.reply))
     → Acts place old step made
 idle place old step made same none sent confirmed bodies = record {

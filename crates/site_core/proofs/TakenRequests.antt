@@ -9,7 +9,7 @@ use Rattle.ocpp_scalars.specs.declared.refusal.Refusal.{Refusal}
 use Rattle.ocpp_scalars.specs.declared.refusal.Refusal.TheVariants.{Stopped}
 use Rattle.meaning.specs.declared.ask.Ask.{Ask}
 use Rattle.site_rules.specs.Site.{SiteState, place_of}
-use Rattle.point_book.specs.Book.{Book}
+use Rattle.point_book.specs.Book.{BookState}
 use Rattle.site_core.specs.declared.step.Step.{Step}
 use Rattle.site_core.specs.declared.step.Step.TheVariants as steps
 use Rattle.site_core.specs.declared.step.Take.{Take}
@@ -32,7 +32,7 @@ use Rattle.site_core.proofs.StepLemmas.{LeavesRequests, IsHanding, taking, compi
 
 -- one event more, which is no Take of it
 abbrev was_taken : (opening : MachineState) (events : List Event) (event : Event) (number : ℕ)
-    (book : Book)
+    (book : BookState)
     (ask : Ask) → is_take_of number event ≡ false
     → IsTakenIn opening events number book ask
     → IsTakenIn opening (events ++ event ∷ []) number book ask
@@ -55,7 +55,7 @@ was_taken opening events event number book ask other taken = record {
 }
 
 abbrev was_kept : (opening : MachineState) (events : List Event) (event : Event) (number : ℕ)
-    (book : Book)
+    (book : BookState)
     (ask : Ask) → is_take_of number event ≡ false
     → IsKeptBefore opening events number book ask
     → IsKeptBefore opening (events ++ event ∷ []) number book ask
@@ -70,26 +70,26 @@ was_kept opening events event number book ask other before = record {
 
 -- ---- where a request comes from
 
-abbrev pub Origin : MachineState → List Event → ℕ → Book → Ask → Type 0
+abbrev pub Origin : MachineState → List Event → ℕ → BookState → Ask → Type 0
 Origin opening events number book ask =
     IsTakenIn opening events number book ask ⊎ IsKeptBefore opening events number book ask
 
 -- the events since then
-abbrev since_of : (opening : MachineState) (events : List Event) (number : ℕ) (book : Book)
+abbrev since_of : (opening : MachineState) (events : List Event) (number : ℕ) (book : BookState)
     (ask : Ask)
     → Origin opening events number book ask → List Event
 since_of opening events number book ask (inl taken) = taken.since
 since_of opening events number book ask (inr before) = events
 
 -- when it may be answered Stopped
-abbrev pub MayBeStopped : (opening : MachineState) (events : List Event) (number : ℕ) (book : Book)
+abbrev pub MayBeStopped : (opening : MachineState) (events : List Event) (number : ℕ) (book : BookState)
     (ask : Ask) → Origin opening events number book ask → Type 0
 MayBeStopped opening events number book ask (inl taken) = Contains taken.since finish_event
 MayBeStopped opening events number book ask (inr before) =
     (opening.is_stopped ≡ true) ⊎ Contains events finish_event
 
 abbrev origin_after : (opening : MachineState) (events : List Event) (event : Event) (number : ℕ)
-    (book : Book)
+    (book : BookState)
     (ask : Ask) → is_take_of number event ≡ false → Origin opening events number book ask
     → Origin opening (events ++ event ∷ []) number book ask
 origin_after opening events event number book ask other (inl taken) =
@@ -98,7 +98,7 @@ origin_after opening events event number book ask other (inr before) =
     inr (was_kept opening events event number book ask other before)
 
 stopped_after : (opening : MachineState) (events : List Event) (event : Event) (number : ℕ)
-    (book : Book)
+    (book : BookState)
     (ask : Ask) (other : is_take_of number event ≡ false)
     (origin : Origin opening events number book ask)
     → MayBeStopped opening events number book ask origin
@@ -111,7 +111,7 @@ stopped_after opening events event number book ask other (inr before) (inr may) 
     inr (Contains-append_left events (event ∷ []) finish_event may)
 
 since_after : (opening : MachineState) (events : List Event) (event : Event) (number : ℕ)
-    (book : Book)
+    (book : BookState)
     (ask : Ask) (other : is_take_of number event ≡ false)
     (origin : Origin opening events number book ask)
     → Contains (since_of opening (events ++ event ∷ []) number book ask
@@ -120,7 +120,7 @@ since_after opening events event number book ask other (inl taken) = Contains-pu
 since_after opening events event number book ask other (inr before) = Contains-push events event
 
 -- after a Finish since
-finished_since : (opening : MachineState) (events : List Event) (number : ℕ) (book : Book)
+finished_since : (opening : MachineState) (events : List Event) (number : ℕ) (book : BookState)
     (ask : Ask)
     (origin : Origin opening events number book ask)
     → Contains (since_of opening events number book ask origin) finish_event
@@ -247,13 +247,13 @@ found_holds P number (first ∷ requests) kept all is = go (first.number == numb
     go false is rest = rest is
 
 -- what a compiler may answer is right
-right_of : (book : Book) (ask : Ask) (answer : ScheduleAnswer) → IsCompiledFor book ask answer
+right_of : (book : BookState) (ask : Ask) (answer : ScheduleAnswer) → IsCompiledFor book ask answer
     → IsRight book ask answer
 right_of book ask (Ok schedule) compiled = compiled
 right_of book ask (Err Stopped) compiled = tt
 right_of book ask (Err refusal) compiled = compiled
 
-right_when_stopped : (book : Book) (ask : Ask) (answer : Option ScheduleAnswer)
+right_when_stopped : (book : BookState) (ask : Ask) (answer : Option ScheduleAnswer)
     → IfSome answer (IsRight book ask) → IsRight book ask (unwrap_or answer (Err Stopped))
 right_when_stopped book ask None right = tt
 right_when_stopped book ask (Some answer) right = right
@@ -348,7 +348,7 @@ holds_left opening events old step made holds is =
     (sym is.requests))
 
 -- what a compiler answers is never Stopped
-never_stopped : (book : Book) (ask : Ask) (answer : ScheduleAnswer)
+never_stopped : (book : BookState) (ask : Ask) (answer : ScheduleAnswer)
     → IsCompiledFor book ask answer → Some answer ≡ Some (Err Stopped) → ⊥
 never_stopped book ask answer compiled is = let stopped : answer ≡ Err Stopped =
     cc in subst (IsCompiledFor book ask) stopped compiled
@@ -496,7 +496,7 @@ holds_after opening events old (event ∷ later) new holds legal =
 -- ---- the headline
 
 -- an answer that is handed out after a legal history is right, by where its request comes from
-answer_right : (opening : MachineState) (events : List Event) (number : ℕ) (book : Book) (ask : Ask)
+answer_right : (opening : MachineState) (events : List Event) (number : ℕ) (book : BookState) (ask : Ask)
     (answer : ScheduleAnswer) (origin : Origin opening events number book ask)
     → IsRight book ask answer
     → (answer ≡ Err Stopped → MayBeStopped opening events number book ask origin)
@@ -530,13 +530,13 @@ kept_right opening events drawn kept answer has found =
     (subst (λ (o : Option ScheduleAnswer). IfSome o (IsRight kept.book kept.ask)) has found.right)
     (λ e. found.stopped (has ∙ ap Some e))
 
-abbrev IsRightEither : MachineState → List Event → ℕ → Book → Ask → ScheduleAnswer → Type 0
+abbrev IsRightEither : MachineState → List Event → ℕ → BookState → Ask → ScheduleAnswer → Type 0
 IsRightEither opening events number book ask answer =
     IsRightAfter opening events number book ask answer
     ⊎ IsRightBefore opening events number book ask answer
 
 pub handed_out_right : (opening : MachineState) (events : List Event) (middle : MachineState)
-    (number : ℕ) (book : Book) (ask : Ask) (answer : ScheduleAnswer) (next : MachineState)
+    (number : ℕ) (book : BookState) (ask : Ask) (answer : ScheduleAnswer) (next : MachineState)
     → Holds opening events middle
     → Steps middle (steps.Answer number) (Answered book ask answer) next
     → IsRightEither opening events number book ask answer
@@ -564,13 +564,13 @@ handed_out_right opening events middle number book ask answer next holds made =
         let right = kept_right opening events middle.numbers.request is.kept is.answer is.has found
         in
         subst (λ (n : ℕ). IsRightEither opening events n book ask answer) numbered
-        (subst (λ (b : Book). IsRightEither opening events is.kept.number b ask answer) books
+        (subst (λ (b : BookState). IsRightEither opening events is.kept.number b ask answer) books
         (subst (λ (a : Ask). IsRightEither opening events is.kept.number is.kept.book a answer) asks
         (subst (IsRightEither opening events is.kept.number is.kept.book is.kept.ask) answers
         right)))
 
 -- where nothing was kept before, it was taken
-after_alone : (opening : MachineState) (events : List Event) (number : ℕ) (book : Book) (ask : Ask)
+after_alone : (opening : MachineState) (events : List Event) (number : ℕ) (book : BookState) (ask : Ask)
     (answer : ScheduleAnswer) → opening.requests ≡ []
     → IsRightEither opening events number book ask answer
     → IsRightAfter opening events number book ask answer
@@ -585,7 +585,7 @@ after_alone opening events number book ask answer none (inr right) =
 
 -- in a legal history from an opening state
 pub history_right : (opening : MachineState) (earlier later : List Event) (number : ℕ)
-    (book : Book) (ask : Ask) (answer : ScheduleAnswer) (new : MachineState)
+    (book : BookState) (ask : Ask) (answer : ScheduleAnswer) (new : MachineState)
     → opening.requests ≡ [] → Legal opening
     (earlier ++ answered_event number book ask answer ∷ later) new
     → IsRightAfter opening earlier number book ask answer
@@ -596,7 +596,7 @@ history_right opening earlier later number book ask answer new none legal =
     (holds_after opening [] opening earlier cut.0 (holds_at_base opening
     (none_right opening none)) cut.2) cut.3)
 
-pub right_takes_once : (opening : MachineState) (events : List Event) (number : ℕ) (book : Book)
+pub right_takes_once : (opening : MachineState) (events : List Event) (number : ℕ) (book : BookState)
     (ask : Ask) (answer : ScheduleAnswer)
     → IsRightAfter opening events number book ask answer → takes_of number events ≡ 1
 right_takes_once opening events number book ask answer right =

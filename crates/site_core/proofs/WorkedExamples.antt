@@ -9,12 +9,12 @@ use Rattle.profile.specs.declared.purpose.Purpose.TheVariants.{TxDefaultProfile}
 use Rattle.profile.specs.declared.row.Row.{Row}
 use Rattle.profile.specs.declared.unit.Unit.TheVariants.{A}
 use Rattle.meaning.specs.declared.ask.Ask.{Ask}
-use Rattle.meaning.specs.Composite.{Schedule}
+use Rattle.meaning.specs.Composite.{CompositeSchedule}
 use Rattle.meaning.specs.Limit.{limit_asked}
 use Rattle.meaning.specs.ByCases.Ask.{ask_with}
 use Rattle.meaning.specs.Theory.ExactAnswers.{answered as exact_answered}
 use Rattle.site_rules.specs.Site.{SiteState}
-use Rattle.point_book.specs.Book.{Book, empty_book, state_of}
+use Rattle.point_book.specs.Book.{BookState, empty_book, state_of}
 use Rattle.point_book.specs.Changes.{book_installed}
 use Rattle.site_core.specs.declared.step.Step.TheVariants as steps
 use Rattle.site_core.specs.declared.step.Take.{Take}
@@ -84,14 +84,14 @@ row = record {
   };
 }
 
-abbrev before : Book
+abbrev before : BookState
 before = empty_book 630 (320 ∷ [])
 
-abbrev after : Book
+abbrev after : BookState
 after = book_installed before row
 
 -- a minute at one limit
-abbrev at_limit : ℕ → Schedule
+abbrev at_limit : ℕ → CompositeSchedule
 at_limit limit = record { duration = 60; periods = record { start = 0; limit = limit } ∷ [] }
 
 -- ---- the states, one after each event

@@ -13,7 +13,7 @@ use Rattle.site_core.specs.declared.step.Step.{Step}
 use Rattle.site_core.specs.declared.step.Step.TheVariants as steps
 use Rattle.site_core.specs.declared.reply.Reply.{Reply}
 use Rattle.site_core.specs.declared.reply.Reply.TheVariants as replies
-use Rattle.point_book.specs.Book.{Book}
+use Rattle.point_book.specs.Book.{BookState}
 use Rattle.site_core.specs.Outbox.{OutboxState, IsOutbox, opening_outbox, all_calls, numbered, Traffic, Attach, Lose, Add, Send, Confirm, after_all}
 use Rattle.site_core.specs.ChargePoint.{ChargePointState, BookChange, Install, Clear, Start, Stop, Effect, point_after}
 use Rattle.site_core.specs.OutboxOrder.{calls_confirmed, calls_so_far, bodies_added, GoesOn, AreInSendingOrder}
@@ -223,13 +223,13 @@ end_at (Some connector) = Ends connector ∷ []
 
 -- what a change of a point's book changes of its profiles. A new transaction ends the one before it
 -- at its connector (OCPP 1.6, 3.13).
-abbrev pub row_changes : Book → BookChange → List Change
+abbrev pub row_changes : BookState → BookChange → List Change
 row_changes book (Install row) = Installs row ∷ []
 row_changes book (Clear criteria) = Clears criteria ∷ []
 row_changes book (Start connector begin number) = Ends connector ∷ []
 row_changes book (Stop number) = end_at (connector_of book.transactions number)
 
-abbrev pub changes_in : Book → Option BookChange → List Change
+abbrev pub changes_in : BookState → Option BookChange → List Change
 changes_in book None = []
 changes_in book (Some change) = row_changes book change
 

@@ -8,14 +8,14 @@ use Rattle.transactions.specs.declared.begin.Begin.{Begin}
 use Rattle.transactions.specs.declared.active_table.Began.TheVariants.{Fresh}
 use Rattle.transactions.specs.ActiveTable.{placed}
 use Rattle.site_rules.specs.Site.{PointEntry}
-use Rattle.point_book.specs.Book.{Book, empty_book}
+use Rattle.point_book.specs.Book.{BookState, empty_book}
 use Rattle.point_book.specs.Changes.{book_installed, book_cleared, book_stopped, rows_after_start}
 use Rattle.site_core.specs.declared.numbers.Numbers.{Numbers}
 use Rattle.site_core.specs.Outbox.{OutboxState, opening_outbox, Traffic, Attach, Lose, Add, Send, Confirm, after}
 
 pub record ChargePointState : Type 0 where
   -- its ceilings, profiles and transactions
-  pub book : Book
+  pub book : BookState
   -- the link to it, and the calls that it hasn't confirmed
   pub outbox : OutboxState
 
@@ -36,14 +36,14 @@ pub data BookChange : Type 0 where
 
 -- A new transaction takes the place of the one before it at its connector, which ends with its
 -- TxProfiles (OCPP 1.6, 3.13).
-abbrev pub book_begun : Book → ℕ → Begin → ℤ → Book
+abbrev pub book_begun : BookState → ℕ → Begin → ℤ → BookState
 book_begun book connector begin number = record book {
   rows = rows_after_start Fresh book.rows connector;
   transactions = placed Fresh book.transactions connector (record { id = number; begin = begin });
 }
 
 -- the book then
-abbrev pub book_after : Book → BookChange → Book
+abbrev pub book_after : BookState → BookChange → BookState
 book_after book (Install row) = book_installed book row
 book_after book (Clear criteria) = book_cleared book criteria
 book_after book (Start connector begin number) = book_begun book connector begin number
@@ -58,7 +58,7 @@ pub record Effect : Type 0 where
   pub change : Option BookChange
   pub traffic : Option Traffic
 
-abbrev pub book_with : Option BookChange → Book → Book
+abbrev pub book_with : Option BookChange → BookState → BookState
 book_with None book = book
 book_with (Some change) book = book_after book change
 

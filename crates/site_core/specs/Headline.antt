@@ -5,7 +5,7 @@ use Rattle.std.specs.List.{AllByRecursion, Contains}
 use Rattle.ocpp_scalars.specs.declared.refusal.Refusal.TheVariants.{Stopped}
 use Rattle.meaning.specs.declared.ask.Ask.{Ask}
 use Rattle.site_rules.specs.Site.{SiteState, place_of}
-use Rattle.point_book.specs.Book.{Book}
+use Rattle.point_book.specs.Book.{BookState}
 use Rattle.site_core.specs.declared.step.Step.{Step}
 use Rattle.site_core.specs.declared.step.Step.TheVariants.{Answer}
 use Rattle.site_core.specs.declared.step.Take.{Take}
@@ -20,7 +20,7 @@ use Rattle.site_core.specs.History.{Event, Legal, history_of, taken_event, answe
 
 -- An answer that is handed out to the request of a number, with a book and an ask, after these
 -- events from an opening state, is right:
-pub record IsRightAfter (opening : MachineState) (events : List Event) (number : ℕ) (book : Book)
+pub record IsRightAfter (opening : MachineState) (events : List Event) (number : ℕ) (book : BookState)
     (ask : Ask) (answer : ScheduleAnswer) : Type 0 where
   -- There were events before the request was taken,
   pub before : List Event
@@ -54,7 +54,7 @@ pub record IsRightAfter (opening : MachineState) (events : List Event) (number :
 -- before it.
 abbrev pub AnswersAreRight : MachineState → List Step → List Outcome → Type 0
 AnswersAreRight opening steps outcomes =
-    (position number : ℕ) (book : Book) (ask : Ask) (answer : ScheduleAnswer)
+    (position number : ℕ) (book : BookState) (ask : Ask) (answer : ScheduleAnswer)
     → slice_get steps position ≡ Some (Answer number)
     → slice_get outcomes position ≡ Some (Done (Answered book ask answer))
     → IsRightAfter opening (history_of (take position steps) (take position outcomes))
@@ -73,7 +73,7 @@ abbrev pub KeepsRight : MachineState → Type 0
 KeepsRight state = AllByRecursion (IsKeptRight state) state.requests
 
 -- A request of a number, with a book and an ask, was taken in these events from a state:
-pub record IsTakenIn (old : MachineState) (events : List Event) (number : ℕ) (book : Book)
+pub record IsTakenIn (old : MachineState) (events : List Event) (number : ℕ) (book : BookState)
     (ask : Ask) : Type 0 where
   -- there were events before, its Take, and events since,
   pub before : List Event
@@ -93,7 +93,7 @@ pub record IsTakenIn (old : MachineState) (events : List Event) (number : ℕ) (
 
 -- A request of a number, with a book and an ask, was kept in a state already, and no Take in these
 -- events since has its number.
-pub record IsKeptBefore (old : MachineState) (events : List Event) (number : ℕ) (book : Book)
+pub record IsKeptBefore (old : MachineState) (events : List Event) (number : ℕ) (book : BookState)
     (ask : Ask) : Type 0 where
   pub kept : Kept
   pub is_kept : Contains old.requests kept
@@ -110,7 +110,7 @@ HasItsBook old events kept =
 
 -- An answer to a request that was kept before is right for it, and Stopped only where the central
 -- system was stopped before, or since.
-pub record IsRightBefore (old : MachineState) (events : List Event) (number : ℕ) (book : Book)
+pub record IsRightBefore (old : MachineState) (events : List Event) (number : ℕ) (book : BookState)
     (ask : Ask) (answer : ScheduleAnswer) : Type 0 where
   pub before : IsKeptBefore old events number book ask
   pub right : IsRight book ask answer
@@ -137,7 +137,7 @@ RequestsHaveTheirBooks =
 -- the old state kept
 abbrev pub AnswersGoOnRight : Type 0
 AnswersGoOnRight =
-    (old : MachineState) (earlier later : List Event) (number : ℕ) (book : Book) (ask : Ask)
+    (old : MachineState) (earlier later : List Event) (number : ℕ) (book : BookState) (ask : Ask)
     (answer : ScheduleAnswer) (new : MachineState)
     → KeepsRight old
     → Legal old (earlier ++ answered_event number book ask answer ∷ later) new

@@ -2,7 +2,7 @@
 use Rattle.std.specs.Prelude.{ℕ, ◌≡◌, ◌==◌, ◌&&◌, Bool, true, false, List, [], ◌∷◌, IsSome}
 use Rattle.std.specs.List.{count_by}
 use Rattle.meaning.specs.declared.ask.Ask.{Ask}
-use Rattle.point_book.specs.Book.{Book}
+use Rattle.point_book.specs.Book.{BookState}
 use Rattle.site_core.specs.declared.step.Step.{Step}
 use Rattle.site_core.specs.declared.step.Step.TheVariants as steps
 use Rattle.site_core.specs.declared.step.Take.{Take}
@@ -35,11 +35,11 @@ history_of (step ∷ steps) (Refused refused ∷ outcomes) = history_of steps ou
 history_of _ _ = []
 
 -- the Take that began a request: its number, what its point had, and what is asked
-abbrev pub taken_event : Take → ℕ → Book → Ask → Event
+abbrev pub taken_event : Take → ℕ → BookState → Ask → Event
 taken_event take number book ask = record { step = steps.Take take; reply = Taken number book ask }
 
 -- the Answer of a number that handed out an answer, with what it is for
-abbrev pub answered_event : ℕ → Book → Ask → ScheduleAnswer → Event
+abbrev pub answered_event : ℕ → BookState → Ask → ScheduleAnswer → Event
 answered_event number book ask answer =
     record { step = steps.Answer number; reply = Answered book ask answer }
 

@@ -3,7 +3,7 @@ use Rattle.std.specs.Prelude.{ℕ, ◌≡◌, ◌≤◌, ◌==◌, Bool, false, 
 use Rattle.meaning.specs.declared.ask.Ask.{Ask}
 pub use Rattle.sweep_compiler.specs.Right.{ScheduleAnswer}
 use Rattle.site_rules.specs.Site.{PointEntry, SiteState, place_of}
-use Rattle.point_book.specs.Book.{Book, empty_book}
+use Rattle.point_book.specs.Book.{BookState, empty_book}
 use Rattle.site_core.specs.declared.numbers.Numbers.{Numbers}
 use Rattle.site_core.specs.Limits.{max_number, max_transaction, max_requests}
 use Rattle.site_core.specs.Outbox.{OutboxState, opening_outbox, sending_link}
@@ -15,7 +15,7 @@ pub record Kept : Type 0 where
   -- the place of its point in the site file
   pub place : ℕ
   -- what the point had when the request was taken
-  pub book : Book
+  pub book : BookState
   -- what is asked
   pub ask : Ask
   -- none before it is compiled
@@ -61,7 +61,7 @@ abbrev pub point_at : MachineState → ℕ → ChargePointState
 point_at state place = point_in state.points place
 
 -- what the point has, and the calls to it
-abbrev pub book_at : MachineState → ℕ → Book
+abbrev pub book_at : MachineState → ℕ → BookState
 book_at state place = (point_at state place).book
 
 abbrev pub outbox_at : MachineState → ℕ → OutboxState

@@ -15,7 +15,7 @@ use Rattle.transactions.specs.ActiveTable.{began, connector_of}
 use Rattle.meaning.specs.declared.ask.Ask.{Ask}
 use Rattle.site_rules.specs.Site.{SiteState, place_of}
 use Rattle.site_rules.specs.Admission.{admission_refusal}
-use Rattle.point_book.specs.Book.{Book}
+use Rattle.point_book.specs.Book.{BookState}
 use Rattle.point_book.specs.Changes.{first_cause, install_refusal}
 use Rattle.site_core.specs.declared.step.Step.{Step}
 use Rattle.site_core.specs.declared.step.Step.TheVariants as steps
@@ -178,7 +178,7 @@ refusal_to_take old take =
     else if nat_lt old.numbers.version take.seen then Some (Behind take.seen old.numbers.version)
     else None
 
-abbrev pub with_request : MachineState → Book → Ask → ℕ → MachineState
+abbrev pub with_request : MachineState → BookState → Ask → ℕ → MachineState
 with_request old book ask place = record old {
   numbers = record old.numbers { request = old.numbers.request + 1 };
   requests = old.requests ++ (record {

@@ -4,7 +4,7 @@
 ghost use Rattle.std.specs.Prelude.{◌≡◌, ◌⊎◌, ℕ, ◌+◌, ◌≤◌, List, ◌∷◌, ◌++◌, Some, IsTrue, All, Contains};
 ghost use Rattle.meaning.specs.declared.ask.Ask.{Ask};
 ghost use Rattle.site_rules.specs.Site.{SiteState};
-ghost use Rattle.point_book.specs.Book.{Book};
+ghost use Rattle.point_book.specs.Book.{BookState};
 ghost use Rattle.site_core.specs.declared.numbers.Numbers.{Numbers};
 ghost use Rattle.site_core.specs.declared.step.Step.{Step};
 ghost use Rattle.site_core.specs.declared.outcome.Outcome.{Outcome};
@@ -28,7 +28,7 @@ pub fn runs_are_legal()
 /// exactly one Take of its number.
 pub fn answers_follow_one_take()
     ensures { (site : SiteState) (numbers : Numbers) (earlier later : List Event) (number : ℕ)
-        (book : Book) (ask : Ask) (answer : ScheduleAnswer) (new : MachineState)
+        (book : BookState) (ask : Ask) (answer : ScheduleAnswer) (new : MachineState)
         → Legal (opening_at site numbers)
         (earlier ++ answered_event number book ask answer ∷ later) new
         → takes_of number earlier ≡ 1 }
@@ -38,7 +38,7 @@ pub fn answers_follow_one_take()
 /// what the point of that one Take had when the Take was made, and for its ask.
 pub fn answers_are_right()
     ensures { (site : SiteState) (numbers : Numbers) (earlier later : List Event) (number : ℕ)
-        (book : Book) (ask : Ask) (answer : ScheduleAnswer) (new : MachineState)
+        (book : BookState) (ask : Ask) (answer : ScheduleAnswer) (new : MachineState)
         → Legal (opening_at site numbers)
         (earlier ++ answered_event number book ask answer ∷ later) new
         → IsRightAfter (opening_at site numbers) earlier number book ask answer }

@@ -20,9 +20,9 @@ pub struct SharedBook {
 // Clauses see the book.
 impl Model for SharedBook {
     ghost use Rattle.std.specs.Arc.{arc_value};
-    ghost use Rattle.point_book.specs.Book.{Book};
+    ghost use Rattle.point_book.specs.Book.{BookState};
 
-    ghost Value = { Book };
+    ghost Value = { BookState };
 
     ghost view = { λ shared. arc_value shared.book };
 }

@@ -10,7 +10,7 @@ use Rattle.meaning.specs.declared.ask.Ask.{Ask}
 use Rattle.meaning.specs.View.{PointState, active_since}
 use Rattle.meaning.specs.Prevailing.{counted}
 use Rattle.meaning.specs.Limit.{active_connectors}
-use Rattle.point_book.specs.Book.{Book, state_of}
+use Rattle.point_book.specs.Book.{BookState, state_of}
 
 -- whether an instant is a place of a row, counted from the row's base for a connector
 abbrev pub is_place_of : PointState → ℕ → ℕ → ℕ → Row → Bool
@@ -50,5 +50,5 @@ abbrev pub places_within : (ℕ → Bool) → ℕ → ℕ
 places_within is_place duration = count_by is_place (range_with_len 1 (duration - 1))
 
 -- how many seconds within an ask, its start left out, are places of what is asked
-abbrev pub places : Book → Ask → ℕ
+abbrev pub places : BookState → Ask → ℕ
 places book ask = places_within (is_second_asked (state_of book) ask.connector ask.start) ask.duration

@@ -6,7 +6,7 @@ use Rattle.ocpp_scalars.specs.declared.refusal.Refusal.{Refusal}
 use Rattle.ocpp_scalars.specs.declared.refusal.Refusal.TheVariants.{ResultTooLong}
 use Rattle.meaning.specs.declared.composite.CompositePeriod.{CompositePeriod}
 use Rattle.meaning.specs.Limits.{max_composite_periods}
-use Rattle.meaning.specs.Composite.{Schedule}
+use Rattle.meaning.specs.Composite.{CompositeSchedule}
 
 -- a period begins at the first second, and at each whose limit differs from that of the second before
 abbrev pub begins_period : (ℕ → ℕ) → ℕ → Bool
@@ -23,7 +23,7 @@ exact_periods limit duration =
     map (period_from limit) (filter (begins_period limit) (range_with_len 0 duration))
 
 -- the exact schedule of a limit over so many seconds, or that it is too long to be an answer
-abbrev pub exact_schedule : (ℕ → ℕ) → ℕ → Result Schedule Refusal
+abbrev pub exact_schedule : (ℕ → ℕ) → ℕ → Result CompositeSchedule Refusal
 exact_schedule limit duration =
     if nat_lt max_composite_periods (length (exact_periods limit duration))
     then Err ResultTooLong

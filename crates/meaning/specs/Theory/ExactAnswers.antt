@@ -6,12 +6,12 @@ use Rattle.ocpp_scalars.specs.declared.refusal.Refusal.{Refusal}
 use Rattle.ocpp_scalars.specs.declared.refusal.Refusal.TheVariants.{ResultTooLong}
 use Rattle.meaning.specs.declared.composite.CompositePeriod.{CompositePeriod}
 use Rattle.meaning.specs.Limits.{max_composite_periods}
-use Rattle.meaning.specs.Composite.{Schedule, IsSchedule}
+use Rattle.meaning.specs.Composite.{CompositeSchedule, IsSchedule}
 use Rattle.meaning.specs.Compiled.{IsExactAnswer}
 use Rattle.meaning.specs.ByCases.Exact.{exact_periods, exact_schedule}
 use Rattle.meaning.specs.Theory.ExactPeriods.{exact_are}
 
-pub exact_answer : (limit : ℕ → ℕ) (duration : ℕ) (schedule : Schedule) → 0 < duration → schedule.duration ≡ duration
+pub exact_answer : (limit : ℕ → ℕ) (duration : ℕ) (schedule : CompositeSchedule) → 0 < duration → schedule.duration ≡ duration
     → schedule.periods ≡ exact_periods limit duration → length schedule.periods ≤ max_composite_periods → IsExactAnswer limit duration schedule
 exact_answer limit duration schedule some lasts same few = record {
   lasts = lasts;
@@ -25,13 +25,13 @@ is_schedule limit duration periods some same =
     rw same exact.schedule
 
 -- the schedule that is computed
-abbrev pub made : (ℕ → ℕ) → ℕ → Schedule
+abbrev pub made : (ℕ → ℕ) → ℕ → CompositeSchedule
 made limit duration = record { duration = duration; periods = exact_periods limit duration }
 
-pub answered : (limit : ℕ → ℕ) (duration : ℕ) (schedule : Schedule) → 0 < duration → exact_schedule limit duration ≡ Ok schedule → IsExactAnswer limit duration schedule
+pub answered : (limit : ℕ → ℕ) (duration : ℕ) (schedule : CompositeSchedule) → 0 < duration → exact_schedule limit duration ≡ Ok schedule → IsExactAnswer limit duration schedule
 answered limit duration schedule some is = go (nat_lt max_composite_periods (length (exact_periods limit duration))) refl is
   where
-    go : (b : Bool) → nat_lt max_composite_periods (length (exact_periods limit duration)) ≡ b → ◌≡◌ {A = Result Schedule Refusal} (cond b (Err ResultTooLong) (Ok (made limit duration))) (Ok schedule)
+    go : (b : Bool) → nat_lt max_composite_periods (length (exact_periods limit duration)) ≡ b → ◌≡◌ {A = Result CompositeSchedule Refusal} (cond b (Err ResultTooLong) (Ok (made limit duration))) (Ok schedule)
         → IsExactAnswer limit duration schedule
     go true long is = cc
     go false short is =
