@@ -8,7 +8,8 @@ use Rattle.meaning.specs.Composite.{CompositeSchedule}
 use Rattle.meaning.specs.Exact.{IsExact}
 
 -- the exact schedule, with no more periods than an answer may have
-pub record IsExactAnswer (limit : ℕ → ℕ) (duration : ℕ) (schedule : CompositeSchedule) : Type 0 where
+pub record IsExactAnswer (limit : ℕ → ℕ) (duration : ℕ) (schedule : CompositeSchedule)
+    : Type 0 where
   pub lasts : schedule.duration ≡ duration
   pub exact : IsExact limit duration schedule.periods
   pub few : length schedule.periods ≤ max_composite_periods

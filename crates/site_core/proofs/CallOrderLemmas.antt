@@ -3,7 +3,7 @@
 use Rattle.std.proofs.Common.{◌≡◌, ℕ, zero, suc, ◌==◌, Bool, true, false, cond, List, [], ◌∷◌, ◌++◌, length, map, filter_map, flat_map, slice_index_or, slice_get, ◌+◌, Option, Some, None, refl, sym, ap, ap₂, ◌∙◌, subst, arith, append_assoc, length-append, ◌≤◌, ◌-◌, inl}
 use Rattle.std.proofs.lemmas.List.{length-map, map-append}
 use Rattle.std.proofs.lemmas.List.Elements.{filter-append, filter_map-append, All-contains_itself, recursion_from_All}
-use Rattle.std.specs.List.{AllByRecursion, Contains, cons_option, range_with_len}
+use Rattle.std.specs.List.{AllByRecursion, Contains, cons_option}
 use Rattle.profile.specs.Changes.{installed, cleared, without_transaction_profiles}
 use Rattle.profile.specs.declared.row.Row.{Row}
 use Rattle.transactions.specs.ActiveTable.{connector_of}
@@ -16,10 +16,10 @@ use Rattle.site_core.specs.declared.numbers.Numbers.{Numbers}
 use Rattle.site_core.specs.Outbox.{numbered, OutboxState, opening_outbox, all_calls, sendable, Traffic, Attach, Lose, Add, Send, Confirm, after, after_all}
 use Rattle.site_core.specs.ChargePoint.{ChargePointState, BookChange, Install, Clear, Start, Stop, opening_point, book_with, outbox_with}
 use Rattle.site_core.specs.State.{MachineState, IsMachine, opening_at, no_point, point_at, book_at, outbox_at}
-use Rattle.site_core.specs.OutboxOrder.{GoesOn, sent_at, numbers_sent, number_of, calls_confirmed, added_at, bodies_added, AreInSendingOrder}
+use Rattle.site_core.specs.OutboxOrder.{AreFrom, GoesOn, sent_at, numbers_sent, number_of, calls_confirmed, added_at, bodies_added, AreInSendingOrder}
 use Rattle.site_core.specs.Obey.{Change, Installs, Clears, Ends, rows_after, call_of, calls_of, last_number, obeyed, lasting, rows_after_call, Obeying, numbers_of}
 use Rattle.site_core.specs.History.{Event, Legal}
-use Rattle.site_core.specs.CallOrder.{names, events_at, change_by, traffic_of, traffic_by_event, point_by, point_by_all, calls_by_event, calls_sent, confirmed_by_event, numbers_confirmed, numbers_of_calls, calls_made, IsOneOf, first_number, calls_since}
+use Rattle.site_core.specs.CallOrder.{names, events_at, change_by, traffic_of, traffic_by_event, point_by, point_by_all, calls_by_event, calls_sent, confirmed_by_event, numbers_confirmed, numbers_of_calls, calls_made, IsOneOf, calls_since, OpeningsKeepFrom0, CallsStayConsecutive}
 use Rattle.site_core.specs.CallOrder.{PointsFollowHistories, OutboxesFollowHistories, CallsAreSentInOrder, CallsAreSentAsMade, CallsAreLeftUnlessConfirmed, ConfirmationsAreEvents, CallsGoOnInOrder, CallsAreSentAsKept, CallsStayUnlessConfirmed}
 use Rattle.site_core.specs.CallOrder.{end_at, changes_in, changes_by, changes_from, changes_of, opening_at_place, rows_after_all, bodies_of, RowsFollowHistories, RowsGoOn, PointsStayInStep, accepted, Moment, EachCallHasItsMoment, CallsAreObeyedInOrder, ObeyingPointsStayInStep}
 use Rattle.site_core.specs.ObeyOrder.{obeyed_numbers, numbers_obeyed, IsObeyed}
@@ -28,7 +28,7 @@ use Rattle.site_core.proofs.EffectLemmas.{calls_at, call_list, sent_by_effect, c
 use Rattle.site_core.proofs.StepLemmas.{Acts, HasPlaces, acts, does, keeps_site}
 use Rattle.site_core.proofs.ObeyLemmas.{lasting_end, stays_in_step}
 use Rattle.site_core.proofs.ObeyOrderLemmas.{obeyed_in_order}
-use Rattle.site_core.proofs.OutboxOrderLemmas.{outbox, AreFrom, goes_on, left, sent_in_order, left_unless_confirmed}
+use Rattle.site_core.proofs.OutboxOrderLemmas.{outbox, numbered_along, goes_on, left, sent_in_order, left_unless_confirmed}
 
 -- ---- the calls that an outbox sends
 
@@ -361,28 +361,21 @@ numbers_by old history new place is =
     ap numbers_of_calls is.sent ∙ numbers_along (outbox_at old place)
     (traffic_of old.site place history)
 
--- the calls of an outbox have the numbers from its first to before its next
-from_numbers : (first next : ℕ) (calls : List Call)
-    → map (λ (call : Call). call.number) calls ≡ range_with_len first (length calls)
-    → first + length calls ≡ next → AreFrom first calls next
-from_numbers first next [] numbers end = omega (arith, end)
-from_numbers first next (call ∷ later) numbers end =
-    let here : call.number ≡ first = cc in
-    let rest : map (λ (call : Call). call.number) later ≡ range_with_len (first + 1)
-    (length later) = cc in
-    (here, from_numbers (first + 1) next later rest (omega (arith, end)))
-
 pub go_on_in_order : CallsGoOnInOrder
-go_on_in_order old history new is legal place box =
+go_on_in_order old history new is legal place first are =
     let state = outbox_at old place in
-    let first = first_number state in
-    let drawn = box.drawn in
     subst (GoesOn first) (sym (numbers_by old history new place
     (of_machine place old history new is legal)))
     (goes_on (traffic_of old.site place history) state.link state.calls state.next
-    state.is_in_flight first first
-    (from_numbers first state.next state.calls box.numbers (omega (arith, drawn))) (inl refl)
-    (λ flies. refl))
+    state.is_in_flight first first are (inl refl) (λ flies. refl))
+
+pub stay_consecutive : CallsStayConsecutive
+stay_consecutive old history new is legal place first are =
+    let state = outbox_at old place in
+    subst (λ (o : OutboxState). (later : ℕ) × AreFrom later o.calls o.next)
+    (sym (outbox_follows place old history new (of_machine place old history new is legal)))
+    (numbered_along (traffic_of old.site place history) state.link state.calls state.next
+    state.is_in_flight first are)
 
 pub sent_as_kept : CallsAreSentAsKept
 sent_as_kept old history new is legal place =
@@ -421,6 +414,11 @@ from_opening : (site : SiteState) (numbers : Numbers) (history : List Event)
 from_opening site numbers history state place legal =
     follows place (opening_at site numbers) history state
     (length-map site.points opening_point) legal
+
+pub openings_keep_from_0 : OpeningsKeepFrom0
+openings_keep_from_0 site numbers place =
+    subst (λ (o : OutboxState). AreFrom 0 o.calls o.next)
+    (sym (opening_outbox_of_each site.points place)) (refl, refl)
 
 pub outboxes_follow : OutboxesFollowHistories
 outboxes_follow site numbers history state legal point place here =

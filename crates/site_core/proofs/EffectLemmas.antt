@@ -27,7 +27,7 @@ use Rattle.site_core.specs.OutboxOrder.{confirmed_at, added_at}
 use Rattle.site_core.specs.Obey.{call_of}
 use Rattle.site_core.specs.ChargePoint.{ChargePointState, BookChange, Install, Clear, Start, Stop, Effect, drawn_by, drawn_by_change, drawn_by_traffic}
 use Rattle.site_core.specs.State.{MachineState}
-use Rattle.site_core.specs.Step.{Told, Answers, Does, unless, affected, done, installing, clearing, effect_alone, traffic_alone, refusal_to_install, refusal_to_call, refusal_to_start, refusal_to_attach, version_refusal, next_transaction, is_at_no_connector, installs, clears, starts, starts_as, stops, attaches, sends, sends_call, confirms, loses}
+use Rattle.site_core.specs.Step.{Told, Answers, Does, unless, affected, done, installing, clearing, effect_alone, traffic_alone, refusal_to_install, refusal_to_call, refusal_to_start, refusal_to_attach, version_refusal, next_transaction, is_at_no_connector, is_event, installs, clears, starts, starts_as, stops, attaches, sends, sends_call, confirms, loses}
 use Rattle.site_core.specs.History.{reply_takes, asks_answer_of}
 use Rattle.site_core.specs.CallOrder.{effect_by, calls_by, confirmed_by, numbers_of_calls, end_at, changes_in}
 
@@ -56,6 +56,11 @@ abbrev pub told_effect : Told → Effect
 told_effect (Answers reply) = no_effect
 told_effect (Does reply effect) = effect
 
+-- a reply alone is no event
+abbrev pub told_event : Told → Bool
+told_event (Answers reply) = false
+told_event (Does reply effect) = true
+
 -- where nothing is done, nothing changes
 pub affected_by_nothing : (old : MachineState) (place : ℕ) → affected old place no_effect ≡ old
 affected_by_nothing old place =
@@ -73,6 +78,12 @@ done_is old place (Answers reply) = ap (λ (s : MachineState). record {
   after = s;
 }) (sym (affected_by_nothing old place))
 done_is old place (Does reply effect) = refl
+
+-- what is no event has no effect
+pub nothing_affected : (old : MachineState) (place : ℕ) (told : Told) → told_event told ≡ false
+    → affected old place (told_effect told) ≡ old
+nothing_affected old place (Answers reply) no_event = affected_by_nothing old place
+nothing_affected old place (Does reply effect) no_event = absurd (cc no_event)
 
 -- no effect draws the number of a request
 change_draws_no_request : (change : Option BookChange) (numbers : Numbers)
@@ -156,6 +167,7 @@ pub record Agrees (point : ChargePointState) (step : Step) (told : Told) : Type 
       (told_effect told).change) ≡ bodies_in (told_effect told).traffic
   pub no_take : (number : ℕ) → reply_takes number (told_reply told) ≡ false
   pub no_answer : (number : ℕ) → asks_answer_of number step ≡ false
+  pub event : (old : MachineState) → is_event old (told_reply told) ≡ told_event told
 
 -- it does, where its rows of the tables are the same
 all_refl : (point : ChargePointState) (step : Step) (told : Told)
@@ -163,11 +175,13 @@ all_refl : (point : ChargePointState) (step : Step) (told : Told)
     → calls_by step (told_reply told) ≡ sent_by_effect point.outbox (told_effect told).traffic
     → numbers_of_calls (confirmed_by_effect point.outbox
     (told_effect told).traffic) ≡ confirmed_by step (told_reply told)
-    → ((book : BookState) → filter_map call_of (changes_in book (told_effect told).change) ≡ bodies_in
-    (told_effect told).traffic)
+    → ((book : BookState) → filter_map call_of (changes_in book (told_effect told).change)
+    ≡ bodies_in (told_effect told).traffic)
     → ((number : ℕ) → reply_takes number (told_reply told) ≡ false) → ((number : ℕ)
-    → asks_answer_of number step ≡ false) → Agrees point step told
-all_refl point step told effect calls confirmed bodies no_take no_answer =
+    → asks_answer_of number step ≡ false)
+    → ((old : MachineState) → is_event old (told_reply told) ≡ told_event told)
+    → Agrees point step told
+all_refl point step told effect calls confirmed bodies no_take no_answer event =
     record {
       effect = effect;
       calls = calls;
@@ -175,6 +189,7 @@ all_refl point step told effect calls confirmed bodies no_take no_answer =
       bodies = bodies;
       no_take = no_take;
       no_answer = no_answer;
+      event = event;
     }
 
 pub install_agrees : (site : SiteState) (numbers : Numbers) (id : List ℕ) (row : Row)
@@ -184,7 +199,7 @@ install_agrees site numbers id row point =
     unless_holds (Agrees point (steps.Install id row))
     (refusal_to_install site numbers id row point) (Does replies.Accepted (installing row))
     (all_refl point (steps.Install id row) (Does replies.Accepted (installing row)) refl refl refl
-    (λ book. refl) (λ number. refl) (λ number. refl))
+    (λ book. refl) (λ number. refl) (λ number. refl) (λ old. refl))
 
 pub clear_agrees : (numbers : Numbers) (id : List ℕ) (criteria : Criteria)
     (point : ChargePointState)
@@ -196,9 +211,10 @@ clear_agrees numbers id criteria point =
     (Answers replies.Unknown))
     (unless_holds P (refusal_to_call numbers point) (Does replies.Accepted (clearing criteria))
     (all_refl point (steps.Clear id criteria) (Does replies.Accepted
-    (clearing criteria)) refl refl refl (λ book. refl) (λ number. refl) (λ number. refl)))
+    (clearing criteria)) refl refl refl (λ book. refl) (λ number. refl) (λ number. refl)
+    (λ old. refl)))
     (all_refl point (steps.Clear id criteria) (Answers replies.Unknown) refl refl refl
-    (λ book. refl) (λ number. refl) (λ number. refl))
+    (λ book. refl) (λ number. refl) (λ number. refl) (λ old. refl))
 
 pub start_agrees : (numbers : Numbers) (id : List ℕ) (connector : ℕ) (begin : Begin)
     (point : ChargePointState)
@@ -218,9 +234,10 @@ start_agrees numbers id connector begin point =
     by : (found : Began) → IfOk (starts_as found numbers connector begin) P
     by (Repeat number) = all_refl point (steps.Start id connector begin) (Answers
         (replies.Repeated number)) refl refl refl (λ book. refl) (λ number. refl) (λ number. refl)
+        (λ old. refl)
     by Fresh = unless_holds P (refusal_to_start numbers) new (all_refl point
         (steps.Start id connector begin) new refl refl refl (λ book. refl) (λ number. refl)
-        (λ number. refl))
+        (λ number. refl) (λ old. refl))
 
 pub stop_agrees : (numbers : Numbers) (id : List ℕ) (number : ℤ) (point : ChargePointState)
     → IfOk (stops numbers number point) (Agrees point (steps.Stop id number))
@@ -231,9 +248,9 @@ stop_agrees numbers id number point =
     (version_refusal numbers) ended) (Ok (Answers replies.NoSuch))
     (unless_holds P (version_refusal numbers) ended (all_refl point
     (steps.Stop id number) ended refl refl refl (λ book. end_is_no_call
-    (connector_of book.transactions number)) (λ n. refl) (λ n. refl)))
+    (connector_of book.transactions number)) (λ n. refl) (λ n. refl) (λ old. refl)))
     (all_refl point (steps.Stop id number) (Answers replies.NoSuch) refl refl refl (λ book. refl)
-    (λ n. refl) (λ n. refl))
+    (λ n. refl) (λ n. refl) (λ old. refl))
 
 pub attach_agrees : (numbers : Numbers) (id : List ℕ) (point : ChargePointState)
     → IfOk (attaches numbers point) (Agrees point (steps.Attach id))
@@ -242,7 +259,7 @@ attach_agrees numbers id point =
     (numbers.link + 1))) in
     unless_holds (Agrees point (steps.Attach id)) (refusal_to_attach numbers) linked
     (all_refl point (steps.Attach id) linked refl refl refl (λ book. refl) (λ number. refl)
-    (λ number. refl))
+    (λ number. refl) (λ old. refl))
 
 pub send_agrees : (id : List ℕ) (link : ℕ) (point : ChargePointState)
     → IfOk (sends point) (Agrees point (steps.Send id link))
@@ -251,10 +268,11 @@ send_agrees id link point = by (sendable point.outbox) refl
     by : (call : Option Call) → sendable point.outbox ≡ call
         → Agrees point (steps.Send id link) (sends_call call)
     by None first = all_refl point (steps.Send id link) (Answers replies.Nothing) refl refl refl
-        (λ book. refl) (λ number. refl) (λ number. refl)
+        (λ book. refl) (λ number. refl) (λ number. refl) (λ old. refl)
     by (Some call) first =
         all_refl point (steps.Send id link) (Does (replies.Sent call) (traffic_alone Send)) refl
         (ap call_list (sym first)) refl (λ book. refl) (λ number. refl) (λ number. refl)
+        (λ old. refl)
 
 -- the call in flight that has a number is the first, and has it
 first_confirmed : (outbox : OutboxState) (number : ℕ) → is_number_in_flight outbox number ≡ true
@@ -282,9 +300,11 @@ confirm_agrees id link number point = by (is_number_in_flight point.outbox numbe
     by false is = tt
     by true is = all_refl point (steps.Confirm id link number) confirming refl refl
         (first_confirmed point.outbox number is) (λ book. refl) (λ n. refl) (λ n. refl)
+        (λ old. refl)
 
 pub lose_agrees : (id : List ℕ) (link : ℕ) (point : ChargePointState)
     → IfOk (loses point) (Agrees point (steps.Lost id link))
 lose_agrees id link point =
     all_refl point (steps.Lost id link) (Does replies.LinkLost
     (traffic_alone Lose)) refl refl refl (λ book. refl) (λ number. refl) (λ number. refl)
+    (λ old. refl)

@@ -113,7 +113,7 @@ balances number old step made (hands_one asked kept answer found has) =
     let fewer : kept_of number (without kept.number old.requests) ≡ kept_of number
     (without asked old.requests) = ap (λ (n : ℕ). kept_of number (without n old.requests)) same in
     omega (arith, less, some, fewer)
-balances number old step made finishes_all =
+balances number old step made (finishes_all going) =
     ap (λ (n : ℕ). n + 0) (kept_stopped number old.requests)
 
 -- a Take has a number that was not drawn before
@@ -124,7 +124,7 @@ takes_new number old step made (takes_one take place ask point asks going) takes
     grind (arith, nat_tests)
 takes_new number old step made (compiles_one compiled kept answer found unanswered right) takes = cc
 takes_new number old step made (hands_one asked kept answer found has) takes = cc
-takes_new number old step made finishes_all takes = cc
+takes_new number old step made (finishes_all going) takes = cc
 
 -- ---- over histories
 
@@ -337,7 +337,7 @@ stays_step old step made number kept answer (hands_one asked other handed here g
         let own : other.number ≡ asked = found_number asked old.requests other here in
         inl (ap (λ (n : ℕ). request_of number (without n old.requests)) own
         ∙ (found_without number asked old.requests differs ∙ found))
-stays_step old step made number kept answer finishes_all found has =
+stays_step old step made number kept answer (finishes_all going) found has =
     inl (found_stopped number old.requests kept found ∙ ap Some (stopped_same kept answer has))
 
 pub stays : (old new : MachineState) (events : List Event) (number : ℕ) (kept : Kept)
@@ -390,7 +390,7 @@ all_answered_step old step made
     all_answered IsAnswered compiled answer old.requests (all stopped) (λ kept found is. refl)
 all_answered_step old step made (hands_one asked kept answer found has) all stopped =
     all_without IsAnswered kept.number old.requests (all stopped)
-all_answered_step old step made finishes_all all stopped = stopped_answered old.requests
+all_answered_step old step made (finishes_all going) all stopped = stopped_answered old.requests
 
 pub all_answered_after : (old : MachineState) (events : List Event) (new : MachineState)
     → AllAnswered old → Legal old events new → AllAnswered new

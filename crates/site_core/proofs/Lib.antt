@@ -7,6 +7,7 @@ pub mod MachineLemmas
 pub mod RunLemmas
 pub mod EffectLemmas
 pub mod StepLemmas
+pub mod StoredHistoryLemmas
 pub mod SendLemmas
 pub mod HistoryLemmas
 pub mod TakenRequests

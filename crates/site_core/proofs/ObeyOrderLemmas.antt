@@ -4,9 +4,9 @@ use Rattle.std.proofs.Common.{◌≡◌, ℕ, ◌+◌, ◌<◌, ◌≤◌, ◌==
 use Rattle.std.specs.List.{AllByRecursion}
 use Rattle.messages.specs.declared.call.Call.{Call}
 use Rattle.site_core.specs.Outbox.{OutboxState, opening_outbox, Traffic, Attach, Lose, Add, Send, Confirm}
-use Rattle.site_core.specs.OutboxOrder.{GoesOn, AreInSendingOrder, numbers_sent, calls_confirmed}
+use Rattle.site_core.specs.OutboxOrder.{GoesOn, AreInSendingOrder, numbers_sent, calls_confirmed, AreFrom}
 use Rattle.site_core.specs.ObeyOrder.{obeyed_numbers, IsObeyed, AreObeyedInOrder}
-use Rattle.site_core.proofs.OutboxOrderLemmas.{outbox, AreFrom, from_push, sent_in_order}
+use Rattle.site_core.proofs.OutboxOrderLemmas.{outbox, from_push, sent_in_order}
 
 -- ---- numbers
 

@@ -3,7 +3,7 @@ use Rattle.std.proofs.Common.{◌≡◌, ℕ, ◌+◌, ◌==◌, Bool, true, fal
 use Rattle.messages.specs.declared.call.Call.{Call}
 use Rattle.messages.specs.declared.call.CallBody.{CallBody}
 use Rattle.site_core.specs.Outbox.{OutboxState, numbered, Traffic, Attach, Lose, Add, Send, Confirm, after_all}
-use Rattle.site_core.specs.OutboxOrder.{GoesOn, AreInSendingOrder, AreSentInOrder, AreLeftUnlessConfirmed, numbers_sent, calls_confirmed, bodies_added}
+use Rattle.site_core.specs.OutboxOrder.{AreFrom, GoesOn, AreInSendingOrder, AreSentInOrder, AreLeftUnlessConfirmed, numbers_sent, calls_confirmed, bodies_added}
 
 abbrev pub outbox : Option ℕ → List Call → ℕ → Bool → OutboxState
 outbox link calls next is_in_flight = record {
@@ -13,11 +13,6 @@ outbox link calls next is_in_flight = record {
       next;
   is_in_flight = is_in_flight;
 }
-
--- calls of consecutive numbers, from the first to the one before the next
-abbrev pub AreFrom : ℕ → List Call → ℕ → Type 0
-AreFrom first [] next = first ≡ next
-AreFrom first (call ∷ later) next = (call.number ≡ first) × AreFrom (first + 1) later next
 
 pub from_push : (first : ℕ) (calls : List Call) (next : ℕ) (body : CallBody)
     → AreFrom first calls next
@@ -94,6 +89,49 @@ begins (Confirm number ∷ later) link calls next are = begins later link calls 
 
 pub sent_in_order : AreSentInOrder
 sent_in_order traffic = begins traffic None _ 1 (refl, refl)
+
+-- ---- the numbers of the calls
+
+-- whatever comes to it, the calls of an outbox have consecutive numbers
+pub numbered_along : (traffic : List Traffic) (link : Option ℕ) (calls : List Call) (next : ℕ)
+    (is_in_flight : Bool) (first : ℕ) → AreFrom first calls next
+    → (last : ℕ) × AreFrom last
+    (after_all (outbox link calls next is_in_flight) traffic).calls
+    (after_all (outbox link calls next is_in_flight) traffic).next
+numbered_along [] link calls next is_in_flight first are = (first, are)
+numbered_along (Attach number ∷ later) link calls next is_in_flight first are =
+    numbered_along later (Some number) calls next false first are
+numbered_along (Lose ∷ later) link calls next is_in_flight first are =
+    numbered_along later None calls next false first are
+numbered_along (Add body ∷ later) link calls next is_in_flight first are =
+    numbered_along later link (calls ++ record { number = next; body = body } ∷ []) (next + 1)
+    is_in_flight first (from_push first calls next body are)
+numbered_along (Send ∷ later) None calls next is_in_flight first are =
+    numbered_along later None calls next is_in_flight first are
+numbered_along (Send ∷ later) (Some link) calls next true first are =
+    numbered_along later (Some link) calls next true first are
+numbered_along (Send ∷ later) (Some link) [] next false first are =
+    numbered_along later (Some link) [] next false first are
+numbered_along (Send ∷ later) (Some link) (call ∷ calls) next false first are =
+    numbered_along later (Some link) (call ∷ calls) next true first are
+numbered_along (Confirm number ∷ later) link calls next false first are =
+    numbered_along later link calls next false first are
+numbered_along (Confirm number ∷ later) link [] next true first are =
+    numbered_along later link [] next true first are
+numbered_along (Confirm number ∷ later) link (call ∷ calls) next true first are =
+    go (call.number == number)
+    (numbered_along later link calls next false (first + 1) are.1)
+    (numbered_along later link (call ∷ calls) next true first are)
+  where
+    IsNumbered : OutboxState → Type 0
+    IsNumbered then_outbox = (last : ℕ) × AreFrom last (after_all then_outbox later).calls
+        (after_all then_outbox later).next
+
+    go : (b : Bool) → IsNumbered (outbox link calls next false)
+        → IsNumbered (outbox link (call ∷ calls) next true)
+        → IsNumbered (cond b (outbox link calls next false) (outbox link (call ∷ calls) next true))
+    go true gone kept = gone
+    go false gone kept = kept
 
 -- ---- the calls that are left
 

@@ -19,7 +19,7 @@ points_are old step made (takes_one take place ask point asks going) =
     ∙ ap (λ found. points_by old.points found (effect_by (steps.Take take) made.reply)) (sym point)
 points_are old step made (compiles_one number kept answer found unanswered right) = refl
 points_are old step made (hands_one number kept answer found has) = refl
-points_are old step made finishes_all = refl
+points_are old step made (finishes_all going) = refl
 
 -- two states with the same site and points lead by the same events to the same points
 pub same_points : (old another one other : MachineState) (events : List Event)

@@ -1,6 +1,6 @@
 -- What the steps that are made do at the point that they name, and what they leave of the site, of the kept
 -- requests and of their numbers.
-use Rattle.std.proofs.Common.{◌≡◌, ℕ, ◌+◌, ◌<◌, ◌==◌, Bool, true, false, cond, List, [], Option, Some, None, Result, Ok, Err, slice_set, slice_index_or, length, is_some, refl, sym, ap, ◌∙◌, subst, inl, inr, ◌&&◌}
+use Rattle.std.proofs.Common.{◌≡◌, ℕ, ◌+◌, ◌<◌, ◌==◌, Bool, true, false, not, cond, List, [], Option, Some, None, Result, Ok, Err, slice_set, slice_index_or, length, is_some, refl, sym, ap, ◌∙◌, subst, inl, inr, ◌&&◌}
 use Rattle.std.proofs.lemmas.Bool.{eqb-true}
 use Rattle.std.proofs.lemmas.List.{length-set}
 use Rattle.std.proofs.lemmas.List.Quantifiers.{position-Some}
@@ -23,10 +23,10 @@ use Rattle.site_core.specs.State.{MachineState, Kept, ScheduleAnswer, no_point, 
 use Rattle.site_core.specs.Requests.{request_of, answered, without, all_stopped}
 use Rattle.site_core.specs.Right.{IsCompiledFor}
 use Rattle.site_core.specs.Ask.{ask_at}
-use Rattle.site_core.specs.Step.{Told, Made, Steps, done, done_at, told_at, affected, at_place, at_point, at_link, at_linked_place, takes, takes_ask, with_request, compiles_kept, answers_kept, answers_with, finishes, unchanged, stepped, no_answer, installs, clears, starts, stops, attaches, sends, confirms, loses}
+use Rattle.site_core.specs.Step.{Told, Made, Steps, done, done_at, told_at, affected, at_place, at_point, at_link, at_linked_place, takes, takes_ask, with_request, compiles_kept, answers_kept, answers_with, finishes, unchanged, stepped, no_answer, is_event, installs, clears, starts, stops, attaches, sends, confirms, loses}
 use Rattle.site_core.specs.History.{reply_takes, asks_answer_of, has_answer}
 use Rattle.site_core.specs.CallOrder.{is_at, place_named, names, effect_by, traffic_by, point_by, calls_by, confirmed_by, numbers_of_calls, change_by, changes_in}
-use Rattle.site_core.proofs.EffectLemmas.{Agrees, told_reply, told_effect, done_is, draws_no_request, changed_in, sent_by_effect, confirmed_by_effect, bodies_in, unless_holds, either_holds}
+use Rattle.site_core.proofs.EffectLemmas.{Agrees, told_reply, told_effect, nothing_affected, done_is, draws_no_request, changed_in, sent_by_effect, confirmed_by_effect, bodies_in, unless_holds, either_holds}
 use Rattle.site_core.proofs.EffectLemmas.{install_agrees, clear_agrees, start_agrees, stop_agrees, attach_agrees, send_agrees, confirm_agrees, lose_agrees}
 
 -- ---- what holds of whatever is made
@@ -136,6 +136,7 @@ pub record LeavesRequests (old : MachineState) (step : Step) (made : Made) : Typ
   pub points : made.after.points ≡ points_by old.points (place_named old.site step)
       (effect_by step made.reply)
   pub acts : (place : ℕ) → HasPlaces old → Acts place old step made
+  pub alone : is_event old made.reply ≡ false → made.after ≡ old
 
 pub place_within : (site : SiteState) (point : List ℕ) (place : ℕ)
     → place_of site point ≡ Some place → place < length site.points
@@ -230,6 +231,8 @@ at_point_leaves old point step made named is =
           (told_reply is.told))) (sym (named ∙ is.here));
       acts = λ place many. acts_there place is.place old point step is.told many is.here (ap
           (is_this_number place) named) is.agrees;
+      alone = λ no_event. nothing_affected old is.place is.told (sym (is.agrees.event old)
+          ∙ no_event);
     })
 
 -- what holds of whatever is made holds of what was made
@@ -315,13 +318,15 @@ finishing old = record {
 }
 
 finishes_is : (old : MachineState) → (unchanged old Finished ≡ finishes old) ⊎
-    (finishing old ≡ finishes old)
-finishes_is old = go old.is_stopped
+    ((old.is_stopped ≡ false) × (finishing old ≡ finishes old))
+finishes_is old = go old.is_stopped refl
   where
-    go : (stopped : Bool) → (unchanged old Finished ≡ cond stopped (unchanged old Finished)
-        (finishing old)) ⊎ (finishing old ≡ cond stopped (unchanged old Finished) (finishing old))
-    go true = inl refl
-    go false = inr refl
+    go : (stopped : Bool) → old.is_stopped ≡ stopped
+        → (unchanged old Finished ≡ cond stopped (unchanged old Finished) (finishing old))
+        ⊎ ((old.is_stopped ≡ false)
+        × (finishing old ≡ cond stopped (unchanged old Finished) (finishing old)))
+    go true is = inl refl
+    go false is = inr (is, refl)
 
 -- ---- Answer
 
@@ -378,7 +383,7 @@ pub data Does (old : MachineState) : Step → Made → Type 0 where
   hands_one : (number : ℕ) (kept : Kept) (answer : ScheduleAnswer)
       → request_of number old.requests ≡ Some kept → kept.answer ≡ Some answer
       → Does old (steps.Answer number) (handing old kept answer)
-  finishes_all : Does old steps.Finish (finishing old)
+  finishes_all : old.is_stopped ≡ false → Does old steps.Finish (finishing old)
 
 and_false : (test : Bool) → (test && false) ≡ false
 and_false true = refl
@@ -448,13 +453,15 @@ does old (steps.Answer number) reply new made =
           points = refl;
           acts = λ place many. idle place old (steps.Answer number)
               (unchanged old NotYet) refl refl refl refl (λ book. refl);
+          alone = λ no_event. refl;
         }))
 does old steps.Finish reply new made = finished (finishes_is old)
   where
     is : finishes old ≡ record { reply = reply; after = new }
     is = cc
 
-    finished : (unchanged old Finished ≡ finishes old) ⊎ (finishing old ≡ finishes old)
+    finished : (unchanged old Finished ≡ finishes old)
+        ⊎ ((old.is_stopped ≡ false) × (finishing old ≡ finishes old))
         → Does old steps.Finish (record { reply = reply; after = new })
     finished (inl same) =
         subst (Does old steps.Finish) (same ∙ is)
@@ -468,8 +475,9 @@ does old steps.Finish reply new made = finished (finishes_is old)
           points = refl;
           acts = λ place many. idle place old steps.Finish
               (unchanged old Finished) refl refl refl refl (λ book. refl);
+          alone = λ no_event. refl;
         }))
-    finished (inr same) = subst (Does old steps.Finish) (same ∙ is) finishes_all
+    finished (inr same) = subst (Does old steps.Finish) (same.1 ∙ is) (finishes_all same.0)
 does old (steps.Attach point) reply new made =
     done_leaves old point (steps.Attach point) _ _ refl made
     (at_its_point old point (steps.Attach point) (attaches old.numbers)
@@ -499,7 +507,7 @@ acts place old step made many (compiles_one number kept answer found unanswered 
 acts place old step made many (hands_one number kept answer found has) =
     idle place old (steps.Answer number) (handing old kept answer) refl refl refl refl
     (λ book. refl)
-acts place old step made many finishes_all = idle place old steps.Finish
+acts place old step made many (finishes_all going) = idle place old steps.Finish
     (finishing old) refl refl refl refl (λ book. refl)
 
 pub keeps_site : (old : MachineState) (step : Step) (made : Made) → Does old step made
@@ -508,4 +516,20 @@ keeps_site old step made (leaves _ _ is) = is.site
 keeps_site old step made (takes_one take there ask point asks going) = refl
 keeps_site old step made (compiles_one number kept answer found unanswered right) = refl
 keeps_site old step made (hands_one number kept answer found has) = refl
-keeps_site old step made finishes_all = refl
+keeps_site old step made (finishes_all going) = refl
+
+-- ---- what is no event
+
+-- a step that is answered without an event leaves the state as it was
+pub no_event_no_change : (old : MachineState) (step : Step) (made : Made) → Does old step made
+    → is_event old made.reply ≡ false → made.after ≡ old
+no_event_no_change old step made (leaves _ _ is) no_event = is.alone no_event
+no_event_no_change old step made (takes_one take there ask point asks going) no_event =
+    absurd (cc no_event)
+no_event_no_change old step made (compiles_one number kept answer found unanswered right) no_event =
+    absurd (cc no_event)
+no_event_no_change old step made (hands_one number kept answer found has) no_event =
+    absurd (cc no_event)
+no_event_no_change old step made (finishes_all going) no_event =
+    let going_on : not old.is_stopped ≡ true = ap not going in
+    absurd (cc (going_on, no_event))

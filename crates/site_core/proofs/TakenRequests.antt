@@ -23,7 +23,7 @@ use Rattle.site_core.specs.Ask.{ask_at}
 use Rattle.site_core.specs.Step.{Made, Steps, unchanged}
 use Rattle.site_core.specs.History.{Event, Legal, taken_event, finish_event, answered_event, reply_takes, is_take_of, takes_of, history_of}
 use Rattle.site_core.specs.Run.{Runs}
-use Rattle.site_core.specs.Headline.{IsRightAfter, AnswersAreRight, IsKeptRight, KeepsRight, IsTakenIn, IsKeptBefore, IsRightBefore}
+use Rattle.site_core.specs.Headline.{IsRightAfter, AnswersAreRight, IsKeptRight, KeepsRight, IsTakenIn, IsKeptBefore, Origin, IsRightBefore}
 use Rattle.site_core.specs.Headline.{RequestsStayRight, RequestsHaveTheirBooks, AnswersGoOnRight, HasItsBook}
 use Rattle.site_core.proofs.HistoryLemmas.{legal_push, legal_split, runs_legal, run_at, takes_push, takes_once}
 use Rattle.site_core.proofs.StepLemmas.{LeavesRequests, IsHanding, taking, compiling, handing, finishing, Does, does, leaves, takes_one, compiles_one, hands_one, finishes_all, answers_is}
@@ -69,10 +69,6 @@ was_kept opening events event number book ask other before = record {
 }
 
 -- ---- where a request comes from
-
-abbrev pub Origin : MachineState → List Event → ℕ → BookState → Ask → Type 0
-Origin opening events number book ask =
-    IsTakenIn opening events number book ask ⊎ IsKeptBefore opening events number book ask
 
 -- the events since then
 abbrev since_of : (opening : MachineState) (events : List Event) (number : ℕ) (book : BookState)
@@ -469,7 +465,7 @@ holds_done opening events old step made holds
     holds_compiled opening events old number kept answer holds found right
 holds_done opening events old step made holds (hands_one number kept answer found has) =
     holds_handed opening events old number kept answer holds
-holds_done opening events old step made holds finishes_all = holds_finished opening events old holds
+holds_done opening events old step made holds (finishes_all going) = holds_finished opening events old holds
 
 pub holds_step : (opening : MachineState) (events : List Event) (old : MachineState)
     (event : Event) (new : MachineState) → Holds opening events old
@@ -502,22 +498,8 @@ answer_right : (opening : MachineState) (events : List Event) (number : ℕ) (bo
     → (answer ≡ Err Stopped → MayBeStopped opening events number book ask origin)
     → IsRightAfter opening events number book ask answer
     ⊎ IsRightBefore opening events number book ask answer
-answer_right opening events number book ask answer (inl taken) right stopped = inl (record {
-  before = taken.before;
-  asked = taken.asked;
-  since = taken.since;
-  in_order = taken.in_order;
-  first = taken.first;
-  last = taken.last;
-  state = taken.state;
-  reached = taken.reached;
-  place = taken.place;
-  point = taken.point;
-  had = taken.had;
-  asks = taken.asks;
-  right = right;
-  stopped = stopped;
-})
+answer_right opening events number book ask answer (inl taken) right stopped =
+    inl (record { taken = taken; right = right; stopped = stopped })
 answer_right opening events number book ask answer (inr before) right stopped =
     inr (record { before = before; right = right; stopped = stopped })
 
@@ -601,8 +583,9 @@ pub right_takes_once : (opening : MachineState) (events : List Event) (number : 
     → IsRightAfter opening events number book ask answer → takes_of number events ≡ 1
 right_takes_once opening events number book ask answer right =
     let same : (number == number) ≡ true = grind (arith, nat_tests) in
-    ap (takes_of number) right.in_order ∙ takes_once number right.before
-    (taken_event right.asked number book ask) right.since same right.first right.last
+    let taken = right.taken in
+    ap (takes_of number) taken.in_order ∙ takes_once number taken.before
+    (taken_event taken.asked number book ask) taken.since same taken.first taken.last
 
 -- in a run from an opening state
 pub run_right : (opening : MachineState) (run : List Step) (outcomes : List Outcome)
@@ -676,7 +659,7 @@ right_step old step made right (compiles_one number kept answer found unanswered
 right_step old step made right (hands_one number kept answer found has) =
     all_without (IsKeptRight made.after) kept.number old.requests
     (right_later old made.after old.requests (omega arith) (λ e. e) right)
-right_step old step made right finishes_all =
+right_step old step made right (finishes_all going) =
     all_finished (IsKeptRight made.after) old.requests (λ kept has. record {
       drawn = has.drawn;
       right = right_when_stopped kept.book kept.ask kept.answer has.right;

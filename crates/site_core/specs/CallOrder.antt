@@ -1,6 +1,6 @@
 -- What the laws of outboxes and of points that obey say of the machine: the calls and the profiles
 -- of a point along a history.
-use Rattle.std.specs.Prelude.{ℕ, ◌≤◌, ◌≡◌, ◌-◌, Bool, List, [], ◌∷◌, ◌++◌, length, map, filter, slice_get, Option, None, Some}
+use Rattle.std.specs.Prelude.{ℕ, ◌≤◌, ◌≡◌, Bool, List, [], ◌∷◌, ◌++◌, length, map, filter, slice_get, Option, None, Some}
 use Rattle.std.specs.List.{flat_map, filter_map, AllByRecursion, Contains}
 use Rattle.profile.specs.declared.row.Row.{Row}
 use Rattle.transactions.specs.ActiveTable.{connector_of}
@@ -14,9 +14,9 @@ use Rattle.site_core.specs.declared.step.Step.TheVariants as steps
 use Rattle.site_core.specs.declared.reply.Reply.{Reply}
 use Rattle.site_core.specs.declared.reply.Reply.TheVariants as replies
 use Rattle.point_book.specs.Book.{BookState}
-use Rattle.site_core.specs.Outbox.{OutboxState, IsOutbox, opening_outbox, all_calls, numbered, Traffic, Attach, Lose, Add, Send, Confirm, after_all}
+use Rattle.site_core.specs.Outbox.{opening_outbox, all_calls, numbered, Traffic, Attach, Lose, Add, Send, Confirm, after_all}
 use Rattle.site_core.specs.ChargePoint.{ChargePointState, BookChange, Install, Clear, Start, Stop, Effect, point_after}
-use Rattle.site_core.specs.OutboxOrder.{calls_confirmed, calls_so_far, bodies_added, GoesOn, AreInSendingOrder}
+use Rattle.site_core.specs.OutboxOrder.{calls_confirmed, calls_so_far, bodies_added, AreFrom, GoesOn, AreInSendingOrder}
 use Rattle.site_core.specs.Obey.{Change, Installs, Clears, Ends, rows_after, Obeying, numbers_of, last_number, obeyed, lasting}
 use Rattle.site_core.specs.ObeyOrder.{obeyed_numbers, IsObeyed}
 use Rattle.site_core.specs.State.{MachineState, IsMachine, opening, opening_at, point_at, book_at, outbox_at, is_this_number}
@@ -185,9 +185,22 @@ ConfirmationsAreEvents = OfEachPoint (λ site place history state.
 
 -- ---- the same from any state
 
--- as many calls were confirmed before, so the first that isn't has this number
-abbrev pub first_number : OutboxState → ℕ
-first_number outbox = outbox.next - length outbox.calls
+-- The calls of the point at a place have consecutive numbers, from this one to before the next
+-- call's. As many were confirmed before.
+abbrev pub AreKeptFrom : MachineState → ℕ → ℕ → Type 0
+AreKeptFrom state place first =
+    AreFrom first (outbox_at state place).calls (outbox_at state place).next
+
+-- at the opening from 0 on
+abbrev pub OpeningsKeepFrom0 : Type 0
+OpeningsKeepFrom0 =
+    (site : SiteState) (numbers : Numbers) (place : ℕ)
+    → AreKeptFrom (opening_at site numbers) place 0
+
+-- and where they have, they do so after every history
+abbrev pub CallsStayConsecutive : Type 0
+CallsStayConsecutive = FromAnyState (λ old place history new.
+    (first : ℕ) → AreKeptFrom old place first → (later : ℕ) × AreKeptFrom new place later)
 
 -- the calls that aren't confirmed in a state, and those since
 abbrev pub calls_since : MachineState → ℕ → List Event → List Call
@@ -199,9 +212,8 @@ calls_since old place history =
 -- one, and each later one equals the one before it or is one more
 abbrev pub CallsGoOnInOrder : Type 0
 CallsGoOnInOrder = FromAnyState (λ old place history new.
-    IsOutbox (outbox_at old place)
-    → GoesOn (first_number (outbox_at old place))
-    (numbers_of_calls (calls_sent old.site place history)))
+    (first : ℕ) → AreKeptFrom old place first
+    → GoesOn first (numbers_of_calls (calls_sent old.site place history)))
 
 abbrev pub CallsAreSentAsKept : Type 0
 CallsAreSentAsKept = FromAnyState (λ old place history new.

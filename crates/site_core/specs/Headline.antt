@@ -18,10 +18,9 @@ use Rattle.site_core.specs.Ask.{ask_at}
 use Rattle.site_core.specs.Right.{IsRight}
 use Rattle.site_core.specs.History.{Event, Legal, history_of, taken_event, answered_event, finish_event, takes_of, answers_of, kept_of}
 
--- An answer that is handed out to the request of a number, with a book and an ask, after these
--- events from an opening state, is right:
-pub record IsRightAfter (opening : MachineState) (events : List Event) (number : ℕ) (book : BookState)
-    (ask : Ask) (answer : ScheduleAnswer) : Type 0 where
+-- A request of a number, with a book and an ask, was taken in these events from a state:
+pub record IsTakenIn (old : MachineState) (events : List Event) (number : ℕ) (book : BookState)
+    (ask : Ask) : Type 0 where
   -- There were events before the request was taken,
   pub before : List Event
   -- there was its Take,
@@ -37,18 +36,25 @@ pub record IsRightAfter (opening : MachineState) (events : List Event) (number :
   -- The central system was in a state when it took the request,
   pub state : MachineState
   -- the one to which the events before had led.
-  pub reached : Legal opening before state
+  pub reached : Legal old before state
   -- The request was for a point, which has a place in the site file,
   pub place : ℕ
-  pub point : place_of opening.site asked.point ≡ Some place
+  pub point : place_of old.site asked.point ≡ Some place
   -- and the book is what that point had in that state: its profiles and transactions.
   pub had : book ≡ book_at state place
   -- The ask is the one that the request made.
-  pub asks : ask_at opening.site.unit book asked ≡ Ok ask
+  pub asks : ask_at old.site.unit book asked ≡ Ok ask
+
+-- An answer that is handed out to the request of a number, with a book and an ask, after these
+-- events from an opening state, is right:
+pub record IsRightAfter (opening : MachineState) (events : List Event) (number : ℕ)
+    (book : BookState) (ask : Ask) (answer : ScheduleAnswer) : Type 0 where
+  -- The request was taken in these events, with what its point had then.
+  pub taken : IsTakenIn opening events number book ask
   -- For this book and this ask the answer is right: the exact schedule, or a permitted refusal.
   pub right : IsRight book ask answer
   -- It is the refusal Stopped only where the central system was stopped since.
-  pub stopped : answer ≡ Err Stopped → Contains since finish_event
+  pub stopped : answer ≡ Err Stopped → Contains taken.since finish_event
 
 -- Each answer that a run hands out, wherever in the run, is right after the steps that were made
 -- before it.
@@ -72,25 +78,6 @@ pub record IsKeptRight (state : MachineState) (kept : Kept) : Type 0 where
 abbrev pub KeepsRight : MachineState → Type 0
 KeepsRight state = AllByRecursion (IsKeptRight state) state.requests
 
--- A request of a number, with a book and an ask, was taken in these events from a state:
-pub record IsTakenIn (old : MachineState) (events : List Event) (number : ℕ) (book : BookState)
-    (ask : Ask) : Type 0 where
-  -- there were events before, its Take, and events since,
-  pub before : List Event
-  pub asked : Take
-  pub since : List Event
-  pub in_order : events ≡ before ++ taken_event asked number book ask ∷ since
-  -- and no other Take of its number.
-  pub first : takes_of number before ≡ 0
-  pub last : takes_of number since ≡ 0
-  -- The book is what the point had in the state to which the events before had led.
-  pub state : MachineState
-  pub reached : Legal old before state
-  pub place : ℕ
-  pub point : place_of old.site asked.point ≡ Some place
-  pub had : book ≡ book_at state place
-  pub asks : ask_at old.site.unit book asked ≡ Ok ask
-
 -- A request of a number, with a book and an ask, was kept in a state already, and no Take in these
 -- events since has its number.
 pub record IsKeptBefore (old : MachineState) (events : List Event) (number : ℕ) (book : BookState)
@@ -102,16 +89,18 @@ pub record IsKeptBefore (old : MachineState) (events : List Event) (number : ℕ
   pub asks : kept.ask ≡ ask
   pub never : takes_of number events ≡ 0
 
--- a kept request was taken in these events, with what its point had then, or was kept before
+-- a request was taken in these events, with what its point had then, or was kept before
+abbrev pub Origin : MachineState → List Event → ℕ → BookState → Ask → Type 0
+Origin old events number book ask =
+    IsTakenIn old events number book ask ⊎ IsKeptBefore old events number book ask
+
 abbrev pub HasItsBook : MachineState → List Event → Kept → Type 0
-HasItsBook old events kept =
-    IsTakenIn old events kept.number kept.book kept.ask
-    ⊎ IsKeptBefore old events kept.number kept.book kept.ask
+HasItsBook old events kept = Origin old events kept.number kept.book kept.ask
 
 -- An answer to a request that was kept before is right for it, and Stopped only where the central
 -- system was stopped before, or since.
-pub record IsRightBefore (old : MachineState) (events : List Event) (number : ℕ) (book : BookState)
-    (ask : Ask) (answer : ScheduleAnswer) : Type 0 where
+pub record IsRightBefore (old : MachineState) (events : List Event) (number : ℕ)
+    (book : BookState) (ask : Ask) (answer : ScheduleAnswer) : Type 0 where
   pub before : IsKeptBefore old events number book ask
   pub right : IsRight book ask answer
   pub stopped : answer ≡ Err Stopped → (old.is_stopped ≡ true) ⊎ Contains events finish_event

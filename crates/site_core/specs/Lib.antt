@@ -9,6 +9,7 @@ pub mod Step
 pub mod ByCases
 pub mod Run
 pub mod History
+pub mod StoredHistory
 pub mod Headline
 pub mod OutboxOrder
 pub mod Obey

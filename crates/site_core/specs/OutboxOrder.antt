@@ -17,6 +17,11 @@ abbrev pub AreInSendingOrder : List ℕ → Type 0
 AreInSendingOrder [] = Unit {0}
 AreInSendingOrder (number ∷ later) = (number ≡ 0) × GoesOn number later
 
+-- calls of consecutive numbers, from this one to the one before the next
+abbrev pub AreFrom : ℕ → List Call → ℕ → Type 0
+AreFrom first [] next = first ≡ next
+AreFrom first (call ∷ later) next = (call.number ≡ first) × AreFrom (first + 1) later next
+
 -- ---- what an outbox does with it
 
 abbrev pub number_of : Option Call → List ℕ

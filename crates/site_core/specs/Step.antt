@@ -329,7 +329,20 @@ Steps old step reply new = stepped no_answer old step ≡ Ok (record { reply = r
 abbrev pub HasAskedConnector : Reply → Type 0
 HasAskedConnector (Taken number book ask) = ask.connector ≤ length book.ceilings
 HasAskedConnector (Answered book ask answer) = ask.connector ≤ length book.ceilings
-HasAskedConnector other = Unit {0}
+HasAskedConnector Accepted = Unit {0}
+HasAskedConnector Unknown = Unit {0}
+HasAskedConnector (Started number) = Unit {0}
+HasAskedConnector (Repeated number) = Unit {0}
+HasAskedConnector Ended = Unit {0}
+HasAskedConnector NoSuch = Unit {0}
+HasAskedConnector Compiled = Unit {0}
+HasAskedConnector NotYet = Unit {0}
+HasAskedConnector Finished = Unit {0}
+HasAskedConnector (Attached link) = Unit {0}
+HasAskedConnector (Sent call) = Unit {0}
+HasAskedConnector Nothing = Unit {0}
+HasAskedConnector Confirmed = Unit {0}
+HasAskedConnector LinkLost = Unit {0}
 
 -- Whether a step with its reply is an event. What is answered without a change isn't: Unknown,
 -- Repeated, NoSuch, NotYet, Nothing, and a Finish once the central system is stopped.

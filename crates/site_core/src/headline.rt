@@ -1,18 +1,21 @@
 //! The headline of this repository, as laws: public functions with empty bodies, whose clauses range over
 //! all runs.
 
-ghost use Rattle.std.specs.Prelude.{◌≡◌, ◌⊎◌, ℕ, ◌+◌, ◌≤◌, List, ◌∷◌, ◌++◌, Some, IsTrue, All, Contains};
+ghost use Rattle.std.specs.Prelude.{◌≡◌, ◌⊎◌, ℕ, ◌+◌, ◌≤◌, false, List, ◌∷◌, ◌++◌, Some, IsTrue, All, Contains};
 ghost use Rattle.meaning.specs.declared.ask.Ask.{Ask};
 ghost use Rattle.site_rules.specs.Site.{SiteState};
 ghost use Rattle.point_book.specs.Book.{BookState};
 ghost use Rattle.site_core.specs.declared.numbers.Numbers.{Numbers};
 ghost use Rattle.site_core.specs.declared.step.Step.{Step};
+ghost use Rattle.site_core.specs.declared.reply.Reply.{Reply};
 ghost use Rattle.site_core.specs.declared.outcome.Outcome.{Outcome};
 ghost use Rattle.site_core.specs.State.{MachineState, Kept, ScheduleAnswer, opening_at};
 ghost use Rattle.site_core.specs.Requests.{request_of};
+ghost use Rattle.site_core.specs.Step.{Steps, is_event};
 ghost use Rattle.site_core.specs.Run.{Runs};
 ghost use Rattle.site_core.specs.History.{Event, Legal, history_of, answered_event};
 ghost use Rattle.site_core.specs.History.{takes_of, answers_of, kept_of, IsAnswered};
+ghost use Rattle.site_core.specs.StoredHistory.{ReplaysAreLegal, HistoriesCanBeStored, ReplaysGoOn};
 ghost use Rattle.site_core.specs.Headline.{IsRightAfter, AnswersAreRight};
 ghost use Rattle.site_core.specs.Headline.{OpeningsKeepRight, RequestsStayRight};
 ghost use Rattle.site_core.specs.Headline.{RequestsHaveTheirBooks, AnswersGoOnRight};
@@ -58,6 +61,22 @@ pub fn runs_join()
         (outcomes others : List Outcome)
         → Runs old steps outcomes middle → Runs middle more others new
         → Runs old (steps ++ more) (outcomes ++ others) new }
+{}
+
+/// The law that what is answered without an event changes nothing: of the steps that are made, only the
+/// events lead to another state.
+pub fn only_events_change_the_state()
+    ensures { (old new : MachineState) (step : Step) (reply : Reply)
+        → Steps old step reply new → is_event old reply ≡ false → new ≡ old }
+{}
+
+/// The laws of stored histories, in which a Compile has the answer that it brought: each has one replay, so
+/// one state at its end. The replay is a legal history, where a compiler may give these answers, and
+/// every legal history is the replay of a stored one. An event more is replayed after those before it.
+pub fn stored_histories_replay()
+    ensures legal { ReplaysAreLegal }
+    ensures stored { HistoriesCanBeStored }
+    ensures more { ReplaysGoOn }
 {}
 
 /// The law that no run changes the site.
