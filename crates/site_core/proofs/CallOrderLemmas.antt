@@ -19,7 +19,7 @@ use Rattle.site_core.specs.State.{MachineState, IsMachine, opening_at, no_point,
 use Rattle.site_core.specs.OutboxOrder.{AreFrom, GoesOn, sent_at, numbers_sent, number_of, calls_confirmed, added_at, bodies_added, AreInSendingOrder}
 use Rattle.site_core.specs.Obey.{Change, Installs, Clears, Ends, rows_after, call_of, calls_of, last_number, obeyed, lasting, rows_after_call, Obeying, numbers_of}
 use Rattle.site_core.specs.History.{Event, Legal}
-use Rattle.site_core.specs.CallOrder.{names, events_at, change_by, traffic_of, traffic_by_event, point_by, point_by_all, calls_by_event, calls_sent, confirmed_by_event, numbers_confirmed, numbers_of_calls, calls_made, IsOneOf, calls_since, OpeningsKeepFrom0, CallsStayConsecutive}
+use Rattle.site_core.specs.CallOrder.{names, events_at, change_by, traffic_of, traffic_by_event, point_by, point_by_all, calls_by_event, calls_sent, confirmed_by_event, numbers_confirmed, numbers_of_calls, calls_made, IsOneOf, calls_since, CallsBeginAtZero, CallsStayConsecutive}
 use Rattle.site_core.specs.CallOrder.{PointsFollowHistories, OutboxesFollowHistories, CallsAreSentInOrder, CallsAreSentAsMade, CallsAreLeftUnlessConfirmed, ConfirmationsAreEvents, CallsGoOnInOrder, CallsAreSentAsKept, CallsStayUnlessConfirmed}
 use Rattle.site_core.specs.CallOrder.{end_at, changes_in, changes_by, changes_from, changes_of, opening_at_place, rows_after_all, bodies_of, RowsFollowHistories, RowsGoOn, PointsStayInStep, accepted, Moment, EachCallHasItsMoment, CallsAreObeyedInOrder, ObeyingPointsStayInStep}
 use Rattle.site_core.specs.ObeyOrder.{obeyed_numbers, numbers_obeyed, IsObeyed}
@@ -372,7 +372,9 @@ go_on_in_order old history new is legal place first are =
 pub stay_consecutive : CallsStayConsecutive
 stay_consecutive old history new is legal place first are =
     let state = outbox_at old place in
-    subst (λ (o : OutboxState). (later : ℕ) × AreFrom later o.calls o.next)
+    let first_then =
+    first + length (calls_confirmed state (traffic_of old.site place history)) in
+    subst (λ (o : OutboxState). AreFrom first_then o.calls o.next)
     (sym (outbox_follows place old history new (of_machine place old history new is legal)))
     (numbered_along (traffic_of old.site place history) state.link state.calls state.next
     state.is_in_flight first are)
@@ -415,8 +417,8 @@ from_opening site numbers history state place legal =
     follows place (opening_at site numbers) history state
     (length-map site.points opening_point) legal
 
-pub openings_keep_from_0 : OpeningsKeepFrom0
-openings_keep_from_0 site numbers place =
+pub begin_at_zero : CallsBeginAtZero
+begin_at_zero site numbers place =
     subst (λ (o : OutboxState). AreFrom 0 o.calls o.next)
     (sym (opening_outbox_of_each site.points place)) (refl, refl)
 

@@ -1,5 +1,5 @@
 -- That calls are sent in order and confirmed in order, along any traffic.
-use Rattle.std.proofs.Common.{◌≡◌, ℕ, ◌+◌, ◌==◌, Bool, true, false, cond, ◌⊎◌, inl, inr, refl, sym, ◌∙◌, ap, List, [], ◌∷◌, ◌++◌, Option, None, Some, append-nil, append_assoc, subst}
+use Rattle.std.proofs.Common.{◌≡◌, ℕ, suc, ◌+◌, ◌==◌, Bool, true, false, cond, ◌⊎◌, inl, inr, refl, sym, ◌∙◌, ap, List, [], ◌∷◌, ◌++◌, length, Option, None, Some, append-nil, append_assoc, add-zero, subst, arith}
 use Rattle.messages.specs.declared.call.Call.{Call}
 use Rattle.messages.specs.declared.call.CallBody.{CallBody}
 use Rattle.site_core.specs.Outbox.{OutboxState, numbered, Traffic, Attach, Lose, Add, Send, Confirm, after_all}
@@ -92,13 +92,17 @@ sent_in_order traffic = begins traffic None _ 1 (refl, refl)
 
 -- ---- the numbers of the calls
 
--- whatever comes to it, the calls of an outbox have consecutive numbers
+-- the calls of an outbox after all traffic have consecutive numbers from this one on
+abbrev AreFromAfter : ℕ → OutboxState → List Traffic → Type 0
+AreFromAfter first old traffic = AreFrom first (after_all old traffic).calls (after_all old traffic).next
+
+-- whatever comes to it, they have, from as much later on as were confirmed
 pub numbered_along : (traffic : List Traffic) (link : Option ℕ) (calls : List Call) (next : ℕ)
     (is_in_flight : Bool) (first : ℕ) → AreFrom first calls next
-    → (last : ℕ) × AreFrom last
-    (after_all (outbox link calls next is_in_flight) traffic).calls
-    (after_all (outbox link calls next is_in_flight) traffic).next
-numbered_along [] link calls next is_in_flight first are = (first, are)
+    → AreFromAfter (first + length (calls_confirmed (outbox link calls next is_in_flight) traffic))
+    (outbox link calls next is_in_flight) traffic
+numbered_along [] link calls next is_in_flight first are =
+    subst (λ (n : ℕ). AreFrom n calls next) (sym (add-zero first)) are
 numbered_along (Attach number ∷ later) link calls next is_in_flight first are =
     numbered_along later (Some number) calls next false first are
 numbered_along (Lose ∷ later) link calls next is_in_flight first are =
@@ -123,15 +127,24 @@ numbered_along (Confirm number ∷ later) link (call ∷ calls) next true first 
     (numbered_along later link calls next false (first + 1) are.1)
     (numbered_along later link (call ∷ calls) next true first are)
   where
-    IsNumbered : OutboxState → Type 0
-    IsNumbered then_outbox = (last : ℕ) × AreFrom last (after_all then_outbox later).calls
-        (after_all then_outbox later).next
+    gone : OutboxState
+    gone = outbox link calls next false
 
-    go : (b : Bool) → IsNumbered (outbox link calls next false)
-        → IsNumbered (outbox link (call ∷ calls) next true)
-        → IsNumbered (cond b (outbox link calls next false) (outbox link (call ∷ calls) next true))
-    go true gone kept = gone
-    go false gone kept = kept
+    kept : OutboxState
+    kept = outbox link (call ∷ calls) next true
+
+    many : ℕ
+    many = length (calls_confirmed gone later)
+
+    go : (b : Bool)
+        → AreFromAfter ((first + 1) + many) gone later
+        → AreFromAfter (first + length (calls_confirmed kept later)) kept later
+        → AreFromAfter (first + length (cond b (call ∷ []) [] ++ calls_confirmed
+        (cond b gone kept) later)) (cond b gone kept) later
+    go true is other =
+        let one_more : (first + 1) + many ≡ first + suc many = omega arith in
+        subst (λ (n : ℕ). AreFromAfter n gone later) one_more is
+    go false other is = is
 
 -- ---- the calls that are left
 

@@ -11,7 +11,7 @@ use Rattle.site_core.specs.Requests.{request_of}
 use Rattle.site_core.specs.Right.{IsCompiledFor}
 use Rattle.site_core.specs.Step.{Made, Steps, stepped, no_answer, compiles_kept}
 use Rattle.site_core.specs.History.{Event, Legal}
-use Rattle.site_core.specs.StoredHistory.{StoredEvent, Replay, made_of, event_of, replayed, MayBeGiven, AllMayBeGiven, IsStoredAs, ReplaysAreLegal, HistoriesCanBeStored, ReplaysGoOn}
+use Rattle.site_core.specs.StoredHistory.{StoredEvent, Replay, made_of, event_of, replayed, MayBeGiven, AllMayBeGiven, IsStoredAs, ReplaysAreOne, ReplaysAreLegal, HistoriesCanBeStored, ReplaysGoOn}
 use Rattle.site_core.specs.Theory.Steps.{CompileOrOther, is_compile, is_other, compile_or_other}
 
 abbrev stored_event : Step → ScheduleAnswer → StoredEvent
@@ -135,6 +135,9 @@ legal_along old (stored ∷ later) replay is given =
       steps_of old stored parts.made parts.first given.0,
       legal_along parts.made.after later parts.rest parts.others parts.given,
     )
+
+pub replays_are_one : ReplaysAreOne
+replays_are_one old stored one other is also = cc
 
 pub replays_are_legal : ReplaysAreLegal
 replays_are_legal old events new stored is =

@@ -1,6 +1,6 @@
 -- What the laws of outboxes and of points that obey say of the machine: the calls and the profiles
 -- of a point along a history.
-use Rattle.std.specs.Prelude.{ℕ, ◌≤◌, ◌≡◌, Bool, List, [], ◌∷◌, ◌++◌, length, map, filter, slice_get, Option, None, Some}
+use Rattle.std.specs.Prelude.{ℕ, ◌≤◌, ◌+◌, ◌≡◌, Bool, List, [], ◌∷◌, ◌++◌, length, map, filter, slice_get, Option, None, Some}
 use Rattle.std.specs.List.{flat_map, filter_map, AllByRecursion, Contains}
 use Rattle.profile.specs.declared.row.Row.{Row}
 use Rattle.transactions.specs.ActiveTable.{connector_of}
@@ -185,22 +185,23 @@ ConfirmationsAreEvents = OfEachPoint (λ site place history state.
 
 -- ---- the same from any state
 
--- The calls of the point at a place have consecutive numbers, from this one to before the next
--- call's. As many were confirmed before.
+-- the calls of the point at a place have consecutive numbers, from this one to before the next call's
 abbrev pub AreKeptFrom : MachineState → ℕ → ℕ → Type 0
 AreKeptFrom state place first =
     AreFrom first (outbox_at state place).calls (outbox_at state place).next
 
 -- at the opening from 0 on
-abbrev pub OpeningsKeepFrom0 : Type 0
-OpeningsKeepFrom0 =
+abbrev pub CallsBeginAtZero : Type 0
+CallsBeginAtZero =
     (site : SiteState) (numbers : Numbers) (place : ℕ)
     → AreKeptFrom (opening_at site numbers) place 0
 
--- and where they have, they do so after every history
+-- and where they have, they do so after every history, from as much later on as were confirmed since
 abbrev pub CallsStayConsecutive : Type 0
 CallsStayConsecutive = FromAnyState (λ old place history new.
-    (first : ℕ) → AreKeptFrom old place first → (later : ℕ) × AreKeptFrom new place later)
+    (first : ℕ) → AreKeptFrom old place first
+    → AreKeptFrom new place (first + length (calls_confirmed (outbox_at old place)
+    (traffic_of old.site place history))))
 
 -- the calls that aren't confirmed in a state, and those since
 abbrev pub calls_since : MachineState → ℕ → List Event → List Call

@@ -63,6 +63,12 @@ pub record IsStoredAs (old : MachineState) (events : List Event) (new : MachineS
   pub replay : replayed old stored ≡ Ok (record { events = events; after = new })
   pub given : AllMayBeGiven old stored
 
+-- a stored history has one replay, and so one state at its end
+abbrev pub ReplaysAreOne : Type 0
+ReplaysAreOne =
+    (old : MachineState) (stored : List StoredEvent) (one other : Replay)
+    → replayed old stored ≡ Ok one → replayed old stored ≡ Ok other → one ≡ other
+
 -- what is replayed is a legal history
 abbrev pub ReplaysAreLegal : Type 0
 ReplaysAreLegal =

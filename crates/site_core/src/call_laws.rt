@@ -10,7 +10,7 @@ ghost use Rattle.site_core.specs.CallOrder.{EachCallHasItsMoment, ObeyingPointsS
 ghost use Rattle.site_core.specs.CallOrder.{ConfirmationsAreEvents, CallsAreObeyedInOrder};
 ghost use Rattle.site_core.specs.CallOrder.{PointsFollowHistories, RowsGoOn, CallsGoOnInOrder};
 ghost use Rattle.site_core.specs.CallOrder.{CallsAreSentAsKept, CallsStayUnlessConfirmed};
-ghost use Rattle.site_core.specs.CallOrder.{OpeningsKeepFrom0, CallsStayConsecutive};
+ghost use Rattle.site_core.specs.CallOrder.{CallsBeginAtZero, CallsStayConsecutive};
 
 /// The laws of the calls to each point of a site, along every legal history from an opening state. What
 /// the machine keeps of its calls to the point is what the point's own events make of the opening
@@ -30,14 +30,14 @@ pub fn histories_send_calls_in_order()
 /// The same from any state that a central system may be in, along every legal history: what is kept of
 /// each point is what the point's own events make of what was kept of it. Its profiles are what their
 /// changes make of those that it had. Where its calls had consecutive numbers, as at the opening they have
-/// from 0 on, they have them after the history again; and the numbers of the calls that Send replies for it
-/// begin with that of the first call that wasn't confirmed, or the next one, and each later one equals the
-/// one before it or is one more. Each call that is sent is one of those that weren't confirmed, or of those
+/// from 0 on, they have them after the history again, from as much later on as calls were confirmed since; and
+/// the numbers of the calls that Send replies for it begin with that of the first call that wasn't
+/// confirmed, or the next one, and each later one equals the one before it or is one more. Each call that is sent is one of those that weren't confirmed, or of those
 /// since. And the calls that are kept are these without the ones confirmed since.
 pub fn histories_go_on_from_any_state()
     ensures points { PointsFollowHistories }
     ensures rows { RowsGoOn }
-    ensures opening { OpeningsKeepFrom0 }
+    ensures opening { CallsBeginAtZero }
     ensures consecutive { CallsStayConsecutive }
     ensures order { CallsGoOnInOrder }
     ensures sent { CallsAreSentAsKept }

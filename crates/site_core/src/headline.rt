@@ -15,7 +15,8 @@ ghost use Rattle.site_core.specs.Step.{Steps, is_event};
 ghost use Rattle.site_core.specs.Run.{Runs};
 ghost use Rattle.site_core.specs.History.{Event, Legal, history_of, answered_event};
 ghost use Rattle.site_core.specs.History.{takes_of, answers_of, kept_of, IsAnswered};
-ghost use Rattle.site_core.specs.StoredHistory.{ReplaysAreLegal, HistoriesCanBeStored, ReplaysGoOn};
+ghost use Rattle.site_core.specs.StoredHistory.{ReplaysAreOne, ReplaysAreLegal};
+ghost use Rattle.site_core.specs.StoredHistory.{HistoriesCanBeStored, ReplaysGoOn};
 ghost use Rattle.site_core.specs.Headline.{IsRightAfter, AnswersAreRight};
 ghost use Rattle.site_core.specs.Headline.{OpeningsKeepRight, RequestsStayRight};
 ghost use Rattle.site_core.specs.Headline.{RequestsHaveTheirBooks, AnswersGoOnRight};
@@ -74,6 +75,7 @@ pub fn only_events_change_the_state()
 /// one state at its end. The replay is a legal history, where a compiler may give these answers, and
 /// every legal history is the replay of a stored one. An event more is replayed after those before it.
 pub fn stored_histories_replay()
+    ensures one { ReplaysAreOne }
     ensures legal { ReplaysAreLegal }
     ensures stored { HistoriesCanBeStored }
     ensures more { ReplaysGoOn }

@@ -1,5 +1,5 @@
 -- The laws, by what follows along every history.
-use Rattle.site_core.proofs.CallOrderLemmas.{points_follow, rows_go_on, openings_keep_from_0, stay_consecutive, go_on_in_order, sent_as_kept, stay_unless_confirmed}
+use Rattle.site_core.proofs.CallOrderLemmas.{points_follow, rows_go_on, begin_at_zero, stay_consecutive, go_on_in_order, sent_as_kept, stay_unless_confirmed}
 use Rattle.site_core.proofs.call_laws.histories_go_on_from_any_state.Goals as goal
 
 pub returns-clause-points : goal.returns-clause-points
@@ -9,7 +9,7 @@ pub returns-clause-rows : goal.returns-clause-rows
 returns-clause-rows c = rows_go_on
 
 pub returns-clause-opening : goal.returns-clause-opening
-returns-clause-opening c = openings_keep_from_0
+returns-clause-opening c = begin_at_zero
 
 pub returns-clause-consecutive : goal.returns-clause-consecutive
 returns-clause-consecutive c = stay_consecutive
