@@ -34,7 +34,7 @@ use Rattle.replay.specs.MachineSteps.{stepped_exactly, handed_out, at_once, step
 use Rattle.replay.specs.MachineSteps.{attached_unless, attached_once, call_sent, sent_over}
 use Rattle.replay.specs.MachineSteps.{sent_first, confirmed_over, confirmed_by}
 use Rattle.replay.specs.Todo.{todo_of, asks_schedule}
-use Rattle.replay.specs.Answer.{refused_response}
+use Rattle.replay.specs.Response.{refused_response}
 use Rattle.replay.specs.Line.{line_of}
 use Rattle.replay.specs.Lines.{script_lines}
 use Rattle.replay.specs.PrintedLine.{PrintedLine}
@@ -308,7 +308,7 @@ HandledPart old text = Part old.machine text.after.machine text.printed
 todo_part : Laws → (old : PlayerState) (todo : Todo) → AsksByCall todo
     → HandledPart old (todo_handled old todo)
 todo_part laws old todos.Nothing is = nothing old.machine
-todo_part laws old (todos.Answer id response) is =
+todo_part laws old (todos.Respond id response) is =
     no_step old.machine (lines.answer id response ∷ []) (ap (λ l. l ++ []) (is id)) refl
 todo_part laws old (todos.Step id kind step) is = at_once_part laws old.machine id kind step is
 todo_part laws old (todos.Confirm point number) is = confirmed_part laws old.machine point number
@@ -352,8 +352,8 @@ hold_part : Laws → (old : PlayerState) (todo : Todo) → AsksByCall todo
     → HandledPart old (hold_handled old todo)
 hold_part laws old (todos.Step id kind step) is = hold_step_part laws old id kind step is
 hold_part laws old todos.Nothing is = todo_part laws old todos.Nothing is
-hold_part laws old (todos.Answer id response) is =
-    todo_part laws old (todos.Answer id response) is
+hold_part laws old (todos.Respond id response) is =
+    todo_part laws old (todos.Respond id response) is
 hold_part laws old (todos.Confirm point number) is =
     todo_part laws old (todos.Confirm point number) is
 

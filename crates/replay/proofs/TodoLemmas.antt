@@ -35,7 +35,7 @@ HasNoSchedule response = (id : List ℕ) → schedules_on (lines.answer id respo
 
 abbrev pub AsksByCall : Todo → Type 0
 AsksByCall (todos.Step id kind step) = IsOfCall step
-AsksByCall (todos.Answer id response) = HasNoSchedule response
+AsksByCall (todos.Respond id response) = HasNoSchedule response
 AsksByCall other = Unit {0}
 
 abbrev IsStepOfCall : Result Step Response → Type 0

@@ -5,7 +5,7 @@ pub mod Player
 pub mod ByCases
 pub mod MachineSteps
 pub mod Todo
-pub mod Answer
+pub mod Response
 pub mod Number
 pub mod Form
 pub mod Line

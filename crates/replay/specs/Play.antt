@@ -23,7 +23,7 @@ use Rattle.replay.specs.Player.{PlayerState, with_machine}
 use Rattle.replay.specs.SentText as texts
 use Rattle.replay.specs.MachineSteps.{Stepped, Sending, stepped_exactly, handed_out, stepped_at_once, attached_once, sent_first, confirmed_by}
 use Rattle.replay.specs.Todo.{todo_of, hold_of}
-use Rattle.replay.specs.Answer.{response_of}
+use Rattle.replay.specs.Response.{response_of}
 use Rattle.replay.specs.Line.{line_of}
 use Rattle.replay.specs.PrintedLine.{PrintedLine, printed_texts}
 use Rattle.replay.specs.PrintedLine as lines
@@ -60,7 +60,7 @@ answered old id kind step = record {
 -- a text is answered at once
 abbrev pub todo_handled : PlayerState → Todo → Handled
 todo_handled old todo.Nothing = record { printed = []; after = old }
-todo_handled old (todo.Answer id response) =
+todo_handled old (todo.Respond id response) =
     record { printed = lines.answer id response ∷ []; after = old }
 todo_handled old (todo.Step id kind step) = answered old id kind (stepped_at_once old.machine step)
 todo_handled old (todo.Confirm point number) =

@@ -20,8 +20,8 @@ pub data PrintedLine : Type 0 where
   fault : ℕ → LineFault → PrintedLine
 
 -- `> ANSWER`
-abbrev pub answer_line : List ℕ → Response → List ℕ
-answer_line id response = codes "> " ++ (response_text id response ++ codes "\n")
+abbrev pub response_line : List ℕ → Response → List ℕ
+response_line id response = codes "> " ++ (response_text id response ++ codes "\n")
 
 -- `* ID FRAME`
 abbrev pub sent_line : List ℕ → Call → List ℕ
@@ -38,7 +38,7 @@ fault_line number why =
 
 -- the text of a line
 abbrev pub printed_text : PrintedLine → List ℕ
-printed_text (answer id response) = answer_line id response
+printed_text (answer id response) = response_line id response
 printed_text (call point sent) = sent_line point sent
 printed_text (held number) = held_line number
 printed_text (fault number why) = fault_line number why

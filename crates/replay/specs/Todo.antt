@@ -94,7 +94,7 @@ side_eq Point Point = true
 -- the step or the answer to the CALL of this id
 abbrev pub todo_with : List ℕ → ActionKind → Result Step Response → Todo
 todo_with id kind (Ok step) = todo.Step id kind step
-todo_with id kind (Err response) = todo.Answer id response
+todo_with id kind (Err response) = todo.Respond id response
 
 -- an action that isn't its sender's, or is nobody's, isn't implemented, whatever its fields are
 abbrev pub kind_of_sender : Side → Option ActionKind → Option ActionKind
@@ -102,7 +102,7 @@ kind_of_sender sender None = None
 kind_of_sender sender (Some kind) = if side_eq (side_of_kind kind) sender then Some kind else None
 
 abbrev pub todo_of_kind : Sent → List ℕ → Option ActionKind → Tree → Todo
-todo_of_kind text id None payload = todo.Answer id not_implemented
+todo_of_kind text id None payload = todo.Respond id not_implemented
 todo_of_kind text id (Some kind) payload =
     todo_with id kind (step_of_reading text (action_of_kind kind payload))
 
@@ -133,7 +133,7 @@ todo_of_message text (Ok (call id name payload)) = todo_of_call text id name pay
 todo_of_message text (Ok (call_result id payload)) = todo_of_reply text.sender text.point id
 todo_of_message text (Ok (call_error id)) = todo_of_reply text.sender text.point id
 todo_of_message text (Ok other) = todo.Nothing
-todo_of_message text (Err (Formation id)) = todo.Answer id (Error FormationViolation)
+todo_of_message text (Err (Formation id)) = todo.Respond id (Error FormationViolation)
 todo_of_message text (Err _) = todo.Nothing
 
 unfoldable pub todo_of : Sent → Todo

@@ -1,7 +1,7 @@
 //! What a line of a script prints, and what its player does at it.
 
 ghost use Rattle.std.specs.Prelude.{◌≡◌, ◌++◌, true, false, IfOk, OnOk, string_bytes};
-ghost use Rattle.replay.specs.PrintedLine.{answer_line, sent_line, held_line, fault_line};
+ghost use Rattle.replay.specs.PrintedLine.{response_line, sent_line, held_line, fault_line};
 ghost use Rattle.replay.specs.PrintedLine.{printed_texts};
 ghost use Rattle.replay.specs.Play.{outcome_lines, call_lines};
 ghost use Rattle.replay.specs.Play.{todo_handled, point_handled, text_handled, hold_handled};
@@ -14,7 +14,7 @@ use crate::player::held::Held;
 use crate::player::machine_steps::StepOutcome;
 use crate::player::player::Player;
 use crate::script::line::{LineFault, ScriptLine, read_line};
-use crate::session::answer::response_of;
+use crate::session::response::response_of;
 use crate::session::sent_text::SentText;
 use crate::session::todo::Todo;
 use messages::{ActionKind, Call, Response, Side, push_call, push_response};
@@ -104,7 +104,7 @@ fn text_lines(player: &mut Player, text: &SentText<'_>) -> Result<String, AllocE
         (text_handled player.old text.now.sender text.now) (string_bytes lines) player.new) }
 {
     match text.sender() {
-        Side::Operator => text_line(player, text),
+        Side::Operator => answer_line(player, text),
         Side::Point => point_lines(player, text),
     }
 }
@@ -115,7 +115,7 @@ fn point_lines(player: &mut Player, text: &SentText<'_>) -> Result<String, Alloc
         (λ lines. IsHandled (point_handled player.old text.now) (string_bytes lines) player.new) }
 {
     player.attach_once(text.point())?;
-    let mut lines = text_line(player, text)?;
+    let mut lines = answer_line(player, text)?;
     let call = player.send_first(text.point())?;
     push_call_line(&mut lines, text.point(), &call)?;
     Ok(lines)
@@ -147,7 +147,7 @@ fn push_sent(lines: &mut String, point: &str, call: &Call) -> Result<(), AllocEr
 }
 
 /// The line with the answer to a text, if it has one.
-fn text_line(player: &mut Player, text: &SentText<'_>) -> Result<String, AllocError>
+fn answer_line(player: &mut Player, text: &SentText<'_>) -> Result<String, AllocError>
     ensures { IfOk result (λ line. IsHandled
         (todo_handled player.old (todo_of text.now)) (string_bytes line) player.new) }
 {
@@ -164,7 +164,7 @@ fn todo_line(player: &mut Player, todo: Todo) -> Result<String, AllocError>
     let alloc = player.alloc();
     match todo {
         Todo::Nothing => Ok(String::new(alloc)),
-        Todo::Answer { id, response } => response_line(alloc, id.as_str(), &response),
+        Todo::Respond { id, response } => response_line(alloc, id.as_str(), &response),
         Todo::Step { id, kind, step } => {
             let unit = player.site().unit();
             let outcome = player.step_at_once(step)?;
@@ -224,7 +224,7 @@ fn outcome_line(
 
 /// The line with a response to the CALL of this id.
 fn response_line(alloc: Global, id: &str, response: &Response) -> Result<String, AllocError>
-    ensures { IfOk result (λ line. string_bytes line ≡ answer_line id.now response.now) }
+    ensures { IfOk result (λ line. string_bytes line ≡ response_line id.now response.now) }
 {
     // Room from the start for most answers, so that they aren't copied as they grow.
     let mut line = String::with_capacity(alloc, 128)?;

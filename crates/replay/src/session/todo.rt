@@ -29,7 +29,7 @@ pub enum Todo {
     /// The text isn't answered.
     Nothing,
     /// The CALL of this id is answered without a step.
-    Answer {
+    Respond {
         id: MessageId,
         response: Response,
     },
@@ -57,7 +57,7 @@ pub fn todo_of(
 {
     match read_frame(memory, text.frame()) {
         Ok(frame) => todo_of_message(alloc, text, frame),
-        Err(FrameFault::Formation { id }) => Ok(Todo::Answer {
+        Err(FrameFault::Formation { id }) => Ok(Todo::Respond {
             id,
             response: Response::Error(CallFault::FormationViolation),
         }),
@@ -116,7 +116,7 @@ fn todo_of_message(alloc: Global, text: &SentText<'_>, frame: Frame<'_>) -> Resu
             payload,
         } => {
             let Some(kind) = kind_of_sender(text.sender(), action.as_str()) else {
-                return Ok(Todo::Answer {
+                return Ok(Todo::Respond {
                     id,
                     response: NOT_IMPLEMENTED,
                 });
@@ -167,7 +167,7 @@ fn todo_with(id: MessageId, kind: ActionKind, asked: Result<Step, Response>) -> 
 {
     match asked {
         Ok(step) => Todo::Step { id, kind, step },
-        Err(response) => Todo::Answer { id, response },
+        Err(response) => Todo::Respond { id, response },
     }
 }
 

@@ -7,4 +7,5 @@ use Rattle.replay.proofs.script.play.push_sent.Goals as goal
 pub returns : goal.returns
 returns c =
     five _ (codes "* ") c.args.point.now (codes " ") (call_text c.args.call.now) (codes "\n") _ _ _ _ _
-    c.in_ok-push_str.ensures.bytes c.in_ok-push_str-2.ensures.bytes c.in_ok-push_str-3.ensures.bytes c.in_ok-push_call.ensures.text c.in_ok-push_str-4.ensures.bytes
+    c.in_ok-push_str.ensures.bytes c.in_ok-push_str-2.ensures.bytes c.in_ok-push_str-3.ensures.bytes
+    c.in_ok-push_call.ensures c.in_ok-push_str-4.ensures.bytes

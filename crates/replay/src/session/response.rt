@@ -1,7 +1,7 @@
 //! The answer to a CALL whose step was made or refused.
 
 ghost use Rattle.std.specs.Prelude.{◌≡◌};
-ghost use Rattle.replay.specs.Answer.{refused_response, schedule_response, reply_response, response_of};
+ghost use Rattle.replay.specs.Response.{refused_response, schedule_response, reply_response, response_of};
 
 use meaning::{Ask, Composite};
 use messages::{ActionKind, CallFault, Response, ScheduleResponse};
