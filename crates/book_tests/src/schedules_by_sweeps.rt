@@ -6,8 +6,9 @@ use ocpp_scalars::Refusal;
 use point_book::PointBook;
 use std::alloc::Global;
 use std::process::Abort;
+use std::sync::Arc;
 use std::test::Fail;
-use sweep_compiler::{Turns, compile};
+use sweep_compiler::{Compiled, Turns, compile};
 
 /// A point of so many connectors of 32 A.
 fn point(alloc: Global, ceiling: u32, connectors: u32) -> Result<PointBook, Fail> {
@@ -146,6 +147,46 @@ fn answers_up_to_the_most_periods(rt: HostRuntime) -> Result<(), Fail> {
         &book,
         "1 0 432000 = 1000 1000\n1 0 604800 = - 1001",
     )
+}
+
+/// The answer to an ask of a book, which a `Compiled` has twice: its periods, or the name of its refusal.
+fn expect_twice(
+    rt: &impl Abort,
+    alloc: Global,
+    book: PointBook,
+    words: &str,
+    wanted: &str,
+) -> Result<(), Fail> {
+    let ask = ask_of(words)?;
+    assert!(rt; ask.connector <= book.connectors());
+    let compiled = Compiled::make(alloc, Arc::new(alloc, book)?, ask);
+    assert!(rt; *compiled.ask() == ask);
+    let (answer, again) = compiled.into_answers();
+    for answer in [&answer, &again] {
+        let told = match answer {
+            Ok(schedule) => periods_of(alloc, schedule)?,
+            Err(refusal) => format!(in alloc; "{refusal}")?,
+        };
+        assert_eq!(rt; told.as_str(), wanted);
+    }
+    Ok(())
+}
+
+#[test]
+fn keeps_its_answer_twice(rt: HostRuntime) -> Result<(), Fail> {
+    let alloc = rt.alloc();
+    let mut book = point(alloc, 630, 2)?;
+    install(alloc, &mut book, NIGHT)?;
+    let unchanged = book.copy()?;
+    expect_twice(&rt, alloc, book, "1 194398 86400", " 0:60 2:200 57602:60")?;
+    expect_twice(&rt, alloc, unchanged, "2 194398 3", " 0:60 2:200")?;
+    let mut book = point(alloc, 630, 2)?;
+    install(
+        alloc,
+        &mut book,
+        "kind=Recurring recurrency=Daily start=0 turns=432",
+    )?;
+    expect_twice(&rt, alloc, book, "1 0 604800", "ResultTooLong")
 }
 
 #[test]

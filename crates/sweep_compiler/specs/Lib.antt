@@ -1,3 +1,4 @@
 pub mod Places
 pub mod Right
+pub mod Compiled
 pub mod ByCases

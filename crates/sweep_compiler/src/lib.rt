@@ -4,6 +4,7 @@
 #![tactic(auto)]
 
 mod asked;
+mod compiled;
 mod compiler;
 mod curve;
 mod falling;
@@ -14,5 +15,6 @@ mod seen;
 mod sweep;
 mod turns;
 
+pub use compiled::Compiled;
 pub use compiler::compile;
 pub use turns::Turns;
