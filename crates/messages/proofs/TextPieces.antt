@@ -1,7 +1,5 @@
 -- Texts that are appended in pieces.
-use Rattle.std.proofs.Common.{◌≡◌, ℕ, List, [], ◌++◌, ap, ◌∙◌, append-nil, append_assoc, Result, Ok, Err}
-use Rattle.std.specs.Prelude.{OnErr}
-use Rattle.ocpp_scalars.specs.Appending.{BeginsWith}
+use Rattle.std.proofs.Common.{◌≡◌, ℕ, List, [], ◌++◌, ap, ◌∙◌, append-nil, append_assoc}
 
 -- A text with a piece more is appended as one.
 pub appended : (old text before piece after : List ℕ) → before ≡ old ++ text → after ≡ before ++ piece → after ≡ old ++ (text ++ piece)
@@ -27,11 +25,3 @@ pub three_values : (old a u b v q c w e o r s t x y z : List ℕ) → o ≡ old 
     → s ≡ r ++ b → t ≡ s ++ v → x ≡ t ++ (q ++ c) → y ≡ x ++ w → z ≡ y ++ e
     → z ≡ old ++ ((a ++ (u ++ (b ++ ((v ++ q) ++ (c ++ (w ++ [])))))) ++ e)
 three_values old a u b v q c w e o r s t x y z f g h i j k l = simp (l, k, j, i, h, g, f, append_assoc, append-nil)
-
--- ---- what a refused append leaves
-
--- Two pieces are written, and the next is refused.
-pub kept_behind_two : {T E : Type 0} → (r : Result T E) (old a b s t text : List ℕ) → s ≡ old ++ a → t ≡ s ++ b → OnErr r (BeginsWith text t) → OnErr r (BeginsWith text old)
-kept_behind_two (Ok x) old a b s t text p q h = tt
-kept_behind_two (Err e) old a b s t text p q h =
-    record { behind = (a ++ b) ++ h.behind; is = appended old (a ++ b) t h.behind text (appended old a s b t p q) h.is }

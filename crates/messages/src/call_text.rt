@@ -1,7 +1,7 @@
 //! The texts of calls to a charge point, byte for byte.
-ghost use Rattle.std.specs.Prelude.{◌≡◌, ◌++◌, OnOk, OnErr, Some, option_map, string_bytes};
+ghost use Rattle.std.specs.Prelude.{◌≡◌, Some, option_map, string_bytes};
 ghost use Rattle.std.specs.Fmt.{signed_decimal};
-ghost use Rattle.ocpp_scalars.specs.Appending.{BeginsWith};
+ghost use Rattle.ocpp_scalars.specs.Appending.{Appends};
 ghost use Rattle.messages.specs.CallText.{action_name, call_text, clear_text, own_fields, payload_text, period_text, profile_text, schedule_text, set_text};
 ghost use Rattle.messages.specs.ObjectText.{fields_text};
 ghost use Rattle.messages.specs.ByCases.FieldValue.{value_text};
@@ -17,9 +17,7 @@ use std::alloc::AllocError;
 /// Appends the text of a call, a CALL whose message id is the call's number in decimal. Its keys
 /// stand in a fixed order, without blanks and without those of absent fields.
 pub fn push_call(out: &mut String, call: &Call) -> Result<(), AllocError>
-    ensures text { OnOk result
-        (string_bytes out.new ≡ string_bytes out.old ++ call_text call.now) }
-    ensures kept { OnErr result (BeginsWith (string_bytes out.new) (string_bytes out.old)) }
+    ensures { Appends result (string_bytes out.old) (string_bytes out.new) (call_text call.now) }
 {
     let mut digits = itoa::Buffer::new();
     let id = digits.format(call.number);
@@ -39,9 +37,7 @@ fn action_name(body: &CallBody) -> &'static str
 
 /// Appends the payload of a call.
 fn push_payload(out: &mut String, body: &CallBody) -> Result<(), AllocError>
-    ensures text { OnOk result
-        (string_bytes out.new ≡ string_bytes out.old ++ payload_text body.now) }
-    ensures kept { OnErr result (BeginsWith (string_bytes out.new) (string_bytes out.old)) }
+    ensures { Appends result (string_bytes out.old) (string_bytes out.new) (payload_text body.now) }
 {
     match body {
         CallBody::Clear(criteria) => push_clear(out, criteria),
@@ -51,9 +47,8 @@ fn push_payload(out: &mut String, body: &CallBody) -> Result<(), AllocError>
 
 /// Appends ClearChargingProfile.req (chapter 6).
 fn push_clear(out: &mut String, criteria: &Criteria) -> Result<(), AllocError>
-    ensures text { OnOk result
-        (string_bytes out.new ≡ string_bytes out.old ++ clear_text criteria.now) }
-    ensures kept { OnErr result (BeginsWith (string_bytes out.new) (string_bytes out.old)) }
+    ensures { Appends result (string_bytes out.old) (string_bytes out.new)
+        (clear_text criteria.now) }
 {
     push_object(
         out,
@@ -69,9 +64,8 @@ fn push_clear(out: &mut String, criteria: &Criteria) -> Result<(), AllocError>
 
 /// Appends SetChargingProfile.req (chapter 6).
 fn push_set(out: &mut String, connector: u32, profile: &Profile) -> Result<(), AllocError>
-    ensures text { OnOk result
-        (string_bytes out.new ≡ string_bytes out.old ++ set_text connector profile.now) }
-    ensures kept { OnErr result (BeginsWith (string_bytes out.new) (string_bytes out.old)) }
+    ensures { Appends result (string_bytes out.old) (string_bytes out.new)
+        (set_text connector profile.now) }
 {
     out.push_str("{")?;
     push_fields(out, &[("connectorId", Some(FieldValue::Whole(connector)))])?;
@@ -83,9 +77,8 @@ fn push_set(out: &mut String, connector: u32, profile: &Profile) -> Result<(), A
 
 /// Appends a profile (chapter 7, ChargingProfile).
 fn push_profile(out: &mut String, profile: &Profile) -> Result<(), AllocError>
-    ensures text { OnOk result
-        (string_bytes out.new ≡ string_bytes out.old ++ profile_text profile.now) }
-    ensures kept { OnErr result (BeginsWith (string_bytes out.new) (string_bytes out.old)) }
+    ensures { Appends result (string_bytes out.old) (string_bytes out.new)
+        (profile_text profile.now) }
 {
     out.push_str("{")?;
     push_own_fields(out, profile)?;
@@ -97,9 +90,8 @@ fn push_profile(out: &mut String, profile: &Profile) -> Result<(), AllocError>
 
 /// Appends the fields of a profile up to its schedule.
 fn push_own_fields(out: &mut String, profile: &Profile) -> Result<(), AllocError>
-    ensures text { OnOk result (string_bytes out.new
-        ≡ string_bytes out.old ++ fields_text (own_fields profile.now)) }
-    ensures kept { OnErr result (BeginsWith (string_bytes out.new) (string_bytes out.old)) }
+    ensures { Appends result (string_bytes out.old) (string_bytes out.new)
+        (fields_text (own_fields profile.now)) }
 {
     push_fields(
         out,
@@ -131,9 +123,8 @@ fn profile_id(profile: &Profile) -> Option<FieldValue>
 
 /// Appends a schedule (chapter 7, ChargingSchedule).
 fn push_schedule(out: &mut String, schedule: &Schedule) -> Result<(), AllocError>
-    ensures text { OnOk result
-        (string_bytes out.new ≡ string_bytes out.old ++ schedule_text schedule.now) }
-    ensures kept { OnErr result (BeginsWith (string_bytes out.new) (string_bytes out.old)) }
+    ensures { Appends result (string_bytes out.old) (string_bytes out.new)
+        (schedule_text schedule.now) }
 {
     out.push_str("{")?;
     push_fields(
@@ -167,9 +158,8 @@ impl ListItem for Period {
 
 /// Appends a period (chapter 7, ChargingSchedulePeriod).
 fn push_period(out: &mut String, period: &Period) -> Result<(), AllocError>
-    ensures text { OnOk result
-        (string_bytes out.new ≡ string_bytes out.old ++ period_text period.now) }
-    ensures kept { OnErr result (BeginsWith (string_bytes out.new) (string_bytes out.old)) }
+    ensures { Appends result (string_bytes out.old) (string_bytes out.new)
+        (period_text period.now) }
 {
     push_object(
         out,

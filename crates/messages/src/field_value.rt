@@ -1,7 +1,7 @@
 //! The values of a call's fields that are no object and no list.
-ghost use Rattle.std.specs.Prelude.{◌≡◌, ◌++◌, OnOk, OnErr, option_map, string_bytes};
+ghost use Rattle.std.specs.Prelude.{◌≡◌, option_map, string_bytes};
 ghost use Rattle.std.specs.Fmt.{decimal, signed_decimal};
-ghost use Rattle.ocpp_scalars.specs.Appending.{BeginsWith};
+ghost use Rattle.ocpp_scalars.specs.Appending.{Appends};
 ghost use Rattle.ocpp_scalars.specs.Writing.{tenths_text};
 ghost use Rattle.messages.specs.CallText.{kind_name, purpose_name, recurrency_name, recurrency_of};
 ghost use Rattle.messages.specs.ObjectText.{string_text, time_text};
@@ -69,9 +69,7 @@ pub(crate) fn recurrency(kind: Kind) -> Option<FieldValue>
 
 /// Appends a value.
 pub(crate) fn push_value(out: &mut String, value: FieldValue) -> Result<(), AllocError>
-    ensures text { OnOk result
-        (string_bytes out.new ≡ string_bytes out.old ++ value_text value) }
-    ensures kept { OnErr result (BeginsWith (string_bytes out.new) (string_bytes out.old)) }
+    ensures { Appends result (string_bytes out.old) (string_bytes out.new) (value_text value) }
 {
     match value {
         FieldValue::Whole(number) => push_integer(out, number),
@@ -87,9 +85,7 @@ pub(crate) fn push_value(out: &mut String, value: FieldValue) -> Result<(), Allo
 
 /// Appends an instant as a JSON string.
 fn push_time(out: &mut String, instant: Instant) -> Result<(), AllocError>
-    ensures text { OnOk result
-        (string_bytes out.new ≡ string_bytes out.old ++ time_text instant) }
-    ensures kept { OnErr result (BeginsWith (string_bytes out.new) (string_bytes out.old)) }
+    ensures { Appends result (string_bytes out.old) (string_bytes out.new) (time_text instant) }
 {
     out.push_str(r#"""#)?;
     push_instant(out, instant)?;
@@ -99,9 +95,7 @@ fn push_time(out: &mut String, instant: Instant) -> Result<(), AllocError>
 
 /// Appends a text without a character to escape as a JSON string.
 pub(crate) fn push_string(out: &mut String, text: &str) -> Result<(), AllocError>
-    ensures text { OnOk result
-        (string_bytes out.new ≡ string_bytes out.old ++ string_text text.now) }
-    ensures kept { OnErr result (BeginsWith (string_bytes out.new) (string_bytes out.old)) }
+    ensures { Appends result (string_bytes out.old) (string_bytes out.new) (string_text text.now) }
 {
     out.push_str(r#"""#)?;
     out.push_str(text)?;

@@ -1,6 +1,6 @@
 //! The texts of JSON lists.
-ghost use Rattle.std.specs.Prelude.{◌≡◌, ℕ, List, ◌++◌, OnOk, OnErr, map, string_bytes};
-ghost use Rattle.ocpp_scalars.specs.Appending.{BeginsWith};
+ghost use Rattle.std.specs.Prelude.{ℕ, List, map, string_bytes};
+ghost use Rattle.ocpp_scalars.specs.Appending.{Appends};
 ghost use Rattle.messages.specs.ObjectText.{joined, list_text};
 
 use std::alloc::AllocError;
@@ -12,16 +12,13 @@ pub(crate) trait ListItem {
 
     /// Appends the text of the value.
     fn push_text(&self, out: &mut String) -> Result<(), AllocError>
-        ensures text { OnOk result
-            (string_bytes out.new ≡ string_bytes out.old ++ text self.now) }
-        ensures kept { OnErr result (BeginsWith (string_bytes out.new) (string_bytes out.old)) };
+        ensures { Appends result (string_bytes out.old) (string_bytes out.new) (text self.now) };
 }
 
 /// Appends a list of values.
 pub(crate) fn push_list<T: ListItem>(out: &mut String, items: &[T]) -> Result<(), AllocError>
-    ensures text { OnOk result
-        (string_bytes out.new ≡ string_bytes out.old ++ list_text (map T.text items.now)) }
-    ensures kept { OnErr result (BeginsWith (string_bytes out.new) (string_bytes out.old)) }
+    ensures { Appends result (string_bytes out.old) (string_bytes out.new)
+        (list_text (map T.text items.now)) }
 {
     out.push_str("[")?;
     push_joined(out, items)?;
@@ -31,9 +28,8 @@ pub(crate) fn push_list<T: ListItem>(out: &mut String, items: &[T]) -> Result<()
 
 /// Appends values, with commas between them.
 fn push_joined<T: ListItem>(out: &mut String, items: &[T]) -> Result<(), AllocError>
-    ensures text { OnOk result
-        (string_bytes out.new ≡ string_bytes out.old ++ joined (map T.text items.now)) }
-    ensures kept { OnErr result (BeginsWith (string_bytes out.new) (string_bytes out.old)) }
+    ensures { Appends result (string_bytes out.old) (string_bytes out.new)
+        (joined (map T.text items.now)) }
 {
     let Some((first, later)) = items.split_first() else {
         return Ok(());

@@ -1,7 +1,7 @@
 //! The texts of JSON objects, of the fields that are present.
-ghost use Rattle.std.specs.Prelude.{◌≡◌, ◌++◌, OnOk, OnErr, map, option_map, string_bytes};
+ghost use Rattle.std.specs.Prelude.{map, option_map, string_bytes};
 ghost use Rattle.std.specs.List.{filter_map};
-ghost use Rattle.ocpp_scalars.specs.Appending.{BeginsWith};
+ghost use Rattle.ocpp_scalars.specs.Appending.{Appends};
 ghost use Rattle.messages.specs.ObjectText.{field_text, fields_text, object_text, present};
 ghost use Rattle.messages.specs.ByCases.FieldValue.{value_text};
 ghost use Rattle.messages.specs.ByCases.ObjectText.{later_fields_text, rest_text};
@@ -15,9 +15,8 @@ pub(crate) fn push_object(
     out: &mut String,
     fields: &[(&str, Option<FieldValue>)],
 ) -> Result<(), AllocError>
-    ensures text { OnOk result (string_bytes out.new ≡ string_bytes out.old
-        ++ object_text (map (λ row. (row.0.now, option_map value_text row.1)) fields.now)) }
-    ensures kept { OnErr result (BeginsWith (string_bytes out.new) (string_bytes out.old)) }
+    ensures { Appends result (string_bytes out.old) (string_bytes out.new)
+        (object_text (map (λ row. (row.0.now, option_map value_text row.1)) fields.now)) }
 {
     out.push_str("{")?;
     push_fields(out, fields)?;
@@ -31,9 +30,8 @@ pub(crate) fn push_fields(
     out: &mut String,
     fields: &[(&str, Option<FieldValue>)],
 ) -> Result<(), AllocError>
-    ensures text { OnOk result (string_bytes out.new ≡ string_bytes out.old
-        ++ fields_text (map (λ row. (row.0.now, option_map value_text row.1)) fields.now)) }
-    ensures kept { OnErr result (BeginsWith (string_bytes out.new) (string_bytes out.old)) }
+    ensures { Appends result (string_bytes out.old) (string_bytes out.new)
+        (fields_text (map (λ row. (row.0.now, option_map value_text row.1)) fields.now)) }
 {
     push_rest(out, false, fields)
 }
@@ -44,9 +42,8 @@ pub(crate) fn push_later_fields(
     out: &mut String,
     fields: &[(&str, Option<FieldValue>)],
 ) -> Result<(), AllocError>
-    ensures text { OnOk result (string_bytes out.new ≡ string_bytes out.old
-        ++ later_fields_text (map (λ row. (row.0.now, option_map value_text row.1)) fields.now)) }
-    ensures kept { OnErr result (BeginsWith (string_bytes out.new) (string_bytes out.old)) }
+    ensures { Appends result (string_bytes out.old) (string_bytes out.new)
+        (later_fields_text (map (λ row. (row.0.now, option_map value_text row.1)) fields.now)) }
 {
     push_rest(out, true, fields)
 }
@@ -58,10 +55,9 @@ fn push_rest(
     some_written: bool,
     fields: &[(&str, Option<FieldValue>)],
 ) -> Result<(), AllocError>
-    ensures text { OnOk result (string_bytes out.new ≡ string_bytes out.old
-        ++ rest_text some_written
+    ensures { Appends result (string_bytes out.old) (string_bytes out.new)
+        (rest_text some_written
         (filter_map present (map (λ row. (row.0.now, option_map value_text row.1)) fields.now))) }
-    ensures kept { OnErr result (BeginsWith (string_bytes out.new) (string_bytes out.old)) }
 {
     let mut some_written = some_written;
     for (key, value) in fields {
@@ -78,9 +74,8 @@ fn push_rest(
 
 /// Appends a field, its key and its value.
 fn push_field(out: &mut String, key: &str, value: FieldValue) -> Result<(), AllocError>
-    ensures text { OnOk result (string_bytes out.new
-        ≡ string_bytes out.old ++ field_text key.now (value_text value)) }
-    ensures kept { OnErr result (BeginsWith (string_bytes out.new) (string_bytes out.old)) }
+    ensures { Appends result (string_bytes out.old) (string_bytes out.new)
+        (field_text key.now (value_text value)) }
 {
     push_string(out, key)?;
     out.push_str(":")?;

@@ -1,6 +1,6 @@
 //! The texts of answers, byte for byte.
-ghost use Rattle.std.specs.Prelude.{◌≡◌, ◌++◌, OnOk, OnErr, IfOk, codes, string_bytes};
-ghost use Rattle.ocpp_scalars.specs.Appending.{BeginsWith};
+ghost use Rattle.std.specs.Prelude.{◌≡◌, IfOk, codes, string_bytes};
+ghost use Rattle.ocpp_scalars.specs.Appending.{Appends};
 ghost use Rattle.ocppj_frame.specs.Write.{call_result_text};
 ghost use Rattle.messages.specs.ByCases.ObjectText.{first_field_text};
 ghost use Rattle.messages.specs.ObjectText.{time_text};
@@ -43,9 +43,8 @@ fn room(response: &Response) -> usize {
 /// Appends the text that answers the CALL of this id.
 #[tactic(auto, unfolding(crate::specs::ObjectText::fields_text, crate::specs::ObjectText::object_text))]
 pub fn push_response(out: &mut String, id: &str, response: &Response) -> Result<(), AllocError>
-    ensures text { OnOk result
-        (string_bytes out.new ≡ string_bytes out.old ++ response_text id.now response.now) }
-    ensures kept { OnErr result (BeginsWith (string_bytes out.new) (string_bytes out.old)) }
+    ensures { Appends result (string_bytes out.old) (string_bytes out.new)
+        (response_text id.now response.now) }
 {
     match response {
         Response::Accepted => push_result(out, id, r#"{"status":"Accepted"}"#),
@@ -68,9 +67,8 @@ pub fn push_response(out: &mut String, id: &str, response: &Response) -> Result<
 
 /// Appends a CALLRESULT of this payload.
 fn push_result(out: &mut String, id: &str, payload: &str) -> Result<(), AllocError>
-    ensures text { OnOk result
-        (string_bytes out.new ≡ string_bytes out.old ++ call_result_text id.now payload.now) }
-    ensures kept { OnErr result (BeginsWith (string_bytes out.new) (string_bytes out.old)) }
+    ensures { Appends result (string_bytes out.old) (string_bytes out.new)
+        (call_result_text id.now payload.now) }
 {
     push_result_head(out, id)?;
     out.push_str(payload)?;
@@ -80,9 +78,8 @@ fn push_result(out: &mut String, id: &str, payload: &str) -> Result<(), AllocErr
 /// Appends the answer to a refused install or ask. Out of memory is an error, as it is for every
 /// action.
 fn push_rejected(out: &mut String, id: &str, refusal: Refusal) -> Result<(), AllocError>
-    ensures text { OnOk result
-        (string_bytes out.new ≡ string_bytes out.old ++ refusal_text id.now refusal) }
-    ensures kept { OnErr result (BeginsWith (string_bytes out.new) (string_bytes out.old)) }
+    ensures { Appends result (string_bytes out.old) (string_bytes out.new)
+        (refusal_text id.now refusal) }
 {
     if is_out_of_memory(refusal) {
         return push_error(out, id, "InternalError", "OutOfMemory");
@@ -100,9 +97,7 @@ fn is_out_of_memory(refusal: Refusal) -> bool
 
 /// Appends the payload that rejects, with the refusal's name as the reason.
 fn push_rejection(out: &mut String, refusal: Refusal) -> Result<(), AllocError>
-    ensures text { OnOk result
-        (string_bytes out.new ≡ string_bytes out.old ++ rejected_text refusal) }
-    ensures kept { OnErr result (BeginsWith (string_bytes out.new) (string_bytes out.old)) }
+    ensures { Appends result (string_bytes out.old) (string_bytes out.new) (rejected_text refusal) }
 {
     out.push_str(r#"{"status":"Rejected","reason":""#)?;
     out.push_str(refusal.name())?;
@@ -117,9 +112,8 @@ fn push_boot_notification(
     id: &str,
     current_time: Instant,
 ) -> Result<(), AllocError>
-    ensures text { OnOk result (string_bytes out.new
-        ≡ string_bytes out.old ++ call_result_text id.now (boot_notification_text current_time)) }
-    ensures kept { OnErr result (BeginsWith (string_bytes out.new) (string_bytes out.old)) }
+    ensures { Appends result (string_bytes out.old) (string_bytes out.new)
+        (call_result_text id.now (boot_notification_text current_time)) }
 {
     push_result_head(out, id)?;
     push_current_time(out, current_time)?;
@@ -129,9 +123,8 @@ fn push_boot_notification(
 
 /// Appends Heartbeat's answer.
 fn push_heartbeat(out: &mut String, id: &str, current_time: Instant) -> Result<(), AllocError>
-    ensures text { OnOk result (string_bytes out.new
-        ≡ string_bytes out.old ++ call_result_text id.now (heartbeat_text current_time)) }
-    ensures kept { OnErr result (BeginsWith (string_bytes out.new) (string_bytes out.old)) }
+    ensures { Appends result (string_bytes out.old) (string_bytes out.new)
+        (call_result_text id.now (heartbeat_text current_time)) }
 {
     push_result_head(out, id)?;
     push_current_time(out, current_time)?;
@@ -141,9 +134,8 @@ fn push_heartbeat(out: &mut String, id: &str, current_time: Instant) -> Result<(
 
 /// Appends an object's beginning with its first field, the present moment.
 fn push_current_time(out: &mut String, current_time: Instant) -> Result<(), AllocError>
-    ensures text { OnOk result (string_bytes out.new ≡ string_bytes out.old
-        ++ first_field_text (codes "currentTime") (time_text current_time)) }
-    ensures kept { OnErr result (BeginsWith (string_bytes out.new) (string_bytes out.old)) }
+    ensures { Appends result (string_bytes out.old) (string_bytes out.new)
+        (first_field_text (codes "currentTime") (time_text current_time)) }
 {
     out.push_str(r#"{"currentTime":""#)?;
     push_instant(out, current_time)?;
@@ -153,9 +145,8 @@ fn push_current_time(out: &mut String, current_time: Instant) -> Result<(), Allo
 
 /// Appends StartTransaction's answer.
 fn push_start_transaction(out: &mut String, id: &str, transaction: i32) -> Result<(), AllocError>
-    ensures text { OnOk result (string_bytes out.new
-        ≡ string_bytes out.old ++ call_result_text id.now (start_transaction_text transaction)) }
-    ensures kept { OnErr result (BeginsWith (string_bytes out.new) (string_bytes out.old)) }
+    ensures { Appends result (string_bytes out.old) (string_bytes out.new)
+        (call_result_text id.now (start_transaction_text transaction)) }
 {
     push_result_head(out, id)?;
     push_transaction(out, transaction)?;
@@ -164,9 +155,8 @@ fn push_start_transaction(out: &mut String, id: &str, transaction: i32) -> Resul
 
 /// Appends StartTransaction.conf (chapter 6).
 fn push_transaction(out: &mut String, transaction: i32) -> Result<(), AllocError>
-    ensures text { OnOk result
-        (string_bytes out.new ≡ string_bytes out.old ++ start_transaction_text transaction) }
-    ensures kept { OnErr result (BeginsWith (string_bytes out.new) (string_bytes out.old)) }
+    ensures { Appends result (string_bytes out.old) (string_bytes out.new)
+        (start_transaction_text transaction) }
 {
     out.push_str(r#"{"idTagInfo":{"status":"Accepted"},"transactionId":"#)?;
     push_integer(out, transaction)?;
@@ -180,9 +170,8 @@ fn push_schedule_result(
     id: &str,
     response: &ScheduleResponse,
 ) -> Result<(), AllocError>
-    ensures text { OnOk result (string_bytes out.new
-        ≡ string_bytes out.old ++ call_result_text id.now (composite_text response.now)) }
-    ensures kept { OnErr result (BeginsWith (string_bytes out.new) (string_bytes out.old)) }
+    ensures { Appends result (string_bytes out.old) (string_bytes out.new)
+        (call_result_text id.now (composite_text response.now)) }
 {
     push_result_head(out, id)?;
     push_composite(out, response)?;
@@ -191,9 +180,8 @@ fn push_schedule_result(
 
 /// Appends GetCompositeSchedule.conf (chapter 6).
 fn push_composite(out: &mut String, response: &ScheduleResponse) -> Result<(), AllocError>
-    ensures text { OnOk result
-        (string_bytes out.new ≡ string_bytes out.old ++ composite_text response.now) }
-    ensures kept { OnErr result (BeginsWith (string_bytes out.new) (string_bytes out.old)) }
+    ensures { Appends result (string_bytes out.old) (string_bytes out.new)
+        (composite_text response.now) }
 {
     out.push_str(r#"{"status":"Accepted","connectorId":"#)?;
     push_integer(out, response.connector)?;
@@ -211,9 +199,8 @@ fn push_composite_schedule(
     unit: Unit,
     schedule: &Composite,
 ) -> Result<(), AllocError>
-    ensures text { OnOk result
-        (string_bytes out.new ≡ string_bytes out.old ++ composite_schedule_text unit schedule.now) }
-    ensures kept { OnErr result (BeginsWith (string_bytes out.new) (string_bytes out.old)) }
+    ensures { Appends result (string_bytes out.old) (string_bytes out.new)
+        (composite_schedule_text unit schedule.now) }
 {
     out.push_str(r#"{"duration":"#)?;
     push_integer(out, schedule.duration())?;
@@ -244,9 +231,8 @@ impl ListItem for CompositePeriod {
 
 /// Appends a period of a composite schedule (chapter 7, ChargingSchedulePeriod).
 fn push_composite_period(out: &mut String, period: &CompositePeriod) -> Result<(), AllocError>
-    ensures text { OnOk result
-        (string_bytes out.new ≡ string_bytes out.old ++ composite_period_text period.now) }
-    ensures kept { OnErr result (BeginsWith (string_bytes out.new) (string_bytes out.old)) }
+    ensures { Appends result (string_bytes out.old) (string_bytes out.new)
+        (composite_period_text period.now) }
 {
     out.push_str(r#"{"startPeriod":"#)?;
     push_integer(out, period.start)?;

@@ -1,7 +1,7 @@
 //! Instants and tenths, written.
-ghost use Rattle.std.specs.Prelude.{◌≡◌, ℕ, ◌+◌, ◌*◌, ◌/◌, ◌%◌, ◌≤◌, ◌<◌, ◌++◌, pos, Ok, IfOk, OnOk, OnErr, IsErrOf, IsOkUnless, string_bytes};
+ghost use Rattle.std.specs.Prelude.{◌≡◌, ℕ, ◌+◌, ◌*◌, ◌/◌, ◌%◌, ◌≤◌, ◌<◌, pos, Ok, IfOk, IsErrOf, IsOkUnless, string_bytes};
 ghost use Rattle.jiff_core.specs.Date.{epoch_day};
-ghost use Rattle.ocpp_scalars.specs.Appending.{BeginsWith};
+ghost use Rattle.ocpp_scalars.specs.Appending.{Appends};
 ghost use Rattle.ocpp_scalars.specs.CalendarDay.{calendar_day};
 ghost use Rattle.ocpp_scalars.specs.Limits.{last_day, last_second};
 ghost use Rattle.ocpp_scalars.specs.Writing.{in_digits, day_text, time_of_day_text, instant_text, tenths_text};
@@ -24,9 +24,7 @@ pub fn write_instant(alloc: Global, instant: Instant) -> Result<String, Refusal>
 
 /// Appends the text of an instant, `YYYY-MM-DDThh:mm:ssZ`.
 pub fn push_instant(out: &mut String, instant: Instant) -> Result<(), AllocError>
-    ensures text { OnOk result
-        (string_bytes out.new ≡ string_bytes out.old ++ instant_text instant) }
-    ensures kept { OnErr result (BeginsWith (string_bytes out.new) (string_bytes out.old)) }
+    ensures { Appends result (string_bytes out.old) (string_bytes out.new) (instant_text instant) }
 {
     push_seconds(out, instant.seconds())
 }
@@ -35,9 +33,7 @@ pub fn push_instant(out: &mut String, instant: Instant) -> Result<(), AllocError
 #[tactic(auto, unfolding(crate::specs::Writing::instant_text))]
 fn push_seconds(out: &mut String, seconds: u64) -> Result<(), AllocError>
     requires { seconds ≤ last_second }
-    ensures text { OnOk result
-        (string_bytes out.new ≡ string_bytes out.old ++ instant_text seconds) }
-    ensures kept { OnErr result (BeginsWith (string_bytes out.new) (string_bytes out.old)) }
+    ensures { Appends result (string_bytes out.old) (string_bytes out.new) (instant_text seconds) }
 {
     push_day(out, seconds / 86_400)?;
     out.push('T')?;
@@ -50,9 +46,8 @@ fn push_seconds(out: &mut String, seconds: u64) -> Result<(), AllocError>
 #[tactic(auto, unfolding(crate::specs::Writing::day_text))]
 fn push_day(out: &mut String, day: u64) -> Result<(), AllocError>
     requires { day ≤ last_day }
-    ensures text { OnOk result
-        (string_bytes out.new ≡ string_bytes out.old ++ day_text (calendar_day day)) }
-    ensures kept { OnErr result (BeginsWith (string_bytes out.new) (string_bytes out.old)) }
+    ensures { Appends result (string_bytes out.old) (string_bytes out.new)
+        (day_text (calendar_day day)) }
 {
     let (year, month, day) = civil_date(day);
     push_two(out, (year / 100) as u8)?;
@@ -79,9 +74,8 @@ fn civil_date(day: u64) -> (u16, u8, u8)
 #[tactic(auto, unfolding(crate::specs::Writing::time_of_day_text))]
 fn push_time(out: &mut String, seconds: u32) -> Result<(), AllocError>
     requires { seconds < 86_400 }
-    ensures text { OnOk result
-        (string_bytes out.new ≡ string_bytes out.old ++ time_of_day_text seconds) }
-    ensures kept { OnErr result (BeginsWith (string_bytes out.new) (string_bytes out.old)) }
+    ensures { Appends result (string_bytes out.old) (string_bytes out.new)
+        (time_of_day_text seconds) }
 {
     push_two(out, (seconds / 3600) as u8)?;
     out.push(':')?;
@@ -93,8 +87,7 @@ fn push_time(out: &mut String, seconds: u32) -> Result<(), AllocError>
 /// Appends a number below 100 in two digits.
 fn push_two(out: &mut String, number: u8) -> Result<(), AllocError>
     requires { number < 100 }
-    ensures text { OnOk result (string_bytes out.new ≡ string_bytes out.old ++ in_digits 2 number) }
-    ensures kept { OnErr result (BeginsWith (string_bytes out.new) (string_bytes out.old)) }
+    ensures { Appends result (string_bytes out.old) (string_bytes out.new) (in_digits 2 number) }
 {
     out.push((b'0' + number / 10) as char)?;
     out.push((b'0' + number % 10) as char)?;
@@ -114,8 +107,7 @@ pub fn write_tenths(alloc: Global, tenths: u32) -> Result<String, Refusal>
 /// Appends the text of so many tenths.
 #[tactic(auto, unfolding(crate::specs::Writing::tenths_text))]
 pub fn push_tenths(out: &mut String, tenths: u32) -> Result<(), AllocError>
-    ensures text { OnOk result (string_bytes out.new ≡ string_bytes out.old ++ tenths_text tenths) }
-    ensures kept { OnErr result (BeginsWith (string_bytes out.new) (string_bytes out.old)) }
+    ensures { Appends result (string_bytes out.old) (string_bytes out.new) (tenths_text tenths) }
 {
     push_integer(out, tenths / 10)?;
     out.push('.')?;
@@ -124,8 +116,7 @@ pub fn push_tenths(out: &mut String, tenths: u32) -> Result<(), AllocError>
 
 /// Appends an integer in decimal. (`write!` says nothing of the text where memory runs out.)
 pub fn push_integer<I: Integer>(out: &mut String, integer: I) -> Result<(), AllocError>
-    ensures text { OnOk result (string_bytes out.new ≡ string_bytes out.old ++ I.text integer) }
-    ensures kept { OnErr result (BeginsWith (string_bytes out.new) (string_bytes out.old)) }
+    ensures { Appends result (string_bytes out.old) (string_bytes out.new) (I.text integer) }
 {
     let mut digits = itoa::Buffer::new();
     out.push_str(digits.format(integer))

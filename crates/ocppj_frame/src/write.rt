@@ -1,7 +1,7 @@
 //! Frames, written: each as one text, or appended to a text in parts.
-ghost use Rattle.std.specs.Prelude.{◌≡◌, ◌++◌, IfOk, OnOk, OnErr, string_bytes};
+ghost use Rattle.std.specs.Prelude.{◌≡◌, IfOk, string_bytes};
 ghost use Rattle.json.specs.Print.{quoted};
-ghost use Rattle.ocpp_scalars.specs.Appending.{BeginsWith};
+ghost use Rattle.ocpp_scalars.specs.Appending.{Appends};
 ghost use Rattle.ocppj_frame.specs.Write.{call_error_text, call_head, call_result_text, call_text, frame_end, result_head};
 
 use json::Writer;
@@ -55,9 +55,8 @@ pub fn write_error(
 
 /// Appends what stands before a CALL's payload, `[2,"id","action",`.
 pub fn push_call_head(out: &mut String, id: &str, action: &str) -> Result<(), AllocError>
-    ensures text { OnOk result
-        (string_bytes out.new ≡ string_bytes out.old ++ call_head id.now action.now) }
-    ensures kept { OnErr result (BeginsWith (string_bytes out.new) (string_bytes out.old)) }
+    ensures { Appends result (string_bytes out.old) (string_bytes out.new)
+        (call_head id.now action.now) }
 {
     out.push_str("[2,")?;
     push_string(out, id)?;
@@ -68,8 +67,7 @@ pub fn push_call_head(out: &mut String, id: &str, action: &str) -> Result<(), Al
 
 /// Appends what stands before a CALLRESULT's payload, `[3,"id",`.
 pub fn push_result_head(out: &mut String, id: &str) -> Result<(), AllocError>
-    ensures text { OnOk result (string_bytes out.new ≡ string_bytes out.old ++ result_head id.now) }
-    ensures kept { OnErr result (BeginsWith (string_bytes out.new) (string_bytes out.old)) }
+    ensures { Appends result (string_bytes out.old) (string_bytes out.new) (result_head id.now) }
 {
     out.push_str("[3,")?;
     push_string(out, id)?;
@@ -78,8 +76,7 @@ pub fn push_result_head(out: &mut String, id: &str) -> Result<(), AllocError>
 
 /// Appends what stands after a payload, `]`.
 pub fn push_frame_end(out: &mut String) -> Result<(), AllocError>
-    ensures text { OnOk result (string_bytes out.new ≡ string_bytes out.old ++ frame_end) }
-    ensures kept { OnErr result (BeginsWith (string_bytes out.new) (string_bytes out.old)) }
+    ensures { Appends result (string_bytes out.old) (string_bytes out.new) frame_end }
 {
     out.push_str("]")
 }
@@ -91,9 +88,8 @@ pub fn push_error(
     code: &str,
     description: &str,
 ) -> Result<(), AllocError>
-    ensures text { OnOk result (string_bytes out.new
-        ≡ string_bytes out.old ++ call_error_text id.now code.now description.now) }
-    ensures kept { OnErr result (BeginsWith (string_bytes out.new) (string_bytes out.old)) }
+    ensures { Appends result (string_bytes out.old) (string_bytes out.new)
+        (call_error_text id.now code.now description.now) }
 {
     out.push_str("[4,")?;
     push_string(out, id)?;
@@ -106,8 +102,7 @@ pub fn push_error(
 
 /// Appends a JSON string.
 fn push_string(out: &mut String, text: &str) -> Result<(), AllocError>
-    ensures text { OnOk result (string_bytes out.new ≡ string_bytes out.old ++ quoted text.now) }
-    ensures kept { OnErr result (BeginsWith (string_bytes out.new) (string_bytes out.old)) }
+    ensures { Appends result (string_bytes out.old) (string_bytes out.new) (quoted text.now) }
 {
     // The library writes onto bytes that it owns: the text's own, so that nothing is copied.
     let alloc = *out.allocator();

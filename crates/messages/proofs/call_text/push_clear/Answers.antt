@@ -2,8 +2,10 @@
 use Rattle.messages.specs.CallText.{clear_text}
 use Rattle.messages.proofs.call_text.push_clear.Goals as goal
 
-pub returns-clause-text : goal.returns-clause-text
+pub returns : goal.returns
 unfolding clear_text
-returns-clause-text c =
-    let object = rw (c.signed.ensures, c.whole.ensures, c.purpose.ensures, c.whole-2.ensures) at c.in_ok-push_object.ensures.text in
+returns c =
+    let object =
+    rw (c.signed.ensures, c.whole.ensures, c.purpose.ensures, c.whole-2.ensures)
+    at c.in_ok-push_object.ensures in
     search object

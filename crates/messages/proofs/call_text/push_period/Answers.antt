@@ -2,8 +2,8 @@
 use Rattle.messages.specs.CallText.{period_text}
 use Rattle.messages.proofs.call_text.push_period.Goals as goal
 
-pub returns-clause-text : goal.returns-clause-text
+pub returns : goal.returns
 unfolding period_text
-returns-clause-text c =
-    let object = rw (c.whole.ensures) at c.in_ok-push_object.ensures.text in
+returns c =
+    let object = rw (c.whole.ensures) at c.in_ok-push_object.ensures in
     search object

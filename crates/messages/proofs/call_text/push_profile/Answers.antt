@@ -4,8 +4,9 @@ use Rattle.messages.specs.CallText.{profile_text}
 use Rattle.messages.proofs.FieldsText.{object_of_two}
 use Rattle.messages.proofs.call_text.push_profile.Goals as goal
 
-pub returns-clause-text : goal.returns-clause-text
+pub returns : goal.returns
 unfolding profile_text
-returns-clause-text c =
+returns c =
     object_of_two _ _ _ _ (codes "chargingSchedule") _ _ _ _ _ _
-    c.in_ok-push_str.ensures.bytes c.in_ok-push_own_fields.ensures.text c.in_ok-push_str-2.ensures.bytes c.in_ok-push_schedule.ensures.text c.in_ok-push_str-3.ensures.bytes
+    c.in_ok-push_str.ensures.bytes c.in_ok-push_own_fields.ensures c.in_ok-push_str-2.ensures.bytes
+    c.in_ok-push_schedule.ensures c.in_ok-push_str-3.ensures.bytes

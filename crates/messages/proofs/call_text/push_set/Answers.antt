@@ -4,8 +4,9 @@ use Rattle.messages.specs.CallText.{set_text}
 use Rattle.messages.proofs.FieldsText.{object_of_two}
 use Rattle.messages.proofs.call_text.push_set.Goals as goal
 
-pub returns-clause-text : goal.returns-clause-text
+pub returns : goal.returns
 unfolding set_text
-returns-clause-text c =
+returns c =
     object_of_two _ _ _ _ (codes "csChargingProfiles") _ _ _ _ _ _
-    c.in_ok-push_str.ensures.bytes c.in_ok-push_fields.ensures.text c.in_ok-push_str-2.ensures.bytes c.in_ok-push_profile.ensures.text c.in_ok-push_str-3.ensures.bytes
+    c.in_ok-push_str.ensures.bytes c.in_ok-push_fields.ensures c.in_ok-push_str-2.ensures.bytes
+    c.in_ok-push_profile.ensures c.in_ok-push_str-3.ensures.bytes

@@ -5,9 +5,11 @@ use Rattle.messages.specs.ResponseText.{composite_text}
 use Rattle.messages.proofs.TextPieces.{three_values}
 use Rattle.messages.proofs.response_text.push_composite.Goals as goal
 
-pub returns-clause-text : goal.returns-clause-text
+pub returns : goal.returns
 unfolding composite_text fields_text object_text
-returns-clause-text c =
+returns c =
     three_values _ (codes "{\"status\":\"Accepted\",\"connectorId\":") _ (codes ",\"scheduleStart\":\"") _ (codes "\"") (codes ",\"chargingSchedule\":") _ (codes "}")
     _ _ _ _ _ _ _
-    c.in_ok-push_str.ensures.bytes c.in_ok-push_integer.ensures.text c.in_ok-push_str-2.ensures.bytes c.in_ok-push_instant.ensures.text c.in_ok-push_str-3.ensures.bytes c.in_ok-push_composite_schedule.ensures.text c.in_ok-push_str-4.ensures.bytes
+    c.in_ok-push_str.ensures.bytes c.in_ok-push_integer.ensures c.in_ok-push_str-2.ensures.bytes
+    c.in_ok-push_instant.ensures c.in_ok-push_str-3.ensures.bytes
+    c.in_ok-push_composite_schedule.ensures c.in_ok-push_str-4.ensures.bytes

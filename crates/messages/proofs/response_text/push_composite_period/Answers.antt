@@ -5,9 +5,10 @@ use Rattle.messages.specs.ResponseText.{composite_period_text}
 use Rattle.messages.proofs.TextPieces.{two_values}
 use Rattle.messages.proofs.response_text.push_composite_period.Goals as goal
 
-pub returns-clause-text : goal.returns-clause-text
+pub returns : goal.returns
 unfolding composite_period_text fields_text object_text
-returns-clause-text c =
+returns c =
     two_values _ (codes "{\"startPeriod\":") _ (codes ",\"limit\":") _ (codes "}")
     _ _ _ _ _
-    c.in_ok-push_str.ensures.bytes c.in_ok-push_integer.ensures.text c.in_ok-push_str-2.ensures.bytes c.in_ok-push_tenths.ensures.text c.in_ok-push_str-3.ensures.bytes
+    c.in_ok-push_str.ensures.bytes c.in_ok-push_integer.ensures c.in_ok-push_str-2.ensures.bytes
+    c.in_ok-push_tenths.ensures c.in_ok-push_str-3.ensures.bytes

@@ -4,9 +4,9 @@ use Rattle.messages.specs.ByCases.ObjectText.{first_field_text}
 use Rattle.messages.proofs.TextPieces.{three_pieces}
 use Rattle.messages.proofs.response_text.push_current_time.Goals as goal
 
-pub returns-clause-text : goal.returns-clause-text
+pub returns : goal.returns
 unfolding first_field_text
-returns-clause-text c =
+returns c =
     three_pieces _ (codes "{\"currentTime\":\"") _ (codes "\"")
     _ _ _
-    c.in_ok-push_str.ensures.bytes c.in_ok-push_instant.ensures.text c.in_ok-push_str-2.ensures.bytes
+    c.in_ok-push_str.ensures.bytes c.in_ok-push_instant.ensures c.in_ok-push_str-2.ensures.bytes

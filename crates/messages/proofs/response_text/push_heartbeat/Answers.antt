@@ -4,7 +4,7 @@ use Rattle.std.proofs.lemmas.Grind.{common_steps}
 use Rattle.messages.proofs.FieldsText.{heartbeat_object}
 use Rattle.messages.proofs.response_text.push_heartbeat.Goals as goal
 
-pub returns-clause-text : goal.returns-clause-text
-returns-clause-text c =
+pub returns : goal.returns
+returns c =
     let object = heartbeat_object c.args.current_time in
     grind (arith, common_steps, object)

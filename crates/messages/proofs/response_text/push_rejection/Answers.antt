@@ -5,9 +5,9 @@ use Rattle.messages.specs.ResponseText.{rejected_text}
 use Rattle.messages.proofs.TextPieces.{one_string}
 use Rattle.messages.proofs.response_text.push_rejection.Goals as goal
 
-pub returns-clause-text : goal.returns-clause-text
+pub returns : goal.returns
 unfolding fields_text object_text rejected_text
-returns-clause-text c =
+returns c =
     rw (← c.name.ensures)
     (one_string _ (codes "{\"status\":\"Rejected\",\"reason\":\"") _ (codes "\"") (codes "}")
     _ _ _

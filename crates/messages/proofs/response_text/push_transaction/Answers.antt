@@ -7,11 +7,11 @@ use Rattle.messages.specs.ResponseText.{start_transaction_text}
 use Rattle.messages.proofs.TextPieces.{one_value}
 use Rattle.messages.proofs.response_text.push_transaction.Goals as goal
 
-pub returns-clause-text : goal.returns-clause-text
+pub returns : goal.returns
 unfolding fields_text object_text start_transaction_text
-returns-clause-text c =
+returns c =
     one_value _ (codes "{\"idTagInfo\":{\"status\":\"Accepted\"},\"transactionId\":") _ (codes "}")
     _ _ _
     c.in_ok-push_str.ensures.bytes
-    (rw (to_z-of_z w32 c.args.transaction c.ranges.transaction) at c.in_ok-push_integer.ensures.text)
+    (rw (to_z-of_z w32 c.args.transaction c.ranges.transaction) at c.in_ok-push_integer.ensures)
     c.in_ok-push_str-2.ensures.bytes
