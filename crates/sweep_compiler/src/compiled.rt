@@ -33,9 +33,9 @@ impl Model for Compiled {
     ghost Value = { CompiledAnswer };
 
     ghost view = { λ compiled. record {
-        book = arc_value compiled.book;
-        ask = compiled.ask;
-        answer = compiled.answer;
+      book = arc_value compiled.book;
+      ask = compiled.ask;
+      answer = compiled.answer;
     } };
 
     ghost invariant = { λ compiled.
