@@ -10,6 +10,8 @@ mod obeying_point;
 #[cfg(test)]
 mod outboxes;
 #[cfg(test)]
+mod posted_answers;
+#[cfg(test)]
 mod random_run;
 #[cfg(test)]
 mod runs;

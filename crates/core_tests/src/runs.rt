@@ -11,7 +11,7 @@ use std::test::Fail;
 const SITE: &str =
     r#"{"unit":"A","points":[{"id":"CP1","ceiling":32.0,"connectors":[16.0,16.0]},{"id":"CP2","ceiling":32.0,"connectors":[16.0]}]}"#;
 
-fn site(alloc: Global) -> Result<Site, SiteFault> {
+pub(crate) fn site(alloc: Global) -> Result<Site, SiteFault> {
     read_site(alloc, SITE.as_bytes())
 }
 

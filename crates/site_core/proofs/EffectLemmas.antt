@@ -1,5 +1,5 @@
 -- What the steps of a point come to, step by step, agrees with what the laws say of their events.
-use Rattle.std.proofs.Common.{◌≡◌, ℕ, ℤ, ◌+◌, ◌<◌, ◌==◌, ◌&&◌, Bool, true, false, cond, List, [], ◌∷◌, take, length, slice_set, slice_index_or, Option, Some, None, is_some, Result, Ok, Err, refl, sym, ap, ◌∙◌, subst}
+use Rattle.std.proofs.Common.{◌≡◌, ℕ, ℤ, ◌+◌, ◌<◌, ◌==◌, ◌&&◌, Bool, true, false, cond, List, [], ◌∷◌, take, length, slice_set, slice_index_or, Option, Some, None, is_some, Result, Ok, Err, refl, sym, ap, ◌∙◌, subst, add-zero}
 use Rattle.std.proofs.lemmas.Bool.{eqb-true, eqb-false}
 use Rattle.std.proofs.lemmas.List.{set-get_or, get_or-set_same, get_or-set_other}
 use Rattle.std.specs.Prelude.{IfOk}
@@ -29,6 +29,7 @@ use Rattle.site_core.specs.ChargePoint.{ChargePointState, BookChange, Install, C
 use Rattle.site_core.specs.State.{MachineState}
 use Rattle.site_core.specs.Step.{Told, Answers, Does, unless, affected, done, installing, clearing, effect_alone, traffic_alone, refusal_to_install, refusal_to_call, refusal_to_start, refusal_to_attach, version_refusal, next_transaction, is_at_no_connector, is_event, installs, clears, starts, starts_as, stops, attaches, sends, sends_call, confirms, loses}
 use Rattle.site_core.specs.History.{reply_takes, asks_answer_of}
+use Rattle.site_core.specs.Step.{Counted, counted, no_count, one_change, is_reply_to}
 use Rattle.site_core.specs.CallOrder.{effect_by, calls_by, confirmed_by, numbers_of_calls, end_at, changes_in}
 
 -- ---- what holds of whatever comes of a step
@@ -60,6 +61,14 @@ told_effect (Does reply effect) = effect
 abbrev pub told_event : Told → Bool
 told_event (Answers reply) = false
 told_event (Does reply effect) = true
+
+-- a change of the book is counted
+abbrev count_of_change : Option BookChange → Counted
+count_of_change None = no_count
+count_of_change (Some change) = one_change
+
+abbrev pub told_count : Told → Counted
+told_count told = count_of_change (told_effect told).change
 
 -- where nothing is done, nothing changes
 pub affected_by_nothing : (old : MachineState) (place : ℕ) → affected old place no_effect ≡ old
@@ -107,6 +116,40 @@ draws_no_request effect numbers = by effect.traffic (drawn_by_change effect.chan
     by (Some (Add body)) drawn = refl
     by (Some Send) drawn = refl
     by (Some (Confirm number)) drawn = refl
+
+-- it draws as many versions as it counts changes, and counts nothing else
+change_draws_versions : (change : Option BookChange) (numbers : Numbers)
+    → (drawn_by_change change numbers).version
+    ≡ numbers.version + (count_of_change change).changes
+change_draws_versions None numbers = sym (add-zero _)
+change_draws_versions (Some (Install row)) numbers = refl
+change_draws_versions (Some (Clear criteria)) numbers = refl
+change_draws_versions (Some (Start connector begin number)) numbers = refl
+change_draws_versions (Some (Stop number)) numbers = refl
+
+pub draws_versions : (told : Told) (numbers : Numbers)
+    → (drawn_by (told_effect told) numbers).version ≡ numbers.version + (told_count told).changes
+draws_versions told numbers =
+    by (told_effect told).traffic (drawn_by_change (told_effect told).change numbers)
+    ∙ change_draws_versions (told_effect told).change numbers
+  where
+    by : (traffic : Option Traffic) (drawn : Numbers)
+        → (drawn_by_traffic traffic drawn).version ≡ drawn.version
+    by None drawn = refl
+    by (Some (Attach link)) drawn = refl
+    by (Some Lose) drawn = refl
+    by (Some (Add body)) drawn = refl
+    by (Some Send) drawn = refl
+    by (Some (Confirm number)) drawn = refl
+
+pub only_changes_counted : (told : Told)
+    → ((told_count told).takes ≡ 0) × ((told_count told).answers ≡ 0)
+only_changes_counted told = by (told_effect told).change
+  where
+    by : (change : Option BookChange)
+        → ((count_of_change change).takes ≡ 0) × ((count_of_change change).answers ≡ 0)
+    by None = (refl, refl)
+    by (Some change) = (refl, refl)
 
 -- what is read after the item of a place was changed
 pub changed_in : {X : Type 0} (xs : List X) (there place : ℕ) (change : X → X) (d : X)
@@ -168,6 +211,8 @@ pub record Agrees (point : ChargePointState) (step : Step) (told : Told) : Type 
   pub no_take : (number : ℕ) → reply_takes number (told_reply told) ≡ false
   pub no_answer : (number : ℕ) → asks_answer_of number step ≡ false
   pub event : (old : MachineState) → is_event old (told_reply told) ≡ told_event told
+  pub counts : counted (told_reply told) ≡ told_count told
+  pub its_own : is_reply_to step (told_reply told) ≡ true
 
 -- it does, where its rows of the tables are the same
 all_refl : (point : ChargePointState) (step : Step) (told : Told)
@@ -180,8 +225,10 @@ all_refl : (point : ChargePointState) (step : Step) (told : Told)
     → ((number : ℕ) → reply_takes number (told_reply told) ≡ false) → ((number : ℕ)
     → asks_answer_of number step ≡ false)
     → ((old : MachineState) → is_event old (told_reply told) ≡ told_event told)
+    → counted (told_reply told) ≡ told_count told
+    → is_reply_to step (told_reply told) ≡ true
     → Agrees point step told
-all_refl point step told effect calls confirmed bodies no_take no_answer event =
+all_refl point step told effect calls confirmed bodies no_take no_answer event counts its_own =
     record {
       effect = effect;
       calls = calls;
@@ -190,6 +237,8 @@ all_refl point step told effect calls confirmed bodies no_take no_answer event =
       no_take = no_take;
       no_answer = no_answer;
       event = event;
+      counts = counts;
+      its_own = its_own;
     }
 
 pub install_agrees : (site : SiteState) (numbers : Numbers) (id : List ℕ) (row : Row)
@@ -199,7 +248,7 @@ install_agrees site numbers id row point =
     unless_holds (Agrees point (steps.Install id row))
     (refusal_to_install site numbers id row point) (Does replies.Accepted (installing row))
     (all_refl point (steps.Install id row) (Does replies.Accepted (installing row)) refl refl refl
-    (λ book. refl) (λ number. refl) (λ number. refl) (λ old. refl))
+    (λ book. refl) (λ number. refl) (λ number. refl) (λ old. refl) refl refl)
 
 pub clear_agrees : (numbers : Numbers) (id : List ℕ) (criteria : Criteria)
     (point : ChargePointState)
@@ -212,9 +261,9 @@ clear_agrees numbers id criteria point =
     (unless_holds P (refusal_to_call numbers point) (Does replies.Accepted (clearing criteria))
     (all_refl point (steps.Clear id criteria) (Does replies.Accepted
     (clearing criteria)) refl refl refl (λ book. refl) (λ number. refl) (λ number. refl)
-    (λ old. refl)))
+    (λ old. refl) refl refl))
     (all_refl point (steps.Clear id criteria) (Answers replies.Unknown) refl refl refl
-    (λ book. refl) (λ number. refl) (λ number. refl) (λ old. refl))
+    (λ book. refl) (λ number. refl) (λ number. refl) (λ old. refl) refl refl)
 
 pub start_agrees : (numbers : Numbers) (id : List ℕ) (connector : ℕ) (begin : Begin)
     (point : ChargePointState)
@@ -234,10 +283,10 @@ start_agrees numbers id connector begin point =
     by : (found : Began) → IfOk (starts_as found numbers connector begin) P
     by (Repeat number) = all_refl point (steps.Start id connector begin) (Answers
         (replies.Repeated number)) refl refl refl (λ book. refl) (λ number. refl) (λ number. refl)
-        (λ old. refl)
+        (λ old. refl) refl refl
     by Fresh = unless_holds P (refusal_to_start numbers) new (all_refl point
         (steps.Start id connector begin) new refl refl refl (λ book. refl) (λ number. refl)
-        (λ number. refl) (λ old. refl))
+        (λ number. refl) (λ old. refl) refl refl)
 
 pub stop_agrees : (numbers : Numbers) (id : List ℕ) (number : ℤ) (point : ChargePointState)
     → IfOk (stops numbers number point) (Agrees point (steps.Stop id number))
@@ -248,9 +297,9 @@ stop_agrees numbers id number point =
     (version_refusal numbers) ended) (Ok (Answers replies.NoSuch))
     (unless_holds P (version_refusal numbers) ended (all_refl point
     (steps.Stop id number) ended refl refl refl (λ book. end_is_no_call
-    (connector_of book.transactions number)) (λ n. refl) (λ n. refl) (λ old. refl)))
+    (connector_of book.transactions number)) (λ n. refl) (λ n. refl) (λ old. refl) refl refl))
     (all_refl point (steps.Stop id number) (Answers replies.NoSuch) refl refl refl (λ book. refl)
-    (λ n. refl) (λ n. refl) (λ old. refl))
+    (λ n. refl) (λ n. refl) (λ old. refl) refl refl)
 
 pub attach_agrees : (numbers : Numbers) (id : List ℕ) (point : ChargePointState)
     → IfOk (attaches numbers point) (Agrees point (steps.Attach id))
@@ -259,7 +308,7 @@ attach_agrees numbers id point =
     (numbers.link + 1))) in
     unless_holds (Agrees point (steps.Attach id)) (refusal_to_attach numbers) linked
     (all_refl point (steps.Attach id) linked refl refl refl (λ book. refl) (λ number. refl)
-    (λ number. refl) (λ old. refl))
+    (λ number. refl) (λ old. refl) refl refl)
 
 pub send_agrees : (id : List ℕ) (link : ℕ) (point : ChargePointState)
     → IfOk (sends point) (Agrees point (steps.Send id link))
@@ -268,11 +317,11 @@ send_agrees id link point = by (sendable point.outbox) refl
     by : (call : Option Call) → sendable point.outbox ≡ call
         → Agrees point (steps.Send id link) (sends_call call)
     by None first = all_refl point (steps.Send id link) (Answers replies.Nothing) refl refl refl
-        (λ book. refl) (λ number. refl) (λ number. refl) (λ old. refl)
+        (λ book. refl) (λ number. refl) (λ number. refl) (λ old. refl) refl refl
     by (Some call) first =
         all_refl point (steps.Send id link) (Does (replies.Sent call) (traffic_alone Send)) refl
         (ap call_list (sym first)) refl (λ book. refl) (λ number. refl) (λ number. refl)
-        (λ old. refl)
+        (λ old. refl) refl refl
 
 -- the call in flight that has a number is the first, and has it
 first_confirmed : (outbox : OutboxState) (number : ℕ) → is_number_in_flight outbox number ≡ true
@@ -300,11 +349,11 @@ confirm_agrees id link number point = by (is_number_in_flight point.outbox numbe
     by false is = tt
     by true is = all_refl point (steps.Confirm id link number) confirming refl refl
         (first_confirmed point.outbox number is) (λ book. refl) (λ n. refl) (λ n. refl)
-        (λ old. refl)
+        (λ old. refl) refl refl
 
 pub lose_agrees : (id : List ℕ) (link : ℕ) (point : ChargePointState)
     → IfOk (loses point) (Agrees point (steps.Lost id link))
 lose_agrees id link point =
     all_refl point (steps.Lost id link) (Does replies.LinkLost
     (traffic_alone Lose)) refl refl refl (λ book. refl) (λ number. refl) (λ number. refl)
-    (λ old. refl)
+    (λ old. refl) refl refl

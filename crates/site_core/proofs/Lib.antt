@@ -18,3 +18,4 @@ pub mod WorkedExamples
 pub mod ObeyOrderLemmas
 pub mod OutboxExamples
 pub mod CallOrderLemmas
+pub mod CountLemmas

@@ -7,6 +7,7 @@ use Rattle.ocpp_scalars.specs.declared.refusal.Refusal.TheVariants.{Stopped, Unk
 use Rattle.profile.specs.declared.row.Row.{Row}
 use Rattle.site_rules.specs.Admission.{admission_refusal}
 use Rattle.point_book.specs.Changes.{first_cause, install_refusal}
+use Rattle.sweep_compiler.specs.Compiled.{CompiledAnswer}
 use Rattle.site_core.specs.declared.reply.Reply.TheVariants.{Compiled}
 use Rattle.site_core.specs.Limits.{max_number, max_transaction}
 use Rattle.site_rules.specs.Site.{SiteState, place_of}
@@ -14,7 +15,8 @@ use Rattle.site_core.specs.declared.numbers.Numbers.{Numbers}
 use Rattle.site_core.specs.ChargePoint.{ChargePointState}
 use Rattle.site_core.specs.State.{MachineState, Kept, IsMachine, no_point, point_at, connectors_in_book}
 use Rattle.site_core.specs.Step.{Made, at_point, at_place, version_refusal, transaction_number_refusal, refusal_to_add, refusal_to_call, refusal_to_install, refusal_to_start, Compiles}
-use Rattle.site_core.specs.ByCases.Requests.{IsCompiledIn}
+use Rattle.site_core.specs.Post.{Posts}
+use Rattle.site_core.specs.ByCases.Requests.{IsCompiledIn, IsPostedIn}
 use Rattle.site_core.specs.ByCases.Made.{place_in, found_place}
 use Rattle.site_core.proofs.PointLemmas.{replaced}
 
@@ -187,4 +189,27 @@ compiles_made old number requests is = record {
   answer = is.answer;
   right = is.right;
   made = rw (is.is_kept, is.had_none, is.now) refl;
+}
+
+-- it is the request's own answer that is posted, and so a right one
+pub posts_made : (old : MachineState) (number : ℕ) (brought : CompiledAnswer) (requests : List Kept)
+    → IsPostedIn number brought old.requests requests
+    → Posts old number brought (record old { requests = requests })
+posts_made old number brought requests is = record {
+  kept = is.kept;
+  is_kept = is.is_kept;
+  fits = is.fits;
+  right = is.right;
+  made = rw (is.is_kept, is.had_none, is.now) refl;
+}
+
+-- what is posted is compiled
+pub posts_compile : (old : MachineState) (number : ℕ) (brought : CompiledAnswer)
+    (new : MachineState) → Posts old number brought new → Compiles old number Compiled new
+posts_compile old number brought new posts = record {
+  kept = posts.kept;
+  is_kept = posts.is_kept;
+  answer = brought.answer;
+  right = posts.right;
+  made = posts.made;
 }

@@ -5,12 +5,13 @@ use Rattle.std.proofs.lemmas.Bool.{eqb-true}
 use Rattle.std.proofs.lemmas.Iterator.Adapters.{position_from-zero}
 use Rattle.std.proofs.lemmas.List.Quantifiers.{position-Some}
 use Rattle.ocpp_scalars.specs.declared.refusal.Refusal.TheVariants.{AlreadyAnswered}
+use Rattle.sweep_compiler.specs.Compiled.{CompiledAnswer}
 use Rattle.site_core.specs.declared.reply.Reply.{Reply}
 use Rattle.site_core.specs.declared.reply.Reply.TheVariants.{Answered, NotYet}
 use Rattle.site_core.specs.State.{Kept, ScheduleAnswer}
 use Rattle.site_core.specs.Right.{IsCompiledFor}
 use Rattle.site_core.specs.Requests.{request_of, with_answer, answered, without}
-use Rattle.site_core.specs.ByCases.Requests.{refusal_to_compile, IsCompiledIn, handed_with, handed_out}
+use Rattle.site_core.specs.ByCases.Requests.{refusal_to_compile, IsCompiledIn, MayBePosted, IsPostedIn, handed_with, handed_out}
 
 abbrev pub has_number : ℕ → Kept → Bool
 has_number number kept = kept.number == number
@@ -87,6 +88,25 @@ compiled_in number requests place kept answer found read none right =
       answer = answer;
       right = right;
       now = sym (first.answers answer);
+    }
+
+-- it is answered by what was brought for it
+pub posted_in : (number : ℕ) (requests : List Kept) (place : ℕ) (kept : Kept)
+    (brought : CompiledAnswer) (answer : ScheduleAnswer)
+    → Some place ≡ position (has_number number) requests
+    → kept ≡ get_or requests place kept → MayBePosted kept brought
+    → IsCompiledFor brought.book brought.ask brought.answer → answer ≡ brought.answer
+    → IsPostedIn number brought requests (slice_set requests place (with_answer kept answer))
+posted_in number requests place kept brought answer found read may right same =
+    let first = first_of number requests place kept found read in
+    record {
+      kept = kept;
+      is_kept = first.is_kept;
+      had_none = may.had_none;
+      fits = may.fits;
+      right = rw (← may.fits.book, ← may.fits.ask) right;
+      now = ap (λ (a : ScheduleAnswer). slice_set requests place (with_answer kept a)) same
+          ∙ sym (first.answers brought.answer);
     }
 
 -- it isn't handed out yet

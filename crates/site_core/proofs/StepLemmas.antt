@@ -1,6 +1,6 @@
 -- What the steps that are made do at the point that they name, and what they leave of the site, of the kept
 -- requests and of their numbers.
-use Rattle.std.proofs.Common.{◌≡◌, ℕ, ◌+◌, ◌<◌, ◌==◌, Bool, true, false, not, cond, List, [], Option, Some, None, Result, Ok, Err, slice_set, slice_index_or, length, is_some, refl, sym, ap, ◌∙◌, subst, inl, inr, ◌&&◌}
+use Rattle.std.proofs.Common.{◌≡◌, ℕ, ◌+◌, ◌<◌, ◌==◌, Bool, true, false, not, cond, List, [], Option, Some, None, Result, Ok, Err, slice_set, slice_index_or, length, is_some, refl, sym, ap, ◌∙◌, subst, inl, inr, ◌&&◌, add-zero}
 use Rattle.std.proofs.lemmas.Bool.{eqb-true}
 use Rattle.std.proofs.lemmas.List.{length-set}
 use Rattle.std.proofs.lemmas.List.Quantifiers.{position-Some}
@@ -23,10 +23,11 @@ use Rattle.site_core.specs.State.{MachineState, Kept, ScheduleAnswer, no_point, 
 use Rattle.site_core.specs.Requests.{request_of, answered, without, all_stopped}
 use Rattle.site_core.specs.Right.{IsCompiledFor}
 use Rattle.site_core.specs.Ask.{ask_at}
-use Rattle.site_core.specs.Step.{Told, Made, Steps, done, done_at, told_at, affected, at_place, at_point, at_link, at_linked_place, takes, takes_ask, with_request, compiles_kept, answers_kept, answers_with, finishes, unchanged, stepped, no_answer, is_event, installs, clears, starts, stops, attaches, sends, confirms, loses}
+use Rattle.site_core.specs.Step.{Told, Made, Steps, Counted, counted, is_reply_to, RepliesAreTheirSteps, done, done_at, told_at, affected, at_place, at_point, at_link, at_linked_place, takes, takes_ask, with_request, compiles_kept, answers_kept, answers_with, finishes, unchanged, stepped, no_answer, is_event, installs, clears, starts, stops, attaches, sends, confirms, loses}
 use Rattle.site_core.specs.History.{reply_takes, asks_answer_of, has_answer}
 use Rattle.site_core.specs.CallOrder.{is_at, place_named, names, effect_by, traffic_by, point_by, calls_by, confirmed_by, numbers_of_calls, change_by, changes_in}
 use Rattle.site_core.proofs.EffectLemmas.{Agrees, told_reply, told_effect, nothing_affected, done_is, draws_no_request, changed_in, sent_by_effect, confirmed_by_effect, bodies_in, unless_holds, either_holds}
+use Rattle.site_core.proofs.EffectLemmas.{draws_versions, only_changes_counted}
 use Rattle.site_core.proofs.EffectLemmas.{install_agrees, clear_agrees, start_agrees, stop_agrees, attach_agrees, send_agrees, confirm_agrees, lose_agrees}
 
 -- ---- what holds of whatever is made
@@ -137,6 +138,11 @@ pub record LeavesRequests (old : MachineState) (step : Step) (made : Made) : Typ
       (effect_by step made.reply)
   pub acts : (place : ℕ) → HasPlaces old → Acts place old step made
   pub alone : is_event old made.reply ≡ false → made.after ≡ old
+  pub versions : made.after.numbers.version
+      ≡ old.numbers.version + (counted made.reply).changes
+  pub takes : (counted made.reply).takes ≡ 0
+  pub answers : (counted made.reply).answers ≡ 0
+  pub its_own : is_reply_to step made.reply ≡ true
 
 pub place_within : (site : SiteState) (point : List ℕ) (place : ℕ)
     → place_of site point ≡ Some place → place < length site.points
@@ -233,6 +239,13 @@ at_point_leaves old point step made named is =
           (is_this_number place) named) is.agrees;
       alone = λ no_event. nothing_affected old is.place is.told (sym (is.agrees.event old)
           ∙ no_event);
+      versions = draws_versions is.told old.numbers
+          ∙ ap (λ (n : Counted). old.numbers.version + n.changes) (sym is.agrees.counts);
+      takes = ap (λ (n : Counted). n.takes) is.agrees.counts
+          ∙ (only_changes_counted is.told).0;
+      answers = ap (λ (n : Counted). n.answers) is.agrees.counts
+          ∙ (only_changes_counted is.told).1;
+      its_own = is.agrees.its_own;
     })
 
 -- what holds of whatever is made holds of what was made
@@ -454,6 +467,10 @@ does old (steps.Answer number) reply new made =
           acts = λ place many. idle place old (steps.Answer number)
               (unchanged old NotYet) refl refl refl refl (λ book. refl);
           alone = λ no_event. refl;
+          versions = sym (add-zero _);
+          takes = refl;
+          answers = refl;
+          its_own = refl;
         }))
 does old steps.Finish reply new made = finished (finishes_is old)
   where
@@ -476,6 +493,10 @@ does old steps.Finish reply new made = finished (finishes_is old)
           acts = λ place many. idle place old steps.Finish
               (unchanged old Finished) refl refl refl refl (λ book. refl);
           alone = λ no_event. refl;
+          versions = sym (add-zero _);
+          takes = refl;
+          answers = refl;
+          its_own = refl;
         }))
     finished (inr same) = subst (Does old steps.Finish) (same.1 ∙ is) (finishes_all same.0)
 does old (steps.Attach point) reply new made =
@@ -533,3 +554,17 @@ no_event_no_change old step made (hands_one number kept answer found has) no_eve
 no_event_no_change old step made (finishes_all going) no_event =
     let going_on : not old.is_stopped ≡ true = ap not going in
     absurd (cc (going_on, no_event))
+
+-- ---- replies
+
+its_own : (old : MachineState) (step : Step) (made : Made) → Does old step made
+    → is_reply_to step made.reply ≡ true
+its_own old step made (leaves _ _ is) = is.its_own
+its_own old step made (takes_one take place ask point asks going) = refl
+its_own old step made (compiles_one number kept answer found unanswered right) = refl
+its_own old step made (hands_one number kept answer found has) = refl
+its_own old step made (finishes_all going) = refl
+
+pub replies_are_their_steps : RepliesAreTheirSteps
+replies_are_their_steps old step reply new made =
+    its_own old step (record { reply = reply; after = new }) (does old step reply new made)

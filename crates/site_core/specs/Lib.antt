@@ -6,6 +6,7 @@ pub mod Right
 pub mod Ask
 pub mod Requests
 pub mod Step
+pub mod Post
 pub mod ByCases
 pub mod Run
 pub mod History
@@ -15,4 +16,5 @@ pub mod OutboxOrder
 pub mod Obey
 pub mod ObeyOrder
 pub mod CallOrder
+pub mod Counts
 pub mod Theory

@@ -364,6 +364,63 @@ is_event old Nothing = false
 is_event old Confirmed = true
 is_event old LinkLost = true
 
+-- of how many changes, Takes and answers a reply tells
+pub record Counted : Type 0 where
+  pub changes : ℕ
+  pub takes : ℕ
+  pub answers : ℕ
+
+abbrev pub no_count : Counted
+no_count = record { changes = 0; takes = 0; answers = 0 }
+
+abbrev pub one_change : Counted
+one_change = record { changes = 1; takes = 0; answers = 0 }
+
+abbrev pub one_take : Counted
+one_take = record { changes = 0; takes = 1; answers = 0 }
+
+abbrev pub one_answer : Counted
+one_answer = record { changes = 0; takes = 0; answers = 1 }
+
+abbrev pub counted : Reply → Counted
+counted Accepted = one_change
+counted Unknown = no_count
+counted (Started number) = one_change
+counted (Repeated number) = no_count
+counted Ended = one_change
+counted NoSuch = no_count
+counted (Taken number book ask) = one_take
+counted Compiled = no_count
+counted (Answered book ask answer) = one_answer
+counted NotYet = no_count
+counted Finished = no_count
+counted (Attached link) = no_count
+counted (Sent call) = no_count
+counted Nothing = no_count
+counted Confirmed = no_count
+counted LinkLost = no_count
+
+-- whether a reply is one of a step's
+abbrev pub is_reply_to : Step → Reply → Bool
+is_reply_to (steps.Install point row) Accepted = true
+is_reply_to (steps.Clear point criteria) Accepted = true
+is_reply_to (steps.Clear point criteria) Unknown = true
+is_reply_to (steps.Start point connector begin) (Started number) = true
+is_reply_to (steps.Start point connector begin) (Repeated number) = true
+is_reply_to (steps.Stop point number) Ended = true
+is_reply_to (steps.Stop point number) NoSuch = true
+is_reply_to (steps.Take take) (Taken number book ask) = true
+is_reply_to (steps.Compile number) Compiled = true
+is_reply_to (steps.Answer number) (Answered book ask answer) = true
+is_reply_to (steps.Answer number) NotYet = true
+is_reply_to steps.Finish Finished = true
+is_reply_to (steps.Attach point) (Attached link) = true
+is_reply_to (steps.Send point link) (Sent call) = true
+is_reply_to (steps.Send point link) Nothing = true
+is_reply_to (steps.Confirm point link number) Confirmed = true
+is_reply_to (steps.Lost point link) LinkLost = true
+is_reply_to step reply = false
+
 -- ---- what would come of a step
 
 -- whether it would be an event, or why it would be refused
@@ -424,3 +481,16 @@ pub record IsRefused (old : MachineState) (step : Step) (refused : Refused) (new
   pub cause : IsRefusalOf (stepped no_answer old step) refused.refusal
   pub unchanged : new ≡ old
   pub back : refused.step ≡ step
+
+-- ---- the laws of replies
+
+-- each step has one of its own
+abbrev pub RepliesAreTheirSteps : Type 0
+RepliesAreTheirSteps =
+    (old : MachineState) (step : Step) (reply : Reply) (new : MachineState)
+    → Steps old step reply new → is_reply_to step reply ≡ true
+
+-- what is answered without an event wants no memory
+abbrev pub OnlyEventsWantMemory : Type 0
+OnlyEventsWantMemory =
+    (old : MachineState) (reply : Reply) → wants_memory reply ≡ true → is_event old reply ≡ true

@@ -30,10 +30,11 @@ pub fn histories_send_calls_in_order()
 /// The same from any state that a central system may be in, along every legal history: what is kept of
 /// each point is what the point's own events make of what was kept of it. Its profiles are what their
 /// changes make of those that it had. Where its calls had consecutive numbers, as at the opening they have
-/// from 0 on, they have them after the history again, from as much later on as calls were confirmed since; and
-/// the numbers of the calls that Send replies for it begin with that of the first call that wasn't
-/// confirmed, or the next one, and each later one equals the one before it or is one more. Each call that is sent is one of those that weren't confirmed, or of those
-/// since. And the calls that are kept are these without the ones confirmed since.
+/// from 0 on, they have them after the history again, from as much later on as calls were confirmed since;
+/// and the numbers of the calls that Send replies for it begin with that of the first call that wasn't
+/// confirmed, or the next one, and each later one equals the one before it or is one more. Each call that
+/// is sent is one of those that weren't confirmed, or of those since. And the calls that are kept are
+/// these without the ones confirmed since.
 pub fn histories_go_on_from_any_state()
     ensures points { PointsFollowHistories }
     ensures rows { RowsGoOn }

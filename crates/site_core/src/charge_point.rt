@@ -55,6 +55,16 @@ impl ChargePoint {
         })
     }
 
+    /// A copy, which shares the book.
+    pub fn copy(&self) -> Result<ChargePoint, AllocError>
+        ensures { IfOk result (λ copy. copy ≡ self.now) }
+    {
+        Ok(ChargePoint {
+            book: self.book.share()?,
+            outbox: self.outbox.copy()?,
+        })
+    }
+
     /// What the point has.
     pub fn book(&self) -> &PointBook
         ensures { result.now ≡ self.now.book }

@@ -19,6 +19,20 @@ pub(crate) fn opening_points(alloc: Global, site: &Site) -> Result<Vec<ChargePoi
     Ok(points)
 }
 
+/// A copy, which shares the points' books.
+pub(crate) fn copy_of_points(
+    alloc: Global,
+    points: &[ChargePoint],
+) -> Result<Vec<ChargePoint>, AllocError>
+    ensures { IfOk result (λ copies. copies.items ≡ points.now) }
+{
+    let mut copies = Vec::with_capacity(alloc, points.len())?;
+    for point in points {
+        copies.push(point.copy()?)?;
+    }
+    Ok(copies)
+}
+
 /// The point at a place.
 pub(crate) fn point_at(points: &Vec<ChargePoint>, place: usize) -> &ChargePoint
     requires { place < length points.now.items }

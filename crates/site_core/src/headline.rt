@@ -12,11 +12,13 @@ ghost use Rattle.site_core.specs.declared.outcome.Outcome.{Outcome};
 ghost use Rattle.site_core.specs.State.{MachineState, Kept, ScheduleAnswer, opening_at};
 ghost use Rattle.site_core.specs.Requests.{request_of};
 ghost use Rattle.site_core.specs.Step.{Steps, is_event};
+ghost use Rattle.site_core.specs.Step.{RepliesAreTheirSteps, OnlyEventsWantMemory};
 ghost use Rattle.site_core.specs.Run.{Runs};
 ghost use Rattle.site_core.specs.History.{Event, Legal, history_of, answered_event};
 ghost use Rattle.site_core.specs.History.{takes_of, answers_of, kept_of, IsAnswered};
 ghost use Rattle.site_core.specs.StoredHistory.{ReplaysAreOne, ReplaysAreLegal};
 ghost use Rattle.site_core.specs.StoredHistory.{HistoriesCanBeStored, ReplaysGoOn};
+ghost use Rattle.site_core.specs.Counts.{NumbersTellOfHistories};
 ghost use Rattle.site_core.specs.Headline.{IsRightAfter, AnswersAreRight};
 ghost use Rattle.site_core.specs.Headline.{OpeningsKeepRight, RequestsStayRight};
 ghost use Rattle.site_core.specs.Headline.{RequestsHaveTheirBooks, AnswersGoOnRight};
@@ -133,4 +135,17 @@ pub fn requests_go_on_from_any_state()
     ensures books { RequestsHaveTheirBooks }
     ensures answers { AnswersGoOnRight }
     ensures balance { RequestsBalance }
+{}
+
+/// The law that the numbers tell of a history: each change of a point's book draws a version of the store,
+/// each Take a request's number, and a request is kept from its Take until its answer is handed out.
+pub fn numbers_tell_of_histories()
+    ensures { NumbersTellOfHistories }
+{}
+
+/// The law that each step has a reply of its own, as an Install has none but Accepted, and that what is
+/// answered without an event wants no memory.
+pub fn replies_are_their_steps()
+    ensures own { RepliesAreTheirSteps }
+    ensures memory { OnlyEventsWantMemory }
 {}

@@ -28,9 +28,10 @@ pub use call_laws::{
 };
 pub use headline::{
     answered_schedules_are_right, answers_are_right, answers_follow_one_take, answers_stay,
-    only_events_change_the_state, points_follow_events, requests_are_answered_once,
-    requests_go_on_from_any_state, runs_are_legal, runs_join, runs_keep_the_site,
-    stopped_requests_are_answered, stored_histories_replay,
+    numbers_tell_of_histories, only_events_change_the_state, points_follow_events,
+    replies_are_their_steps, requests_are_answered_once, requests_go_on_from_any_state,
+    runs_are_legal, runs_join, runs_keep_the_site, stopped_requests_are_answered,
+    stored_histories_replay,
 };
 pub use machine::Machine;
 pub use numbers::{MAX_NUMBER, Numbers};

@@ -14,24 +14,27 @@ mod outlook;
 mod schedules;
 
 use crate::charge_point::ChargePoint;
-use crate::charge_points::{opening_points, point_at};
+use crate::charge_points::{copy_of_points, opening_points, point_at};
 use crate::numbers::Numbers;
 use crate::outcome::{Outcome, Refused, RunFault};
 use crate::point_id::PointId;
 use crate::reply::Reply;
 use crate::request::Request;
+use crate::requests::copy_of_requests;
 use crate::step::Step;
 use ocpp_scalars::Refusal;
 use site_rules::Site;
 use std::alloc::{AllocError, Global};
 use std::marker::Model;
+use std::sync::Arc;
 
 /// The central system of a site: what each of its points has, the requests for schedules that are kept,
 /// and the numbers that were drawn last.
 #[derive(Drop)]
 pub struct Machine {
     alloc: Global,
-    site: Site,
+    /// No step changes it, and copies share it.
+    site: Arc<Site>,
     numbers: Numbers,
     /// Each at its place in the site file.
     points: Vec<ChargePoint>,
@@ -41,12 +44,13 @@ pub struct Machine {
 }
 
 impl Model for Machine {
+    ghost use Rattle.std.specs.Arc.{arc_value};
     ghost use Rattle.site_core.specs.State.{MachineState, IsMachine};
 
     ghost Value = { MachineState };
 
     ghost view = { λ m. record {
-      site = m.site;
+      site = arc_value m.site;
       numbers = m.numbers;
       points = m.points.items;
       requests = m.requests.items;
@@ -54,7 +58,7 @@ impl Model for Machine {
     } };
 
     ghost invariant = { λ m. IsMachine (record {
-      site = m.site;
+      site = arc_value m.site;
       numbers = m.numbers;
       points = m.points.items;
       requests = m.requests.items;
@@ -82,6 +86,7 @@ impl Machine {
         ensures { IfOk result (λ machine. machine ≡ opening_at site numbers) }
     {
         let points = opening_points(alloc, &site)?;
+        let site = Arc::new(alloc, site)?;
         Ok(Machine {
             alloc,
             site,
@@ -89,6 +94,20 @@ impl Machine {
             points,
             requests: Vec::new(alloc),
             is_stopped: false,
+        })
+    }
+
+    /// A copy, which shares the site and the points' books.
+    pub fn copy(&self) -> Result<Machine, AllocError>
+        ensures { IfOk result (λ copy. copy ≡ self.now) }
+    {
+        Ok(Machine {
+            alloc: self.alloc,
+            site: Arc::try_clone(&self.site)?,
+            numbers: self.numbers,
+            points: copy_of_points(self.alloc, &self.points)?,
+            requests: copy_of_requests(self.alloc, &self.requests)?,
+            is_stopped: self.is_stopped,
         })
     }
 

@@ -107,6 +107,18 @@ impl Outbox {
         })
     }
 
+    /// A copy.
+    pub fn copy(&self) -> Result<Outbox, AllocError>
+        ensures { IfOk result (λ copy. copy ≡ self.now) }
+    {
+        Ok(Outbox {
+            link: self.link,
+            bodies: copy_of_bodies(&self.bodies)?,
+            next: self.next,
+            is_in_flight: self.is_in_flight,
+        })
+    }
+
     /// How many calls aren't confirmed, the one in flight among them.
     pub fn len(&self) -> usize
         ensures value { result ≡ length self.now.calls }
@@ -233,4 +245,14 @@ fn join(bodies: &mut LinkedList<CallBody>, mut more: LinkedList<CallBody>)
     ensures { bodies.new ≡ bodies.old ++ more }
 {
     bodies.append(&mut more).unwrap();
+}
+
+fn copy_of_bodies(bodies: &LinkedList<CallBody>) -> Result<LinkedList<CallBody>, AllocError>
+    ensures { IfOk result (λ copy. copy ≡ bodies.now) }
+{
+    let mut copies = LinkedList::new(*bodies.allocator());
+    for body in bodies.iter() {
+        copies.push_back(body.copy()?)?;
+    }
+    Ok(copies)
 }

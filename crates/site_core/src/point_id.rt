@@ -37,6 +37,14 @@ impl PointId {
         })
     }
 
+    /// A copy.
+    pub fn copy(&self, alloc: Global) -> Result<PointId, AllocError>
+        ensures { IfOk result (λ copy. copy ≡ self.now) }
+    {
+        let copy = PointId::copied(alloc, self.as_str())?;
+        Ok(copy)
+    }
+
     /// The text.
     pub fn as_str(&self) -> &str
         ensures { result.now ≡ self.now }

@@ -1,9 +1,15 @@
 //! A request for a composite schedule that is kept.
 
+ghost use Rattle.std.specs.Prelude.{◌≡◌, ◌↔◌, IsTrue, IfOk, MatchResult};
+ghost use Rattle.site_core.specs.Post.{IsRefusedFor};
+ghost use Rattle.site_core.specs.ByCases.Requests.{MayBePosted};
+
 use crate::shared_book::SharedBook;
 use meaning::{Ask, Composite};
 use ocpp_scalars::Refusal;
+use std::alloc::AllocError;
 use std::marker::Model;
+use sweep_compiler::Compiled;
 
 /// The most requests for composite schedules that are kept, answered or not.
 pub const MAX_REQUESTS: usize = 64;
@@ -37,4 +43,52 @@ impl Model for Request {
     } };
 
     ghost invariant = { λ r. r.ask.connector ≤ length r.book.ceilings };
+}
+
+impl Request {
+    /// A copy, which shares the book.
+    pub fn copy(&self) -> Result<Request, AllocError>
+        ensures { IfOk result (λ copy. copy ≡ self.now) }
+    {
+        Ok(Request {
+            number: self.number,
+            place: self.place,
+            book: self.book.share()?,
+            ask: self.ask,
+            answer: copy_of_answer(&self.answer)?,
+        })
+    }
+
+    /// Whether a brought answer may be this request's. The refusals are `AlreadyAnswered`, and then
+    /// `StrangerInput`, where it is for another book or another ask.
+    pub fn check_post(&self, brought: &Compiled) -> Result<(), Refusal>
+        ensures { MatchResult result (λ _. MayBePosted self.now brought.now)
+            (λ refusal. IsRefusedFor self.now brought.now refusal) }
+    {
+        if self.answer.is_some() {
+            return Err(Refusal::AlreadyAnswered);
+        }
+        if !self.book.book().same(brought.book()) || !is_same(&self.ask, brought.ask()) {
+            return Err(Refusal::StrangerInput);
+        }
+        Ok(())
+    }
+}
+
+fn is_same(one: &Ask, other: &Ask) -> bool
+    ensures { IsTrue result ↔ (one.now ≡ other.now) }
+{
+    one.connector == other.connector && one.start == other.start && one.duration == other.duration
+}
+
+fn copy_of_answer(
+    answer: &Option<Result<Composite, Refusal>>,
+) -> Result<Option<Result<Composite, Refusal>>, AllocError>
+    ensures { IfOk result (λ copy. copy ≡ answer.now) }
+{
+    match answer {
+        None => Ok(None),
+        Some(Ok(schedule)) => Ok(Some(Ok(schedule.copy()?))),
+        Some(Err(refusal)) => Ok(Some(Err(*refusal))),
+    }
 }

@@ -1,18 +1,20 @@
 //! The kept requests: finding one by its number, compiling it, and handing out its answer.
 
-ghost use Rattle.std.specs.Prelude.{◌≡◌, ◌≤◌, ◌==◌, length, Some, Ok, Err, true, is_some, MatchResult, IfOk, option_map};
+ghost use Rattle.std.specs.Prelude.{◌≡◌, ◌≤◌, ◌==◌, length, Some, Ok, Err, true, is_some, MatchResult, IfOk, IfErr, option_map};
 ghost use Rattle.site_core.specs.declared.reply.Reply.{Reply};
 ghost use Rattle.std.specs.List.{position};
 ghost use Rattle.site_core.specs.State.{Kept};
 ghost use Rattle.site_core.specs.Requests.{request_of, stopped_request, all_stopped};
 ghost use Rattle.site_core.specs.Step.{HasAskedConnector};
-ghost use Rattle.site_core.specs.ByCases.Requests.{refusal_to_compile, IsCompiledIn, handed_out, compile_outlook, hand_out_outlook};
+ghost use Rattle.site_core.specs.Post.{IsRefusedPost};
+ghost use Rattle.site_core.specs.ByCases.Requests.{refusal_to_compile, IsCompiledIn, IsPostedIn, handed_out, compile_outlook, hand_out_outlook};
 
 use crate::reply::Reply;
 use crate::request::Request;
+use meaning::Composite;
 use ocpp_scalars::Refusal;
-use std::alloc::Global;
-use sweep_compiler::{Turns, compile};
+use std::alloc::{AllocError, Global};
+use sweep_compiler::{Compiled, Turns, compile};
 
 /// The place of the request of a number.
 fn place_of(requests: &[Request], number: u64) -> Option<usize>
@@ -45,6 +47,48 @@ pub(crate) fn compile_request(
     let answer = compile(alloc, request.book.book(), &request.ask, &mut Turns::new());
     request.answer = Some(answer);
     Ok(())
+}
+
+/// Compiles the request of a number with a brought answer, which comes back a second time. The refusals
+/// are `UnknownRequest`, `AlreadyAnswered` and `StrangerInput`; then the brought one comes back.
+pub(crate) fn post_answer(
+    requests: &mut Vec<Request>,
+    number: u64,
+    brought: Compiled,
+) -> Result<Result<Composite, Refusal>, (Refusal, Compiled)>
+    ensures posted { IfOk result (λ _.
+        IsPostedIn number brought requests.old.items requests.new.items) }
+    ensures again { IfOk result (λ again. again ≡ brought.answer) }
+    ensures refused { IfErr result (λ refused.
+        IsRefusedPost (request_of number requests.old.items) brought refused.0) }
+    ensures kept { IfErr result (λ refused. requests.new.items ≡ requests.old.items) }
+    ensures back { IfErr result (λ refused. refused.1 ≡ brought) }
+    ensures many { length requests.new.items ≡ length requests.old.items }
+{
+    let Some(place) = place_of(requests, number) else {
+        return Err((Refusal::UnknownRequest, brought));
+    };
+    let request = &mut requests[place];
+    if let Err(refusal) = request.check_post(&brought) {
+        return Err((refusal, brought));
+    }
+    let (posted, again) = brought.into_answers();
+    request.answer = Some(posted);
+    Ok(again)
+}
+
+/// A copy, which shares the books.
+pub(crate) fn copy_of_requests(
+    alloc: Global,
+    requests: &[Request],
+) -> Result<Vec<Request>, AllocError>
+    ensures { IfOk result (λ copies. copies.items ≡ requests.now) }
+{
+    let mut copies = Vec::with_capacity(alloc, requests.len())?;
+    for request in requests {
+        copies.push(request.copy()?)?;
+    }
+    Ok(copies)
 }
 
 /// Hands out the answer to the request of a number, which is no longer kept then, or says that it isn't

@@ -28,6 +28,8 @@ impl Model for SharedBook {
 }
 
 impl SharedBook {
+    ghost use Rattle.std.specs.Arc.{arc_value};
+
     /// A book with one owner.
     pub fn new(alloc: Global, book: PointBook) -> Result<SharedBook, AllocError>
         ensures { IfOk result (λ shared. shared ≡ book) }
@@ -51,6 +53,13 @@ impl SharedBook {
         ensures { result.now ≡ self.now }
     {
         &self.book
+    }
+
+    /// The book, shared with who has it too. Copies nothing.
+    pub fn into_arc(self) -> Arc<PointBook>
+        ensures { arc_value result ≡ self }
+    {
+        self.book
     }
 
     /// Installs a row (chapter 5.16), which may be installed. Out of memory the row comes back.

@@ -1,8 +1,11 @@
 //! The steps of the central system.
 
+ghost use Rattle.std.specs.Prelude.{◌≡◌, IfOk};
+
 use crate::point_id::PointId;
 use ocpp_scalars::Instant;
 use profile::{Criteria, Row, Unit};
+use std::alloc::{AllocError, Global};
 use transactions::Begin;
 
 /// What the central system is to do.
@@ -70,4 +73,69 @@ pub struct Take {
     pub unit: Option<Unit>,
     /// The newest version of the store that the asker has seen, 0 for none.
     pub seen: u64,
+}
+
+impl Step {
+    /// A copy.
+    pub fn copy(&self, alloc: Global) -> Result<Step, AllocError>
+        ensures { IfOk result (λ copy. copy ≡ self.now) }
+    {
+        Ok(match self {
+            Step::Install { point, row } => Step::Install {
+                point: point.copy(alloc)?,
+                row: row.copy()?,
+            },
+            Step::Clear { point, criteria } => Step::Clear {
+                point: point.copy(alloc)?,
+                criteria: *criteria,
+            },
+            Step::Start {
+                point,
+                connector,
+                begin,
+            } => Step::Start {
+                point: point.copy(alloc)?,
+                connector: *connector,
+                begin: begin.copy(alloc)?,
+            },
+            Step::Stop { point, transaction } => Step::Stop {
+                point: point.copy(alloc)?,
+                transaction: *transaction,
+            },
+            Step::Take(take) => Step::Take(take.copy(alloc)?),
+            Step::Compile(number) => Step::Compile(*number),
+            Step::Answer(number) => Step::Answer(*number),
+            Step::Finish => Step::Finish,
+            Step::Attach(point) => Step::Attach(point.copy(alloc)?),
+            Step::Send { point, link } => Step::Send {
+                point: point.copy(alloc)?,
+                link: *link,
+            },
+            Step::Confirm { point, link, call } => Step::Confirm {
+                point: point.copy(alloc)?,
+                link: *link,
+                call: *call,
+            },
+            Step::Lost { point, link } => Step::Lost {
+                point: point.copy(alloc)?,
+                link: *link,
+            },
+        })
+    }
+}
+
+impl Take {
+    /// A copy.
+    pub fn copy(&self, alloc: Global) -> Result<Take, AllocError>
+        ensures { IfOk result (λ copy. copy ≡ self.now) }
+    {
+        Ok(Take {
+            point: self.point.copy(alloc)?,
+            connector: self.connector,
+            start: self.start,
+            duration: self.duration,
+            unit: self.unit,
+            seen: self.seen,
+        })
+    }
 }

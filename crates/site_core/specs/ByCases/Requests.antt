@@ -2,11 +2,13 @@
 use Rattle.std.specs.Prelude.{◌≡◌, ℕ, Bool, true, false, List, Option, Some, None, is_some, Result, Ok, Err, if◌then◌else◌}
 use Rattle.ocpp_scalars.specs.declared.refusal.Refusal.{Refusal}
 use Rattle.ocpp_scalars.specs.declared.refusal.Refusal.TheVariants.{UnknownRequest, AlreadyAnswered}
+use Rattle.sweep_compiler.specs.Compiled.{CompiledAnswer}
 use Rattle.site_core.specs.declared.reply.Reply.{Reply}
 use Rattle.site_core.specs.declared.reply.Reply.TheVariants.{Answered, NotYet}
 use Rattle.site_core.specs.State.{Kept, ScheduleAnswer}
 use Rattle.site_core.specs.Right.{IsCompiledFor}
 use Rattle.site_core.specs.Requests.{request_of, answered, without}
+use Rattle.site_core.specs.Post.{IsFor}
 
 -- why the request of a number isn't compiled
 abbrev pub refusal_to_compile : Option Kept → Option Refusal
@@ -21,6 +23,20 @@ pub record IsCompiledIn (number : ℕ) (old new : List Kept) : Type 0 where
   pub answer : ScheduleAnswer
   pub right : IsCompiledFor kept.book kept.ask answer
   pub now : new ≡ answered number answer old
+
+-- a brought answer may be posted for a request: it has none, and the brought one is its
+pub record MayBePosted (kept : Kept) (brought : CompiledAnswer) : Type 0 where
+  pub had_none : is_some kept.answer ≡ false
+  pub fits : IsFor kept brought
+
+-- the request of a number had no answer, and has the brought one now, which is right for it
+pub record IsPostedIn (number : ℕ) (brought : CompiledAnswer) (old new : List Kept) : Type 0 where
+  pub kept : Kept
+  pub is_kept : request_of number old ≡ Some kept
+  pub had_none : is_some kept.answer ≡ false
+  pub fits : IsFor kept brought
+  pub right : IsCompiledFor kept.book kept.ask brought.answer
+  pub now : new ≡ answered number brought.answer old
 
 -- the reply where the request of a number is asked for, and the requests that are kept then
 abbrev pub handed_with : Kept → Option ScheduleAnswer → List Kept → Reply × List Kept

@@ -5,8 +5,9 @@ use Rattle.std.proofs.Common.{refl}
 use Rattle.site_core.specs.declared.step.Step.{Step}
 use Rattle.site_core.specs.declared.step.Step.TheVariants as steps
 use Rattle.site_core.specs.declared.reply.Reply.{Reply}
+use Rattle.site_core.specs.declared.reply.Reply.TheVariants.{Accepted, Unknown, Started, Repeated, Ended, NoSuch, Taken, Compiled, Answered, NotYet, Finished, Attached, Sent, Nothing, Confirmed, LinkLost}
 use Rattle.site_core.specs.State.{MachineState, ScheduleAnswer}
-use Rattle.site_core.specs.Step.{Steps, stepped, no_answer}
+use Rattle.site_core.specs.Step.{Steps, stepped, no_answer, OnlyEventsWantMemory}
 
 -- the answer beside a step makes no difference
 abbrev pub NeedsNoAnswer : Step → Type 0
@@ -57,3 +58,22 @@ compile_or_other (steps.Confirm point link number) =
     is_other _ (λ answer old. refl) (λ old reply new is. is) (λ old reply new is. is)
 compile_or_other (steps.Lost point link) =
     is_other _ (λ answer old. refl) (λ old reply new is. is) (λ old reply new is. is)
+
+-- what is answered without an event wants no memory
+pub only_events_want_memory : OnlyEventsWantMemory
+only_events_want_memory old Accepted wants = refl
+only_events_want_memory old Unknown wants = absurd (cc wants)
+only_events_want_memory old (Started number) wants = refl
+only_events_want_memory old (Repeated number) wants = absurd (cc wants)
+only_events_want_memory old Ended wants = refl
+only_events_want_memory old NoSuch wants = absurd (cc wants)
+only_events_want_memory old (Taken number book ask) wants = refl
+only_events_want_memory old Compiled wants = refl
+only_events_want_memory old (Answered book ask answer) wants = refl
+only_events_want_memory old NotYet wants = absurd (cc wants)
+only_events_want_memory old Finished wants = absurd (cc wants)
+only_events_want_memory old (Attached link) wants = refl
+only_events_want_memory old (Sent call) wants = refl
+only_events_want_memory old Nothing wants = absurd (cc wants)
+only_events_want_memory old Confirmed wants = refl
+only_events_want_memory old LinkLost wants = refl

@@ -3,6 +3,10 @@
 ghost use Rattle.std.specs.Prelude.{◌≡◌, ◌<◌, Some, IfOk, IfErr, MatchResult, length};
 ghost use Rattle.site_core.specs.declared.reply.Reply.{Reply};
 ghost use Rattle.site_core.specs.Step.{HasAskedConnector, at_point, refusal_to_take, takes, Compiles, no_answer, compiles, answers, finishes, cause_of};
+ghost use Rattle.site_core.specs.declared.step.Step.TheVariants as steps;
+ghost use Rattle.site_core.specs.Step.{Steps};
+ghost use Rattle.site_core.specs.Requests.{request_of};
+ghost use Rattle.site_core.specs.Post.{Posts, IsRefusedPost};
 ghost use Rattle.site_core.specs.ByCases.Made.{IsMade, IsNotMade};
 
 use crate::ask::ask_at;
@@ -11,11 +15,12 @@ use crate::machine::Machine;
 use crate::numbers::MAX_NUMBER;
 use crate::reply::Reply;
 use crate::request::{MAX_REQUESTS, Request};
-use crate::requests::{compile_request, hand_out, stop_all};
+use crate::requests::{compile_request, hand_out, post_answer, stop_all};
 use crate::shared_book::SharedBook;
 use crate::step::Take;
-use meaning::Ask;
+use meaning::{Ask, Composite};
 use ocpp_scalars::Refusal;
+use sweep_compiler::Compiled;
 
 impl Machine {
     /// Keeps a request for a schedule of a point.
@@ -89,6 +94,28 @@ impl Machine {
     {
         compile_request(self.alloc, &mut self.requests, number)?;
         Ok(Reply::Compiled)
+    }
+
+    /// Compiles the request of a number with an answer that is brought (chapter 5.7), by who compiled it
+    /// elsewhere. The answer comes back a second time. The refusals are `UnknownRequest`,
+    /// `AlreadyAnswered`, and `StrangerInput`, where the answer is for another book or another ask; then
+    /// nothing has changed, and what was brought comes back. Allocates nothing.
+    pub fn post(
+        &mut self,
+        number: u64,
+        brought: Compiled,
+    ) -> Result<Result<Composite, Refusal>, (Refusal, Compiled)>
+        ensures posts { IfOk result (λ again. Posts self.old number brought self.new) }
+        ensures step { IfOk result (λ again.
+            Steps self.old (steps.Compile number) Reply.Compiled self.new) }
+        ensures again { IfOk result (λ again. again ≡ brought.answer) }
+        ensures refused { IfErr result (λ refused.
+            IsRefusedPost (request_of number self.old.requests) brought refused.0) }
+        ensures kept { IfErr result (λ refused. self.new ≡ self.old) }
+        ensures back { IfErr result (λ refused. refused.1 ≡ brought) }
+    {
+        let again = post_answer(&mut self.requests, number, brought)?;
+        Ok(again)
     }
 
     /// Hands out the answer to the request of a number.
