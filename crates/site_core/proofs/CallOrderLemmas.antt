@@ -19,6 +19,7 @@ use Rattle.site_core.specs.State.{MachineState, IsMachine, opening_at, no_point,
 use Rattle.site_core.specs.OutboxOrder.{AreFrom, GoesOn, sent_at, numbers_sent, number_of, calls_confirmed, added_at, bodies_added, AreInSendingOrder}
 use Rattle.site_core.specs.Obey.{Change, Installs, Clears, Ends, rows_after, call_of, calls_of, last_number, obeyed, lasting, rows_after_call, Obeying, numbers_of}
 use Rattle.site_core.specs.History.{Event, Legal}
+use Rattle.site_core.specs.Theory.Histories.{legal_join}
 use Rattle.site_core.specs.CallOrder.{names, events_at, change_by, traffic_of, traffic_by_event, point_by, point_by_all, calls_by_event, calls_sent, confirmed_by_event, numbers_confirmed, numbers_of_calls, calls_made, IsOneOf, calls_since, CallsBeginAtZero, CallsStayConsecutive}
 use Rattle.site_core.specs.CallOrder.{PointsFollowHistories, OutboxesFollowHistories, CallsAreSentInOrder, CallsAreSentAsMade, CallsAreLeftUnlessConfirmed, ConfirmationsAreEvents, CallsGoOnInOrder, CallsAreSentAsKept, CallsStayUnlessConfirmed}
 use Rattle.site_core.specs.CallOrder.{end_at, changes_in, changes_by, changes_from, changes_of, opening_at_place, rows_after_all, bodies_of, RowsFollowHistories, RowsGoOn, PointsStayInStep, accepted, Moment, EachCallHasItsMoment, CallsAreObeyedInOrder, ObeyingPointsStayInStep}
@@ -480,14 +481,6 @@ rows_follow site numbers history state legal point place here =
     (from_opening site numbers history state place legal)
     ∙ ap (λ (rows : List Row). rows_after_all (changes_of site place history) rows)
     (no_rows_of_each site.points place)
-
-legal_join : (old : MachineState) (earlier : List Event) (middle : MachineState)
-    (later : List Event) (new : MachineState)
-    → Legal old earlier middle → Legal middle later new → Legal old (earlier ++ later) new
-legal_join old [] middle later new legal then_legal =
-    subst (λ (m : MachineState). Legal m later new) legal then_legal
-legal_join old (event ∷ earlier) middle later new legal then_legal =
-    (legal.0, legal.1, legal_join legal.0 earlier middle later new legal.2 then_legal)
 
 -- the changes of more events are more changes
 changes_more : (point : ChargePointState) (one other : List Event)

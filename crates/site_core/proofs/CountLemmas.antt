@@ -10,7 +10,7 @@ use Rattle.site_core.specs.Step.{Made, Steps, counted}
 use Rattle.site_core.specs.History.{Event, Legal}
 use Rattle.site_core.specs.Counts.{changes_in, takes_in, answers_in, TellOf, NumbersTellOfHistories}
 use Rattle.site_core.proofs.StepLemmas.{Does, does, leaves, takes_one, compiles_one, hands_one, finishes_all}
-use Rattle.site_core.proofs.TakenRequests.{found_number}
+use Rattle.site_core.specs.Theory.Requests.{found_number}
 
 -- ---- how many are kept
 

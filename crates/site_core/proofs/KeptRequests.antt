@@ -12,9 +12,10 @@ use Rattle.site_core.specs.State.{MachineState, Kept, ScheduleAnswer}
 use Rattle.site_core.specs.Requests.{request_of, with_answer, answered, without, stopped_request, all_stopped}
 use Rattle.site_core.specs.Step.{Made, Steps}
 use Rattle.site_core.specs.History.{Event, Legal, answered_event, is_take_of, takes_of, is_answer_of, answers_of, kept_of, IsAnswered}
-use Rattle.site_core.specs.Headline.{RequestsBalance}
+use Rattle.site_core.specs.Headline.{RequestsBalance, AnsweredOnceStopped, StoppedRequestsStayAnswered}
 use Rattle.site_core.proofs.StepLemmas.{handing, Does, does, leaves, takes_one, compiles_one, hands_one, finishes_all}
-use Rattle.site_core.proofs.TakenRequests.{Holds, holds_step, holds_at_base, none_right, event_of, found_number, all_answered, all_without}
+use Rattle.site_core.specs.Theory.Requests.{found_number}
+use Rattle.site_core.proofs.TakenRequests.{Holds, holds_step, holds_at_base, none_right, event_of, all_answered, all_without}
 
 -- ---- how many are kept of a number
 
@@ -373,15 +374,12 @@ stays old new (event ∷ events) number kept answer legal found has =
 
 -- ---- once the central system is stopped
 
-abbrev AllAnswered : MachineState → Type 0
-AllAnswered state = state.is_stopped ≡ true → AllByRecursion IsAnswered state.requests
-
 stopped_answered : (requests : List Kept) → AllByRecursion IsAnswered (all_stopped requests)
 stopped_answered [] = tt
 stopped_answered (first ∷ requests) = (refl, stopped_answered requests)
 
 all_answered_step : (old : MachineState) (step : Step) (made : Made) → Does old step made
-    → AllAnswered old → AllAnswered made.after
+    → AnsweredOnceStopped old → AnsweredOnceStopped made.after
 all_answered_step old step made (leaves _ _ is) all stopped = subst (AllByRecursion IsAnswered)
     (sym is.requests) (all (sym is.stopped ∙ stopped))
 all_answered_step old step made (takes_one take place ask point asks going) all stopped = cc
@@ -392,9 +390,8 @@ all_answered_step old step made (hands_one asked kept answer found has) all stop
     all_without IsAnswered kept.number old.requests (all stopped)
 all_answered_step old step made (finishes_all going) all stopped = stopped_answered old.requests
 
-pub all_answered_after : (old : MachineState) (events : List Event) (new : MachineState)
-    → AllAnswered old → Legal old events new → AllAnswered new
-all_answered_after old [] new all legal = subst AllAnswered (sym legal) all
+pub all_answered_after : StoppedRequestsStayAnswered
+all_answered_after old [] new all legal = subst AnsweredOnceStopped (sym legal) all
 all_answered_after old (event ∷ events) new all legal =
     all_answered_after legal.0 events new (all_answered_step old event.step (record {
       reply =

@@ -17,6 +17,7 @@ use Rattle.site_core.specs.declared.reply.Reply.TheVariants.{Answered, NotYet}
 use Rattle.site_core.specs.declared.outcome.Outcome.{Outcome}
 use Rattle.site_core.specs.declared.outcome.Outcome.TheVariants.{Done}
 use Rattle.site_core.specs.State.{MachineState, Kept, ScheduleAnswer, book_at}
+use Rattle.site_core.specs.Theory.Requests.{found_number, found_holds}
 use Rattle.site_core.specs.Requests.{request_of, with_answer, answered, without, stopped_request, all_stopped}
 use Rattle.site_core.specs.Right.{IsCompiledFor, IsRight}
 use Rattle.site_core.specs.Ask.{ask_at}
@@ -213,34 +214,6 @@ all_finished : (P : Kept → Type 0) (requests : List Kept) → ((kept : Kept) �
     → AllByRecursion P (all_stopped requests)
 all_finished P [] each all = tt
 all_finished P (first ∷ requests) each all = (each first all.0, all_finished P requests each all.1)
-
--- what is found has the number that was looked for
-pub found_number : (number : ℕ) (requests : List Kept) (kept : Kept)
-    → request_of number requests ≡ Some kept → kept.number ≡ number
-found_number number [] kept is = cc
-found_number number (first ∷ requests) kept is = go (first.number == number) refl is
-    (λ e. found_number number requests kept e)
-  where
-    go : (here : Bool) → (first.number == number) ≡ here
-        → cond here (Some first) (request_of number requests) ≡ Some kept
-        → (request_of number requests ≡ Some kept → kept.number ≡ number) → kept.number ≡ number
-    go true same is rest =
-        let one : first ≡ kept = cc in
-        let numbered : first.number ≡ number = grind (arith, nat_tests) in
-        ap (λ (k : Kept). k.number) (sym one) ∙ numbered
-    go false same is rest = rest is
-
--- what holds of each holds of the one that is found
-found_holds : (P : Kept → Type 0) (number : ℕ) (requests : List Kept) (kept : Kept)
-    → AllByRecursion P requests → request_of number requests ≡ Some kept → P kept
-found_holds P number [] kept all is = cc
-found_holds P number (first ∷ requests) kept all is = go (first.number == number) is
-    (λ e. found_holds P number requests kept all.1 e)
-  where
-    go : (here : Bool) → cond here (Some first) (request_of number requests) ≡ Some kept
-        → (request_of number requests ≡ Some kept → P kept) → P kept
-    go true is rest = let one : first ≡ kept = cc in subst P one all.0
-    go false is rest = rest is
 
 -- what a compiler may answer is right
 right_of : (book : BookState) (ask : Ask) (answer : ScheduleAnswer) → IsCompiledFor book ask answer

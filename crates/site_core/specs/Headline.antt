@@ -16,7 +16,7 @@ use Rattle.site_core.specs.declared.numbers.Numbers.{Numbers}
 use Rattle.site_core.specs.State.{MachineState, Kept, ScheduleAnswer, opening_at, book_at}
 use Rattle.site_core.specs.Ask.{ask_at}
 use Rattle.site_core.specs.Right.{IsRight}
-use Rattle.site_core.specs.History.{Event, Legal, history_of, taken_event, answered_event, finish_event, takes_of, answers_of, kept_of}
+use Rattle.site_core.specs.History.{Event, Legal, history_of, taken_event, answered_event, finish_event, takes_of, answers_of, kept_of, IsAnswered}
 
 -- A request of a number, with a book and an ask, was taken in these events from a state:
 pub record IsTakenIn (old : MachineState) (events : List Event) (number : ℕ) (book : BookState)
@@ -132,6 +132,17 @@ AnswersGoOnRight =
     → Legal old (earlier ++ answered_event number book ask answer ∷ later) new
     → IsRightAfter old earlier number book ask answer
     ⊎ IsRightBefore old earlier number book ask answer
+
+-- once the central system is stopped, each kept request has its answer
+abbrev pub AnsweredOnceStopped : MachineState → Type 0
+AnsweredOnceStopped state =
+    state.is_stopped ≡ true → AllByRecursion IsAnswered state.requests
+
+-- and a state like that leads to others like that
+abbrev pub StoppedRequestsStayAnswered : Type 0
+StoppedRequestsStayAnswered =
+    (old : MachineState) (events : List Event) (new : MachineState)
+    → AnsweredOnceStopped old → Legal old events new → AnsweredOnceStopped new
 
 -- no request is lost, and none is answered twice
 abbrev pub RequestsBalance : Type 0

@@ -1,2 +1,4 @@
 -- Lemmas that crates above cite: nothing here has to be believed.
 pub mod Steps
+pub mod Requests
+pub mod Histories

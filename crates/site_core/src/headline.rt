@@ -22,7 +22,7 @@ ghost use Rattle.site_core.specs.Counts.{NumbersTellOfHistories};
 ghost use Rattle.site_core.specs.Headline.{IsRightAfter, AnswersAreRight};
 ghost use Rattle.site_core.specs.Headline.{OpeningsKeepRight, RequestsStayRight};
 ghost use Rattle.site_core.specs.Headline.{RequestsHaveTheirBooks, AnswersGoOnRight};
-ghost use Rattle.site_core.specs.Headline.{RequestsBalance};
+ghost use Rattle.site_core.specs.Headline.{StoppedRequestsStayAnswered, RequestsBalance};
 
 /// The law that the steps that a run made are a legal history.
 pub fn runs_are_legal()
@@ -128,12 +128,14 @@ pub fn stopped_requests_are_answered()
 /// The laws of requests from any state that keeps what is right, as the opening does, along every legal
 /// history. It leads to such a state again. Each kept request has the book that its point had at its Take,
 /// or that the old state kept for it. Each answer that is handed out is right for that book and the ask.
-/// And from whatever state, no request is lost and none is answered twice.
+/// Once the central system is stopped, each kept request has its answer, where so it was at first. And from
+/// whatever state, no request is lost and none is answered twice.
 pub fn requests_go_on_from_any_state()
     ensures opening { OpeningsKeepRight }
     ensures stay { RequestsStayRight }
     ensures books { RequestsHaveTheirBooks }
     ensures answers { AnswersGoOnRight }
+    ensures answered { StoppedRequestsStayAnswered }
     ensures balance { RequestsBalance }
 {}
 
