@@ -1,0 +1,5 @@
+pub mod RoomLemmas
+pub mod HistoryLemmas
+pub mod CallLemmas
+pub mod RequestLemmas
+pub mod BehindLemmas

@@ -1,0 +1,35 @@
+-- By the machine's laws from the opening state on.
+use Rattle.std.proofs.Common.{[], ◌∷◌, ◌++◌, refl}
+use Rattle.site_core.specs.State.{opening, no_numbers}
+use Rattle.site_core.specs.History.{Legal, answered_event}
+use Rattle.site_core.specs.Theory.Histories.{legal_join}
+use Rattle.version_store.proofs.HistoryLemmas.{whole_legal, whole_changes, whole_answers}
+use Rattle.version_store.proofs.whole_history.books_have_whole_histories.Goals as goal
+
+pub returns-clause-reached : goal.returns-clause-reached
+returns-clause-reached c = whole_legal
+
+pub returns-clause-counts : goal.returns-clause-counts
+returns-clause-counts c = λ store is. (whole_changes store is, whole_answers store is)
+
+pub returns-clause-order : goal.returns-clause-order
+returns-clause-order c = λ store is point place here.
+    c.histories_send_calls_in_order.ensures.order is.site no_numbers (is.earlier ++ is.played)
+    store.present (whole_legal store is) point place here
+
+pub returns-clause-once : goal.returns-clause-once
+returns-clause-once c = λ store is number.
+    let whole = is.earlier ++ is.played in
+    let legal = whole_legal store is in (
+      c.requests_are_answered_once.ensures.once is.site no_numbers whole store.present legal number,
+      c.requests_are_answered_once.ensures.kept is.site no_numbers whole store.present legal number,
+    )
+
+pub returns-clause-right : goal.returns-clause-right
+returns-clause-right c = λ store is number book ask answer new adds.
+    let whole = is.earlier ++ is.played in
+    let events = answered_event number book ask answer ∷ [] in
+    let last : Legal store.present events new.present = (new.present, adds.made, refl) in
+    let legal = legal_join (opening is.site) whole store.present events new.present
+    (whole_legal store is) last in
+    c.answers_are_right.ensures is.site no_numbers whole [] number book ask answer new.present legal

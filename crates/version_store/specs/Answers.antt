@@ -1,0 +1,32 @@
+-- What a session gets for its request: the job to compile, and the answer.
+use Rattle.std.specs.Prelude.{ℕ, ◌≡◌, Option, Some, None}
+use Rattle.meaning.specs.declared.ask.Ask.{Ask}
+use Rattle.point_book.specs.Book.{BookState}
+use Rattle.site_core.specs.State.{ScheduleAnswer}
+use Rattle.site_core.specs.Right.{IsRight}
+use Rattle.site_core.specs.declared.reply.Reply.{Reply}
+use Rattle.site_core.specs.declared.reply.Reply.TheVariants.{Answered, NotYet}
+
+-- the request of a number, for what is asked of a book
+pub record RequestedJob : Type 0 where
+  pub number : ℕ
+  pub book : BookState
+  pub ask : Ask
+
+-- and with its answer
+pub record HandedAnswer : Type 0 where
+  pub number : ℕ
+  pub book : BookState
+  pub ask : Ask
+  pub answer : ScheduleAnswer
+
+-- the reply to who collects: the answer, or that there is none yet
+abbrev pub reply_of : Option HandedAnswer → Reply
+reply_of None = NotYet
+reply_of (Some handed) = Answered handed.book handed.ask handed.answer
+
+-- an answer that a reply hands out is right
+abbrev pub HandsOutRight : Reply → Type 0
+HandsOutRight reply =
+    (book : BookState) (ask : Ask) (answer : ScheduleAnswer)
+    → reply ≡ Answered book ask answer → IsRight book ask answer

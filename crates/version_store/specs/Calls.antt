@@ -1,0 +1,116 @@
+-- What a call on the store makes of it: one event more, or a reply alone, or nothing.
+use Rattle.std.specs.Prelude.{ℕ, ℤ, unsigned_abs, ◌≡◌, ◌<◌, ◌⊎◌, Bool, true, false, List, Option, Some, None, Result, Ok, Err}
+use Rattle.ocpp_scalars.specs.declared.instant.Instant.{Instant}
+use Rattle.ocpp_scalars.specs.declared.refusal.Refusal.{Refusal}
+use Rattle.ocpp_scalars.specs.declared.refusal.Refusal.TheVariants.{OutOfMemory}
+use Rattle.profile.specs.declared.charging_profile.Profile.{Profile}
+use Rattle.profile.specs.declared.row.Row.{Row}
+use Rattle.profile.specs.declared.unit.Unit.{Unit}
+use Rattle.messages.specs.declared.call.Call.{Call}
+use Rattle.sweep_compiler.specs.Compiled.{CompiledAnswer}
+use Rattle.site_core.specs.declared.step.Step.{Step}
+use Rattle.site_core.specs.declared.step.Step.TheVariants as steps
+use Rattle.site_core.specs.declared.step.Take.{Take}
+use Rattle.site_core.specs.declared.reply.Reply.{Reply}
+use Rattle.site_core.specs.declared.reply.Reply.TheVariants.{Accepted, Unknown, Started, Repeated, Ended, NoSuch, Compiled, Sent, Nothing}
+use Rattle.site_core.specs.State.{ScheduleAnswer}
+use Rattle.site_core.specs.Step.{Made, stepped, no_answer, is_event, unchanged}
+use Rattle.site_core.specs.StoredHistory.{StoredEvent, made_of}
+use Rattle.site_core.specs.Post.{Posts}
+use Rattle.version_store.specs.Told.{Told, told_after}
+use Rattle.version_store.specs.Store.{StoreState, with_event, folded_for}
+
+-- One event is added, after the history was folded where it had to be; the state and the reply are what
+-- the machine makes of the event.
+pub record Adds (old : StoreState) (stored : StoredEvent) (reply : Reply) (new : StoreState)
+    : Type 0 where
+  pub made : made_of old.present stored ≡ Ok (record { reply = reply; after = new.present })
+  pub event : is_event old.present reply ≡ true
+  pub history : new ≡ with_event (folded_for old stored.step) stored
+      (record { reply = reply; after = new.present })
+
+-- the machine's reply alone, which is no event
+pub record Tells (old : StoreState) (step : Step) (reply : Reply) (new : StoreState) : Type 0 where
+  pub told : stepped no_answer old.present step ≡ Ok (unchanged old.present reply)
+  pub no_event : is_event old.present reply ≡ false
+  pub kept : new ≡ old
+
+-- the event of a step that brings no answer
+abbrev pub event_alone : Step → StoredEvent
+event_alone step = record { step = step; answer = no_answer }
+
+-- and of a Compile, with the answer that it brought
+abbrev pub compile_event : ℕ → ScheduleAnswer → StoredEvent
+compile_event number answer = record { step = steps.Compile number; answer = answer }
+
+abbrev pub Makes : StoreState → Step → Reply → StoreState → Type 0
+Makes old step reply new = Adds old (event_alone step) reply new ⊎ Tells old step reply new
+
+-- Nothing is made, for the machine's first cause, or for want of memory where an event would be added.
+abbrev pub IsRefusalTo : StoreState → Result Made Refusal → Refusal → Type 0
+IsRefusalTo old (Err cause) refusal = refusal ≡ cause
+IsRefusalTo old (Ok made) refusal =
+    (is_event old.present made.reply ≡ true) × (refusal ≡ OutOfMemory)
+
+abbrev pub IsRefusalOf : StoreState → Step → Refusal → Type 0
+IsRefusalOf old step refusal = IsRefusalTo old (stepped no_answer old.present step) refusal
+
+-- a call of a session: what it makes, and what the session was told then
+pub record Calls (old : StoreState) (was : Told) (step : Step) (reply : Reply) (new : StoreState)
+    (told : Told) : Type 0 where
+  pub makes : Makes old step reply new
+  pub tells : told ≡ told_after was reply new.present.numbers.version
+
+-- a posted answer, which the event has too
+pub record PostsTo (old : StoreState) (number : ℕ) (brought : CompiledAnswer) (new : StoreState)
+    : Type 0 where
+  pub posts : Posts old.present number brought new.present
+  pub adds : Adds old (compile_event number brought.answer) Compiled new
+
+-- ---- what the calls of sessions give
+
+-- the row that a profile becomes at a connector, installed at a moment
+abbrev pub row_of : ℕ → Instant → Profile → Row
+row_of connector moment profile =
+    record { connector = connector; moment = moment; profile = profile }
+
+-- the reply to who clears: whether a profile matched
+abbrev pub clearing : Bool → Reply
+clearing true = Accepted
+clearing false = Unknown
+
+-- the reply to who ends a transaction: whether it was active
+abbrev pub ending : Bool → Reply
+ending true = Ended
+ending false = NoSuch
+
+-- A start gives the number of the transaction that began, or of the one that is told again. This system
+-- draws them from 1 on.
+pub record StartsAs (old : StoreState) (was : Told) (step : Step) (given : ℕ) (new : StoreState)
+    (told : Told) : Type 0 where
+  pub id : ℤ
+  pub number : given ≡ unsigned_abs id
+  pub calls : Calls old was step (Started id) new told ⊎ Calls old was step (Repeated id) new told
+
+-- a Take that has seen what its session has seen
+abbrev pub take_of : List ℕ → ℕ → Instant → ℕ → Option Unit → Told → Take
+take_of point connector start duration unit was = record {
+  point = point;
+  connector = connector;
+  start = start;
+  duration = duration;
+  unit = unit;
+  seen = was.seen;
+}
+
+-- A Take is behind where its session has seen a newer version than the store is at: it never comes back
+-- from a later store to an older one.
+pub record IsBehind (version newest : ℕ) (seen found : ℕ) : Type 0 where
+  pub seen_is : seen ≡ newest
+  pub found_is : found ≡ version
+  pub older : version < newest
+
+-- the reply to who sends: the call, or that there is none
+abbrev pub sending : Option Call → Reply
+sending None = Nothing
+sending (Some call) = Sent call

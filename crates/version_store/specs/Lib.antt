@@ -1,0 +1,7 @@
+pub mod Limits
+pub mod Told
+pub mod Store
+pub mod Calls
+pub mod Answers
+pub mod WholeHistory
+pub mod ByCases

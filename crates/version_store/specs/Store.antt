@@ -1,0 +1,112 @@
+-- A stored history: a state that it begins with, the events since, and the present state, to which they
+-- lead. Where it has grown long it is folded: it begins anew with the present state.
+use Rattle.std.specs.Prelude.{ℕ, ◌+◌, ◌≡◌, ◌≤◌, nat_le, ◌&&◌, Bool, true, false, List, [], ◌∷◌, ◌++◌, length, is_some, if◌then◌else◌}
+use Rattle.std.specs.List.{AllByRecursion, sum_by}
+use Rattle.site_rules.specs.Site.{SiteState}
+use Rattle.site_core.specs.declared.step.Step.{Step}
+use Rattle.site_core.specs.declared.step.Step.TheVariants as steps
+use Rattle.site_core.specs.State.{MachineState, Kept, opening}
+use Rattle.site_core.specs.Step.{Made}
+use Rattle.site_core.specs.History.{Event, Legal}
+use Rattle.site_core.specs.StoredHistory.{StoredEvent, IsStoredAs}
+use Rattle.site_core.specs.Counts.{changes_in, answers_in}
+use Rattle.site_core.specs.Headline.{KeepsRight, HasItsBook, AnsweredOnceStopped}
+use Rattle.version_store.specs.declared.totals.Totals.{Totals}
+use Rattle.version_store.specs.Limits.{fold_from, room}
+use Rattle.version_store.specs.Told.{no_totals, totals_after}
+
+pub record StoreState : Type 0 where
+  -- the state that the stored history begins with, and the changes and answers until then
+  pub base : MachineState
+  pub based : Totals
+  -- the events since
+  pub events : List StoredEvent
+  -- the state now, and the changes and answers until now
+  pub present : MachineState
+  pub made : Totals
+
+abbrev pub opening_store : SiteState → StoreState
+opening_store site = record {
+  base = opening site;
+  based = no_totals;
+  events = [];
+  present = opening site;
+  made = no_totals;
+}
+
+-- ---- one event more
+
+-- the history goes on with an event, and the state is what it made
+abbrev pub with_event : StoreState → StoredEvent → Made → StoreState
+with_event old event made = record old {
+  events = old.events ++ event ∷ [];
+  present = made.after;
+  made = totals_after old.made made.reply;
+}
+
+-- the history begins anew with the present state
+abbrev pub folded : StoreState → StoreState
+folded old = record old { base = old.present; based = old.made; events = [] }
+
+-- Compiling, answering and finishing take no memory, so they never fold.
+abbrev pub may_fold : Step → Bool
+may_fold (steps.Install point row) = true
+may_fold (steps.Clear point criteria) = true
+may_fold (steps.Start point connector begin) = true
+may_fold (steps.Stop point number) = true
+may_fold (steps.Take take) = true
+may_fold (steps.Compile number) = false
+may_fold (steps.Answer number) = false
+may_fold steps.Finish = false
+may_fold (steps.Attach point) = true
+may_fold (steps.Send point link) = true
+may_fold (steps.Confirm point link number) = true
+may_fold (steps.Lost point link) = true
+
+-- whether the history is folded before the event of this step
+abbrev pub folds : StoreState → Step → Bool
+folds old step = may_fold step && nat_le fold_from (length old.events)
+
+abbrev pub folded_for : StoreState → Step → StoreState
+folded_for old step = if folds old step then folded old else old
+
+-- ---- what is always so
+
+-- The present state is the replay of the base and the stored events, and what is played is a legal
+-- history, as what led to the base was, from the opening state on. Each kept request has the book that
+-- its Take, or the base, gave it, and each answer is right for its book and its ask; once the central
+-- system is stopped each has one. And the changes and answers are those of these histories.
+pub record IsStore (store : StoreState) : Type 0 where
+  -- until the base
+  pub site : SiteState
+  pub earlier : List Event
+  pub reached : Legal (opening site) earlier store.base
+  pub based_changes : store.based.changes ≡ changes_in earlier
+  pub based_answers : store.based.answers ≡ answers_in earlier
+  -- and since
+  pub played : List Event
+  pub replays : IsStoredAs store.base played store.present store.events
+  pub legal : Legal store.base played store.present
+  pub changes : store.made.changes ≡ store.based.changes + changes_in played
+  pub answers : store.made.answers ≡ store.based.answers + answers_in played
+  -- now
+  pub books : AllByRecursion (HasItsBook store.base played) store.present.requests
+  pub right : KeepsRight store.present
+  pub answered : AnsweredOnceStopped store.present
+
+-- A kept request is still to be compiled, unless it is, and answered.
+abbrev pub events_to_come : Kept → ℕ
+events_to_come kept = if is_some kept.answer then 1 else 2
+
+-- and once it is stopped, the central system is stopped no more
+abbrev pub finish_to_come : Bool → ℕ
+finish_to_come is_stopped = if is_stopped then 0 else 1
+
+-- how many events may still come that never fold
+abbrev pub still_to_come : MachineState → ℕ
+still_to_come state =
+    sum_by events_to_come state.requests + finish_to_come state.is_stopped
+
+-- they have their room
+abbrev pub HasRoom : StoreState → Type 0
+HasRoom store = length store.events + still_to_come store.present ≤ room

@@ -1,0 +1,33 @@
+-- What is counted: the changes that were made and the answers that were handed out, of all sessions and
+-- of each.
+use Rattle.std.specs.Prelude.{ℕ, ◌+◌, max}
+use Rattle.site_core.specs.declared.reply.Reply.{Reply}
+use Rattle.site_core.specs.Step.{counted}
+use Rattle.version_store.specs.declared.totals.Totals.{Totals}
+
+abbrev pub no_totals : Totals
+no_totals = record { changes = 0; answers = 0 }
+
+-- with what a reply tells of
+abbrev pub totals_after : Totals → Reply → Totals
+totals_after old reply = record {
+  changes = old.changes + (counted reply).changes;
+  answers = old.answers + (counted reply).answers;
+}
+
+-- what a session was told
+pub record Told : Type 0 where
+  -- the changes and answers of its own calls
+  pub totals : Totals
+  -- the newest version of the store that it has seen
+  pub seen : ℕ
+
+abbrev pub nothing_told : Told
+nothing_told = record { totals = no_totals; seen = 0 }
+
+-- after a call with this reply, which left the store at this version
+abbrev pub told_after : Told → Reply → ℕ → Told
+told_after old reply version = record {
+  totals = totals_after old.totals reply;
+  seen = max old.seen version;
+}

@@ -1,0 +1,53 @@
+-- The laws of a store over its whole history: what was done until its base, and since. So they are the
+-- laws of the machine from its opening state on, however often the history was folded.
+use Rattle.std.specs.Prelude.{ℕ, ◌+◌, ◌≤◌, ◌≡◌, List, ◌++◌, Some}
+use Rattle.meaning.specs.declared.ask.Ask.{Ask}
+use Rattle.site_rules.specs.Site.{place_of}
+use Rattle.point_book.specs.Book.{BookState}
+use Rattle.site_core.specs.declared.step.Step.TheVariants.{Answer}
+use Rattle.site_core.specs.declared.reply.Reply.TheVariants.{Answered}
+use Rattle.site_core.specs.State.{ScheduleAnswer, opening}
+use Rattle.site_core.specs.History.{Event, Legal, takes_of, answers_of, kept_of}
+use Rattle.site_core.specs.Counts.{changes_in, answers_in}
+use Rattle.site_core.specs.Headline.{IsRightAfter}
+use Rattle.site_core.specs.OutboxOrder.{AreInSendingOrder}
+use Rattle.site_core.specs.CallOrder.{calls_sent, numbers_of_calls}
+use Rattle.version_store.specs.Store.{StoreState, IsStore}
+use Rattle.version_store.specs.Calls.{Adds, event_alone}
+
+abbrev pub whole_history : (store : StoreState) → IsStore store → List Event
+whole_history store is = is.earlier ++ is.played
+
+-- what holds of each store, with its whole history
+abbrev pub OfEachStore : ((store : StoreState) → IsStore store → List Event → Type 0) → Type 0
+OfEachStore holds = (store : StoreState) (is : IsStore store) → holds store is (whole_history store is)
+
+-- it is legal, and led from the opening of its site to the present state
+abbrev pub StoresAreReached : Type 0
+StoresAreReached = OfEachStore (λ store is whole. Legal (opening is.site) whole store.present)
+
+-- the two numbers are those of its changes and its answers
+abbrev pub StoresCountAll : Type 0
+StoresCountAll = OfEachStore (λ store is whole.
+    (store.made.changes ≡ changes_in whole) × (store.made.answers ≡ answers_in whole))
+
+-- the calls that were sent to a point are in sending order: call 0 comes first, and a call is sent again
+-- only directly after itself
+abbrev pub StoresSendInOrder : Type 0
+StoresSendInOrder = OfEachStore (λ store is whole.
+    (point : List ℕ) (place : ℕ) → place_of is.site point ≡ Some place
+    → AreInSendingOrder (numbers_of_calls (calls_sent is.site place whole)))
+
+-- no request is lost and none is answered twice
+abbrev pub StoresAnswerOnce : Type 0
+StoresAnswerOnce = OfEachStore (λ store is whole.
+    (number : ℕ) → (takes_of number whole ≤ 1)
+    × (takes_of number whole ≡ answers_of number whole + kept_of number store.present.requests))
+
+-- each answer that is handed out is the headline's: right for what the point of that one Take had when
+-- the Take was made, and for its ask
+abbrev pub StoresHandOutRight : Type 0
+StoresHandOutRight = OfEachStore (λ store is whole.
+    (number : ℕ) (book : BookState) (ask : Ask) (answer : ScheduleAnswer) (new : StoreState)
+    → Adds store (event_alone (Answer number)) (Answered book ask answer) new
+    → IsRightAfter (opening is.site) whole number book ask answer)

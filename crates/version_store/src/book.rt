@@ -1,0 +1,166 @@
+//! The book of the central system, as sessions use it.
+
+ghost use Rattle.std.specs.Prelude.{◌≡◌, ◌<◌, true, IfOk, IfErr, All, length};
+ghost use Rattle.site_core.specs.declared.step.Step.{Step};
+ghost use Rattle.site_core.specs.State.{link_of, link_to_send, outbox_len};
+ghost use Rattle.site_core.specs.Step.{HasAskedConnector, is_reply_to};
+ghost use Rattle.version_store.specs.Told.{nothing_told};
+ghost use Rattle.version_store.specs.Store.{IsStore, opening_store, may_fold};
+ghost use Rattle.version_store.specs.Calls.{Calls, IsRefusalOf};
+
+mod changes;
+mod links;
+mod requests;
+
+use crate::history::History;
+use crate::ledgers::Ledgers;
+use crate::pass::{Pass, passes_of};
+use crate::stored_event::StoredEvent;
+use crate::totals::Totals;
+use site_core::{Machine, Refused, Reply, Step};
+use site_rules::Site;
+use std::alloc::{AllocError, Global};
+use std::marker::Model;
+use std::sync::ledger::{Blank, Ledger};
+
+/// The central system of a site with the history that led to it: each call that changes something adds one
+/// event, and none is ever refused because the history is full. A pass fits only the book that it was made
+/// with, and the two ledgers see to that.
+#[derive(Drop)]
+pub struct Book<C: Ledger, A: Ledger> {
+    history: History,
+    ledgers: Ledgers<C, A>,
+}
+
+impl<C: Ledger, A: Ledger> Model for Book<C, A> {
+    ghost use Rattle.std.specs.Prelude.{◌≡◌};
+    ghost use Rattle.version_store.specs.Store.{StoreState};
+
+    ghost Value = { StoreState };
+
+    ghost view = { λ book. book.history };
+
+    ghost invariant = { λ book. book.ledgers ≡ book.history.made };
+}
+
+impl<C: Ledger, A: Ledger> Book<C, A> {
+    /// The book of a site where nothing was done yet, with a pass for each session, which was told nothing.
+    pub fn make(
+        alloc: Global,
+        changes: Blank,
+        answers: Blank,
+        site: Site,
+        sessions: u64,
+    ) -> Result<(Book<C, A>, Vec<Pass<C, A>>), AllocError>
+        requires changes { (changes.name ≡ C.name) × (changes.parts ≡ C.parts)
+            × (changes.parts ≡ sessions) }
+        requires answers { (answers.name ≡ A.name) × (answers.parts ≡ A.parts)
+            × (answers.parts ≡ sessions) }
+        ensures book { IfOk result (λ made. made.0 ≡ opening_store site) }
+        ensures passes { IfOk result (λ made. length made.1.items ≡ sessions) }
+        ensures told { IfOk result (λ made. All (λ pass. pass ≡ nothing_told) made.1.items) }
+    {
+        let history = History::new(alloc, site)?;
+        let (ledgers, changed, answered) = Ledgers::open(changes, answers);
+        let passes = passes_of(alloc, changed, answered, sessions)?;
+        Ok((Book { history, ledgers }, passes))
+    }
+
+    /// Makes a step of a session.
+    fn call(&mut self, pass: &mut Pass<C, A>, step: Step) -> Result<Reply, Refused>
+        requires { may_fold step ≡ true }
+        ensures calls { IfOk result
+            (λ reply. Calls self.old pass.old step reply self.new pass.new) }
+        ensures own { IfOk result (λ reply. is_reply_to step reply ≡ true) }
+        ensures asked { IfOk result HasAskedConnector }
+        ensures refusal { IfErr result (λ refused. IsRefusalOf self.old step refused.refusal) }
+        ensures kept { IfErr result (λ refused. (self.new ≡ self.old) × (pass.new ≡ pass.old)) }
+        ensures back { IfErr result (λ refused. refused.step ≡ step) }
+    {
+        let reply = self.history.make(step)?;
+        let version = self.history.present().version();
+        self.ledgers
+            .count(pass, &reply, self.history.made(), version);
+        Ok(reply)
+    }
+
+    /// How many events are stored. With what is always so of a book: its present state is the replay of its
+    /// base and of these events, the history is legal, each kept request has the book that its Take, or
+    /// the base, gave it, and each answer is right for that book and the ask.
+    pub fn stored(&self) -> usize
+        ensures value { result ≡ length self.now.events }
+        ensures store { IsStore self.now }
+    {
+        self.history.events().len()
+    }
+
+    /// The state that the stored events begin with.
+    pub fn base(&self) -> &Machine
+        ensures { result.now ≡ self.now.base }
+    {
+        self.history.base()
+    }
+
+    /// The stored events, the first one first.
+    pub fn events(&self) -> &[StoredEvent]
+        ensures { result.now ≡ self.now.events }
+    {
+        self.history.events()
+    }
+
+    /// The state now.
+    pub fn present(&self) -> &Machine
+        ensures { result.now ≡ self.now.present }
+    {
+        self.history.present()
+    }
+
+    /// How many changes were made and answers handed out, by all sessions.
+    pub fn totals(&self) -> Totals
+        ensures { result ≡ self.now.made }
+    {
+        self.history.made()
+    }
+
+    /// The version of the store: how many changes of points' books were made.
+    pub fn version(&self) -> u64
+        ensures { result ≡ self.now.present.numbers.version }
+    {
+        self.present().version()
+    }
+
+    /// How many requests for schedules are kept.
+    pub fn open_requests(&self) -> usize
+        ensures { result ≡ length self.now.present.requests }
+    {
+        self.present().open_requests()
+    }
+
+    /// How many calls of the point of an identity aren't confirmed, 0 where the site has no such point.
+    pub fn outbox_len(&self, point: &str) -> usize
+        ensures { result ≡ outbox_len self.now.present point.now }
+    {
+        self.present().outbox_len(point)
+    }
+
+    /// The present link of the point of an identity, if it has one.
+    pub fn link_of(&self, point: &str) -> Option<u64>
+        ensures { result ≡ link_of self.now.present point.now }
+    {
+        self.present().link_of(point)
+    }
+
+    /// The link over which a call is to be sent now to the point of an identity, if there is such a call.
+    pub fn link_to_send(&self, point: &str) -> Option<u64>
+        ensures { result ≡ link_to_send self.now.present point.now }
+    {
+        self.present().link_to_send(point)
+    }
+
+    /// Whether the central system is stopped.
+    pub fn is_stopped(&self) -> bool
+        ensures { result ≡ self.now.present.is_stopped }
+    {
+        self.present().is_stopped()
+    }
+}

@@ -1,0 +1,77 @@
+//! The calls of links to points, and of the calls that are sent over them. They are no session's changes.
+
+ghost use Rattle.std.specs.Prelude.{◌≡◌, IfOk, IfErr};
+ghost use Rattle.site_core.specs.declared.step.Step.TheVariants as steps;
+ghost use Rattle.site_core.specs.declared.reply.Reply.{Reply};
+ghost use Rattle.version_store.specs.Calls.{Calls, Makes, IsRefusalOf, sending};
+
+use crate::book::Book;
+use crate::pass::Pass;
+use messages::Call;
+use ocpp_scalars::Refusal;
+use site_core::{PointId, Reply, Step};
+use std::sync::ledger::Ledger;
+
+impl<C: Ledger, A: Ledger> Book<C, A> {
+    /// Gives a point a new link (OCPP-J 1.6, 3), over which its calls are sent from now on.
+    pub fn attach(&mut self, pass: &mut Pass<C, A>, point: PointId) -> Result<u64, Refusal>
+        ensures calls { IfOk result (λ link. Calls self.old pass.old (steps.Attach point)
+            (Reply.Attached link) self.new pass.new) }
+        ensures refusal { IfErr result (λ refusal.
+            IsRefusalOf self.old (steps.Attach point) refusal) }
+        ensures kept { IfErr result (λ refusal. (self.new ≡ self.old) × (pass.new ≡ pass.old)) }
+    {
+        match self.call(pass, Step::Attach(point)) {
+            Ok(Reply::Attached(link)) => Ok(link),
+            Ok(_) => unreachable!(),
+            Err(refused) => Err(refused.refusal),
+        }
+    }
+
+    /// The first call that waits for a point, to be sent over its link, or none where none waits or one is
+    /// in flight.
+    pub fn send(&mut self, point: PointId, link: u64) -> Result<Option<Call>, Refusal>
+        ensures makes { IfOk result (λ call. Makes self.old (steps.Send point link) (sending call)
+            self.new) }
+        ensures refusal { IfErr result (λ refusal.
+            IsRefusalOf self.old (steps.Send point link) refusal) }
+        ensures kept { IfErr result (λ refusal. self.new ≡ self.old) }
+    {
+        match self.history.make(Step::Send { point, link }) {
+            Ok(Reply::Sent(call)) => Ok(Some(call)),
+            Ok(Reply::Nothing) => Ok(None),
+            Ok(_) => unreachable!(),
+            Err(refused) => Err(refused.refusal),
+        }
+    }
+
+    /// Takes note that a point has answered the call of this number, which was in flight.
+    pub fn confirm(&mut self, point: PointId, link: u64, call: u64) -> Result<(), Refusal>
+        ensures makes { IfOk result (λ _. Makes self.old (steps.Confirm point link call)
+            Reply.Confirmed self.new) }
+        ensures refusal { IfErr result (λ refusal.
+            IsRefusalOf self.old (steps.Confirm point link call) refusal) }
+        ensures kept { IfErr result (λ refusal. self.new ≡ self.old) }
+    {
+        match self.history.make(Step::Confirm { point, link, call }) {
+            Ok(Reply::Confirmed) => Ok(()),
+            Ok(_) => unreachable!(),
+            Err(refused) => Err(refused.refusal),
+        }
+    }
+
+    /// Takes note that a link to a point is lost: a call that was in flight waits again.
+    pub fn lost(&mut self, point: PointId, link: u64) -> Result<(), Refusal>
+        ensures makes { IfOk result (λ _. Makes self.old (steps.Lost point link) Reply.LinkLost
+            self.new) }
+        ensures refusal { IfErr result (λ refusal.
+            IsRefusalOf self.old (steps.Lost point link) refusal) }
+        ensures kept { IfErr result (λ refusal. self.new ≡ self.old) }
+    {
+        match self.history.make(Step::Lost { point, link }) {
+            Ok(Reply::LinkLost) => Ok(()),
+            Ok(_) => unreachable!(),
+            Err(refused) => Err(refused.refusal),
+        }
+    }
+}

@@ -1,0 +1,121 @@
+//! The calls of requests for composite schedules, and the end.
+
+ghost use Rattle.std.specs.Prelude.{ℕ, ◌≡◌, ◌≤◌, true, None, IfOk, IfErr, IfSome};
+ghost use Rattle.site_core.specs.declared.step.Step.TheVariants as steps;
+ghost use Rattle.site_core.specs.declared.reply.Reply.{Reply};
+ghost use Rattle.site_core.specs.Requests.{request_of};
+ghost use Rattle.site_core.specs.Step.{is_reply_to};
+ghost use Rattle.site_core.specs.Right.{IsRight};
+ghost use Rattle.site_core.specs.Post.{IsRefusedPost};
+ghost use Rattle.version_store.specs.Calls.{Calls, Makes, IsRefusalOf, IsBehind, PostsTo, take_of};
+ghost use Rattle.version_store.specs.Answers.{HandsOutRight, reply_of};
+
+use crate::answer::Answer;
+use crate::book::Book;
+use crate::job::Job;
+use crate::pass::Pass;
+use ocpp_scalars::{Instant, Refusal};
+use profile::Unit;
+use site_core::{PointId, Reply, Step, Take};
+use std::sync::ledger::Ledger;
+use sweep_compiler::Compiled;
+
+impl<C: Ledger, A: Ledger> Book<C, A> {
+    /// Keeps a request for the composite schedule (chapter 5.7) of a connector of a point, 0 being the
+    /// whole point, from a start on for so many seconds, in a unit where one is given. The job is what is
+    /// to be compiled and posted.
+    pub fn take(
+        &mut self,
+        pass: &mut Pass<C, A>,
+        point: PointId,
+        connector: u32,
+        start: Instant,
+        duration: u32,
+        unit: Option<Unit>,
+    ) -> Result<Job, Refusal>
+        ensures calls { IfOk result (λ job. Calls self.old pass.old
+            (steps.Take (take_of point connector start duration unit pass.old))
+            (Reply.Taken job.number job.book job.ask) self.new pass.new) }
+        ensures refusal { IfErr result (λ refusal. IsRefusalOf self.old
+            (steps.Take (take_of point connector start duration unit pass.old)) refusal) }
+        ensures fresh { IfOk result (λ job.
+            pass.old.seen ≤ self.old.present.numbers.version) }
+        ensures behind { IfErr result (λ refusal. (seen found : ℕ)
+            → refusal ≡ Refusal.Behind seen found
+            → IsBehind self.old.present.numbers.version pass.old.seen seen found) }
+        ensures kept { IfErr result (λ refusal. (self.new ≡ self.old) × (pass.new ≡ pass.old)) }
+    {
+        let take = Take {
+            point,
+            connector,
+            start,
+            duration,
+            unit,
+            seen: pass.seen(),
+        };
+        match self.call(pass, Step::Take(take)) {
+            Ok(Reply::Taken { number, book, ask }) => Ok(Job::new(number, book, ask)),
+            Ok(_) => unreachable!(),
+            Err(refused) => Err(refused.refusal),
+        }
+    }
+
+    /// The request of a number has this answer now, where it is for what the request keeps. On a refusal
+    /// what was compiled comes back. Takes no memory.
+    pub fn post(&mut self, number: u64, compiled: Compiled) -> Result<(), (Refusal, Compiled)>
+        ensures posts { IfOk result (λ _. PostsTo self.old number compiled self.new) }
+        ensures refusal { IfErr result (λ refused. IsRefusedPost
+            (request_of number self.old.present.requests) compiled refused.0) }
+        ensures kept { IfErr result (λ refused. self.new ≡ self.old) }
+        ensures back { IfErr result (λ refused. refused.1 ≡ compiled) }
+    {
+        self.history.post(number, compiled)?;
+        Ok(())
+    }
+
+    /// Hands out the answer to the request of a number, which is no longer kept then. None where it has
+    /// no answer yet. Takes no memory.
+    pub fn collect(&mut self, pass: &mut Pass<C, A>, number: u64) -> Result<Option<Answer>, Refusal>
+        ensures calls { IfOk result (λ answer. Calls self.old pass.old (steps.Answer number)
+            (reply_of answer) self.new pass.new) }
+        ensures numbered { IfOk result (λ answer. IfSome answer (λ a. a.number ≡ number)) }
+        ensures right { IfOk result
+            (λ answer. IfSome answer (λ a. IsRight a.book a.ask a.answer)) }
+        ensures refusal { IfErr result (λ refusal. (refusal ≡ Refusal.UnknownRequest)
+            × (request_of number self.old.present.requests ≡ None)) }
+        ensures kept { IfErr result (λ refusal. (self.new ≡ self.old) × (pass.new ≡ pass.old)) }
+    {
+        match self.hand_out(pass, number)? {
+            Reply::Answered { book, ask, answer } => {
+                Ok(Some(Answer::new(number, book, ask, answer)))
+            }
+            Reply::NotYet => Ok(None),
+            _ => unreachable!(),
+        }
+    }
+
+    /// Stops the central system: each request without an answer is answered `Stopped`, and only collecting
+    /// goes on. Takes no memory.
+    pub fn finish(&mut self)
+        ensures { Makes self.old steps.Finish Reply.Finished self.new }
+    {
+        self.history.finish();
+    }
+
+    /// The reply to who asks for the answer to the request of a number.
+    fn hand_out(&mut self, pass: &mut Pass<C, A>, number: u64) -> Result<Reply, Refusal>
+        ensures calls { IfOk result (λ reply. Calls self.old pass.old (steps.Answer number) reply
+            self.new pass.new) }
+        ensures right { IfOk result HandsOutRight }
+        ensures own { IfOk result (λ reply. is_reply_to (steps.Answer number) reply ≡ true) }
+        ensures refusal { IfErr result (λ refusal. (refusal ≡ Refusal.UnknownRequest)
+            × (request_of number self.old.present.requests ≡ None)) }
+        ensures kept { IfErr result (λ refusal. (self.new ≡ self.old) × (pass.new ≡ pass.old)) }
+    {
+        let reply = self.history.hand_out(number)?;
+        let version = self.history.present().version();
+        self.ledgers
+            .count(pass, &reply, self.history.made(), version);
+        Ok(reply)
+    }
+}

@@ -1,0 +1,296 @@
+//! The stored history, without sessions.
+
+ghost use Rattle.std.specs.Prelude.{◌≡◌, ◌<◌, ◌≤◌, None, Ok, IfOk, IfErr, true, false, length};
+ghost use Rattle.site_core.specs.declared.step.Step.{Step};
+ghost use Rattle.site_core.specs.declared.step.Step.TheVariants as steps;
+ghost use Rattle.site_core.specs.declared.reply.Reply.{Reply};
+ghost use Rattle.site_core.specs.Step.{HasAskedConnector, is_reply_to, outlook};
+ghost use Rattle.site_core.specs.Requests.{request_of};
+ghost use Rattle.site_core.specs.Post.{IsRefusedPost};
+ghost use Rattle.version_store.specs.Told.{no_totals, totals_after};
+ghost use Rattle.version_store.specs.Answers.{HandsOutRight};
+ghost use Rattle.version_store.specs.Limits.{fold_from};
+ghost use Rattle.version_store.specs.Store.{IsStore, opening_store, may_fold};
+ghost use Rattle.version_store.specs.Calls.{Adds, Tells, Makes, IsRefusalOf, PostsTo, event_alone};
+
+use crate::laws::machine_laws;
+use crate::stored_event::StoredEvent;
+use crate::totals::Totals;
+use ocpp_scalars::Refusal;
+use site_core::{Machine, Refused, Reply, Step};
+use site_rules::Site;
+use std::alloc::{AllocError, Global};
+use std::marker::Model;
+use sweep_compiler::Compiled;
+
+/// With so many events or more, a call that is to add one folds the history first.
+const FOLD_FROM: usize = 3_900;
+
+/// So many events have their room from the beginning.
+const ROOM: usize = 4_096;
+
+/// The state of the central system with the history that led to it.
+#[derive(Drop)]
+pub(crate) struct History {
+    alloc: Global,
+    /// The state that the stored events begin with.
+    base: Machine,
+    /// The changes and answers until then.
+    based: Totals,
+    events: Vec<StoredEvent>,
+    present: Machine,
+    made: Totals,
+}
+
+impl Model for History {
+    ghost use Rattle.std.specs.Prelude.{◌≤◌, vec_capacity};
+    ghost use Rattle.version_store.specs.Told.{no_totals, totals_after};
+    ghost use Rattle.version_store.specs.Answers.{HandsOutRight};
+    ghost use Rattle.version_store.specs.Limits.{room};
+    ghost use Rattle.version_store.specs.Store.{StoreState, IsStore, HasRoom};
+
+    ghost Value = { StoreState };
+
+    ghost view = { λ h. record {
+      base = h.base;
+      based = h.based;
+      events = h.events.items;
+      present = h.present;
+      made = h.made;
+    } };
+
+    ghost invariant = { λ h. IsStore (record {
+      base = h.base;
+      based = h.based;
+      events = h.events.items;
+      present = h.present;
+      made = h.made;
+    }) × HasRoom (record {
+      base = h.base;
+      based = h.based;
+      events = h.events.items;
+      present = h.present;
+      made = h.made;
+    }) × (room ≤ vec_capacity h.events) };
+}
+
+impl History {
+    /// The history of a site where nothing was done yet.
+    pub fn new(alloc: Global, site: Site) -> Result<History, AllocError>
+        ensures { IfOk result (λ history. history ≡ opening_store site) }
+    {
+        machine_laws();
+        let present = Machine::new(alloc, site)?;
+        let base = present.copy()?;
+        Ok(History {
+            alloc,
+            base,
+            based: Totals::none(),
+            events: Vec::with_capacity(alloc, ROOM)?,
+            present,
+            made: Totals::none(),
+        })
+    }
+
+    pub fn base(&self) -> &Machine
+        ensures { result.now ≡ self.now.base }
+    {
+        &self.base
+    }
+
+    pub fn events(&self) -> &[StoredEvent]
+        ensures value { result.now ≡ self.now.events }
+        ensures store { IsStore self.now }
+    {
+        self.events.as_slice()
+    }
+
+    pub fn present(&self) -> &Machine
+        ensures { result.now ≡ self.now.present }
+    {
+        &self.present
+    }
+
+    pub fn made(&self) -> Totals
+        ensures { result ≡ self.now.made }
+    {
+        self.made
+    }
+
+    /// Makes a step that brings no answer, and adds its event, if it is one. On a refusal the step comes
+    /// back.
+    pub fn make(&mut self, step: Step) -> Result<Reply, Refused>
+        requires { may_fold step ≡ true }
+        ensures makes { IfOk result (λ reply. Makes self.old step reply self.new) }
+        ensures own { IfOk result (λ reply. is_reply_to step reply ≡ true) }
+        ensures asked { IfOk result HasAskedConnector }
+        ensures counts { IfOk result (λ reply. self.new.made ≡ totals_after self.old.made reply) }
+        ensures refusal { IfErr result (λ refused. IsRefusalOf self.old step refused.refusal) }
+        ensures kept { IfErr result (λ refused. self.new ≡ self.old) }
+        ensures back { IfErr result (λ refused. refused.step ≡ step) }
+    {
+        match self.present.outlook(&step) {
+            Ok(true) => self.add(step),
+            Ok(false) => Ok(self.tell(step)),
+            Err(refusal) => Err(Refused { refusal, step }),
+        }
+    }
+
+    /// Makes a step that is no event.
+    fn tell(&mut self, step: Step) -> Reply
+        requires can_fold { may_fold step ≡ true }
+        requires told { outlook self.old.present step ≡ Ok false }
+        ensures tells { Tells self.old step result self.new }
+        ensures own { is_reply_to step result ≡ true }
+        ensures asked { HasAskedConnector result }
+        ensures counts { no_totals ≡ totals_after no_totals result }
+    {
+        machine_laws();
+        match self.present.step(step) {
+            Ok(reply) => reply,
+            Err(_) => unreachable!(),
+        }
+    }
+
+    /// Makes a step that is an event, and adds it. On a refusal the step comes back.
+    fn add(&mut self, step: Step) -> Result<Reply, Refused>
+        requires can_fold { may_fold step ≡ true }
+        requires added { outlook self.old.present step ≡ Ok true }
+        ensures adds { IfOk result (λ reply. Adds self.old (event_alone step) reply self.new) }
+        ensures own { IfOk result (λ reply. is_reply_to step reply ≡ true) }
+        ensures asked { IfOk result HasAskedConnector }
+        ensures refusal { IfErr result (λ refused. refused.refusal ≡ Refusal.OutOfMemory) }
+        ensures kept { IfErr result (λ refused. self.new ≡ self.old) }
+        ensures back { IfErr result (λ refused. refused.step ≡ step) }
+    {
+        let event = match step.copy(self.alloc) {
+            Ok(copy) => StoredEvent::alone(copy),
+            Err(_) => return Err(without_memory(step)),
+        };
+        if self.events.len() < FOLD_FROM {
+            self.add_to_events(step, event)
+        } else {
+            self.add_to_base(step, event)
+        }
+    }
+
+    /// Makes a step and adds its event to those that are stored.
+    fn add_to_events(&mut self, step: Step, event: StoredEvent) -> Result<Reply, Refused>
+        requires can_fold { may_fold step ≡ true }
+        requires added { outlook self.old.present step ≡ Ok true }
+        requires event { event ≡ event_alone step }
+        requires few { length self.old.events < fold_from }
+        ensures adds { IfOk result (λ reply. Adds self.old (event_alone step) reply self.new) }
+        ensures own { IfOk result (λ reply. is_reply_to step reply ≡ true) }
+        ensures asked { IfOk result HasAskedConnector }
+        ensures refusal { IfErr result (λ refused. refused.refusal ≡ Refusal.OutOfMemory) }
+        ensures kept { IfErr result (λ refused. self.new ≡ self.old) }
+        ensures back { IfErr result (λ refused. refused.step ≡ step) }
+    {
+        machine_laws();
+        let reply = match self.present.step(step) {
+            Ok(reply) => reply,
+            Err(refused) => return Err(refused),
+        };
+        self.present.open_requests();
+        self.made = self.made.after(&reply);
+        self.events.push_reserved(event);
+        Ok(reply)
+    }
+
+    /// Folds the history, makes a step, and adds its event.
+    fn add_to_base(&mut self, step: Step, event: StoredEvent) -> Result<Reply, Refused>
+        requires can_fold { may_fold step ≡ true }
+        requires added { outlook self.old.present step ≡ Ok true }
+        requires event { event ≡ event_alone step }
+        requires many { fold_from ≤ length self.old.events }
+        ensures adds { IfOk result (λ reply. Adds self.old (event_alone step) reply self.new) }
+        ensures own { IfOk result (λ reply. is_reply_to step reply ≡ true) }
+        ensures asked { IfOk result HasAskedConnector }
+        ensures refusal { IfErr result (λ refused. refused.refusal ≡ Refusal.OutOfMemory) }
+        ensures kept { IfErr result (λ refused. self.new ≡ self.old) }
+        ensures back { IfErr result (λ refused. refused.step ≡ step) }
+    {
+        machine_laws();
+        let Ok(base) = self.present.copy() else {
+            return Err(without_memory(step));
+        };
+        let reply = match self.present.step(step) {
+            Ok(reply) => reply,
+            Err(refused) => return Err(refused),
+        };
+        self.present.open_requests();
+        self.base = base;
+        self.based = self.made;
+        self.made = self.made.after(&reply);
+        self.events.clear();
+        self.events.push_reserved(event);
+        Ok(reply)
+    }
+
+    /// Compiles the request of a number with an answer that is brought, and adds the event. On a refusal the
+    /// answer comes back.
+    pub fn post(&mut self, number: u64, brought: Compiled) -> Result<(), (Refusal, Compiled)>
+        ensures posts { IfOk result (λ _. PostsTo self.old number brought self.new) }
+        ensures refused { IfErr result (λ refused.
+            IsRefusedPost (request_of number self.old.present.requests) brought refused.0) }
+        ensures kept { IfErr result (λ refused. self.new ≡ self.old) }
+        ensures back { IfErr result (λ refused. refused.1 ≡ brought) }
+    {
+        machine_laws();
+        let again = self.present.post(number, brought)?;
+        self.events
+            .push_reserved(StoredEvent::compiled(number, again));
+        Ok(())
+    }
+
+    /// Hands out the answer to the request of a number, and adds the event, if it has one.
+    pub fn hand_out(&mut self, number: u64) -> Result<Reply, Refusal>
+        ensures makes { IfOk result (λ reply. Makes self.old (steps.Answer number) reply self.new) }
+        ensures own { IfOk result (λ reply. is_reply_to (steps.Answer number) reply ≡ true) }
+        ensures right { IfOk result HandsOutRight }
+        ensures counts { IfOk result (λ reply. self.new.made ≡ totals_after self.old.made reply) }
+        ensures refused { IfErr result (λ refusal.
+            (refusal ≡ Refusal.UnknownRequest)
+            × (request_of number self.old.present.requests ≡ None)) }
+        ensures kept { IfErr result (λ refusal. self.new ≡ self.old) }
+    {
+        machine_laws();
+        let reply = match self.present.step(Step::Answer(number)) {
+            Ok(reply) => reply,
+            Err(refused) => return Err(refused.refusal),
+        };
+        let Reply::Answered { .. } = &reply else {
+            return Ok(reply);
+        };
+        self.present.open_requests();
+        self.made = self.made.after(&reply);
+        self.events
+            .push_reserved(StoredEvent::alone(Step::Answer(number)));
+        Ok(reply)
+    }
+
+    /// Stops the central system, and adds the event, if it wasn't stopped.
+    pub fn finish(&mut self)
+        ensures { Makes self.old steps.Finish Reply.Finished self.new }
+    {
+        machine_laws();
+        if self.present.is_stopped() {
+            return;
+        }
+        let Ok(_finished) = self.present.step(Step::Finish) else {
+            unreachable!()
+        };
+        self.events.push_reserved(StoredEvent::alone(Step::Finish));
+    }
+}
+
+fn without_memory(step: Step) -> Refused
+    ensures refusal { result.refusal ≡ Refusal.OutOfMemory }
+    ensures step { result.step ≡ step }
+{
+    Refused {
+        refusal: Refusal::OutOfMemory,
+        step,
+    }
+}

@@ -1,0 +1,63 @@
+//! What is to be compiled.
+
+ghost use Rattle.std.specs.Prelude.{◌≡◌, ◌≤◌, length};
+ghost use Rattle.std.specs.Arc.{arc_value};
+
+use meaning::Ask;
+use point_book::PointBook;
+use site_core::SharedBook;
+use std::marker::Model;
+use std::sync::Arc;
+
+/// A request for a composite schedule (chapter 5.7) that was taken: its number, what its point had then, which has
+/// the connector that is asked, and the ask.
+#[derive(Drop)]
+pub struct Job {
+    number: u64,
+    book: Arc<PointBook>,
+    ask: Ask,
+}
+
+impl Model for Job {
+    ghost use Rattle.std.specs.Prelude.{◌≤◌, length};
+    ghost use Rattle.std.specs.Arc.{arc_value};
+    ghost use Rattle.version_store.specs.Answers.{RequestedJob};
+
+    ghost Value = { RequestedJob };
+
+    ghost view = { λ job. record { number = job.number; book = arc_value job.book; ask = job.ask } };
+
+    ghost invariant = { λ job. job.ask.connector ≤ length (arc_value job.book).ceilings };
+}
+
+impl Job {
+    pub(crate) fn new(number: u64, book: SharedBook, ask: Ask) -> Job
+        requires { ask.connector ≤ length book.ceilings }
+        ensures number { result.number ≡ number }
+        ensures book { result.book ≡ book }
+        ensures ask { result.ask ≡ ask }
+    {
+        Job {
+            number,
+            book: book.into_arc(),
+            ask,
+        }
+    }
+
+    /// The request's number.
+    pub fn number(&self) -> u64
+        ensures { result ≡ self.now.number }
+    {
+        self.number
+    }
+
+    /// The request's number, what its point had when it was taken, and the ask.
+    pub fn into_parts(self) -> (u64, Arc<PointBook>, Ask)
+        ensures number { result.0 ≡ self.number }
+        ensures book { arc_value result.1 ≡ self.book }
+        ensures ask { result.2 ≡ self.ask }
+        ensures has_connector { self.ask.connector ≤ length self.book.ceilings }
+    {
+        (self.number, self.book, self.ask)
+    }
+}

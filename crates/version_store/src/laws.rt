@@ -1,0 +1,19 @@
+//! The laws of the machine, for who proves what it keeps.
+
+ghost use Rattle.version_store.specs.ByCases.Laws.{Laws};
+
+use site_core::{
+    numbers_tell_of_histories, only_events_change_the_state, replies_are_their_steps,
+    requests_go_on_from_any_state, stored_histories_replay,
+};
+
+/// The laws of the machine that the stored history stands on.
+pub(crate) fn machine_laws()
+    ensures { Laws }
+{
+    stored_histories_replay();
+    numbers_tell_of_histories();
+    requests_go_on_from_any_state();
+    replies_are_their_steps();
+    only_events_change_the_state();
+}

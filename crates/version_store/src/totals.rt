@@ -1,0 +1,61 @@
+//! How many changes were made and answers handed out.
+
+ghost use Rattle.std.specs.Prelude.{◌≡◌, ◌+◌, ◌<◌, ◌^◌};
+ghost use Rattle.site_core.specs.Step.{counted};
+ghost use Rattle.version_store.specs.Told.{no_totals, totals_after};
+
+use site_core::Reply;
+
+/// How many changes of points' books were made, and how many answers to requests were handed out.
+#[derive(Clone, Copy, Debug, PartialEq, Eq)]
+pub struct Totals {
+    pub changes: u64,
+    pub answers: u64,
+}
+
+impl Totals {
+    pub(crate) fn none() -> Totals
+        ensures { result ≡ no_totals }
+    {
+        Totals {
+            changes: 0,
+            answers: 0,
+        }
+    }
+
+    /// What a reply alone tells of.
+    pub(crate) fn of(reply: &Reply) -> Totals
+        ensures { result ≡ totals_after no_totals reply.now }
+    {
+        let (changes, answers) = match reply {
+            Reply::Accepted | Reply::Started(_) | Reply::Ended => (1, 0),
+            Reply::Answered { .. } => (0, 1),
+            Reply::Unknown
+            | Reply::Repeated(_)
+            | Reply::NoSuch
+            | Reply::Taken { .. }
+            | Reply::Compiled
+            | Reply::NotYet
+            | Reply::Finished
+            | Reply::Attached(_)
+            | Reply::Sent(_)
+            | Reply::Nothing
+            | Reply::Confirmed
+            | Reply::LinkLost => (0, 0),
+        };
+        Totals { changes, answers }
+    }
+
+    /// With what a reply tells of.
+    pub(crate) fn after(self, reply: &Reply) -> Totals
+        requires changes { self.changes + (counted reply.now).changes < 2 ^ 64 }
+        requires answers { self.answers + (counted reply.now).answers < 2 ^ 64 }
+        ensures { result ≡ totals_after self reply.now }
+    {
+        let told = Totals::of(reply);
+        Totals {
+            changes: self.changes + told.changes,
+            answers: self.answers + told.answers,
+        }
+    }
+}
