@@ -277,20 +277,46 @@ def memory_problems(program, folder):
     for crate, test, in_a_row, least in (
         ("core_tests", "runs::a_step_is_made_again_where_memory_was_refused", 1, 20),
         ("core_tests", "runs::a_run_goes_on_where_memory_was_refused", 1, 2),
+        ("core_tests", "stored_histories::a_call_is_made_again_where_memory_was_refused", 1, 30),
         # From each allocation on all are refused: past its beginning the test makes none, until its last step.
         ("core_tests", "runs::a_step_without_an_event_wants_no_memory", 1_000_000, 1),
         # A chunk of the arena that is refused is asked for at half its size, and so on: all of that is refused.
         ("text_tests", "frame_texts::a_text_is_read_again_where_memory_was_refused", 20, 30),
     ):
-        tests = os.path.join(os.path.dirname(program), "..", "..", crate, "out", f"{crate}_tests")
-        yield again_problems(library, [tests, test], in_a_row, least)
+        yield again_problems(library, [built_tests(program, crate), test], in_a_row, least, range(1, 151))
+    # The last two calls of these are those that are made again, after a history that takes many allocations.
+    for test in (
+        "stored_histories::an_install_folds_again_where_memory_was_refused",
+        "stored_histories::a_start_folds_again_where_memory_was_refused",
+    ):
+        words = [built_tests(program, "core_tests"), test]
+        last = allocations(library, words)
+        yield again_problems(library, words, 1, 10, range(last - 40, last + 6))
 
 
-def again_problems(library, test, in_a_row, least):
+def built_tests(program, crate):
+    return os.path.join(os.path.dirname(program), "..", "..", crate, "out", f"{crate}_tests")
+
+
+def allocations(library, test):
+    """How many allocations a test makes, found by halving: none is refused past the last."""
+    made, too_many = 0, 1 << 20
+    while too_many - made > 1:
+        number = (made + too_many) // 2
+        environment = {**os.environ, "LD_PRELOAD": library, "REFUSED_ALLOCATION": str(number), "REPORT_REFUSED": ""}
+        done = subprocess.run(test, capture_output=True, timeout=120, env=environment)
+        if b"an allocation was refused\n" in done.stderr:
+            made = number
+        else:
+            too_many = number
+    return made
+
+
+def again_problems(library, test, in_a_row, least, numbers):
     """A test of what is tried again, refused its allocations from each in turn: it passes, unless it was set up without memory."""
     no_memory = re.compile(rb"error: (OutOfMemory|AllocError|AllocFailed \{ \.\. \})\n")
     problems, unready, refused, passes = [], 0, 0, 0
-    for number in range(1, 151):
+    for number in numbers:
         environment = {
             **os.environ,
             "LD_PRELOAD": library,

@@ -1,8 +1,11 @@
-//! Tests of `site_core` from outside, by its public names alone: runs of steps with what comes of each,
-//! the largest sizes, and a charge point that obeys its calls and so stays in step with the machine. They
-//! stand here, since a crate with tests of its own is proved twice.
+//! Tests of `site_core` and `version_store` from outside, by their public names alone: runs of steps with what
+//! comes of each, the largest sizes, and a charge point that obeys its calls and so stays in step with the
+//! machine; the same steps as calls on a book, and what a book stores. They stand here, since a crate with
+//! tests of its own is proved twice.
 #![tactic(auto)]
 
+#[cfg(test)]
+mod calls_beside_steps;
 #[cfg(test)]
 mod largest_sizes;
 #[cfg(test)]
@@ -15,5 +18,9 @@ mod posted_answers;
 mod random_run;
 #[cfg(test)]
 mod runs;
+#[cfg(test)]
+mod stored_histories;
+#[cfg(test)]
+mod told_calls;
 #[cfg(test)]
 mod told_steps;

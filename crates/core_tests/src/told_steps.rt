@@ -7,6 +7,8 @@
 //! for a minute from midnight on.
 
 use book_tests::{begin_of, criteria_of, instant_at, row_of};
+use meaning::Composite;
+use ocpp_scalars::Refusal;
 use site_core::{Machine, Outcome, PointId, Reply, Step, Take};
 use std::alloc::Global;
 use std::process::Abort;
@@ -104,6 +106,17 @@ fn link_step(words: Words<'_>, point: PointId) -> Result<Step, Fail> {
     }
 }
 
+/// An answer that is handed out: the tenths of its first limit, or its refusal with 1.
+pub(crate) fn answer_told(answer: &Result<Composite, Refusal>) -> (&'static str, u64) {
+    match answer {
+        Ok(schedule) => match schedule.periods().first() {
+            Some(period) => ("limit", u64::from(period.limit)),
+            None => ("no limit", 0),
+        },
+        Err(refusal) => (refusal.name(), 1),
+    }
+}
+
 /// What a step replies, with its number, 0 where it has none.
 pub(crate) fn reply_told(reply: &Reply) -> (&'static str, u64) {
     match reply {
@@ -115,13 +128,7 @@ pub(crate) fn reply_told(reply: &Reply) -> (&'static str, u64) {
         Reply::NoSuch => ("NoSuch", 0),
         Reply::Taken { number, .. } => ("Taken", *number),
         Reply::Compiled => ("Compiled", 0),
-        Reply::Answered { answer, .. } => match answer {
-            Ok(schedule) => match schedule.periods().first() {
-                Some(period) => ("limit", u64::from(period.limit)),
-                None => ("no limit", 0),
-            },
-            Err(refusal) => (refusal.name(), 1),
-        },
+        Reply::Answered { answer, .. } => answer_told(answer),
         Reply::NotYet => ("NotYet", 0),
         Reply::Finished => ("Finished", 0),
         Reply::Attached(link) => ("Attached", *link),

@@ -1,0 +1,310 @@
+//! Told steps as the calls of a session on a `Book`, so that the same lines run there and on a `Machine`.
+
+ghost use Rattle.std.specs.Prelude.{◌≡◌};
+
+use crate::runs::site;
+use crate::told_steps::{answer_told, parts_of, step_of};
+use ocpp_scalars::Refusal;
+use profile::{Profile, Row};
+use site_core::{Machine, PointId, Reply, Step, Take};
+use std::alloc::Global;
+use std::marker::Brand;
+use std::process::Abort;
+use std::sync::ledger::{Blank, Ledger};
+use std::test::Fail;
+use sweep_compiler::Compiled;
+use transactions::Begin;
+use version_store::{Book, Job, Pass};
+
+/// What a refused call gives back.
+#[derive(Drop)]
+pub(crate) enum Back {
+    Nothing,
+    Profile(Profile),
+    Begin(Begin),
+}
+
+type Made = Result<(&'static str, u64), (Refusal, Back)>;
+
+/// A book of the site of two points, with the pass of its one session.
+#[derive(Drop)]
+pub(crate) struct Desk<C: Ledger, A: Ledger> {
+    pub(crate) alloc: Global,
+    pub(crate) book: Book<C, A>,
+    pub(crate) pass: Pass<C, A>,
+    /// What was taken and isn't compiled yet.
+    pub(crate) jobs: Vec<Job>,
+    /// What is brought for a request without a job: what was compiled for another one.
+    stranger: Option<Compiled>,
+}
+
+/// An answer of another store.
+fn stranger(alloc: Global) -> Result<Compiled, Fail> {
+    let mut machine = Machine::new(alloc, site(alloc)?)?;
+    match machine.step(step_of(alloc, "CP1 take")?) {
+        Ok(Reply::Taken { book, ask, .. }) => Ok(Compiled::make(alloc, book.into_arc(), ask)),
+        Ok(_) => Err("not taken")?,
+        Err(refused) => Err(refused.refusal)?,
+    }
+}
+
+impl<C: Ledger, A: Ledger> Desk<C, A> {
+    pub(crate) fn new(alloc: Global, changes: Blank, answers: Blank) -> Result<Desk<C, A>, Fail>
+        requires changes { (changes.name ≡ C.name) × (changes.parts ≡ C.parts) × (changes.parts ≡ 1) }
+        requires answers { (answers.name ≡ A.name) × (answers.parts ≡ A.parts) × (answers.parts ≡ 1) }
+    {
+        let (book, mut passes) = Book::make(alloc, changes, answers, site(alloc)?, 1)?;
+        Ok(Desk {
+            alloc,
+            book,
+            pass: passes.pop().ok_or("no pass")?,
+            jobs: Vec::with_capacity(alloc, 64)?,
+            stranger: Some(stranger(alloc)?),
+        })
+    }
+
+    /// What comes of the call of a step, with its number, 0 where it has none.
+    pub(crate) fn call(&mut self, step: Step) -> Made {
+        match step {
+            Step::Install { point, row } => self.install(point, row),
+            Step::Start {
+                point,
+                connector,
+                begin,
+            } => self.start(point, connector, begin),
+            Step::Compile(number) => self.post(number),
+            Step::Finish => {
+                self.book.finish();
+                Ok(("Finished", 0))
+            }
+            other => match self.bare_call(other) {
+                Ok(told) => Ok(told),
+                Err(refusal) => Err((refusal, Back::Nothing)),
+            },
+        }
+    }
+
+    /// The call of a step that gives nothing back.
+    fn bare_call(&mut self, step: Step) -> Result<(&'static str, u64), Refusal> {
+        match step {
+            Step::Clear { point, criteria } => {
+                let removed = self.book.clear(&mut self.pass, point, criteria)?;
+                Ok((if removed { "Accepted" } else { "Unknown" }, 0))
+            }
+            Step::Stop { point, transaction } => {
+                let ended = self.book.stop(&mut self.pass, point, transaction)?;
+                Ok((if ended { "Ended" } else { "NoSuch" }, 0))
+            }
+            Step::Take(take) => self.take(take),
+            Step::Answer(number) => match self.book.collect(&mut self.pass, number)? {
+                Some(answer) => Ok(answer_told(answer.answer())),
+                None => Ok(("NotYet", 0)),
+            },
+            other => self.link_call(other),
+        }
+    }
+
+    /// The call of a step of a link.
+    fn link_call(&mut self, step: Step) -> Result<(&'static str, u64), Refusal> {
+        match step {
+            Step::Attach(point) => Ok(("Attached", self.book.attach(&mut self.pass, point)?)),
+            Step::Send { point, link } => match self.book.send(point, link)? {
+                Some(call) => Ok(("Sent", call.number)),
+                None => Ok(("Nothing", 0)),
+            },
+            Step::Confirm { point, link, call } => {
+                self.book.confirm(point, link, call)?;
+                Ok(("Confirmed", 0))
+            }
+            Step::Lost { point, link } => {
+                self.book.lost(point, link)?;
+                Ok(("LinkLost", 0))
+            }
+            _ => Ok(("no call", 0)),
+        }
+    }
+
+    fn install(&mut self, point: PointId, row: Row) -> Made {
+        let Row {
+            connector,
+            moment,
+            profile,
+        } = row;
+        match self
+            .book
+            .install(&mut self.pass, point, connector, profile, moment)
+        {
+            Ok(()) => Ok(("Accepted", 0)),
+            Err((refusal, profile)) => Err((refusal, Back::Profile(profile))),
+        }
+    }
+
+    /// A start that is told again is no change.
+    fn start(&mut self, point: PointId, connector: u32, begin: Begin) -> Made {
+        let before = self.pass.totals();
+        match self.book.start(&mut self.pass, point, connector, begin) {
+            Ok(number) if self.pass.totals() == before => Ok(("Repeated", number)),
+            Ok(number) => Ok(("Started", number)),
+            Err((refusal, begin)) => Err((refusal, Back::Begin(begin))),
+        }
+    }
+
+    /// Takes a request and keeps its job.
+    fn take(&mut self, take: Take) -> Result<(&'static str, u64), Refusal> {
+        let job = self.book.take(
+            &mut self.pass,
+            take.point,
+            take.connector,
+            take.start,
+            take.duration,
+            take.unit,
+        )?;
+        let number = job.number();
+        self.jobs.push(job)?;
+        Ok(("Taken", number))
+    }
+
+    /// What is to be posted for the request of a number: what its job asks for, compiled, where it has one.
+    pub(crate) fn compiled(&mut self, number: u64) -> Option<Compiled> {
+        let place = self.jobs.iter().position(|job| job.number() == number);
+        let Some(place) = place else {
+            return self.stranger.take();
+        };
+        let (_, book, ask) = self.jobs.remove(place).into_parts();
+        Some(Compiled::make(self.alloc, book, ask))
+    }
+
+    /// Compiles the request of a number, and posts the answer.
+    fn post(&mut self, number: u64) -> Made {
+        let Some(compiled) = self.compiled(number) else {
+            return Ok(("nothing to post", 0));
+        };
+        match self.book.post(number, compiled) {
+            Ok(()) => Ok(("Compiled", 0)),
+            Err((refusal, compiled)) => {
+                self.stranger = Some(compiled);
+                Err((refusal, Back::Nothing))
+            }
+        }
+    }
+
+    /// What comes of the call of a step, told.
+    pub(crate) fn told(&mut self, step: Step) -> (&'static str, u64) {
+        match self.call(step) {
+            Ok(told) => told,
+            Err((refusal, _)) => (refusal.name(), 0),
+        }
+    }
+
+    /// Makes the calls of lines, each with what has to come of it.
+    pub(crate) fn run(&mut self, rt: &impl Abort, lines: &str) -> Result<(), Fail> {
+        for line in lines.lines() {
+            let (step, wanted) = parts_of(line)?;
+            let step = step_of(self.alloc, step)?;
+            assert_eq!(rt; self.told(step), wanted, "{line}");
+        }
+        Ok(())
+    }
+}
+
+/// Makes the calls of lines on a new book, after which its version is this.
+fn run_at<C: Ledger, A: Ledger>(
+    rt: &impl Abort,
+    alloc: Global,
+    changes: Blank,
+    answers: Blank,
+    lines: String,
+    version: u64,
+) -> Result<(), Fail>
+    requires changes { (changes.name ≡ C.name) × (changes.parts ≡ C.parts) × (changes.parts ≡ 1) }
+    requires answers { (answers.name ≡ A.name) × (answers.parts ≡ A.parts) × (answers.parts ≡ 1) }
+{
+    let mut desk: Desk<C, A> = Desk::new(alloc, changes, answers)?;
+    desk.run(rt, lines.as_str())?;
+    assert_eq!(rt; desk.book.version(), version);
+    assert_eq!(rt; desk.pass.totals().changes, version);
+    Ok(())
+}
+
+fn run_on_a_book(rt: &impl Abort, alloc: Global, lines: &str, version: u64) -> Result<(), Fail> {
+    let lines = String::from_str(alloc, lines)?;
+    run_at::<Brand, Brand>(rt, alloc, Blank::new(1), Blank::new(1), lines, version)
+}
+
+const OF_THE_TAKEN_BOOK: &str = "\
+CP1 install 100 = Accepted
+CP1 take = Taken 1
+CP1 install 70 = Accepted
+- answer 1 = NotYet
+- compile 1 = Compiled
+- answer 1 = limit 100
+CP1 take = Taken 2
+- compile 2 = Compiled
+- answer 2 = limit 70
+CP1 clear = Accepted
+CP1 clear = Unknown
+CP1 start 1 = Started 1
+CP1 start 1 = Repeated 1
+CP1 stop 1 = Ended
+CP1 stop 1 = NoSuch
+CP1 start 3 = UnknownConnector
+CP9 install 70 = UnknownPoint";
+
+/// Two installs, a clear, a start and a stop are changes.
+#[test]
+fn a_session_changes_what_a_point_has(rt: HostRuntime) -> Result<(), Fail> {
+    run_on_a_book(&rt, rt.alloc(), OF_THE_TAKEN_BOOK, 5)
+}
+
+const OF_LINKS: &str = "\
+CP1 attach = Attached 1
+CP1 attach = Attached 2
+CP1 send 1 = Superseded
+CP1 send 2 = Sent 0
+CP1 send 2 = Nothing
+CP1 lost 2 = LinkLost
+CP1 attach = Attached 3
+CP1 send 3 = Sent 0
+CP1 confirm 3 1 = NothingInFlight
+CP1 confirm 3 0 = Confirmed
+CP2 attach = Attached 4
+CP2 send 4 = Sent 0
+CP2 attach = Attached 5
+CP2 send 5 = Sent 0
+CP2 confirm 5 0 = Confirmed
+CP9 attach = UnknownPoint
+CP9 send 5 = Superseded";
+
+/// A call that is in flight waits again over a new link.
+#[test]
+fn a_session_sends_over_the_present_link(rt: HostRuntime) -> Result<(), Fail> {
+    run_on_a_book(&rt, rt.alloc(), OF_LINKS, 0)
+}
+
+const OF_THE_END: &str = "\
+CP1 take = Taken 1
+CP1 take = Taken 2
+CP1 take = Taken 3
+- compile 1 = Compiled
+- compile 1 = AlreadyAnswered
+- finish = Finished
+- finish = Finished
+- compile 2 = AlreadyAnswered
+- answer 2 = Stopped 1
+- answer 2 = UnknownRequest
+- compile 3 = AlreadyAnswered
+- answer 1 = limit 160
+- answer 3 = Stopped 1
+- compile 3 = UnknownRequest
+CP1 install 70 = Stopped
+CP1 clear = Stopped
+CP1 start 1 = Stopped
+CP1 stop 1 = Stopped
+CP1 take = Stopped
+CP1 attach = Stopped";
+
+/// Finishing answers `Stopped`, and then only collecting goes on.
+#[test]
+fn a_session_collects_after_the_end(rt: HostRuntime) -> Result<(), Fail> {
+    run_on_a_book(&rt, rt.alloc(), OF_THE_END, 0)
+}
