@@ -1,6 +1,6 @@
 -- What is counted: the changes that were made and the answers that were handed out, of all sessions and
 -- of each.
-use Rattle.std.specs.Prelude.{ℕ, ◌+◌, max}
+use Rattle.std.specs.Prelude.{ℕ, ◌+◌, max, List, sum_by}
 use Rattle.site_core.specs.declared.reply.Reply.{Reply}
 use Rattle.site_core.specs.Step.{counted}
 use Rattle.version_store.specs.declared.totals.Totals.{Totals}
@@ -30,4 +30,11 @@ abbrev pub told_after : Told → Reply → ℕ → Told
 told_after old reply version = record {
   totals = totals_after old.totals reply;
   seen = max old.seen version;
+}
+
+-- what sessions were told together
+abbrev pub told_together : List Told → Totals
+told_together sessions = record {
+  changes = sum_by (λ (told : Told). told.totals.changes) sessions;
+  answers = sum_by (λ (told : Told). told.totals.answers) sessions;
 }

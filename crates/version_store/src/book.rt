@@ -1,10 +1,10 @@
 //! The book of the central system, as sessions use it.
 
-ghost use Rattle.std.specs.Prelude.{◌≡◌, ◌<◌, true, IfOk, IfErr, All, length};
+ghost use Rattle.std.specs.Prelude.{◌≡◌, ◌<◌, ◌≤◌, true, IfOk, IfErr, All, length};
 ghost use Rattle.site_core.specs.declared.step.Step.{Step};
 ghost use Rattle.site_core.specs.State.{link_of, link_to_send, outbox_len};
 ghost use Rattle.site_core.specs.Step.{HasAskedConnector, is_reply_to};
-ghost use Rattle.version_store.specs.Told.{nothing_told};
+ghost use Rattle.version_store.specs.Told.{nothing_told, told_together};
 ghost use Rattle.version_store.specs.Store.{IsStore, opening_store, may_fold};
 ghost use Rattle.version_store.specs.Calls.{Calls, IsRefusalOf};
 
@@ -82,6 +82,19 @@ impl<C: Ledger, A: Ledger> Book<C, A> {
         self.ledgers
             .count(pass, &reply, self.history.made(), version);
         Ok(reply)
+    }
+
+    /// Ends the book. With the passes of all its sessions, the numbers of changes that were made and of
+    /// answers that were handed out are what those sessions were told together.
+    pub fn settle(self, passes: Vec<Pass<C, A>>) -> Totals
+        requires changes { C.parts ≤ length passes.items }
+        requires answers { A.parts ≤ length passes.items }
+        ensures own { result ≡ self.made }
+        ensures together { result ≡ told_together passes.items }
+    {
+        let totals = self.totals();
+        self.ledgers.settle(passes);
+        totals
     }
 
     /// How many events are stored. With what is always so of a book: its present state is the replay of its

@@ -1,7 +1,7 @@
 //! The counting of changes and answers over all sessions.
 
-ghost use Rattle.std.specs.Prelude.{◌≡◌};
-ghost use Rattle.version_store.specs.Told.{no_totals, totals_after, told_after};
+ghost use Rattle.std.specs.Prelude.{◌≡◌, ◌≤◌, length};
+ghost use Rattle.version_store.specs.Told.{no_totals, totals_after, told_after, told_together};
 
 use crate::pass::Pass;
 use crate::totals::Totals;
@@ -15,14 +15,21 @@ use std::sync::ledger::{Blank, Ledger, Share};
 pub(crate) struct Ledgers<C: Ledger, A: Ledger> {
     changed: ledger::Book<C>,
     answered: ledger::Book<A>,
+    /// Of no part: in the end they take in those of the passes.
+    no_changes: Share<C>,
+    no_answers: Share<A>,
 }
 
 impl<C: Ledger, A: Ledger> Model for Ledgers<C, A> {
+    ghost use Rattle.std.specs.Prelude.{◌≡◌};
     ghost use Rattle.version_store.specs.declared.totals.Totals.{Totals};
 
     ghost Value = { Totals };
 
     ghost view = { λ l. record { changes = l.changed.total; answers = l.answered.total } };
+
+    ghost invariant = { λ l. (l.no_changes.parts ≡ 0) × (l.no_changes.amount ≡ 0)
+        × (l.no_answers.parts ≡ 0) × (l.no_answers.amount ≡ 0) };
 }
 
 impl<C: Ledger, A: Ledger> Ledgers<C, A> {
@@ -34,9 +41,15 @@ impl<C: Ledger, A: Ledger> Ledgers<C, A> {
         ensures parts { (result.1.parts ≡ C.parts) × (result.2.parts ≡ A.parts) }
         ensures amounts { (result.1.amount ≡ 0) × (result.2.amount ≡ 0) }
     {
-        let (changed, all_changed) = changes.open();
-        let (answered, all_answered) = answers.open();
-        (Ledgers { changed, answered }, all_changed, all_answered)
+        let (changed, mut all_changed) = changes.open();
+        let (answered, mut all_answered) = answers.open();
+        let ledgers = Ledgers {
+            changed,
+            answered,
+            no_changes: all_changed.empty(),
+            no_answers: all_answered.empty(),
+        };
+        (ledgers, all_changed, all_answered)
     }
 
     /// Counts what a call of a session was told, after which the totals are these, at this version.
@@ -52,5 +65,26 @@ impl<C: Ledger, A: Ledger> Ledgers<C, A> {
         self.answered.add(&mut pass.answered, told.answers);
         pass.totals = pass.totals.after(reply);
         pass.seen = pass.seen.max(version);
+    }
+
+    /// Ends the counting: all passes together were told the totals.
+    pub fn settle(self, passes: Vec<Pass<C, A>>)
+        requires changes { C.parts ≤ length passes.items }
+        requires answers { A.parts ≤ length passes.items }
+        ensures { told_together passes.items ≡ self }
+    {
+        let Ledgers {
+            mut changed,
+            mut answered,
+            no_changes: mut all_changed,
+            no_answers: mut all_answered,
+        } = self;
+        for pass in passes {
+            let (changed, answered) = pass.into_shares();
+            all_changed.merge(changed);
+            all_answered.merge(answered);
+        }
+        changed.audit(&mut all_changed);
+        answered.audit(&mut all_answered);
     }
 }

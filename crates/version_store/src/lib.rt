@@ -1,7 +1,7 @@
 //! The central system as sessions use it: the state of a site with the history that led to it, each change
-//! one event of it. Where the history has grown long it begins anew with the present state, so it never
-//! fills up. What a call makes of the store stands in `specs/Calls.antt`, what is always so of it in
-//! `specs/Store.antt`.
+//! one event of it, under a lock where threads share it. Where the history has grown long it begins anew
+//! with the present state, so it never fills up. What a call makes of the store stands in `specs/Calls.antt`,
+//! what is always so of it in `specs/Store.antt`.
 #![tactic(auto)]
 
 mod answer;
@@ -10,7 +10,9 @@ mod history;
 mod job;
 mod laws;
 mod ledgers;
+mod missing;
 mod pass;
+mod shared;
 mod stored_event;
 mod totals;
 mod whole_history;
@@ -18,7 +20,9 @@ mod whole_history;
 pub use answer::Answer;
 pub use book::Book;
 pub use job::Job;
+pub use missing::Missing;
 pub use pass::Pass;
+pub use shared::Shared;
 pub use stored_event::StoredEvent;
 pub use totals::Totals;
 pub use whole_history::books_have_whole_histories;

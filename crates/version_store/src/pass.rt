@@ -47,6 +47,15 @@ impl<C: Ledger, A: Ledger> Pass<C, A> {
         }
     }
 
+    /// Its parts of the book's changes and answers, each with what it was told of them.
+    pub(crate) fn into_shares(self) -> (Share<C>, Share<A>)
+        ensures parts { (result.0.parts ≡ 1) × (result.1.parts ≡ 1) }
+        ensures changes { result.0.amount ≡ self.totals.changes }
+        ensures answers { result.1.amount ≡ self.totals.answers }
+    {
+        (self.changed, self.answered)
+    }
+
     /// How many changes its calls made, and how many answers were handed out to them.
     pub fn totals(&self) -> Totals
         ensures { result ≡ self.now.totals }

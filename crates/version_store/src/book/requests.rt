@@ -1,6 +1,6 @@
 //! The calls of requests for composite schedules, and the end.
 
-ghost use Rattle.std.specs.Prelude.{ℕ, ◌≡◌, ◌≤◌, true, None, IfOk, IfErr, IfSome};
+ghost use Rattle.std.specs.Prelude.{ℕ, ◌≡◌, ◌≤◌, true, None, IfOk, IfErr, IfSome, IfNone};
 ghost use Rattle.site_core.specs.declared.step.Step.TheVariants as steps;
 ghost use Rattle.site_core.specs.declared.reply.Reply.{Reply};
 ghost use Rattle.site_core.specs.Requests.{request_of};
@@ -8,7 +8,7 @@ ghost use Rattle.site_core.specs.Step.{is_reply_to};
 ghost use Rattle.site_core.specs.Right.{IsRight};
 ghost use Rattle.site_core.specs.Post.{IsRefusedPost};
 ghost use Rattle.version_store.specs.Calls.{Calls, Makes, IsRefusalOf, IsBehind, PostsTo, take_of};
-ghost use Rattle.version_store.specs.Answers.{HandsOutRight, reply_of};
+ghost use Rattle.version_store.specs.Answers.{HandsOutRight, reply_of, awaits};
 
 use crate::answer::Answer;
 use crate::book::Book;
@@ -81,6 +81,8 @@ impl<C: Ledger, A: Ledger> Book<C, A> {
         ensures numbered { IfOk result (λ answer. IfSome answer (λ a. a.number ≡ number)) }
         ensures right { IfOk result
             (λ answer. IfSome answer (λ a. IsRight a.book a.ask a.answer)) }
+        ensures awaited { IfOk result
+            (λ answer. IfNone answer (awaits self.old.present number ≡ true)) }
         ensures refusal { IfErr result (λ refusal. (refusal ≡ Refusal.UnknownRequest)
             × (request_of number self.old.present.requests ≡ None)) }
         ensures kept { IfErr result (λ refusal. (self.new ≡ self.old) × (pass.new ≡ pass.old)) }
@@ -92,6 +94,13 @@ impl<C: Ledger, A: Ledger> Book<C, A> {
             Reply::NotYet => Ok(None),
             _ => unreachable!(),
         }
+    }
+
+    /// Whether the request of a number is kept and has no answer yet.
+    pub fn awaits(&self, number: u64) -> bool
+        ensures { result ≡ awaits self.now.present number }
+    {
+        matches!(self.present().outlook(&Step::Answer(number)), Ok(false))
     }
 
     /// Stops the central system: each request without an answer is answered `Stopped`, and only collecting

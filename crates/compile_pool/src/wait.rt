@@ -1,0 +1,33 @@
+//! Waiting for an answer.
+
+ghost use Rattle.std.specs.Prelude.{◌≡◌, ◌≤◌, ◌+◌, IfOk, IfErr};
+ghost use Rattle.ocpp_scalars.specs.declared.refusal.Refusal.{Refusal};
+ghost use Rattle.site_core.specs.Right.{IsRight};
+ghost use Rattle.compile_pool.specs.Wait.{ToldOneAnswer};
+
+use ocpp_scalars::Refusal;
+use std::sync::Wait;
+use std::sync::ledger::Ledger;
+use version_store::{Answer, Pass, Shared};
+
+/// Waits until the request of a number has its answer, and collects it (chapter 5.7). The refusal is
+/// `UnknownRequest`, where the request isn't kept, or another session has collected it.
+pub fn wait_answer<C: Ledger, A: Ledger, R: Wait>(
+    rt: &R,
+    shared: &Shared<C, A>,
+    pass: &mut Pass<C, A>,
+    number: u64,
+) -> Result<Answer, Refusal>
+    ensures numbered { IfOk result (λ answer. answer.number ≡ number) }
+    ensures right { IfOk result (λ answer. IsRight answer.book answer.ask answer.answer) }
+    ensures told { IfOk result (λ answer. ToldOneAnswer pass.old pass.new) }
+    ensures refusal { IfErr result (λ refusal. refusal ≡ Refusal.UnknownRequest) }
+    ensures kept { IfErr result (λ refusal. pass.new ≡ pass.old) }
+{
+    let mut book = shared.until_answered(rt, number);
+    match book.collect(pass, number) {
+        Ok(Some(answer)) => Ok(answer),
+        Ok(None) => unreachable!(),
+        Err(refusal) => Err(refusal),
+    }
+}

@@ -1,0 +1,105 @@
+//! Workers: from a job to a posted answer.
+
+ghost use Rattle.std.specs.Prelude.{◌≡◌, ◌≤◌};
+ghost use Rattle.version_store.specs.Answers.{RequestedJob};
+ghost use Rattle.compile_pool.specs.Workers.{IsOfJob, PostsOrDrops};
+
+use crate::gate::Gate;
+use crossbeam_channel::Receiver;
+use std::alloc::Global;
+use std::marker::{Send, Sync};
+use std::sync::Wait;
+use std::sync::ledger::Ledger;
+use std::thread;
+use std::thread::Threads;
+use sweep_compiler::Compiled;
+use version_store::{Book, Job, Shared};
+
+/// What a job asks for, compiled for what its point had when it was taken. Where memory runs out, that is
+/// the answer.
+fn compile_job(alloc: Global, job: Job) -> (u64, Compiled)
+    ensures number { result.0 ≡ job.number }
+    ensures compiled { IsOfJob job result.1 }
+{
+    let (number, book, ask) = job.into_parts();
+    (number, Compiled::make(alloc, book, ask))
+}
+
+/// Posts what was compiled. What the book refuses is dropped: its request was answered or handed out meanwhile.
+fn post_or_drop<C: Ledger, A: Ledger>(book: &mut Book<C, A>, number: u64, compiled: Compiled)
+    ensures { PostsOrDrops book.old number compiled book.new }
+{
+    let _ = book.post(number, compiled);
+}
+
+/// Compiles a job outside the lock, posts the answer under it, and wakes who waits. So does a worker, and a
+/// session whose job can't be sent to one.
+pub fn answer_job<C: Ledger, A: Ledger, R: Wait>(
+    rt: &R,
+    alloc: Global,
+    shared: &Shared<C, A>,
+    job: Job,
+) {
+    let (number, compiled) = compile_job(alloc, job);
+    let mut book = shared.lock(rt);
+    post_or_drop(&mut book, number, compiled);
+    drop(book);
+    shared.wake();
+}
+
+/// Answers jobs, one after the other, until all senders of the channel are gone.
+pub fn worker<C: Ledger, A: Ledger, R: Wait, G: Gate>(
+    rt: &R,
+    alloc: Global,
+    jobs: &Receiver<Job>,
+    shared: &Shared<C, A>,
+    gate: &G,
+) {
+    for _turn in rt.forever() {
+        let Ok(job) = jobs.recv(rt) else {
+            break;
+        };
+        gate.enter(job.number());
+        answer_job(rt, alloc, shared, job);
+    }
+}
+
+/// Answers jobs on this thread and on up to `workers - 1` more, until all senders of the channel are gone. Gives
+/// how many threads did so: fewer than `workers` where a thread couldn't be made.
+pub fn run_pool<
+    C: Ledger + Send + Sync,
+    A: Ledger + Send + Sync,
+    R: Threads + Wait + Sync,
+    G: Gate + Sync,
+>(
+    rt: &R,
+    alloc: Global,
+    workers: usize,
+    jobs: &Receiver<Job>,
+    shared: &Shared<C, A>,
+    gate: &G,
+) -> usize
+    requires { 1 ≤ workers }
+    ensures { (1 ≤ result) × (result ≤ workers) }
+{
+    thread::scope(
+        thread::scope_env(),
+        rt,
+        |scope| -> usize
+            requires { 1 ≤ workers }
+            ensures { (1 ≤ result) × (result ≤ workers) }
+        {
+            let mut ran = 1usize;
+            for _thread in 1..workers {
+                if scope
+                    .spawn(move || worker(rt, alloc, jobs, shared, gate))
+                    .is_ok()
+                {
+                    ran += 1;
+                }
+            }
+            worker(rt, alloc, jobs, shared, gate);
+            ran
+        },
+    )
+}

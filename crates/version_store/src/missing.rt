@@ -1,0 +1,8 @@
+//! That passes are missing.
+
+/// Fewer passes were given than were made.
+#[derive(Clone, Copy, Debug, PartialEq, Eq)]
+pub struct Missing {
+    pub given: usize,
+    pub made: u64,
+}

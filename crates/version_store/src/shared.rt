@@ -1,0 +1,120 @@
+//! The book as threads share it.
+
+ghost use Rattle.std.specs.Prelude.{◌≡◌, ◌<◌, ◌≤◌, false, IfOk, IfErr, All, length};
+ghost use Rattle.std.specs.Sync.Mutex.{mutex_guard_value};
+ghost use Rattle.version_store.specs.Answers.{awaits};
+ghost use Rattle.version_store.specs.Store.{IsStore};
+ghost use Rattle.version_store.specs.Told.{nothing_told, told_together};
+
+use crate::book::Book;
+use crate::missing::Missing;
+use crate::pass::Pass;
+use crate::totals::Totals;
+use site_rules::Site;
+use std::alloc::{AllocError, Global};
+use std::marker::Model;
+use std::sync::ledger::{Blank, Ledger};
+use std::sync::{Condvar, Mutex, MutexGuard, Wait};
+
+/// The book of the central system, which one thread at a time has. Each of its calls is made by whoever has it, so
+/// all that is said of a book holds between any calls of any threads.
+#[derive(Drop)]
+pub struct Shared<C: Ledger, A: Ledger> {
+    book: Mutex<Book<C, A>>,
+    /// Those wait here who wait for an answer.
+    answered: Condvar,
+    sessions: u64,
+}
+
+impl<C: Ledger, A: Ledger> Model for Shared<C, A> {
+    ghost use Rattle.std.specs.Prelude.{ℕ, ◌≡◌};
+
+    ghost Value = { ℕ };
+
+    ghost view = { λ shared. shared.sessions };
+
+    ghost invariant = { λ shared. (shared.sessions ≡ C.parts) × (shared.sessions ≡ A.parts) };
+}
+
+impl<C: Ledger, A: Ledger> Shared<C, A> {
+    /// The book of a site where nothing was done yet, with a pass for each session, which was told nothing.
+    pub fn make(
+        alloc: Global,
+        changes: Blank,
+        answers: Blank,
+        site: Site,
+        sessions: u64,
+    ) -> Result<(Shared<C, A>, Vec<Pass<C, A>>), AllocError>
+        requires changes { (changes.name ≡ C.name) × (changes.parts ≡ C.parts)
+            × (changes.parts ≡ sessions) }
+        requires answers { (answers.name ≡ A.name) × (answers.parts ≡ A.parts)
+            × (answers.parts ≡ sessions) }
+        requires some { 0 < sessions }
+        ensures sessions { IfOk result (λ made. made.0 ≡ sessions) }
+        ensures passes { IfOk result (λ made. length made.1.items ≡ sessions) }
+        ensures told { IfOk result (λ made. All (λ pass. pass ≡ nothing_told) made.1.items) }
+    {
+        let (book, passes) = Book::make(alloc, changes, answers, site, sessions)?;
+        let shared = Shared {
+            book: Mutex::new(book),
+            answered: Condvar::new(),
+            sessions,
+        };
+        Ok((shared, passes))
+    }
+
+    /// How many sessions have a pass.
+    pub fn sessions(&self) -> u64
+        ensures { result ≡ self.now }
+    {
+        self.sessions
+    }
+
+    /// The book, once no other thread has it. Whatever was done to it meanwhile, all that is always so of a
+    /// book is so of this one.
+    pub fn lock<R: Wait>(&self, rt: &R) -> MutexGuard<'_, Book<C, A>>
+        ensures { IsStore (mutex_guard_value result) }
+    {
+        let book = self.book.lock(rt);
+        book.stored();
+        book
+    }
+
+    /// Wakes all who wait for an answer. Whoever has called `post` or `finish` calls it then.
+    pub fn wake(&self) {
+        self.answered.notify_all();
+    }
+
+    /// The book, once the request of a number has its answer, or isn't kept.
+    pub fn until_answered<R: Wait>(&self, rt: &R, number: u64) -> MutexGuard<'_, Book<C, A>>
+        ensures store { IsStore (mutex_guard_value result) }
+        ensures answered { awaits (mutex_guard_value result).present number ≡ false }
+    {
+        let book = self.book.lock(rt);
+        let book = self
+            .answered
+            .wait_while(rt, book, |book| book.awaits(number));
+        book.stored();
+        book
+    }
+
+    /// Ends the book. With all passes that were made, the numbers of changes that were made and of answers
+    /// that were handed out, which are what their sessions were told together.
+    pub fn settle(self, passes: Vec<Pass<C, A>>) -> Result<Totals, Missing>
+        ensures together { IfOk result (λ totals. totals ≡ told_together passes.items) }
+        ensures whole { IfOk result (λ totals. self ≤ length passes.items) }
+        ensures missing { IfErr result (λ missing.
+            (missing.given ≡ length passes.items) × (missing.made ≡ self)
+            × (missing.given < missing.made)) }
+    {
+        let given = passes.len();
+        if (given as u64) < self.sessions {
+            return Err(Missing {
+                given,
+                made: self.sessions,
+            });
+        }
+        let book = self.book.into_inner();
+        Ok(book.settle(passes))
+    }
+}
