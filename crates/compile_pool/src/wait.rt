@@ -1,6 +1,6 @@
 //! Waiting for an answer.
 
-ghost use Rattle.std.specs.Prelude.{◌≡◌, ◌≤◌, ◌+◌, IfOk, IfErr};
+ghost use Rattle.std.specs.Prelude.{◌≡◌, IfOk, IfErr};
 ghost use Rattle.ocpp_scalars.specs.declared.refusal.Refusal.{Refusal};
 ghost use Rattle.site_core.specs.Right.{IsRight};
 ghost use Rattle.compile_pool.specs.Wait.{ToldOneAnswer};

@@ -1,7 +1,6 @@
 //! Workers: from a job to a posted answer.
 
 ghost use Rattle.std.specs.Prelude.{◌≡◌, ◌≤◌};
-ghost use Rattle.version_store.specs.Answers.{RequestedJob};
 ghost use Rattle.compile_pool.specs.Workers.{IsOfJob, PostsOrDrops};
 
 use crate::gate::Gate;
