@@ -12,6 +12,7 @@ mod changes;
 mod links;
 mod requests;
 
+use crate::folded::Folded;
 use crate::history::History;
 use crate::ledgers::Ledgers;
 use crate::pass::{Pass, passes_of};
@@ -126,6 +127,13 @@ impl<C: Ledger, A: Ledger> Book<C, A> {
         ensures { result.now ≡ self.now.present }
     {
         self.history.present()
+    }
+
+    /// What the last fold left behind, if it wasn't taken yet. Whoever shares the book drops it without its lock.
+    pub fn take_folded(&mut self) -> Option<Folded>
+        ensures { self.new ≡ self.old }
+    {
+        self.history.take_folded()
     }
 
     /// How many changes were made and answers handed out, by all sessions.

@@ -13,6 +13,7 @@ ghost use Rattle.version_store.specs.Limits.{fold_from};
 ghost use Rattle.version_store.specs.Store.{IsStore, opening_store, may_fold};
 ghost use Rattle.version_store.specs.Calls.{Adds, Tells, Makes, IsRefusalOf, PostsTo, event_alone};
 
+use crate::folded::Folded;
 use crate::laws::machine_laws;
 use crate::stored_event::StoredEvent;
 use crate::totals::Totals;
@@ -21,6 +22,7 @@ use site_core::{Machine, Refused, Reply, Step};
 use site_rules::Site;
 use std::alloc::{AllocError, Global};
 use std::marker::Model;
+use std::mem::replace;
 use sweep_compiler::Compiled;
 
 /// With so many events or more, a call that is to add one folds the history first.
@@ -40,6 +42,8 @@ pub(crate) struct History {
     events: Vec<StoredEvent>,
     present: Machine,
     made: Totals,
+    /// What the last fold left behind, until it is taken.
+    folded: Option<Folded>,
 }
 
 impl Model for History {
@@ -89,6 +93,7 @@ impl History {
             events: Vec::with_capacity(alloc, ROOM)?,
             present,
             made: Totals::none(),
+            folded: None,
         })
     }
 
@@ -115,6 +120,13 @@ impl History {
         ensures { result ≡ self.now.made }
     {
         self.made
+    }
+
+    /// What the last fold left behind, if it wasn't taken yet.
+    pub fn take_folded(&mut self) -> Option<Folded>
+        ensures { self.new ≡ self.old }
+    {
+        self.folded.take()
     }
 
     /// Makes a step that brings no answer, and adds its event, if it is one. On a refusal the step comes
@@ -215,15 +227,20 @@ impl History {
         let Ok(base) = self.present.copy() else {
             return Err(without_memory(step));
         };
+        let Ok(events) = Vec::with_capacity(self.alloc, ROOM) else {
+            return Err(without_memory(step));
+        };
         let reply = match self.present.step(step) {
             Ok(reply) => reply,
             Err(refused) => return Err(refused),
         };
         self.present.open_requests();
-        self.base = base;
+        self.folded = Some(Folded {
+            base: replace(&mut self.base, base),
+            events: replace(&mut self.events, events),
+        });
         self.based = self.made;
         self.made = self.made.after(&reply);
-        self.events.clear();
         self.events.push_reserved(event);
         Ok(reply)
     }

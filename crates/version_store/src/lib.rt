@@ -6,6 +6,7 @@
 
 mod answer;
 mod book;
+mod folded;
 mod history;
 mod job;
 mod laws;
@@ -19,6 +20,7 @@ mod whole_history;
 
 pub use answer::Answer;
 pub use book::Book;
+pub use folded::Folded;
 pub use job::Job;
 pub use missing::Missing;
 pub use pass::Pass;

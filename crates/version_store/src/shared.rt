@@ -75,9 +75,20 @@ impl<C: Ledger, A: Ledger> Shared<C, A> {
     pub fn lock<R: Wait>(&self, rt: &R) -> MutexGuard<'_, Book<C, A>>
         ensures { IsStore (mutex_guard_value result) }
     {
-        let book = self.book.lock(rt);
+        let book = self.lock_unfolded(rt);
         book.stored();
         book
+    }
+
+    /// The book. What a fold left behind is dropped while it is unlocked, so that nobody waits for that.
+    fn lock_unfolded<R: Wait>(&self, rt: &R) -> MutexGuard<'_, Book<C, A>> {
+        let mut book = self.book.lock(rt);
+        let Some(folded) = book.take_folded() else {
+            return book;
+        };
+        drop(book);
+        drop(folded);
+        self.book.lock(rt)
     }
 
     /// Wakes all who wait for an answer. Whoever has called `post` or `finish` calls it then.
@@ -90,7 +101,7 @@ impl<C: Ledger, A: Ledger> Shared<C, A> {
         ensures store { IsStore (mutex_guard_value result) }
         ensures answered { awaits (mutex_guard_value result).present number ≡ false }
     {
-        let book = self.book.lock(rt);
+        let book = self.lock(rt);
         let book = self
             .answered
             .wait_while(rt, book, |book| book.awaits(number));

@@ -1,5 +1,6 @@
 -- The history begins anew with the present state, and goes on with one event.
-use Rattle.std.proofs.Common.{◌≡◌, ◌≤◌, true, sym, subst, arith, length}
+use Rattle.std.proofs.Common.{◌≡◌, ◌≤◌, true, ap, sym, subst, arith, length}
+use Rattle.std.specs.Vec.{vec_capacity}
 use Rattle.site_core.specs.Step.{stepped, no_answer}
 use Rattle.version_store.specs.contracts.history.History.{the_view}
 use Rattle.version_store.specs.Limits.{fold_from}
@@ -34,7 +35,7 @@ after-self-inside-requires-clause-answers c =
 
 abbrev new : (c : goal.After-push_reserved) → StoreState
 new c = the_view (record c.self.inside {
-  base = c.in-Ok.base;
+  base = c.replace.new.dest;
   based = c.self.inside.made;
   events = c.push_reserved.new.self;
   present = c.step.new.self;
@@ -45,29 +46,43 @@ abbrev then : (c : goal.After-push_reserved) → StoreState
 then c = with_event (folded (the_view c.self.inside)) (event_alone c.args.step)
     (made_with c.in-Ok-step.reply c.step.new.self)
 
-new_is : (c : goal.After-push_reserved) → then c ≡ new c
-new_is c = cc (
-  c.push_reserved.ensures.items,
-  c.clear.ensures.items,
-  c.in-Ok.ensures,
-  c.requires.event,
-  c.after-self-inside.ensures,
-)
-
 pub invariant_of-self-2 : goal.invariant_of-self-2
 invariant_of-self-2 c =
+    let same : then c ≡ new c = cc (
+      c.push_reserved.ensures.items,
+      c.in-Ok-with_capacity.ensures.items,
+      c.replace-2.ensures.after,
+      c.replace.ensures.after,
+      c.in-Ok.ensures,
+      c.requires.event,
+      c.after-self-inside.ensures,
+    ) in
     let was = store_folds c.machine_laws.ensures _ c.self.invariant.0 in
     let is = goes_on_alone c.machine_laws.ensures _ was c.args.step c.in-Ok-step.reply
     c.step.new.self c.requires.can_fold c.in-Ok-step.ensures.made in
     let room : HasRoom (then c) =
     room_for_more (then c) (omega arith) c.open_requests.ensures.machine in (
-      subst IsStore (new_is c) is,
-      subst HasRoom (new_is c) room,
-      omega (arith, c.push_reserved.ensures.capacity, c.clear.ensures.capacity, c.self.invariant.2),
+      subst IsStore same is,
+      subst HasRoom same room,
+      omega (
+        arith,
+        c.push_reserved.ensures.capacity,
+        ap vec_capacity c.replace-2.ensures.after,
+        c.in-Ok-with_capacity.ensures.capacity,
+      ),
     )
 
 pub returns-clause-adds : goal.returns-clause-adds
 returns-clause-adds c =
+    let same : then c ≡ new c = cc (
+      c.push_reserved.ensures.items,
+      c.in-Ok-with_capacity.ensures.items,
+      c.replace-2.ensures.after,
+      c.replace.ensures.after,
+      c.in-Ok.ensures,
+      c.requires.event,
+      c.after-self-inside.ensures,
+    ) in
     let was = the_view c.self.inside in
     let added = outlook_of_same c.args.self.now _ c.args.step true c.self.view_is c.requires.added
     in
@@ -75,6 +90,6 @@ returns-clause-adds c =
     c.requires.many in
     let adds = adds_alone was (folded was) c.args.step c.in-Ok-step.reply c.step.new.self
     c.requires.can_fold added c.in-Ok-step.ensures.made
-    (is_folded was c.args.step c.requires.can_fold many) (new c) (sym (new_is c)) in
+    (is_folded was c.args.step c.requires.can_fold many) (new c) (sym same) in
     subst (λ (s : StoreState). Adds s (event_alone c.args.step) c.in-Ok-step.reply (new c))
     c.self.view_is adds
