@@ -7,6 +7,7 @@ tries command lines, site files, devices that fail, how memory grows and memory 
 """
 import os
 import re
+import signal
 import subprocess
 import sys
 import tempfile
@@ -294,6 +295,18 @@ def memory_problems(program, folder):
         yield again_problems(library, words, 1, 10, range(last - 40, last + 6))
 
 
+    for test, step in (
+        ("waiting_sessions::stopping_wakes_all_who_wait", 1),
+        ("settled_totals::two_sessions_count_what_all_was", 7),
+        ("workers_beside_sessions::a_later_request_overtakes_one_that_is_held_up", 1),
+        ("workers_beside_sessions::one_worker_answers_in_turn", 1),
+        ("workers_beside_sessions::workers_end_with_the_jobs", 1),
+        ("workers_beside_sessions::whoever_waits_at_the_end_is_answered", 1),
+        ("workers_beside_sessions::eight_workers_answer_64_requests", 61),
+    ):
+        yield ending_problems(library, [built_tests(program, "pool_tests"), test], step)
+
+
 def built_tests(program, crate):
     return os.path.join(os.path.dirname(program), "..", "..", crate, "out", f"{crate}_tests")
 
@@ -337,6 +350,28 @@ def again_problems(library, test, in_a_row, least, numbers):
     if refused < least:
         problems.append(f"only {refused} runs were refused memory and passed")
     return f"{test[1]}: memory refused past the {unready} allocations of its beginning", problems
+
+
+def ending_problems(library, test, step):
+    """A test on threads, refused one of its allocations, each of so many in turn: it ends, whatever it finds."""
+    problems, refused, unrefused = [], 0, 0
+    for number in range(1, 20_000, step):
+        environment = {**os.environ, "LD_PRELOAD": library, "REFUSED_ALLOCATION": str(number), "REPORT_REFUSED": ""}
+        try:
+            done = subprocess.run(test, capture_output=True, timeout=60, env=environment)
+        except subprocess.TimeoutExpired:
+            problems.append(f"allocation {number}: it doesn't end")
+            break
+        # A test that fails ends with 101, and an assertion in it with a signal.
+        if done.returncode not in (0, 101, -signal.SIGABRT):
+            problems.append(f"allocation {number}: status {done.returncode}, {done.stdout!r}, {done.stderr!r}")
+        was_refused = done.returncode != 0 or b"an allocation was refused\n" in done.stderr
+        refused, unrefused = refused + was_refused, 0 if was_refused else unrefused + 1
+        if problems or unrefused == 3:
+            break  # it went wrong, or three in a row had no effect: the test makes fewer allocations
+    if refused < 30:
+        problems.append(f"only {refused} runs were refused memory")
+    return f"{test[1]}: it ends with each of {refused} allocations refused", problems
 
 
 def refusals(program, library, case):

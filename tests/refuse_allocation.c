@@ -4,12 +4,15 @@
 #define _GNU_SOURCE
 #include <dlfcn.h>
 #include <errno.h>
+#include <stdatomic.h>
 #include <stddef.h>
 #include <stdlib.h>
 #include <unistd.h>
 
-static long before, left;
-static int was_refused;
+/* Of threads each allocation has a number of its own. */
+static atomic_long made;
+static long first, past;
+static atomic_int was_refused;
 
 static long number_of(const char *name, long otherwise) {
     const char *text = getenv(name);
@@ -17,9 +20,9 @@ static long number_of(const char *name, long otherwise) {
 }
 
 __attribute__((constructor)) static void begin(void) {
-    long first = number_of("REFUSED_ALLOCATION", 0);
-    before = first - 1;
-    left = first > 0 ? number_of("REFUSED_IN_A_ROW", 1) : 0;
+    first = number_of("REFUSED_ALLOCATION", 0);
+    past = first > 0 ? first + number_of("REFUSED_IN_A_ROW", 1) : 0;
+    made = 0;
 }
 
 __attribute__((destructor)) static void end(void) {
@@ -30,11 +33,10 @@ __attribute__((destructor)) static void end(void) {
 }
 
 static int is_refused(void) {
-    if (left == 0 || before-- > 0) {
+    long number = atomic_fetch_add(&made, 1) + 1;
+    if (number < first || past <= number) {
         return 0;
     }
-    before = 0;
-    left--;
     was_refused = 1;
     errno = ENOMEM;
     return 1;

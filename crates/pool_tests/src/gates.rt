@@ -19,6 +19,7 @@ pub(crate) enum Held {
 #[derive(Drop)]
 pub(crate) struct HoldingGate {
     held: Held,
+    entered: AtomicU64,
     opened: AtomicU64,
     ran_out: AtomicU64,
 }
@@ -27,6 +28,7 @@ impl HoldingGate {
     pub(crate) fn new(held: Held) -> HoldingGate {
         HoldingGate {
             held,
+            entered: AtomicU64::new(0),
             opened: AtomicU64::new(0),
             ran_out: AtomicU64::new(0),
         }
@@ -35,6 +37,11 @@ impl HoldingGate {
     /// Lets all through.
     pub(crate) fn open(&self) {
         self.opened.store(1, Ordering::SeqCst);
+    }
+
+    /// How often a worker came to it.
+    pub(crate) fn entered(&self) -> u64 {
+        self.entered.load(Ordering::SeqCst)
     }
 
     /// Whether a worker went on before it was opened.
@@ -53,6 +60,7 @@ impl HoldingGate {
 
 impl Gate for HoldingGate {
     fn enter(&self, number: u64) {
+        self.entered.fetch_add(1, Ordering::SeqCst);
         if !self.holds(number) {
             return;
         }

@@ -1,6 +1,6 @@
 //! Workers compile on threads of their own, beside a session that changes what points have.
 
-ghost use Rattle.std.specs.Prelude.{◌≡◌, ◌≤◌, ◌<◌};
+ghost use Rattle.std.specs.Prelude.{◌≡◌, ◌≤◌};
 
 use crate::desk::Desk;
 use crate::gates::{Held, HoldingGate};
@@ -227,6 +227,7 @@ fn run_at<C: Ledger + Send + Sync, A: Ledger + Send + Sync, R: Abort + Threads +
     let ran = play_with_workers(rt, alloc, &shared, &mut pass, ends, &gate, story)?;
     assert_eq!(rt; ran, story.workers());
     assert!(rt; !gate.ran_out());
+    assert_eq!(rt; gate.entered(), story.totals().answers);
     assert_eq!(rt; pass.totals(), story.totals());
     passes.push(pass)?;
     assert_eq!(rt; shared.settle(passes), Ok(story.totals()));
