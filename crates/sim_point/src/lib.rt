@@ -4,6 +4,7 @@
 #![tactic(auto)]
 
 mod answer;
+mod client;
 mod own_book;
 mod point;
 mod point_call;
@@ -11,5 +12,6 @@ mod point_call_text;
 mod request;
 mod sim_step;
 
+pub use client::{Ended, run_client};
 pub use point::SimPoint;
 pub use sim_step::SimStep;
