@@ -1,0 +1,3 @@
+pub mod TextPieces
+pub mod RunningLemmas
+pub mod StateLemmas

@@ -1,0 +1,17 @@
+-- That the slot of the transaction that begins is its own.
+use Rattle.std.proofs.Common.{◌-◌, length, Some, ap, arith}
+use Rattle.point_book.specs.Book.{BookState}
+use Rattle.sim_point.proofs.RunningLemmas.{slots-set, length-running}
+use Rattle.sim_point.proofs.own_book.OwnBook.start.Goals as goal
+
+pub index_mut-requires : goal.index_mut-requires
+index_mut-requires c =
+    let same = length-running c.self.inside.book.transactions c.self.inside.running.items c.self.invariant in
+    let slots = c.view-view.ensures.book.slots in
+    let view = ap (λ (b : BookState). length b.ceilings) c.self.view_is in
+    omega (arith, same, slots, view, c.requires.has, c.requires.above, c.self.inside.running.ok.0)
+
+pub invariant_of-self : goal.invariant_of-self
+invariant_of-self c =
+    rw (c.start.ensures.book, ← c.in-Fresh.ensures.answer, c.running_of-running.ensures)
+    (slots-set c.self.inside.book.transactions c.self.inside.running.items (c.args.connector - 1) (Some _) c.self.invariant)

@@ -1,0 +1,90 @@
+-- What a charge point answers to a task for its book, and its book after that.
+use Rattle.std.specs.Prelude.{ℕ, nat_lt, ◌==◌, ◌&&◌, not, Bool, false, length, Option, Some, None, Result, Ok, Err, if◌then◌else◌}
+use Rattle.std.specs.List.{list_any}
+use Rattle.ocpp_scalars.specs.declared.refusal.Refusal.{Refusal}
+use Rattle.ocpp_scalars.specs.declared.refusal.Refusal.TheVariants.{UnknownConnector, MaxNotAtZero, TxAtZero, WrongUnit}
+use Rattle.profile.specs.declared.unit.Unit.{Unit}
+use Rattle.profile.specs.declared.row.Row.{Row}
+use Rattle.profile.specs.declared.criteria.Criteria.{Criteria}
+use Rattle.profile.specs.Changes.{matches}
+use Rattle.profile.specs.Purpose.{is_charge_point_max, is_tx}
+use Rattle.profile.specs.Unit.{unit_eq}
+use Rattle.meaning.specs.declared.ask.Ask.{Ask}
+use Rattle.meaning.specs.Ask.{ask_of}
+use Rattle.meaning.specs.Limit.{limit_asked}
+use Rattle.meaning.specs.Composite.{CompositeSchedule}
+use Rattle.meaning.specs.ByCases.Exact.{exact_schedule}
+use Rattle.point_book.specs.Book.{BookState, state_of}
+use Rattle.point_book.specs.Changes.{first_cause, install_refusal, book_installed, book_cleared}
+use Rattle.messages.specs.declared.action.ScheduleRequest.{ScheduleRequest}
+use Rattle.messages.specs.declared.response.Response.{Response}
+use Rattle.messages.specs.declared.response.Response.TheVariants.{Accepted, Rejected, Unknown, Schedule}
+use Rattle.sim_point.specs.declared.request.Task.{Task}
+use Rattle.sim_point.specs.declared.request.Task.TheVariants.{Install, Clear, Compose}
+
+-- what is answered, and what the point then has
+pub record Answered : Type 0 where
+  pub response : Response
+  pub book : BookState
+
+-- ---- SetChargingProfile (OCPP 1.6, 5.16)
+
+-- Why a profile may not stand where it is sent, in the order in which it is checked: the point has the
+-- connector; a ChargePointMaxProfile stands at connector 0 alone and a TxProfile never does (3.13.1 and
+-- 5.16.4); and its limits are in the point's unit (this system's choice).
+abbrev pub place_refusal : Unit → BookState → Row → Option Refusal
+place_refusal unit book row =
+    if nat_lt (length book.ceilings) row.connector then Some UnknownConnector
+    else if is_charge_point_max row.profile.purpose && nat_lt 0 row.connector then Some MaxNotAtZero
+    else if is_tx row.profile.purpose && (row.connector == 0) then Some TxAtZero
+    else if not (unit_eq row.profile.schedule.unit unit) then Some WrongUnit
+    else None
+
+-- then it is for the active transaction, and there is room for it
+abbrev pub row_refusal : Unit → BookState → Row → Option Refusal
+row_refusal unit book row = first_cause (place_refusal unit book row) (install_refusal book row)
+
+abbrev pub installed_unless : BookState → Row → Option Refusal → Answered
+installed_unless book row None = record { response = Accepted; book = book_installed book row }
+installed_unless book row (Some refusal) = record { response = Rejected refusal; book = book }
+
+-- ---- ClearChargingProfile (OCPP 1.6, 5.5)
+
+abbrev pub cleared_if_any : BookState → Criteria → Answered
+cleared_if_any book criteria =
+    if list_any (matches criteria) book.rows
+    then record { response = Accepted; book = book_cleared book criteria }
+    else record { response = Unknown; book = book }
+
+-- ---- GetCompositeSchedule (OCPP 1.6, 5.7)
+
+abbrev pub is_other_unit : Option Unit → Unit → Bool
+is_other_unit None unit = false
+is_other_unit (Some asked) unit = not (unit_eq asked unit)
+
+-- what is asked of the point from a moment on, or the first cause why not
+abbrev pub ask_at : Unit → BookState → ℕ → ScheduleRequest → Result Ask Refusal
+ask_at unit book now request =
+    if nat_lt (length book.ceilings) request.connector then Err UnknownConnector
+    else if is_other_unit request.unit unit then Err WrongUnit
+    else ask_of request.connector now request.duration
+
+-- the exact schedule of what the point has, in its unit, or that it is too long
+abbrev pub schedule_or : Unit → Ask → Result CompositeSchedule Refusal → Response
+schedule_or unit ask (Ok schedule) = Schedule
+    (record { connector = ask.connector; start = ask.start; unit = unit; schedule = schedule })
+schedule_or unit ask (Err refusal) = Rejected refusal
+
+abbrev pub schedule_of_ask : Unit → BookState → Result Ask Refusal → Response
+schedule_of_ask unit book (Ok ask) = schedule_or unit ask
+    (exact_schedule (limit_asked (state_of book) ask.connector ask.start) ask.duration)
+schedule_of_ask unit book (Err refusal) = Rejected refusal
+
+-- ---- tasks
+
+-- what a point with this unit and this book answers to a task at a moment, and its book then
+abbrev pub answered : Unit → BookState → ℕ → Task → Answered
+answered unit book now (Install row) = installed_unless book row (row_refusal unit book row)
+answered unit book now (Clear criteria) = cleared_if_any book criteria
+answered unit book now (Compose request) =
+    record { response = schedule_of_ask unit book (ask_at unit book now request); book = book }

@@ -1,0 +1,3 @@
+-- Forms by cases, with which proofs compute.
+pub mod Running
+pub mod Steps

@@ -1,0 +1,6 @@
+pub mod Request
+pub mod Answer
+pub mod PointCall
+pub mod CallText
+pub mod SimPoint
+pub mod ByCases

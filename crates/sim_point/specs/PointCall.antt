@@ -1,0 +1,51 @@
+-- The calls that a charge point makes by its steps, and what their replies change in its book.
+use Rattle.std.specs.Prelude.{ℕ, ℤ, nat_lt, nat_le, ◌&&◌, Bool, List, [], ◌∷◌, length, Option, Some, None, option_map, if◌then◌else◌}
+use Rattle.transactions.specs.declared.transaction.Transaction.{Transaction}
+use Rattle.transactions.specs.ActiveTable.{active_at}
+use Rattle.point_book.specs.Book.{BookState}
+use Rattle.point_book.specs.Changes.{book_started, book_stopped}
+use Rattle.sim_point.specs.declared.sim_step.SimStep.{SimStep}
+use Rattle.sim_point.specs.declared.sim_step.SimStep.TheVariants as steps
+use Rattle.sim_point.specs.declared.point_call.PointCall.{PointCall}
+use Rattle.sim_point.specs.declared.point_call.PointCall.TheVariants.{Heartbeat, StartTransaction, StopTransaction}
+
+-- ---- the call that a step makes
+
+abbrev pub has_connector : BookState → ℕ → Bool
+has_connector book connector = nat_lt 0 connector && nat_le connector (length book.ceilings)
+
+-- the end of a transaction: with its number, and with the meter that it began with (OCPP 1.6, 4.10)
+abbrev pub stop_of : ℕ → Transaction → PointCall
+stop_of now transaction = StopTransaction transaction.id transaction.begin.meter_start now
+
+-- The call that a step makes at a moment (OCPP 1.6, 4.6, 4.8 and 4.10). A start at a connector that the
+-- point lacks makes none, and no more does a stop where no transaction is active.
+abbrev pub call_of : BookState → ℕ → SimStep → Option PointCall
+call_of book now steps.Heartbeat = Some Heartbeat
+call_of book now (steps.Start connector tag meter) =
+    if has_connector book connector
+    then Some (StartTransaction connector (record { id_tag = tag; meter_start = meter; timestamp = now }))
+    else None
+call_of book now (steps.Stop connector) = option_map (stop_of now) (active_at book.transactions connector)
+
+-- the first call that steps make, with the steps after its own; those before it are passed over
+abbrev pub call_or : Option PointCall → List SimStep → Option (PointCall × List SimStep)
+    → Option (PointCall × List SimStep)
+call_or (Some call) steps later = Some (call, steps)
+call_or None steps later = later
+
+abbrev pub first_call : BookState → ℕ → List SimStep → Option (PointCall × List SimStep)
+first_call book now [] = None
+first_call book now (step ∷ steps) = call_or (call_of book now step) steps (first_call book now steps)
+
+-- ---- what its reply changes
+
+-- A StartTransaction whose reply brings a number begins the transaction of that number, from the moment that
+-- the call told on (OCPP 1.6, 4.8); a reply without one begins nothing. Any reply to a StopTransaction is the
+-- transaction's end (4.10).
+abbrev pub book_replied : BookState → PointCall → Option ℤ → BookState
+book_replied book Heartbeat transaction = book
+book_replied book (StartTransaction connector begin) None = book
+book_replied book (StartTransaction connector begin) (Some transaction) =
+    book_started book connector begin transaction
+book_replied book (StopTransaction transaction meter_stop timestamp) reply = book_stopped book transaction

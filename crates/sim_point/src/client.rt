@@ -1,0 +1,144 @@
+//! A simulated charge point at its WebSocket.
+use crate::point::SimPoint;
+use ocpp_scalars::{Instant, Moments};
+use std::alloc::Global;
+use std::io::{Read, Write};
+use std::sync::Wait;
+use tungstenite::{Error, MaskKeys, Message, WebSocket};
+
+/// How a connection came to its end.
+#[derive(Clone, Copy, Debug, PartialEq, Eq)]
+pub enum Ended {
+    /// After a close handshake.
+    Closed,
+    /// The stream failed or came to its end without a close handshake, the other side broke the protocol, or the
+    /// clock told no moment.
+    Broken,
+    /// Memory ran out.
+    OutOfMemory,
+}
+
+/// Runs a simulated point at a socket whose handshake is done (OCPP-J 1.6, chapter 3), until its connection ends.
+/// It sends the first call, answers each text and then sends the next call, if one may go. Once its last step is
+/// answered, it closes the connection, whatever else the central system has to send. Messages that are no texts
+/// are ignored. Waits for the other side, and so owes no return.
+pub fn run_client<S: Read + Write + Drop, K: MaskKeys + Drop, R: Wait, M: Moments>(
+    rt: &R,
+    alloc: Global,
+    socket: WebSocket<S, K>,
+    point: SimPoint,
+    clock: &M,
+) -> Ended {
+    let mut socket = socket;
+    let mut point = point;
+    let Some(now) = clock.now() else {
+        return Ended::Broken;
+    };
+    let mut turn = send_next(alloc, &mut socket, &mut point, now);
+    for _turn in rt.forever() {
+        match turn {
+            Turn::Next => turn = take_message(alloc, &mut socket, &mut point, clock),
+            Turn::Close => return close(rt, &mut socket),
+            Turn::End(ended) => return ended,
+        }
+    }
+    unreachable!()
+}
+
+/// How it goes on.
+#[derive(Clone, Copy)]
+enum Turn {
+    /// With the next message of the other side.
+    Next,
+    /// The last step is answered: the connection is to be closed.
+    Close,
+    /// The connection is at its end.
+    End(Ended),
+}
+
+/// Reads a message, and answers it if it is a text.
+fn take_message<S: Read + Write + Drop, K: MaskKeys + Drop, M: Moments>(
+    alloc: Global,
+    socket: &mut WebSocket<S, K>,
+    point: &mut SimPoint,
+    clock: &M,
+) -> Turn {
+    match socket.read() {
+        Ok(Message::Text(text)) => {
+            let Some(now) = clock.now() else {
+                return Turn::End(Ended::Broken);
+            };
+            take_text(alloc, socket, point, now, text.as_str())
+        }
+        Ok(_) => Turn::Next,
+        Err(error) => Turn::End(ended_by(error)),
+    }
+}
+
+/// Answers a text, and sends the next call.
+fn take_text<S: Read + Write + Drop, K: MaskKeys + Drop>(
+    alloc: Global,
+    socket: &mut WebSocket<S, K>,
+    point: &mut SimPoint,
+    now: Instant,
+    text: &str,
+) -> Turn {
+    match point.on_text(now, text) {
+        Ok(Some(answer)) => match send(alloc, socket, answer.as_str()) {
+            Ok(()) => send_next(alloc, socket, point, now),
+            Err(error) => Turn::End(ended_by(error)),
+        },
+        Ok(None) => send_next(alloc, socket, point, now),
+        Err(_) => Turn::End(Ended::OutOfMemory),
+    }
+}
+
+/// Sends the next call, if one may go.
+fn send_next<S: Read + Write + Drop, K: MaskKeys + Drop>(
+    alloc: Global,
+    socket: &mut WebSocket<S, K>,
+    point: &mut SimPoint,
+    now: Instant,
+) -> Turn {
+    match point.next_call(now) {
+        Ok(Some(call)) => match send(alloc, socket, call.as_str()) {
+            Ok(()) => Turn::Next,
+            Err(error) => Turn::End(ended_by(error)),
+        },
+        Ok(None) if point.is_waiting() => Turn::Next,
+        Ok(None) => Turn::Close,
+        Err(_) => Turn::End(Ended::OutOfMemory),
+    }
+}
+
+fn send<S: Read + Write + Drop, K: MaskKeys + Drop>(
+    alloc: Global,
+    socket: &mut WebSocket<S, K>,
+    text: &str,
+) -> Result<(), Error> {
+    socket.send(Message::text(alloc, text)?)
+}
+
+/// Closes the connection, and waits for the other side to do so too.
+fn close<S: Read + Write + Drop, K: MaskKeys + Drop, R: Wait>(
+    rt: &R,
+    socket: &mut WebSocket<S, K>,
+) -> Ended {
+    if let Err(error) = socket.close(None) {
+        return ended_by(error);
+    }
+    for _turn in rt.forever() {
+        if let Err(error) = socket.read() {
+            return ended_by(error);
+        }
+    }
+    unreachable!()
+}
+
+fn ended_by(error: Error) -> Ended {
+    match error {
+        Error::ConnectionClosed | Error::AlreadyClosed => Ended::Closed,
+        Error::OutOfMemory => Ended::OutOfMemory,
+        _ => Ended::Broken,
+    }
+}

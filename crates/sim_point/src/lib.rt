@@ -1,0 +1,17 @@
+//! A simulated charge point (OCPP 1.6, chapters 3.13, 4.6, 4.8, 4.10, 5.5, 5.7 and 5.16). It has a book of
+//! its own, as a real point has: the central system's calls change that and are answered from it, and it makes
+//! the calls of a list of steps, one after another. What a text comes to stands in `specs/SimPoint.antt`.
+#![tactic(auto)]
+
+mod answer;
+mod client;
+mod own_book;
+mod point;
+mod point_call;
+mod point_call_text;
+mod request;
+mod sim_step;
+
+pub use client::{Ended, run_client};
+pub use point::SimPoint;
+pub use sim_step::SimStep;

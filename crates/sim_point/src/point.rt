@@ -1,0 +1,175 @@
+//! A simulated charge point.
+
+ghost use Rattle.std.specs.Prelude.{◌≡◌, IfOk, IfErr, OnOk, OnErr, IsNone, IsSome, ◌↔◌, IsTrue, option_map, string_bytes};
+ghost use Rattle.std.specs.Str.{bytes_eq};
+ghost use Rattle.std.specs.Fmt.{decimal};
+ghost use Rattle.ocpp_scalars.specs.declared.refusal.Refusal.{Refusal};
+ghost use Rattle.sim_point.specs.SimPoint.{new_point, replied, heard, heard_request, called};
+
+use crate::answer::{Answering, answer_task};
+use crate::own_book::OwnBook;
+use crate::point_call::{InFlight, first_call, reply_to};
+use crate::point_call_text::write_call;
+use crate::request::{Request, request_of};
+use crate::sim_step::SimStep;
+use messages::write_response;
+use ocpp_scalars::{Instant, Refusal};
+use ocppj_frame::ReadingMemory;
+use profile::Unit;
+use std::alloc::{AllocError, Global};
+use std::marker::Model;
+
+/// A simulated charge point: its book, the steps that it has still to do, and the call of its own that isn't
+/// answered yet.
+#[derive(Drop)]
+pub struct SimPoint {
+    alloc: Global,
+    memory: ReadingMemory,
+    /// The unit of its limits.
+    unit: Unit,
+    book: OwnBook,
+    steps: Vec<SimStep>,
+    /// How many steps are behind.
+    place: usize,
+    in_flight: Option<InFlight>,
+    /// The number of its next call.
+    next_number: u64,
+}
+
+impl Model for SimPoint {
+    ghost use Rattle.std.specs.Prelude.{drop};
+    ghost use Rattle.sim_point.specs.SimPoint.{SimState};
+    ghost use Rattle.sim_point.specs.ByCases.Steps.{IsPlace};
+
+    ghost Value = { SimState };
+
+    ghost view = { λ p. record {
+      unit = p.unit;
+      book = p.book;
+      steps = drop p.place p.steps.items;
+      in_flight = p.in_flight;
+      next_number = p.next_number;
+    } };
+
+    ghost invariant = { λ p. IsPlace p.steps.items p.place p.next_number p.book p.in_flight };
+}
+
+impl SimPoint {
+    /// A point with limits in this unit, a ceiling and the ceilings of its connectors 1, 2, .., in tenths, and
+    /// with neither profiles nor transactions, which has these steps to do. More connectors than fit a `u32` are
+    /// answered as out of memory.
+    pub fn try_new(
+        alloc: Global,
+        unit: Unit,
+        ceiling: u32,
+        connectors: Vec<u32>,
+        steps: Vec<SimStep>,
+    ) -> Result<SimPoint, AllocError>
+        ensures { IfOk result
+            (λ point. point ≡ new_point unit ceiling connectors.items steps.items) }
+    {
+        let book = OwnBook::try_new(alloc, ceiling, connectors)?;
+        Ok(SimPoint {
+            alloc,
+            memory: ReadingMemory::new(alloc),
+            unit,
+            book,
+            steps,
+            place: 0,
+            in_flight: None,
+            next_number: 0,
+        })
+    }
+
+    /// Takes a text of the central system that comes at a moment (OCPP-J 1.6, 4.2), and returns the answer to
+    /// it, if it has one. A CALL is answered from the point's own book, which a SetChargingProfile or a
+    /// ClearChargingProfile changes. A reply to the point's call in flight ends that call, and with it a
+    /// transaction begins or ends. The refusal is `OutOfMemory`, and then nothing changes.
+    pub fn on_text(&mut self, now: Instant, text: &str) -> Result<Option<String>, Refusal>
+        ensures heard { IfOk result (λ answer. heard self.old now text.now
+            ≡ record { answer = option_map string_bytes answer; after = self.new }) }
+        ensures refusal { IfErr result (λ refusal. refusal ≡ Refusal.OutOfMemory) }
+        ensures unchanged { OnErr result (self.new ≡ self.old) }
+    {
+        let request = request_of(self.alloc, &mut self.memory, now, text)?;
+        Ok(self.on_request(now, request)?)
+    }
+
+    /// Does what a text asks, and returns the answer to it, if it has one.
+    fn on_request(&mut self, now: Instant, request: Request) -> Result<Option<String>, AllocError>
+        ensures heard { IfOk result (λ answer. heard_request self.old now request
+            ≡ record { answer = option_map string_bytes answer; after = self.new }) }
+        ensures unchanged { OnErr result (self.new ≡ self.old) }
+    {
+        match request {
+            Request::Nothing => Ok(None),
+            Request::Respond { id, response } => {
+                Ok(Some(write_response(self.alloc, id.as_str(), &response)?))
+            }
+            Request::Act { id, task } => {
+                let answering = Answering {
+                    alloc: self.alloc,
+                    unit: self.unit,
+                    now,
+                };
+                Ok(Some(answer_task(answering, &mut self.book, id.as_str(), task)?))
+            }
+            Request::Reply { id, transaction } => {
+                self.on_reply(id.as_str(), transaction);
+                Ok(None)
+            }
+        }
+    }
+
+    /// Ends the call in flight, if a reply of this id is its own.
+    fn on_reply(&mut self, id: &str, transaction: Option<i32>)
+        ensures { self.new ≡ replied self.old id.now transaction }
+    {
+        match self.in_flight.take() {
+            Some(in_flight) if is_id_of(in_flight.number, id) => {
+                reply_to(&mut self.book, in_flight.call, transaction);
+            }
+            other => self.in_flight = other,
+        }
+    }
+
+    /// The text of the next call that the steps make, which is then in flight, or `None` where a call is in
+    /// flight, or no step is left that makes one. Its id is its number in decimal, and `now` its timestamp. The
+    /// refusal is `OutOfMemory`, and then nothing changes.
+    pub fn next_call(&mut self, now: Instant) -> Result<Option<String>, Refusal>
+        ensures called { IfOk result (λ text. called self.old now
+            ≡ record { text = option_map string_bytes text; after = self.new }) }
+        ensures refusal { IfErr result (λ refusal. refusal ≡ Refusal.OutOfMemory) }
+        ensures unchanged { OnErr result (self.new ≡ self.old) }
+    {
+        if self.in_flight.is_some() {
+            return Ok(None);
+        }
+        let (_, steps) = self.steps.as_slice().split_at(self.place);
+        let Some((call, count)) = first_call(self.alloc, &self.book, now, steps)? else {
+            self.place = self.steps.len();
+            return Ok(None);
+        };
+        let number = self.next_number;
+        let text = write_call(self.alloc, number, &call)?;
+        self.place += count;
+        self.in_flight = Some(InFlight { number, call });
+        self.next_number = number + 1;
+        Ok(Some(text))
+    }
+
+    /// Whether a call of the point's own isn't answered yet.
+    pub fn is_waiting(&self) -> bool
+        ensures { IsTrue result ↔ IsSome self.now.in_flight }
+    {
+        self.in_flight.is_some()
+    }
+}
+
+/// Whether an id is a call's number in decimal, to the letter.
+fn is_id_of(number: u64, id: &str) -> bool
+    ensures { result ≡ bytes_eq id.now (decimal number) }
+{
+    let mut digits = itoa::Buffer::new();
+    id == digits.format(number)
+}

@@ -1,0 +1,21 @@
+//! What a simulated charge point does of its own accord.
+use ocpp_scalars::IdTag;
+
+/// A step of a simulated charge point, which makes one call of it.
+#[derive(Debug, Drop)]
+pub enum SimStep {
+    /// A Heartbeat (chapter 4.6).
+    Heartbeat,
+    /// A StartTransaction (chapter 4.8) of this idTag, with meterStart in watt-hours. It is passed over at
+    /// connector 0 and at one that the point lacks.
+    Start {
+        connector: u32,
+        tag: IdTag,
+        meter: i32,
+    },
+    /// A StopTransaction (chapter 4.10) of the transaction that is active at the connector, with the meter of
+    /// its start as meterStop. It is passed over where none is active.
+    Stop {
+        connector: u32,
+    },
+}

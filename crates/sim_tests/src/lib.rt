@@ -1,0 +1,8 @@
+//! Tests of `sim_point` from outside, by its public names alone: what a simulated charge point answers and calls,
+//! and how it ends over streams in memory.
+#![tactic(auto)]
+
+#[cfg(test)]
+mod days;
+#[cfg(test)]
+mod sockets;
