@@ -11,6 +11,8 @@ mod gates;
 mod settled_totals;
 mod two_sessions;
 #[cfg(test)]
+mod waiting_sessions;
+#[cfg(test)]
 mod workers_beside_sessions;
 
 pub use two_sessions::{Counted, count_on_two_threads};

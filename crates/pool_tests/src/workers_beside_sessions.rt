@@ -1,6 +1,6 @@
 //! Workers compile on threads of their own, beside a session that changes what points have.
 
-ghost use Rattle.std.specs.Prelude.{◌≡◌, ◌≤◌, ◌<◌};
+ghost use Rattle.std.specs.Prelude.{◌≡◌, ◌≤◌};
 
 use crate::desk::Desk;
 use crate::gates::{Held, HoldingGate};
