@@ -1,13 +1,12 @@
+pub mod AskedLemmas
 pub mod FormLemmas
 pub mod HeldLemmas
 pub mod LineLemmas
 pub mod MachineLemmas
-pub mod NumberLemmas
 pub mod OutputLemmas
 pub mod PlayLemmas
 pub mod ScriptLemmas
 pub mod StepRunLemmas
 pub mod ScriptRunLemmas
 pub mod PrintedLemmas
-pub mod TodoLemmas
 pub mod WriteLemmas

@@ -3,13 +3,13 @@ use Rattle.std.proofs.Common.{◌≡◌, ℕ, List, ◌++◌, Option, sym, ap, �
 use Rattle.std.proofs.lemmas.Grind.{flat_map-append}
 use Rattle.messages.specs.declared.call.Call.{Call}
 use Rattle.replay.specs.declared.player.held.Held.{Held}
-use Rattle.replay.specs.SentText.{Sent}
-use Rattle.replay.specs.Todo.{todo_of}
+use Rattle.session.specs.SentText.{Sent}
+use Rattle.session.specs.Asked.{asked_of}
 use Rattle.replay.specs.Player.{PlayerState, with_machine}
 use Rattle.replay.specs.MachineSteps.{Sending, attached_once, sent_first}
 use Rattle.replay.specs.ByCases.Player.{Sends}
 use Rattle.replay.specs.PrintedLine.{printed_text, printed_texts}
-use Rattle.replay.specs.Play.{Handled, call_lines, todo_handled, call_handled, with_call, point_handled, IsHandled}
+use Rattle.replay.specs.Play.{Handled, call_lines, asked_handled, call_handled, with_call, point_handled, IsHandled}
 
 -- five texts, one after another
 pub five : (old a b c d e one two three four new : List ℕ) → one ≡ old ++ a → two ≡ one ++ b → three ≡ two ++ c → four ≡ three ++ d → new ≡ four ++ e
@@ -23,7 +23,7 @@ pub point_made : (old linked answered new : PlayerState) (text : Sent)
     (first second third line printed : List ℕ) (call : Option Call)
     → first ≡ text.point → second ≡ text.point → third ≡ text.point
     → linked ≡ with_machine old (attached_once old.machine first)
-    → IsHandled (todo_handled linked (todo_of text)) line answered
+    → IsHandled (asked_handled linked (asked_of text)) line answered
     → Sends answered (sent_first answered.machine second) call new
     → printed ≡ line ++ printed_texts (call_lines third call)
     → IsHandled (point_handled old text) printed new
@@ -31,13 +31,13 @@ point_made old linked answered new text first second third line printed call one
     answer send push =
     let start : linked ≡ with_machine old (attached_once old.machine text.point) =
     attach ∙ ap (λ p. with_machine old (attached_once old.machine p)) one in
-    let handled : Handled = todo_handled linked (todo_of text) in
+    let handled : Handled = asked_handled linked (asked_of text) in
     let sending : Sending = record { call = call; after = new.machine } in
     let step : sent_first handled.after.machine text.point ≡ sending =
     ap (λ (p : PlayerState). sent_first p.machine text.point) answer.1
     ∙ (ap (sent_first answered.machine) (sym two) ∙ send.0) in
     let same : point_handled old text ≡ call_handled handled text.point sending =
-    ap (λ (p : PlayerState). with_call text.point (todo_handled p (todo_of text))) (sym start)
+    ap (λ (p : PlayerState). with_call text.point (asked_handled p (asked_of text))) (sym start)
     ∙ ap (call_handled handled text.point) step in
     let texts : printed_texts (handled.printed ++ call_lines text.point call) ≡ printed =
     flat_map-append printed_text handled.printed (call_lines text.point call)

@@ -25,22 +25,22 @@ use Rattle.site_core.specs.History.{Event, history_of}
 use Rattle.replay.specs.declared.script.line.LineFault.{LineFault}
 use Rattle.replay.specs.declared.script.line.ScriptLine.{ScriptLine}
 use Rattle.replay.specs.declared.script.line.ScriptLine.TheVariants.{Text, Hold, Release}
-use Rattle.replay.specs.declared.session.todo.Todo.{Todo}
-use Rattle.replay.specs.declared.session.todo.Todo.TheVariants as todos
-use Rattle.replay.specs.SentText as texts
+use Rattle.session.specs.declared.asked.Asked.{Asked}
+use Rattle.session.specs.declared.asked.Asked.TheVariants as asked
+use Rattle.session.specs.SentText as texts
 use Rattle.replay.specs.Held.{id_held}
 use Rattle.replay.specs.Player.{PlayerState, with_machine}
 use Rattle.replay.specs.MachineSteps.{stepped_exactly, handed_out, at_once, stepped_at_once}
 use Rattle.replay.specs.MachineSteps.{attached_unless, attached_once, call_sent, sent_over}
 use Rattle.replay.specs.MachineSteps.{sent_first, confirmed_over, confirmed_by}
-use Rattle.replay.specs.Todo.{todo_of, asks_schedule}
-use Rattle.replay.specs.Response.{refused_response}
+use Rattle.session.specs.Asked.{asked_of, asks_schedule}
+use Rattle.session.specs.Response.{refused_response}
 use Rattle.replay.specs.Line.{line_of}
 use Rattle.replay.specs.Lines.{script_lines}
 use Rattle.replay.specs.PrintedLine.{PrintedLine}
 use Rattle.replay.specs.PrintedLine as lines
 use Rattle.replay.specs.Play.{Handled, PlayedLine, answer_if, outcome_lines, call_lines}
-use Rattle.replay.specs.Play.{todo_handled, point_handled, text_handled, hold_answered}
+use Rattle.replay.specs.Play.{asked_handled, point_handled, text_handled, hold_answered}
 use Rattle.replay.specs.Play.{hold_stepped, hold_handled, fault_played, hold_played, release_played}
 use Rattle.replay.specs.Play.{said_played, read_played, line_played}
 use Rattle.replay.specs.Run.{Played, first_played, played_more, played, lines_of}
@@ -48,10 +48,12 @@ use Rattle.replay.specs.ScriptRun.{schedules_on, schedules_printed, schedules_by
 use Rattle.replay.specs.ScriptRun.{schedules_answered, calls_on, calls_printed, calls_of_event}
 use Rattle.replay.specs.ScriptRun.{calls_replied}
 use Rattle.replay.proofs.MachineLemmas.{Law-answer, Law-too_long}
-use Rattle.replay.proofs.StepRunLemmas.{outcome_for, steps_run, IsOfCall, HandsOutNone}
+use Rattle.replay.proofs.StepRunLemmas.{outcome_for, steps_run, HandsOutNone}
 use Rattle.replay.proofs.StepRunLemmas.{calls_hand_out_none, IsNoAnswer, IsNoSend}
 use Rattle.replay.proofs.StepRunLemmas.{of_call_no_answer}
-use Rattle.replay.proofs.TodoLemmas.{AsksByCall, asks_by_call}
+use Rattle.session.specs.Asked.{IsOfCall, AsksByCall}
+use Rattle.session.proofs.AskedLemmas.{asks_by_call}
+use Rattle.replay.proofs.AskedLemmas.{no_schedule}
 
 -- the laws that are cited
 pub record Laws : Type 0 where
@@ -305,23 +307,23 @@ sent_part laws old point = over (link_of old point)
 abbrev HandledPart : PlayerState → Handled → Type 0
 HandledPart old text = Part old.machine text.after.machine text.printed
 
-todo_part : Laws → (old : PlayerState) (todo : Todo) → AsksByCall todo
-    → HandledPart old (todo_handled old todo)
-todo_part laws old todos.Nothing is = nothing old.machine
-todo_part laws old (todos.Respond id response) is =
-    no_step old.machine (lines.answer id response ∷ []) (ap (λ l. l ++ []) (is id)) refl
-todo_part laws old (todos.Step id kind step) is = at_once_part laws old.machine id kind step is
-todo_part laws old (todos.Confirm point number) is = confirmed_part laws old.machine point number
+asked_part : Laws → (old : PlayerState) (asked : Asked) → AsksByCall asked
+    → HandledPart old (asked_handled old asked)
+asked_part laws old asked.Nothing is = nothing old.machine
+asked_part laws old (asked.Respond id response) is =
+    no_step old.machine (lines.answer id response ∷ []) (ap (λ l. l ++ []) (no_schedule id response is)) refl
+asked_part laws old (asked.Step id kind step) is = at_once_part laws old.machine id kind step is
+asked_part laws old (asked.Confirm point number) is = confirmed_part laws old.machine point number
 
 point_part : Laws → (old : PlayerState) (text : texts.Sent)
     → HandledPart old (point_handled old text)
 point_part laws old text =
     let linked = attached_once old.machine text.point in
-    let told = todo_handled (with_machine old linked) (todo_of text) in
+    let told = asked_handled (with_machine old linked) (asked_of text) in
     let sending = sent_first told.after.machine text.point in
     let attach : Part old.machine linked [] = attached_part laws old.machine text.point in
     let answer : Part linked told.after.machine told.printed =
-    todo_part laws (with_machine old linked) (todo_of text) (asks_by_call text) in
+    asked_part laws (with_machine old linked) (asked_of text) (asks_by_call text) in
     let send : Part told.after.machine sending.after (call_lines text.point sending.call) =
     sent_part laws told.after.machine text.point in
     join laws old.machine told.after.machine sending.after
@@ -330,7 +332,7 @@ point_part laws old text =
 
 text_part : Laws → (old : PlayerState) (sender : Side) (text : texts.Sent)
     → HandledPart old (text_handled old sender text)
-text_part laws old sides.Operator text = todo_part laws old (todo_of text) (asks_by_call text)
+text_part laws old sides.Operator text = asked_part laws old (asked_of text) (asks_by_call text)
 text_part laws old sides.Point text = point_part laws old text
 
 hold_step_part : Laws → (old : PlayerState) (id : List ℕ) (kind : ActionKind) (step : Step)
@@ -348,14 +350,14 @@ hold_step_part laws old id kind step of_call = go (stepped_exactly old.machine s
     go (Ok reply) is = answered_part laws old.machine id kind step of_call (Ok reply) is
     go (Err refusal) is = answered_part laws old.machine id kind step of_call (Err refusal) is
 
-hold_part : Laws → (old : PlayerState) (todo : Todo) → AsksByCall todo
-    → HandledPart old (hold_handled old todo)
-hold_part laws old (todos.Step id kind step) is = hold_step_part laws old id kind step is
-hold_part laws old todos.Nothing is = todo_part laws old todos.Nothing is
-hold_part laws old (todos.Respond id response) is =
-    todo_part laws old (todos.Respond id response) is
-hold_part laws old (todos.Confirm point number) is =
-    todo_part laws old (todos.Confirm point number) is
+hold_part : Laws → (old : PlayerState) (asked : Asked) → AsksByCall asked
+    → HandledPart old (hold_handled old asked)
+hold_part laws old (asked.Step id kind step) is = hold_step_part laws old id kind step is
+hold_part laws old asked.Nothing is = asked_part laws old asked.Nothing is
+hold_part laws old (asked.Respond id response) is =
+    asked_part laws old (asked.Respond id response) is
+hold_part laws old (asked.Confirm point number) is =
+    asked_part laws old (asked.Confirm point number) is
 
 -- ---- lines
 
@@ -367,8 +369,8 @@ fault_part : (old : PlayerState) (line : ℕ) (fault : LineFault)
 fault_part old line fault = no_step old.machine (lines.fault line fault ∷ []) refl refl
 
 hold_line_part : Laws → (old : PlayerState) (line : ℕ) (text : texts.Sent) (asks : Bool)
-    → PlayedPart old (hold_played old line (cond asks (Some (todo_of text)) None))
-hold_line_part laws old line text true = hold_part laws old (todo_of text) (asks_by_call text)
+    → PlayedPart old (hold_played old line (cond asks (Some (asked_of text)) None))
+hold_line_part laws old line text true = hold_part laws old (asked_of text) (asks_by_call text)
 hold_line_part laws old line text false = fault_part old line _
 
 release_part : Laws → (old : PlayerState) (line number : ℕ) (id : Option (List ℕ))

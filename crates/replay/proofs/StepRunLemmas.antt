@@ -38,6 +38,7 @@ use Rattle.site_core.specs.Step.{Told, Answers, Does, done_at, told_at, is_at_no
 use Rattle.site_core.specs.Step.{starts_as, stops, takes, takes_ask, compiles_kept}
 use Rattle.site_core.specs.Step.{stepped, no_answer, IsRefusalOf, IsRefused}
 use Rattle.site_core.specs.Theory.Steps.{CompileOrOther, is_compile, is_other, compile_or_other}
+use Rattle.session.specs.Asked.{IsOfCall}
 use Rattle.replay.specs.MachineSteps.{Stepped, made_or_refused, exact_answer, answer_given}
 use Rattle.replay.specs.MachineSteps.{stepped_exactly}
 use Rattle.replay.proofs.MachineLemmas.{Law-answer, Law-too_long, with_compiled, compiles_by}
@@ -144,14 +145,6 @@ steps_run answer too_long old step = by step (compile_or_other step)
         (plain old one (makes old))
 
 -- ---- the steps that CALLs ask for, which hand out no schedule
-
-abbrev pub IsOfCall : Step → Type 0
-IsOfCall (acts.Install point row) = Unit {0}
-IsOfCall (acts.Clear point criteria) = Unit {0}
-IsOfCall (acts.Start point connector begin) = Unit {0}
-IsOfCall (acts.Stop point number) = Unit {0}
-IsOfCall (acts.Take take) = Unit {0}
-IsOfCall step = ⊥
 
 abbrev pub HandsOutNone : Reply → Type 0
 HandsOutNone (Answered book ask answer) = ⊥

@@ -1,12 +1,8 @@
 pub mod Limits
-pub mod SentText
 pub mod Held
 pub mod Player
 pub mod ByCases
 pub mod MachineSteps
-pub mod Todo
-pub mod Response
-pub mod Number
 pub mod Form
 pub mod Line
 pub mod Lines

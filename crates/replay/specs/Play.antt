@@ -16,14 +16,14 @@ use Rattle.replay.specs.declared.script.line.LineFault.TheVariants.{NotComposite
 use Rattle.replay.specs.declared.script.line.ScriptLine.{ScriptLine}
 use Rattle.replay.specs.declared.script.line.ScriptLine.TheVariants.{Text, Hold, Release}
 use Rattle.replay.specs.declared.script.play.Printed.{Printed}
-use Rattle.replay.specs.declared.session.todo.Todo.{Todo}
-use Rattle.replay.specs.declared.session.todo.Todo.TheVariants as todo
+use Rattle.session.specs.declared.asked.Asked.{Asked}
+use Rattle.session.specs.declared.asked.Asked.TheVariants as asked
 use Rattle.replay.specs.Held.{id_held, let_go}
 use Rattle.replay.specs.Player.{PlayerState, with_machine}
-use Rattle.replay.specs.SentText as texts
+use Rattle.session.specs.SentText as texts
 use Rattle.replay.specs.MachineSteps.{Stepped, Sending, stepped_exactly, handed_out, stepped_at_once, attached_once, sent_first, confirmed_by}
-use Rattle.replay.specs.Todo.{todo_of, hold_of}
-use Rattle.replay.specs.Response.{response_of}
+use Rattle.session.specs.Asked.{asked_of, hold_of}
+use Rattle.session.specs.Response.{response_of}
 use Rattle.replay.specs.Line.{line_of}
 use Rattle.replay.specs.PrintedLine.{PrintedLine, printed_texts}
 use Rattle.replay.specs.PrintedLine as lines
@@ -58,12 +58,12 @@ answered old id kind step = record {
 }
 
 -- a text is answered at once
-abbrev pub todo_handled : PlayerState → Todo → Handled
-todo_handled old todo.Nothing = record { printed = []; after = old }
-todo_handled old (todo.Respond id response) =
+abbrev pub asked_handled : PlayerState → Asked → Handled
+asked_handled old asked.Nothing = record { printed = []; after = old }
+asked_handled old (asked.Respond id response) =
     record { printed = lines.answer id response ∷ []; after = old }
-todo_handled old (todo.Step id kind step) = answered old id kind (stepped_at_once old.machine step)
-todo_handled old (todo.Confirm point number) =
+asked_handled old (asked.Step id kind step) = answered old id kind (stepped_at_once old.machine step)
+asked_handled old (asked.Confirm point number) =
     record { printed = []; after = with_machine old (confirmed_by old.machine point number) }
 
 -- ---- texts of points
@@ -82,11 +82,11 @@ with_call point text = call_handled text point (sent_first text.after.machine po
 abbrev pub point_handled : PlayerState → texts.Sent → Handled
 point_handled old text =
     with_call text.point
-    (todo_handled (with_machine old (attached_once old.machine text.point)) (todo_of text))
+    (asked_handled (with_machine old (attached_once old.machine text.point)) (asked_of text))
 
 -- a text by its sender
 abbrev pub text_handled : PlayerState → Side → texts.Sent → Handled
-text_handled old sides.Operator text = todo_handled old (todo_of text)
+text_handled old sides.Operator text = asked_handled old (asked_of text)
 text_handled old sides.Point text = point_handled old text
 
 -- ---- held asks
@@ -108,10 +108,10 @@ hold_answered old id kind outcome after =
 abbrev pub hold_stepped : PlayerState → List ℕ → ActionKind → Stepped → Handled
 hold_stepped old id kind step = hold_answered old id kind step.outcome step.after
 
-abbrev pub hold_handled : PlayerState → Todo → Handled
-hold_handled old (todo.Step id kind step) =
+abbrev pub hold_handled : PlayerState → Asked → Handled
+hold_handled old (asked.Step id kind step) =
     hold_stepped old id kind (stepped_exactly old.machine step)
-hold_handled old other = todo_handled old other
+hold_handled old other = asked_handled old other
 
 -- the request of this number is answered, and no longer held
 abbrev pub release_handled : PlayerState → ℕ → List ℕ → Handled
@@ -134,9 +134,9 @@ abbrev pub fault_played : PlayerState → ℕ → LineFault → PlayedLine
 fault_played old line fault =
     record { printed = lines.fault line fault ∷ []; is_fault = true; after = old }
 
-abbrev pub hold_played : PlayerState → ℕ → Option Todo → PlayedLine
+abbrev pub hold_played : PlayerState → ℕ → Option Asked → PlayedLine
 hold_played old line None = fault_played old line NotComposite
-hold_played old line (Some todo) = text_played (hold_handled old todo)
+hold_played old line (Some asked) = text_played (hold_handled old asked)
 
 abbrev pub release_played : PlayerState → ℕ → ℕ → Option (List ℕ) → PlayedLine
 release_played old line number None = fault_played old line UnknownRequest

@@ -3,11 +3,9 @@
 //! writes is the output of its script.
 #![tactic(auto)]
 
-mod number;
 mod player;
 mod script;
 mod script_laws;
-mod session;
 #[cfg(test)]
 mod tests;
 

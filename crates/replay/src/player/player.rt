@@ -2,7 +2,7 @@
 //! texts are read into.
 
 ghost use Rattle.std.specs.Prelude.{◌≡◌, ◌∷◌, [], ◌++◌, None, IfOk, OnOk};
-ghost use Rattle.replay.specs.Todo.{hold_of, todo_of};
+ghost use Rattle.session.specs.Asked.{hold_of, asked_of};
 ghost use Rattle.replay.specs.Held.{id_held, let_go};
 ghost use Rattle.replay.specs.MachineSteps.{stepped_exactly, handed_out, stepped_at_once, attached_once, sent_first, confirmed_by};
 ghost use Rattle.replay.specs.ByCases.MachineSteps.{IsAsked};
@@ -11,10 +11,9 @@ use crate::player::held::{Held, let_go};
 use crate::player::machine_steps::{
     StepOutcome, attach_once, confirm_call, hand_out, send_first, step_at_once, step_exactly,
 };
-use crate::session::sent_text::SentText;
-use crate::session::todo::{Todo, hold_of, todo_of};
 use messages::Call;
 use ocppj_frame::{MessageId, ReadingMemory};
+use session::{Asked, SentText, Unread, asked_of, hold_of};
 use site_core::{Machine, PointId, Step};
 use site_rules::Site;
 use std::alloc::{AllocError, Global};
@@ -71,19 +70,25 @@ impl Player {
     }
 
     /// What a text asks for.
-    pub fn todo_of(&mut self, text: &SentText<'_>) -> Result<Todo, AllocError>
-        ensures todo { IfOk result (λ todo. todo ≡ todo_of text.now) }
+    pub fn asked_of(&mut self, text: &SentText<'_>) -> Result<Asked, AllocError>
+        ensures asked { IfOk result (λ asked. asked ≡ asked_of text.now) }
         ensures same { self.new ≡ self.old }
     {
-        todo_of(self.alloc, &mut self.memory, text)
+        match asked_of(self.alloc, &mut self.memory, text) {
+            Ok(asked) => Ok(asked),
+            Err(Unread { .. }) => Err(AllocError),
+        }
     }
 
     /// What a held text asks for, or `None` where the text is no CALL of GetCompositeSchedule.
-    pub fn hold_of(&mut self, text: &SentText<'_>) -> Result<Option<Todo>, AllocError>
-        ensures todo { IfOk result (λ todo. todo ≡ hold_of text.now) }
+    pub fn hold_of(&mut self, text: &SentText<'_>) -> Result<Option<Asked>, AllocError>
+        ensures asked { IfOk result (λ asked. asked ≡ hold_of text.now) }
         ensures same { self.new ≡ self.old }
     {
-        hold_of(self.alloc, &mut self.memory, text)
+        match hold_of(self.alloc, &mut self.memory, text) {
+            Ok(asked) => Ok(asked),
+            Err(Unread { .. }) => Err(AllocError),
+        }
     }
 
     /// Makes a step that a text asks for.

@@ -4,22 +4,20 @@ ghost use Rattle.std.specs.Prelude.{◌≡◌, ◌++◌, true, false, IfOk, OnOk
 ghost use Rattle.replay.specs.PrintedLine.{response_line, sent_line, held_line, fault_line};
 ghost use Rattle.replay.specs.PrintedLine.{printed_texts};
 ghost use Rattle.replay.specs.Play.{outcome_lines, call_lines};
-ghost use Rattle.replay.specs.Play.{todo_handled, point_handled, text_handled, hold_handled};
+ghost use Rattle.replay.specs.Play.{asked_handled, point_handled, text_handled, hold_handled};
 ghost use Rattle.replay.specs.Play.{release_played, said_played, line_played, IsPlayed, IsHandled};
-ghost use Rattle.replay.specs.Todo.{todo_of};
-ghost use Rattle.replay.specs.ByCases.Todo.{AsksNoCompile};
+ghost use Rattle.session.specs.Asked.{asked_of};
+ghost use Rattle.replay.specs.ByCases.Asked.{AsksNoCompile};
 ghost use Rattle.replay.specs.Held.{id_held};
 
 use crate::player::held::Held;
 use crate::player::machine_steps::StepOutcome;
 use crate::player::player::Player;
 use crate::script::line::{LineFault, ScriptLine, read_line};
-use crate::session::response::response_of;
-use crate::session::sent_text::SentText;
-use crate::session::todo::Todo;
 use messages::{ActionKind, Call, Response, Side, push_call, push_response};
 use ocppj_frame::MessageId;
 use profile::Unit;
+use session::{Asked, SentText, response_of};
 use site_core::Reply;
 use std::alloc::{AllocError, Global};
 
@@ -54,7 +52,7 @@ fn play_said(player: &mut Player, number: u64, said: ScriptLine<'_>) -> Result<P
     match said {
         ScriptLine::Text(text) => Ok(without_fault(text_lines(player, &text)?)),
         ScriptLine::Hold(text) => match player.hold_of(&text)? {
-            Some(todo) => Ok(without_fault(hold_line(player, todo)?)),
+            Some(asked) => Ok(without_fault(hold_line(player, asked)?)),
             None => fault_printed(player.alloc(), number, LineFault::NotComposite),
         },
         ScriptLine::Release(request) => play_release(player, number, request),
@@ -149,28 +147,28 @@ fn push_sent(lines: &mut String, point: &str, call: &Call) -> Result<(), AllocEr
 /// The line with the answer to a text, if it has one.
 fn answer_line(player: &mut Player, text: &SentText<'_>) -> Result<String, AllocError>
     ensures { IfOk result (λ line. IsHandled
-        (todo_handled player.old (todo_of text.now)) (string_bytes line) player.new) }
+        (asked_handled player.old (asked_of text.now)) (string_bytes line) player.new) }
 {
-    let todo = player.todo_of(text)?;
-    todo_line(player, todo)
+    let asked = player.asked_of(text)?;
+    asked_line(player, asked)
 }
 
 /// The line with the answer to what a text asks for, if it has one.
-fn todo_line(player: &mut Player, todo: Todo) -> Result<String, AllocError>
-    requires { AsksNoCompile todo }
+fn asked_line(player: &mut Player, asked: Asked) -> Result<String, AllocError>
+    requires { AsksNoCompile asked }
     ensures { IfOk result
-        (λ line. IsHandled (todo_handled player.old todo) (string_bytes line) player.new) }
+        (λ line. IsHandled (asked_handled player.old asked) (string_bytes line) player.new) }
 {
     let alloc = player.alloc();
-    match todo {
-        Todo::Nothing => Ok(String::new(alloc)),
-        Todo::Respond { id, response } => response_line(alloc, id.as_str(), &response),
-        Todo::Step { id, kind, step } => {
+    match asked {
+        Asked::Nothing => Ok(String::new(alloc)),
+        Asked::Respond { id, response } => response_line(alloc, id.as_str(), &response),
+        Asked::Step { id, kind, step } => {
             let unit = player.site().unit();
             let outcome = player.step_at_once(step)?;
             outcome_line(alloc, unit, kind, &id, outcome)
         }
-        Todo::Confirm { point, call } => {
+        Asked::Confirm { point, call } => {
             player.confirm_call(point, call)?;
             Ok(String::new(alloc))
         }
@@ -178,13 +176,13 @@ fn todo_line(player: &mut Player, todo: Todo) -> Result<String, AllocError>
 }
 
 /// The line with the number of the request that is held, or with the answer to a text whose ask isn't.
-fn hold_line(player: &mut Player, todo: Todo) -> Result<String, AllocError>
-    requires { AsksNoCompile todo }
+fn hold_line(player: &mut Player, asked: Asked) -> Result<String, AllocError>
+    requires { AsksNoCompile asked }
     ensures { IfOk result
-        (λ line. IsHandled (hold_handled player.old todo) (string_bytes line) player.new) }
+        (λ line. IsHandled (hold_handled player.old asked) (string_bytes line) player.new) }
 {
-    match todo {
-        Todo::Step { id, kind, step } => {
+    match asked {
+        Asked::Step { id, kind, step } => {
             let unit = player.site().unit();
             match player.step(step)? {
                 Ok(Reply::Taken { number, .. }) => {
@@ -194,7 +192,7 @@ fn hold_line(player: &mut Player, todo: Todo) -> Result<String, AllocError>
                 outcome => outcome_line(player.alloc(), unit, kind, &id, outcome),
             }
         }
-        other => todo_line(player, other),
+        other => asked_line(player, other),
     }
 }
 

@@ -1,9 +1,10 @@
 //! The calls of sessions that change what a point has.
 
-ghost use Rattle.std.specs.Prelude.{◌≡◌, Some, None, IfOk, IfErr};
+ghost use Rattle.std.specs.Prelude.{◌≡◌, true, IfOk, IfErr};
 ghost use Rattle.site_core.specs.declared.step.Step.{Step};
 ghost use Rattle.site_core.specs.declared.step.Step.TheVariants as steps;
 ghost use Rattle.site_core.specs.declared.reply.Reply.{Reply};
+ghost use Rattle.site_core.specs.Step.{is_reply_to};
 ghost use Rattle.version_store.specs.Calls.{Calls, IsRefusalOf, row_of, clearing, ending, StartsAs};
 
 use crate::book::Book;
@@ -88,15 +89,38 @@ impl<C: Ledger, A: Ledger> Book<C, A> {
         ensures kept { IfErr result (λ refused. (self.new ≡ self.old) × (pass.new ≡ pass.old)) }
         ensures back { IfErr result (λ refused. refused.1 ≡ begin) }
     {
+        match self.start_with_reply(pass, point, connector, begin)? {
+            Reply::Started(number) => Ok(u64::from(number.unsigned_abs())),
+            Reply::Repeated(number) => Ok(u64::from(number.unsigned_abs())),
+            _ => unreachable!(),
+        }
+    }
+
+    /// Begins a transaction as [`Book::start`] does. The reply tells whether it began, or its start was
+    /// told again.
+    pub fn start_with_reply(
+        &mut self,
+        pass: &mut Pass<C, A>,
+        point: PointId,
+        connector: u32,
+        begin: Begin,
+    ) -> Result<Reply, (Refusal, Begin)>
+        ensures calls { IfOk result (λ reply. Calls self.old pass.old
+            (steps.Start point connector begin) reply self.new pass.new) }
+        ensures own { IfOk result
+            (λ reply. is_reply_to (steps.Start point connector begin) reply ≡ true) }
+        ensures refusal { IfErr result (λ refused. IsRefusalOf self.old
+            (steps.Start point connector begin) refused.0) }
+        ensures kept { IfErr result (λ refused. (self.new ≡ self.old) × (pass.new ≡ pass.old)) }
+        ensures back { IfErr result (λ refused. refused.1 ≡ begin) }
+    {
         let step = Step::Start {
             point,
             connector,
             begin,
         };
         let refused = match self.call(pass, step) {
-            Ok(Reply::Started(number)) => return Ok(u64::from(number.unsigned_abs())),
-            Ok(Reply::Repeated(number)) => return Ok(u64::from(number.unsigned_abs())),
-            Ok(_) => unreachable!(),
+            Ok(reply) => return Ok(reply),
             Err(refused) => refused,
         };
         let refusal = refused.refusal;

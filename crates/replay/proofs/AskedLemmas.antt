@@ -1,0 +1,48 @@
+-- What a text asks for is no compile, and what it is answered without a step no schedule.
+use Rattle.std.proofs.Common.{◌≡◌, ℕ, List, [], false, Some, subst, sym, refl}
+use Rattle.messages.specs.declared.response.Response.{Response}
+use Rattle.messages.specs.declared.response.Response.TheVariants as responses
+use Rattle.site_core.specs.declared.step.Step.{Step}
+use Rattle.site_core.specs.declared.step.Step.TheVariants as acts
+use Rattle.session.specs.declared.asked.Asked.{Asked}
+use Rattle.session.specs.declared.asked.Asked.TheVariants as asks
+use Rattle.session.specs.SentText.{Sent}
+use Rattle.session.specs.Asked.{asked_of, hold_of, IsOfCall, is_schedule, AsksByCall}
+use Rattle.session.proofs.AskedLemmas.{asks_by_call, hold_asks_by_call}
+use Rattle.replay.specs.PrintedLine as lines
+use Rattle.replay.specs.ScriptRun.{schedules_on}
+use Rattle.replay.specs.ByCases.MachineSteps.{IsAsked}
+use Rattle.replay.specs.ByCases.Asked.{AsksNoCompile}
+
+pub no_schedule : (id : List ℕ) (response : Response) → is_schedule response ≡ false
+    → schedules_on (lines.answer id response) ≡ []
+no_schedule id (responses.Schedule told) is = absurd (cc)
+no_schedule id responses.Accepted is = refl
+no_schedule id (responses.Rejected refusal) is = refl
+no_schedule id responses.Unknown is = refl
+no_schedule id (responses.BootNotification now) is = refl
+no_schedule id (responses.Heartbeat now) is = refl
+no_schedule id responses.Authorize is = refl
+no_schedule id (responses.StartTransaction transaction) is = refl
+no_schedule id responses.Empty is = refl
+no_schedule id responses.UnknownVendorId is = refl
+no_schedule id (responses.Error fault) is = refl
+
+no_compile_step : (step : Step) → IsOfCall step → IsAsked step
+no_compile_step (acts.Install point row) is = tt
+no_compile_step (acts.Clear point criteria) is = tt
+no_compile_step (acts.Start point connector begin) is = tt
+no_compile_step (acts.Stop point number) is = tt
+no_compile_step (acts.Take take) is = tt
+no_compile_step step never = absurd never
+
+no_compile : (asked : Asked) → AsksByCall asked → AsksNoCompile asked
+no_compile (asks.Step id kind step) is = no_compile_step step is
+no_compile other is = tt
+
+pub asks_no_compile : (text : Sent) (asked : Asked) → asked ≡ asked_of text → AsksNoCompile asked
+asks_no_compile text asked is = no_compile asked (subst AsksByCall (sym is) (asks_by_call text))
+
+pub hold_asks_no_compile : (text : Sent) (asked : Asked) → Some asked ≡ hold_of text
+    → AsksNoCompile asked
+hold_asks_no_compile text asked is = no_compile asked (hold_asks_by_call text asked is)

@@ -1,0 +1,8 @@
+-- What a text asks for is no compile. Of private clauses.
+use Rattle.session.specs.declared.asked.Asked.{Asked}
+use Rattle.session.specs.declared.asked.Asked.TheVariants as asked
+use Rattle.replay.specs.ByCases.MachineSteps.{IsAsked}
+
+abbrev pub AsksNoCompile : Asked → Type 0
+AsksNoCompile (asked.Step id kind step) = IsAsked step
+AsksNoCompile other = Unit {0}

@@ -1,0 +1,13 @@
+//! The central system on sockets: operators and charge points connect over WebSocket (OCPP-J 1.6, chapter 3), each
+//! is served on a thread of its own, and workers compile beside them.
+#![tactic(auto)]
+
+mod connection;
+mod handshake;
+mod listener;
+mod path;
+mod sites;
+
+pub use listener::Listener;
+pub use path::{PathPeer, peer_of_path};
+pub use sites::{MAX_SESSIONS, MAX_WORKERS, ServeFault, serve};

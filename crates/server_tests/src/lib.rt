@@ -1,0 +1,7 @@
+//! Tests of `server` by its public names alone: over loopback, server and clients on threads of one process.
+#![tactic(auto)]
+
+#[cfg(test)]
+mod loopback;
+#[cfg(test)]
+mod paths;

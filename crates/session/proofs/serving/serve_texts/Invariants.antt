@@ -1,0 +1,6 @@
+-- What the session was told so far is no less than what it was told before its first text.
+use Rattle.session.specs.Serving.{KeepsPass}
+use Rattle.session.proofs.serving.serve_texts.Given as goal
+
+abbrev pub invariant-loop-text : goal.invariant-loop-text
+invariant-loop-text g l = KeepsPass l.initial.pass l.pass

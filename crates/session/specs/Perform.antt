@@ -1,0 +1,39 @@
+-- What the one call on the book comes to that a step of a session stands for.
+use Rattle.std.specs.Prelude.{◌≡◌}
+use Rattle.site_core.specs.declared.step.Step.{Step}
+use Rattle.site_core.specs.declared.step.Step.TheVariants as steps
+use Rattle.site_core.specs.declared.reply.Reply.TheVariants.{Taken}
+use Rattle.version_store.specs.Told.{Told}
+use Rattle.version_store.specs.Store.{StoreState}
+use Rattle.version_store.specs.Calls.{Calls, Makes, IsRefusalOf}
+use Rattle.session.specs.declared.outcome.Performed.{Performed}
+use Rattle.session.specs.declared.outcome.Performed.TheVariants.{Job, Outcome}
+use Rattle.session.specs.declared.outcome.Outcome.TheVariants.{Made, Answered, Refused}
+
+-- the steps that a text may ask for
+abbrev pub IsOfText : Step → Type 0
+IsOfText (steps.Install point row) = Unit {0}
+IsOfText (steps.Clear point criteria) = Unit {0}
+IsOfText (steps.Start point connector begin) = Unit {0}
+IsOfText (steps.Stop point transaction) = Unit {0}
+IsOfText (steps.Take take) = Unit {0}
+IsOfText (steps.Confirm point link call) = Unit {0}
+IsOfText _ = ⊥
+
+-- a request for a schedule has seen what its session has
+abbrev pub seen_by : Told → Step → Step
+seen_by was (steps.Take take) = steps.Take (record take { seen = was.seen })
+seen_by was step = step
+
+-- A step on which a request is kept gives its job. Any other gives the reply of the call that the step
+-- stands for. A refused one changes nothing. What a session was told doesn't change with what its point
+-- confirms.
+abbrev pub Performs : StoreState → Told → Step → Performed → StoreState → Told → Type 0
+Performs old was step (Job job) new told =
+    Calls old was (seen_by was step) (Taken job.number job.book job.ask) new told
+Performs old was (steps.Confirm point link call) (Outcome (Made reply)) new told =
+    Makes old (steps.Confirm point link call) reply new × (told ≡ was)
+Performs old was step (Outcome (Made reply)) new told = Calls old was (seen_by was step) reply new told
+Performs old was step (Outcome (Answered handed)) new told = ⊥
+Performs old was step (Outcome (Refused refusal)) new told =
+    IsRefusalOf old (seen_by was step) refusal × (new ≡ old) × (told ≡ was)

@@ -1,0 +1,38 @@
+-- A session: who is at the other end of a socket, and for which point.
+use Rattle.std.specs.Prelude.{ℕ, List, Option, Some, None}
+use Rattle.profile.specs.declared.unit.Unit.{Unit}
+use Rattle.profile.specs.declared.unit.Unit.TheVariants.{A}
+use Rattle.messages.specs.declared.side.Side as sides
+use Rattle.messages.specs.declared.side.Side.{Side}
+use Rattle.session.specs.declared.session_core.Peer.{Peer}
+use Rattle.session.specs.declared.session_core.Peer.TheVariants.{Operator, Point}
+
+pub record SessionState : Type 0 where
+  -- the identity of the point that an operator's texts are for, or that sends its own
+  pub point : List ℕ
+  -- who is at the other end
+  pub peer : Peer
+
+abbrev pub operators : List ℕ → Unit → SessionState
+operators id unit = record { point = id; peer = Operator unit }
+
+-- a point's, which has no link yet
+abbrev pub points : List ℕ → SessionState
+points id = record { point = id; peer = Point None }
+
+abbrev pub side_of : Peer → Side
+side_of (Operator unit) = sides.TheVariants.Operator
+side_of (Point link) = sides.TheVariants.Point
+
+-- The unit in which schedules are answered: the site's. A point asks for no schedule.
+abbrev pub answer_unit : Peer → Unit
+answer_unit (Operator unit) = unit
+answer_unit (Point link) = A
+
+-- a link becomes a point's present one; an operator has none
+abbrev pub linked : Peer → ℕ → Peer
+linked (Operator unit) link = Operator unit
+linked (Point before) link = Point (Some link)
+
+abbrev pub with_link : SessionState → ℕ → SessionState
+with_link session link = record session { peer = linked session.peer link }

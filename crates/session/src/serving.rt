@@ -1,0 +1,101 @@
+//! A session over a socket: its texts, their steps on the shared book, and the answers.
+
+ghost use Rattle.session.specs.Serving.{KeepsPass};
+
+mod calls;
+mod ended;
+mod sockets;
+mod texts;
+
+pub use ended::Ended;
+
+use crate::session_core::SessionCore;
+use calls::{attach, lose};
+use crossbeam_channel::Sender;
+use ocpp_scalars::Moments;
+use ocppj_frame::ReadingMemory;
+use std::alloc::Global;
+use std::io::{Read, Write};
+use std::sync::Wait;
+use std::sync::ledger::Ledger;
+use texts::serve_text;
+use tungstenite::{MaskKeys, WebSocket};
+use version_store::{Job, Pass, Shared};
+
+/// What each session has at hand.
+#[derive(Drop)]
+pub(crate) struct Desk<'a, C: Ledger, A: Ledger, R: Wait, M: Moments> {
+    pub(crate) rt: &'a R,
+    pub(crate) alloc: Global,
+    pub(crate) shared: &'a Shared<C, A>,
+    /// The way to those who compile.
+    pub(crate) jobs: &'a Sender<Job>,
+    pub(crate) clock: &'a M,
+}
+
+/// Serves a session over its socket, after its handshake, until that is closed or fails: makes the step of each
+/// text on the shared book, and answers it. A request for a schedule goes to the workers, and is compiled here
+/// where none of them takes it. Each text of a point is followed by the call that waits for the point, if one
+/// does; and in the end the point's link is lost. Gives back the pass, which was told no less than before.
+pub fn serve_socket<
+    S: Read + Write + Drop,
+    K: MaskKeys + Drop,
+    C: Ledger,
+    A: Ledger,
+    R: Wait,
+    M: Moments,
+>(
+    rt: &R,
+    alloc: Global,
+    socket: WebSocket<S, K>,
+    shared: &Shared<C, A>,
+    jobs: &Sender<Job>,
+    core: SessionCore,
+    pass: Pass<C, A>,
+    clock: &M,
+) -> (Ended, Pass<C, A>)
+    ensures { KeepsPass pass result.1 }
+{
+    let desk = Desk {
+        rt,
+        alloc,
+        shared,
+        jobs,
+        clock,
+    };
+    let (mut socket, mut core, mut pass) = (socket, core, pass);
+    let ended = match attach(&desk, &mut core, &mut pass) {
+        Ok(()) => serve_texts(&desk, &mut socket, &core, &mut pass),
+        Err(ended) => {
+            let _ = socket.close(None);
+            ended
+        }
+    };
+    lose(&desk, core);
+    (ended, pass)
+}
+
+/// Serves texts until the socket is closed or fails.
+fn serve_texts<
+    S: Read + Write + Drop,
+    K: MaskKeys + Drop,
+    C: Ledger,
+    A: Ledger,
+    R: Wait,
+    M: Moments,
+>(
+    desk: &Desk<'_, C, A, R, M>,
+    socket: &mut WebSocket<S, K>,
+    core: &SessionCore,
+    pass: &mut Pass<C, A>,
+) -> Ended
+    ensures { KeepsPass pass.old pass.new }
+{
+    let mut memory = ReadingMemory::new(desk.alloc);
+    for _text in desk.rt.forever() {
+        if let Err(ended) = serve_text(desk, socket, core, &mut memory, pass) {
+            return ended;
+        }
+    }
+    unreachable!()
+}

@@ -1,0 +1,108 @@
+//! The link of a point's session, and the calls that go out over it (OCPP-J 1.6, chapter 4).
+
+ghost use Rattle.session.specs.Serving.{KeepsPass};
+
+use crate::session_core::{Peer, SessionCore};
+use crate::serving::Desk;
+use crate::serving::ended::Ended;
+use crate::serving::sockets::send_text;
+use messages::{Call, push_call};
+use ocpp_scalars::{Moments, Refusal};
+use site_core::PointId;
+use std::alloc::{AllocError, Global};
+use std::io::{Read, Write};
+use std::sync::Wait;
+use std::sync::ledger::Ledger;
+use tungstenite::{MaskKeys, WebSocket};
+use version_store::Pass;
+
+/// Gives a point's session its link, before its first text. Without one it ends.
+pub(crate) fn attach<C: Ledger, A: Ledger, R: Wait, M: Moments>(
+    desk: &Desk<'_, C, A, R, M>,
+    core: &mut SessionCore,
+    pass: &mut Pass<C, A>,
+) -> Result<(), Ended>
+    ensures { KeepsPass pass.old pass.new }
+{
+    if let Peer::Operator { .. } = core.peer() {
+        return Ok(());
+    }
+    let Ok(point) = core.point_id().copy(desk.alloc) else {
+        return Err(Ended::OutOfMemory);
+    };
+    let mut book = desk.shared.lock(desk.rt);
+    let attached = book.attach(pass, point);
+    drop(book);
+    match attached {
+        Ok(link) => {
+            core.attached(link);
+            Ok(())
+        }
+        Err(Refusal::OutOfMemory) => Err(Ended::OutOfMemory),
+        Err(_) => Err(Ended::Closed),
+    }
+}
+
+/// Sends the call that waits for a point over its link, if one does and none is in flight.
+pub(crate) fn send_call<
+    S: Read + Write + Drop,
+    K: MaskKeys + Drop,
+    C: Ledger,
+    A: Ledger,
+    R: Wait,
+    M: Moments,
+>(
+    desk: &Desk<'_, C, A, R, M>,
+    socket: &mut WebSocket<S, K>,
+    core: &SessionCore,
+) -> Result<(), Ended> {
+    let Peer::Point { link: Some(link) } = core.peer() else {
+        return Ok(());
+    };
+    let Some(call) = next_call(desk, core.point_id(), link)? else {
+        return Ok(());
+    };
+    match text_of_call(desk.alloc, &call) {
+        Ok(text) => send_text(desk.alloc, socket, text.as_str()),
+        Err(AllocError) => Err(Ended::OutOfMemory),
+    }
+}
+
+/// The first call that waits for a point, which is in flight from then on.
+fn next_call<C: Ledger, A: Ledger, R: Wait, M: Moments>(
+    desk: &Desk<'_, C, A, R, M>,
+    point: &PointId,
+    link: u64,
+) -> Result<Option<Call>, Ended> {
+    let mut book = desk.shared.lock(desk.rt);
+    // Most often there is nothing to send, or the point has a later link.
+    if book.link_to_send(point.as_str()) != Some(link) {
+        return Ok(None);
+    }
+    let Ok(point) = point.copy(desk.alloc) else {
+        return Err(Ended::OutOfMemory);
+    };
+    match book.send(point, link) {
+        Ok(call) => Ok(call),
+        Err(Refusal::OutOfMemory) => Err(Ended::OutOfMemory),
+        Err(_) => Ok(None),
+    }
+}
+
+fn text_of_call(alloc: Global, call: &Call) -> Result<String, AllocError> {
+    let mut text = String::with_capacity(alloc, 128)?;
+    push_call(&mut text, call)?;
+    Ok(text)
+}
+
+/// The link of a point's session is lost: a call that was in flight over it waits again. What the book refuses
+/// is dropped: the point has a later link.
+pub(crate) fn lose<C: Ledger, A: Ledger, R: Wait, M: Moments>(
+    desk: &Desk<'_, C, A, R, M>,
+    core: SessionCore,
+) {
+    if let Peer::Point { link: Some(link) } = core.peer() {
+        let mut book = desk.shared.lock(desk.rt);
+        let _ = book.lost(core.into_point_id(), link);
+    }
+}

@@ -1,0 +1,23 @@
+//! How sessions end.
+
+use tungstenite::Error;
+
+/// How a session ended.
+#[derive(Clone, Copy, Debug, PartialEq, Eq)]
+pub enum Ended {
+    /// The socket was closed, by a close frame and its answer.
+    Closed,
+    /// The socket failed or ended without a close frame, its peer broke the protocol, or no clock could be read.
+    Broken,
+    /// Memory ran out where nobody could be told.
+    OutOfMemory,
+}
+
+/// How a session ends with an error of its socket.
+pub(crate) fn ended_by(error: Error) -> Ended {
+    match error {
+        Error::ConnectionClosed | Error::AlreadyClosed => Ended::Closed,
+        Error::OutOfMemory => Ended::OutOfMemory,
+        _ => Ended::Broken,
+    }
+}

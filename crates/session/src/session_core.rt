@@ -1,0 +1,193 @@
+//! A session by itself: texts to what they ask for, outcomes to texts. It knows no socket and no store.
+
+ghost use Rattle.std.specs.Prelude.{◌≡◌, IfOk, IfErr, option_map, string_bytes};
+ghost use Rattle.session.specs.Session.{operators, points, side_of, answer_unit, with_link};
+ghost use Rattle.messages.specs.ResponseText.{response_text};
+ghost use Rattle.session.specs.Todo.{IsTodo, answer_text};
+
+use crate::asked::asked_of;
+use crate::outcome::Outcome;
+use crate::response::response_of_outcome;
+use crate::sent_text::SentText;
+use crate::todo::{Owed, Todo};
+use messages::{Response, Side, push_response};
+use ocpp_scalars::{Instant, Refusal};
+use ocppj_frame::{MessageId, ReadingMemory};
+use profile::Unit;
+use site_core::PointId;
+use std::alloc::{AllocError, Global};
+use std::marker::Model;
+
+/// Who is at the other end of a session's socket.
+#[derive(Clone, Copy, Debug, PartialEq, Eq)]
+pub enum Peer {
+    /// An operator, on a site of this unit.
+    Operator { unit: Unit },
+    /// The point itself, over the link of this number once it has one.
+    Point { link: Option<u64> },
+}
+
+/// A session: an operator's for a charge point, or the point's own.
+#[derive(Drop)]
+pub struct SessionCore {
+    alloc: Global,
+    point: PointId,
+    peer: Peer,
+}
+
+impl Model for SessionCore {
+    ghost use Rattle.session.specs.Session.{SessionState};
+
+    ghost Value = { SessionState };
+
+    ghost view = { λ core. record { point = core.point; peer = core.peer } };
+}
+
+impl SessionCore {
+    /// An operator's session for the point of this identity, on a site of this unit, in which schedules
+    /// are answered.
+    pub fn operator(alloc: Global, id: &str, unit: Unit) -> Result<SessionCore, AllocError>
+        ensures { IfOk result (λ core. core ≡ operators id.now unit) }
+    {
+        let peer = Peer::Operator { unit };
+        SessionCore::new(alloc, id, peer)
+    }
+
+    /// The session of the point of this identity, which has no link yet.
+    pub fn point(alloc: Global, id: &str) -> Result<SessionCore, AllocError>
+        ensures { IfOk result (λ core. core ≡ points id.now) }
+    {
+        let peer = Peer::Point { link: None };
+        SessionCore::new(alloc, id, peer)
+    }
+
+    fn new(alloc: Global, id: &str, peer: Peer) -> Result<SessionCore, AllocError>
+        ensures { IfOk result (λ core. core ≡ record { point = id.now; peer = peer }) }
+    {
+        Ok(SessionCore {
+            alloc,
+            point: PointId::copied(alloc, id)?,
+            peer,
+        })
+    }
+
+    /// The identity of its point.
+    pub fn point_id(&self) -> &PointId
+        ensures { result.now ≡ self.now.point }
+    {
+        &self.point
+    }
+
+    /// The identity of its point, by itself.
+    pub fn into_point_id(self) -> PointId
+        ensures { result ≡ self.point }
+    {
+        self.point
+    }
+
+    /// Who is at the other end.
+    pub fn peer(&self) -> Peer
+        ensures { result ≡ self.now.peer }
+    {
+        self.peer
+    }
+
+    /// Takes a link as the point's present one, which its replies confirm calls over. An operator has none.
+    pub fn attached(&mut self, link: u64)
+        ensures { self.new ≡ with_link self.old link }
+    {
+        if let Peer::Point { .. } = self.peer {
+            self.peer = Peer::Point { link: Some(link) };
+        }
+    }
+
+    /// What a text asks for that comes at this moment. The text is read into `memory`. The refusal is
+    /// `OutOfMemory`, and no CALL is refused whose id was known by then: it is to be answered so.
+    pub fn read_text(
+        &self,
+        memory: &mut ReadingMemory,
+        now: Instant,
+        text: &str,
+    ) -> Result<Todo, Refusal>
+        ensures todo { IfOk result (λ todo. IsTodo self.now now text.now todo) }
+        ensures refusal { IfErr result (λ refusal. refusal ≡ Refusal.OutOfMemory) }
+    {
+        let sent = SentText::new(now, self.side(), self.point.as_str(), text);
+        match asked_of(self.alloc, memory, &sent) {
+            Ok(asked) => Ok(Todo::asked(self.peer, asked)),
+            Err(unread) => match unread.call {
+                Some(id) => Ok(Todo::without_memory(id)),
+                None => Err(Refusal::OutOfMemory),
+            },
+        }
+    }
+
+    /// The text that answers what a text asked for, once its step has this outcome, and where none is
+    /// answered none. A Todo without a step has no outcome. The refusal is `OutOfMemory`.
+    pub fn answer(&self, todo: Todo, outcome: Option<Outcome>) -> Result<Option<String>, Refusal>
+        ensures text { IfOk result
+            (λ text. option_map string_bytes text ≡ answer_text self.now todo outcome) }
+        ensures refusal { IfErr result (λ refusal. refusal ≡ Refusal.OutOfMemory) }
+    {
+        match todo.into_owed() {
+            Owed::Nothing => Ok(None),
+            Owed::Response { id, response } => self.response_text(&id, Some(response)),
+            Owed::Outcome { id, kind } => {
+                let Some(outcome) = outcome else {
+                    return Ok(None);
+                };
+                let response = response_of_outcome(self.unit(), kind, outcome);
+                self.response_text(&id, response)
+            }
+        }
+    }
+
+    /// Who sends its texts.
+    fn side(&self) -> Side
+        ensures { result ≡ side_of self.now.peer }
+    {
+        match self.peer {
+            Peer::Operator { .. } => Side::Operator,
+            Peer::Point { .. } => Side::Point,
+        }
+    }
+
+    /// The unit in which schedules are answered. A point asks for none.
+    fn unit(&self) -> Unit
+        ensures { result ≡ answer_unit self.now.peer }
+    {
+        match self.peer {
+            Peer::Operator { unit } => unit,
+            Peer::Point { .. } => Unit::A,
+        }
+    }
+
+    /// The text of a response to the CALL of this id, if there is one.
+    fn response_text(
+        &self,
+        id: &MessageId,
+        response: Option<Response>,
+    ) -> Result<Option<String>, Refusal>
+        ensures text { IfOk result (λ text.
+            option_map string_bytes text ≡ option_map (response_text id.now) response) }
+        ensures refusal { IfErr result (λ refusal. refusal ≡ Refusal.OutOfMemory) }
+    {
+        let Some(response) = response else {
+            return Ok(None);
+        };
+        match text_of_response(self.alloc, id.as_str(), &response) {
+            Ok(text) => Ok(Some(text)),
+            Err(AllocError) => Err(Refusal::OutOfMemory),
+        }
+    }
+}
+
+/// The text of a response to the CALL of this id.
+fn text_of_response(alloc: Global, id: &str, response: &Response) -> Result<String, AllocError>
+    ensures { IfOk result (λ text. string_bytes text ≡ response_text id.now response.now) }
+{
+    // Room from the start for most answers, so that they aren't copied as they grow.
+    let mut text = String::with_capacity(alloc, 128)?;
+    push_response(&mut text, id, response)?;
+    Ok(text)
+}

@@ -1,0 +1,91 @@
+//! A step of a session, made on the book.
+
+ghost use Rattle.std.specs.Prelude.{◌≡◌};
+ghost use Rattle.site_core.specs.declared.step.Step.TheVariants as steps;
+ghost use Rattle.session.specs.declared.outcome.Outcome.{Outcome};
+ghost use Rattle.session.specs.declared.outcome.Performed.{Performed};
+ghost use Rattle.session.specs.Perform.{IsOfText, Performs};
+
+use crate::outcome::{Outcome, Performed};
+use ocpp_scalars::Refusal;
+use site_core::{Reply, Step, Take};
+use std::sync::ledger::Ledger;
+use version_store::{Book, Pass};
+
+/// Makes the one call on the book that a step of a text stands for. A request for a schedule has seen what its
+/// session has, whatever the step names.
+pub fn perform<C: Ledger, A: Ledger>(
+    book: &mut Book<C, A>,
+    pass: &mut Pass<C, A>,
+    step: Step,
+) -> Performed
+    requires { IsOfText step }
+    ensures { Performs book.old pass.old step result book.new pass.new }
+{
+    match step {
+        Step::Install { point, row } => {
+            match book.install(pass, point, row.connector, row.profile, row.moment) {
+                Ok(()) => made(Reply::Accepted),
+                Err((refusal, _)) => refused(refusal),
+            }
+        }
+        Step::Clear { point, criteria } => match book.clear(pass, point, criteria) {
+            Ok(true) => made(Reply::Accepted),
+            Ok(false) => made(Reply::Unknown),
+            Err(refusal) => refused(refusal),
+        },
+        Step::Start {
+            point,
+            connector,
+            begin,
+        } => match book.start_with_reply(pass, point, connector, begin) {
+            Ok(reply) => made(reply),
+            Err((refusal, _)) => refused(refusal),
+        },
+        Step::Stop { point, transaction } => match book.stop(pass, point, transaction) {
+            Ok(true) => made(Reply::Ended),
+            Ok(false) => made(Reply::NoSuch),
+            Err(refusal) => refused(refusal),
+        },
+        Step::Take(take) => perform_take(book, pass, take),
+        Step::Confirm { point, link, call } => match book.confirm(point, link, call) {
+            Ok(()) => made(Reply::Confirmed),
+            Err(refusal) => refused(refusal),
+        },
+        _ => unreachable!(),
+    }
+}
+
+/// Keeps a request for a schedule, which has seen what its session has.
+fn perform_take<C: Ledger, A: Ledger>(
+    book: &mut Book<C, A>,
+    pass: &mut Pass<C, A>,
+    take: Take,
+) -> Performed
+    ensures { Performs book.old pass.old (steps.Take take) result book.new pass.new }
+{
+    let Take {
+        point,
+        connector,
+        start,
+        duration,
+        unit,
+        ..
+    } = take;
+    match book.take(pass, point, connector, start, duration, unit) {
+        Ok(job) => Performed::Job(job),
+        Err(refusal) => refused(refusal),
+    }
+}
+
+fn made(reply: Reply) -> Performed
+    ensures { result ≡ Performed.Outcome (Outcome.Made reply) }
+{
+    Performed::Outcome(Outcome::Made(reply))
+}
+
+fn refused(refusal: Refusal) -> Performed
+    ensures { result ≡ Performed.Outcome (Outcome.Refused refusal) }
+{
+    Performed::Outcome(Outcome::Refused(refusal))
+}

@@ -1,0 +1,110 @@
+//! What is to be done for a text of a session: at most one step, and an answer.
+
+ghost use Rattle.std.specs.Prelude.{◌≡◌, None, IfSome};
+ghost use Rattle.session.specs.Asked.{AsksByCall};
+ghost use Rattle.session.specs.Perform.{IsOfText};
+ghost use Rattle.session.specs.Todo.{confirming, todo_asked, without_memory};
+
+use crate::asked::Asked;
+use crate::session_core::Peer;
+use messages::{ActionKind, CallFault, Response};
+use ocpp_scalars::Refusal;
+use ocppj_frame::MessageId;
+use site_core::{PointId, Step};
+use std::marker::Model;
+
+/// What the sender of a text is owed.
+#[derive(Drop)]
+pub enum Owed {
+    /// The text isn't answered.
+    Nothing,
+    /// The CALL of this id is answered so.
+    Response { id: MessageId, response: Response },
+    /// The CALL of this id, of an action of this kind, is answered by what comes of its step.
+    Outcome { id: MessageId, kind: ActionKind },
+}
+
+/// What is to be done for a text: at most one step, and then an answer, if its sender is owed one.
+#[derive(Drop)]
+pub struct Todo {
+    step: Option<Step>,
+    owed: Owed,
+}
+
+impl Model for Todo {
+    ghost use Rattle.std.specs.Prelude.{IfSome};
+    ghost use Rattle.session.specs.Todo.{TodoState};
+    ghost use Rattle.session.specs.Perform.{IsOfText};
+
+    ghost Value = { TodoState };
+
+    ghost view = { λ todo. record { step = todo.step; owed = todo.owed } };
+
+    ghost invariant = { λ todo. IfSome todo.step IsOfText };
+}
+
+impl Todo {
+    /// What is to be done for what a text asks.
+    pub(crate) fn asked(peer: Peer, asked: Asked) -> Todo
+        requires { AsksByCall asked }
+        ensures { result ≡ todo_asked peer asked }
+    {
+        match asked {
+            Asked::Nothing => Todo::without_step(Owed::Nothing),
+            Asked::Respond { id, response } => {
+                Todo::without_step(Owed::Response { id, response })
+            }
+            Asked::Step { id, kind, step } => Todo {
+                step: Some(step),
+                owed: Owed::Outcome { id, kind },
+            },
+            Asked::Confirm { point, call } => Todo {
+                step: confirming(peer, point, call),
+                owed: Owed::Nothing,
+            },
+        }
+    }
+
+    /// The CALL of this id is answered that memory ran out.
+    pub(crate) fn without_memory(id: MessageId) -> Todo
+        ensures { result ≡ without_memory id }
+    {
+        Todo::without_step(Owed::Response {
+            id,
+            response: Response::Error(CallFault::Refused(Refusal::OutOfMemory)),
+        })
+    }
+
+    fn without_step(owed: Owed) -> Todo
+        ensures { result ≡ record { step = None; owed = owed } }
+    {
+        Todo { step: None, owed }
+    }
+
+    /// Takes its step out, if it has one, so that nobody makes it twice.
+    pub fn take_step(&mut self) -> Option<Step>
+        ensures step { result ≡ self.old.step }
+        ensures of_text { IfSome result IsOfText }
+        ensures taken { self.new ≡ record self.old { step = None } }
+    {
+        self.step.take()
+    }
+
+    /// What the text's sender is owed.
+    pub fn into_owed(self) -> Owed
+        ensures { result ≡ self.owed }
+    {
+        self.owed
+    }
+}
+
+/// The step that a point's reply to the call of this number asks for, if the point has a link.
+fn confirming(peer: Peer, point: PointId, call: u64) -> Option<Step>
+    ensures step { result ≡ confirming peer point call }
+    ensures of_text { IfSome result IsOfText }
+{
+    match peer {
+        Peer::Point { link: Some(link) } => Some(Step::Confirm { point, link, call }),
+        Peer::Point { link: None } | Peer::Operator { .. } => None,
+    }
+}

@@ -1,0 +1,120 @@
+//! What is at the other end of a session's socket: a client whose bytes are all there from the beginning, and streams
+//! that fail.
+
+use std::alloc::Global;
+use std::io::{self, ErrorKind, Read, Write};
+use std::test::Fail;
+use tungstenite::{Duplex, MaskKeys, Message, NoMask, Role, WebSocket};
+
+/// A client's masking keys, which are all the same.
+#[derive(Clone, Copy, Debug)]
+pub(crate) struct OneKey;
+
+impl MaskKeys for OneKey {
+    fn next_key(&mut self) -> [u8; 4] {
+        [1, 2, 3, 4]
+    }
+}
+
+/// The bytes of a client that sends these messages.
+pub(crate) fn client_bytes(alloc: Global, messages: Vec<Message>) -> Result<Vec<u8>, Fail> {
+    let nothing: &[u8] = &[];
+    let stream = Duplex {
+        reader: nothing,
+        writer: Vec::new(alloc),
+    };
+    let mut socket = WebSocket::from_raw_socket(alloc, stream, OneKey, Role::Client, None);
+    for message in messages {
+        socket.send(message)?;
+    }
+    Ok(socket.into_inner().writer)
+}
+
+/// The texts that a client reads from a server's bytes, and whether the server closed.
+pub(crate) fn client_texts(alloc: Global, bytes: &[u8]) -> Result<(Vec<String>, bool), Fail> {
+    let stream = Duplex {
+        reader: bytes,
+        writer: Vec::new(alloc),
+    };
+    let mut socket = WebSocket::from_raw_socket(alloc, stream, OneKey, Role::Client, None);
+    let (mut texts, mut is_closed) = (Vec::new(alloc), false);
+    for _message in 0..1_000u32 {
+        match socket.read() {
+            Ok(Message::Text(text)) => {
+                texts.push(String::from_str(alloc, text.as_str())?)?;
+            }
+            Ok(message) => is_closed = message.is_close(),
+            Err(_) => break,
+        }
+    }
+    Ok((texts, is_closed))
+}
+
+/// A client's texts, with a close frame behind them where it closes.
+pub(crate) fn messages_of(
+    alloc: Global,
+    texts: &[&str],
+    closes: bool,
+) -> Result<Vec<Message>, Fail> {
+    let mut messages = Vec::new(alloc);
+    for text in texts {
+        messages.push(Message::text(alloc, *text)?)?;
+    }
+    if closes {
+        messages.push(Message::Close(None))?;
+    }
+    Ok(messages)
+}
+
+/// A stream whose call of one number fails, and each later one.
+#[derive(Drop)]
+pub(crate) struct Failing<S> {
+    pub(crate) stream: S,
+    /// How many calls are left before that.
+    pub(crate) calls: usize,
+}
+
+impl<S> Failing<S> {
+    fn call(&mut self) -> io::Result<()> {
+        if self.calls == 0 {
+            return Err(io::Error::from(ErrorKind::BrokenPipe));
+        }
+        self.calls -= 1;
+        Ok(())
+    }
+}
+
+impl<S: Read> Read for Failing<S> {
+    fn read(&mut self, buf: &mut [u8]) -> io::Result<usize> {
+        self.call()?;
+        self.stream.read(buf)
+    }
+}
+
+impl<S: Write> Write for Failing<S> {
+    fn write(&mut self, buf: &[u8]) -> io::Result<usize> {
+        self.call()?;
+        self.stream.write(buf)
+    }
+
+    fn flush(&mut self) -> io::Result<()> {
+        self.stream.flush()
+    }
+}
+
+/// A server's socket that reads a client's bytes, and whose calls fail after so many.
+pub(crate) fn socket_of<'a>(
+    alloc: Global,
+    input: &'a [u8],
+    output: &'a mut Vec<u8>,
+    calls: usize,
+) -> WebSocket<Failing<Duplex<&'a [u8], &'a mut Vec<u8>>>, NoMask> {
+    let stream = Failing {
+        stream: Duplex {
+            reader: input,
+            writer: output,
+        },
+        calls,
+    };
+    WebSocket::from_raw_socket(alloc, stream, NoMask, Role::Server, None)
+}
