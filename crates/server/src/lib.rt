@@ -4,10 +4,8 @@
 
 mod connection;
 mod handshake;
-mod listener;
 mod path;
 mod sites;
 
-pub use listener::Listener;
 pub use path::{PathPeer, peer_of_path};
 pub use sites::{MAX_SESSIONS, MAX_WORKERS, ServeFault, serve};

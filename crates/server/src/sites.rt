@@ -2,16 +2,14 @@
 
 ghost use Rattle.std.specs.Prelude.{◌≡◌, ◌≤◌, length};
 
-use crate::connection::{Office, serve_connection};
-use crate::listener::Listener;
+use crate::connection::serve_connection;
 use compile_pool::{MAX_JOBS, Open, run_pool};
 use crossbeam_channel::{Receiver, Sender, bounded};
 use ocpp_scalars::Moments;
-use profile::Unit;
 use site_rules::Site;
 use std::alloc::Global;
-use std::fmt;
 use std::marker::{Brand, Send, Sync};
+use std::net::TcpListener;
 use std::sync::Wait;
 use std::sync::ledger::{Blank, Ledger};
 use std::thread;
@@ -37,11 +35,11 @@ pub enum ServeFault {
 
 /// Serves a site: accepts so many connections, each served on a thread of its own, with so many workers beside
 /// them, and ends when all have ended. Gives how many changes were made and answers handed out in all sessions.
-pub fn serve<L: Listener + Sync, R: Threads + Wait + Sync, M: Moments + Sync>(
+pub fn serve<R: Threads + Wait + Sync, M: Moments + Sync>(
     rt: &R,
     alloc: Global,
     site: Site,
-    listener: &L,
+    listener: &TcpListener,
     workers: usize,
     sessions: u64,
     clock: &M,
@@ -51,19 +49,17 @@ pub fn serve<L: Listener + Sync, R: Threads + Wait + Sync, M: Moments + Sync>(
 {
     let plan = Plan {
         alloc,
-        unit: site.unit(),
         workers,
         sessions,
     };
     let (changes, answers) = (Blank::new(sessions), Blank::new(sessions));
-    serve_counted::<Brand, Brand, L, R, M>(rt, plan, site, listener, clock, (changes, answers))
+    serve_counted::<Brand, Brand, R, M>(rt, plan, site, listener, clock, (changes, answers))
 }
 
 /// How a site is served.
 #[derive(Clone, Copy, Debug)]
 struct Plan {
     alloc: Global,
-    unit: Unit,
     workers: usize,
     sessions: u64,
 }
@@ -72,14 +68,13 @@ struct Plan {
 fn serve_counted<
     C: Ledger + Send + Sync,
     A: Ledger + Send + Sync,
-    L: Listener + Sync,
     R: Threads + Wait + Sync,
     M: Moments + Sync,
 >(
     rt: &R,
     plan: Plan,
     site: Site,
-    listener: &L,
+    listener: &TcpListener,
     clock: &M,
     blanks: (Blank, Blank),
 ) -> Result<Totals, ServeFault>
@@ -91,8 +86,13 @@ fn serve_counted<
         × (blanks.1.parts ≡ plan.sessions) }
 {
     let (changes, answers) = blanks;
-    let made: Result<(Shared<C, A>, _), _> =
-        Shared::make(plan.alloc, changes, answers, site, plan.sessions);
+    let made: Result<(Shared<C, A>, _), _> = Shared::make(
+        plan.alloc,
+        changes,
+        answers,
+        site,
+        plan.sessions,
+    );
     let (Ok((shared, passes)), Ok((jobs, queue))) = (made, bounded(plan.alloc, MAX_JOBS)) else {
         return Err(ServeFault::OutOfMemory);
     };
@@ -120,13 +120,12 @@ struct Served<C: Ledger, A: Ledger> {
 fn serve_beside_workers<
     C: Ledger + Send + Sync,
     A: Ledger + Send + Sync,
-    L: Listener + Sync,
     R: Threads + Wait + Sync,
     M: Moments + Sync,
 >(
     rt: &R,
     plan: Plan,
-    listener: &L,
+    listener: &TcpListener,
     clock: &M,
     shared: &Shared<C, A>,
     channel: (Sender<Job>, Receiver<Job>),
@@ -135,26 +134,22 @@ fn serve_beside_workers<
     requires { 1 ≤ plan.workers }
 {
     let (jobs, queue) = channel;
-    let Plan {
-        alloc,
-        unit,
-        workers,
-        ..
-    } = plan;
+    let Plan { alloc, workers, .. } = plan;
     thread::scope(
         thread::scope_env(),
         rt,
         |scope| -> Result<Served<C, A>, ServeFault>
             requires { 1 ≤ workers }
         {
-            let pool = scope.spawn(move || -> usize
-                requires { 1 ≤ workers }
-            { run_pool(rt, alloc, workers, &queue, shared, &Open) });
+            let pool = scope.spawn(
+                move || -> usize
+                    requires { 1 ≤ workers }
+                { run_pool(rt, alloc, workers, &queue, shared, &Open) },
+            );
             drop(pool);
             let office = Office {
                 rt,
                 alloc,
-                unit,
                 shared,
                 jobs: &jobs,
                 clock,
@@ -168,23 +163,31 @@ fn serve_beside_workers<
     )
 }
 
+/// What each connection has at hand.
+#[derive(Drop)]
+struct Office<'a, C: Ledger, A: Ledger, R: Wait, M: Moments> {
+    rt: &'a R,
+    alloc: Global,
+    shared: &'a Shared<C, A>,
+    jobs: &'a Sender<Job>,
+    clock: &'a M,
+}
+
 /// Accepts a connection for each pass, and serves it on a thread of its own, or on this one where no thread can be
 /// made. Ends when all have ended.
 fn serve_connections<
     C: Ledger + Send + Sync,
     A: Ledger + Send + Sync,
-    L: Listener + Sync,
     R: Threads + Wait + Sync,
     M: Moments + Sync,
 >(
     office: Office<'_, C, A, R, M>,
-    listener: &L,
+    listener: &TcpListener,
     passes: Vec<Pass<C, A>>,
 ) -> Result<Served<C, A>, ServeFault> {
     let Office {
         rt,
         alloc,
-        unit,
         shared,
         jobs,
         clock,
@@ -196,48 +199,37 @@ fn serve_connections<
     ) else {
         return Err(ServeFault::OutOfMemory);
     };
-    Ok(thread::scope(
-        thread::scope_env(),
-        rt,
-        |scope| -> Served<C, A> {
-            let (mut ended, mut running, mut is_accepting) = (ended, running, true);
-            for pass in passes {
-                if !is_accepting {
-                    let _ = ended.push(pass);
-                    continue;
+    Ok(thread::scope(thread::scope_env(), rt, |scope| -> Served<C, A> {
+        let (mut ended, mut running, mut is_accepting) = (ended, running, true);
+        for pass in passes {
+            if !is_accepting {
+                let _ = ended.push(pass);
+                continue;
+            }
+            let Ok((stream, _)) = listener.accept() else {
+                is_accepting = false;
+                let _ = ended.push(pass);
+                continue;
+            };
+            // An answer leaves at once. Where that can't be set, it leaves later.
+            let _ = stream.set_nodelay(true);
+            match scope.spawn(move || {
+                serve_connection(rt, alloc, stream, shared, jobs, pass, clock)
+            }) {
+                Ok(session) => {
+                    let _ = running.push(session);
                 }
-                let Ok(stream) = listener.accept() else {
-                    is_accepting = false;
-                    let _ = ended.push(pass);
-                    continue;
-                };
-                let session = move || {
-                    let office = Office {
-                        rt,
-                        alloc,
-                        unit,
-                        shared,
-                        jobs,
-                        clock,
-                    };
-                    serve_connection(&office, stream, pass)
-                };
-                match scope.spawn(session) {
-                    Ok(session) => {
-                        let _ = running.push(session);
-                    }
-                    Err(unmade) => {
-                        let _ = ended.push((unmade.value)());
-                    }
+                Err(unmade) => {
+                    let _ = ended.push((unmade.value)());
                 }
             }
-            for session in running {
-                let _ = ended.push(session.join(rt));
-            }
-            Served {
-                passes: ended,
-                is_accepting,
-            }
-        },
-    ))
+        }
+        for session in running {
+            let _ = ended.push(session.join(rt));
+        }
+        Served {
+            passes: ended,
+            is_accepting,
+        }
+    }))
 }

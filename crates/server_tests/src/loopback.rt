@@ -79,7 +79,8 @@ fn connected<R: Net<Stream = TcpStream> + RandomSource + Copy + Drop>(
     }
 }
 
-const INSTALL: &str = r#"[2,"a","SetChargingProfile",{"connectorId":0,"csChargingProfiles":{"chargingProfileId":1,"stackLevel":0,"chargingProfilePurpose":"TxDefaultProfile","chargingProfileKind":"Absolute","chargingSchedule":{"startSchedule":"2025-01-01T00:00:00Z","chargingRateUnit":"A","chargingSchedulePeriod":[{"startPeriod":0,"limit":16}]}}}]"#;
+const INSTALL: &str =
+    r#"[2,"a","SetChargingProfile",{"connectorId":0,"csChargingProfiles":{"chargingProfileId":1,"stackLevel":0,"chargingProfilePurpose":"TxDefaultProfile","chargingProfileKind":"Absolute","chargingSchedule":{"startSchedule":"2025-01-01T00:00:00Z","chargingRateUnit":"A","chargingSchedulePeriod":[{"startPeriod":0,"limit":16}]}}}]"#;
 
 const ASK: &str = r#"[2,"b","GetCompositeSchedule",{"connectorId":0,"duration":60}]"#;
 
@@ -93,18 +94,39 @@ fn a_start_of_one_session_is_in_the_schedule_of_another(rt: HostRuntime) -> Resu
         serve(&rt, alloc, site, &listener, 2, 2, &TenPastMidnight)
     })?;
     let mut operator = connected(&rt, alloc, address, "/operator/CP1")?;
-    assert_eq!(&rt; operator.ask(INSTALL)?.as_str(), r#"[3,"a",{"status":"Accepted"}]"#);
+    assert_eq!(&rt;
+        operator.ask(INSTALL)?.as_str(),
+        r#"[3,"a",{"status":"Accepted"}]"#
+    );
     let mut point = connected(&rt, alloc, address, "/ocpp/CP1")?;
-    let started = point.ask(r#"[2,"0","StartTransaction",{"connectorId":1,"idTag":"T","meterStart":0,"timestamp":"2025-01-01T00:00:10Z"}]"#)?;
-    assert_eq!(&rt; started.as_str(), r#"[3,"0",{"idTagInfo":{"status":"Accepted"},"transactionId":1}]"#);
-    assert_eq!(&rt; point.next()?.as_str(), r#"[2,"0","ClearChargingProfile",{}]"#);
-    let stopped = point.ask(r#"[2,"1","StopTransaction",{"transactionId":1,"timestamp":"2025-01-01T00:00:10Z","meterStop":0}]"#)?;
+    let started = point.ask(
+        r#"[2,"0","StartTransaction",{"connectorId":1,"idTag":"T","meterStart":0,"timestamp":"2025-01-01T00:00:10Z"}]"#,
+    )?;
+    assert_eq!(&rt;
+        started.as_str(),
+        r#"[3,"0",{"idTagInfo":{"status":"Accepted"},"transactionId":1}]"#
+    );
+    assert_eq!(&rt;
+        point.next()?.as_str(),
+        r#"[2,"0","ClearChargingProfile",{}]"#
+    );
+    let stopped = point.ask(
+        r#"[2,"1","StopTransaction",{"transactionId":1,"timestamp":"2025-01-01T00:00:10Z","meterStop":0}]"#,
+    )?;
     assert_eq!(&rt; stopped.as_str(), r#"[3,"1",{}]"#);
-    let again = point.ask(r#"[2,"2","StartTransaction",{"connectorId":2,"idTag":"T","meterStart":0,"timestamp":"2025-01-01T00:00:10Z"}]"#)?;
-    assert_eq!(&rt; again.as_str(), r#"[3,"2",{"idTagInfo":{"status":"Accepted"},"transactionId":2}]"#);
+    let again = point.ask(
+        r#"[2,"2","StartTransaction",{"connectorId":2,"idTag":"T","meterStart":0,"timestamp":"2025-01-01T00:00:10Z"}]"#,
+    )?;
+    assert_eq!(&rt;
+        again.as_str(),
+        r#"[3,"2",{"idTagInfo":{"status":"Accepted"},"transactionId":2}]"#
+    );
     point.close()?;
     let schedule = operator.ask(ASK)?;
-    assert_eq!(&rt; schedule.as_str(), r#"[3,"b",{"status":"Accepted","connectorId":0,"scheduleStart":"2025-01-01T00:00:10Z","chargingSchedule":{"duration":60,"chargingRateUnit":"A","chargingSchedulePeriod":[{"startPeriod":0,"limit":16.0}]}}]"#);
+    assert_eq!(&rt;
+        schedule.as_str(),
+        r#"[3,"b",{"status":"Accepted","connectorId":0,"scheduleStart":"2025-01-01T00:00:10Z","chargingSchedule":{"duration":60,"chargingRateUnit":"A","chargingSchedulePeriod":[{"startPeriod":0,"limit":16.0}]}}]"#
+    );
     operator.close()?;
     let wanted: Result<Totals, ServeFault> = Ok(Totals {
         changes: 4,

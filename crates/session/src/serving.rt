@@ -7,11 +7,10 @@ mod ended;
 mod sockets;
 mod texts;
 
-pub use ended::Ended;
-
 use crate::session_core::SessionCore;
 use calls::{attach, lose};
 use crossbeam_channel::Sender;
+pub use ended::Ended;
 use ocpp_scalars::Moments;
 use ocppj_frame::ReadingMemory;
 use std::alloc::Global;

@@ -90,11 +90,13 @@ fn desk_of<C: Ledger, A: Ledger>(
     })
 }
 
-pub(crate) const INSTALL: &str = r#"[2,"a","SetChargingProfile",{"connectorId":0,"csChargingProfiles":{"chargingProfileId":1,"stackLevel":0,"chargingProfilePurpose":"TxDefaultProfile","chargingProfileKind":"Absolute","chargingSchedule":{"startSchedule":"2025-01-01T00:00:00Z","chargingRateUnit":"A","chargingSchedulePeriod":[{"startPeriod":0,"limit":16}]}}}]"#;
+pub(crate) const INSTALL: &str =
+    r#"[2,"a","SetChargingProfile",{"connectorId":0,"csChargingProfiles":{"chargingProfileId":1,"stackLevel":0,"chargingProfilePurpose":"TxDefaultProfile","chargingProfileKind":"Absolute","chargingSchedule":{"startSchedule":"2025-01-01T00:00:00Z","chargingRateUnit":"A","chargingSchedulePeriod":[{"startPeriod":0,"limit":16}]}}}]"#;
 
 pub(crate) const ASK: &str = r#"[2,"b","GetCompositeSchedule",{"connectorId":1,"duration":60}]"#;
 
-pub(crate) const SCHEDULE: &str = r#"[3,"b",{"status":"Accepted","connectorId":1,"scheduleStart":"2025-01-01T00:00:10Z","chargingSchedule":{"duration":60,"chargingRateUnit":"A","chargingSchedulePeriod":[{"startPeriod":0,"limit":16.0}]}}]"#;
+pub(crate) const SCHEDULE: &str =
+    r#"[3,"b",{"status":"Accepted","connectorId":1,"scheduleStart":"2025-01-01T00:00:10Z","chargingSchedule":{"duration":60,"chargingRateUnit":"A","chargingSchedulePeriod":[{"startPeriod":0,"limit":16.0}]}}]"#;
 
 fn first_schedule<C: Ledger, A: Ledger, R: Abort>(
     rt: &R,

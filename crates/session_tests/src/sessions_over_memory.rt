@@ -130,7 +130,10 @@ fn operator<C: Ledger, A: Ledger, R: Abort + Wait>(
     assert_eq!(rt; served.ended, Ended::Closed);
     assert!(rt; served.is_closed);
     assert_eq!(rt; served.texts.len(), 2);
-    assert_eq!(rt; served.texts[0].as_str(), r#"[3,"a",{"status":"Accepted"}]"#);
+    assert_eq!(rt;
+        served.texts[0].as_str(),
+        r#"[3,"a",{"status":"Accepted"}]"#
+    );
     assert_eq!(rt; served.texts[1].as_str(), SCHEDULE);
     assert_eq!(rt; (served.changes, served.answers), (1, 1));
     assert_eq!(rt; desk.shared.lock(rt).open_requests(), 0);
@@ -146,7 +149,8 @@ const HEARTBEAT: &str = r#"[2,"1","Heartbeat",{}]"#;
 
 const MOMENT: &str = r#"[3,"1",{"currentTime":"2025-01-01T00:00:10Z"}]"#;
 
-const SET: &str = r#"[2,"1","SetChargingProfile",{"connectorId":0,"csChargingProfiles":{"chargingProfileId":1,"stackLevel":0,"chargingProfilePurpose":"TxDefaultProfile","chargingProfileKind":"Absolute","chargingSchedule":{"startSchedule":"2025-01-01T00:00:00Z","chargingRateUnit":"A","chargingSchedulePeriod":[{"startPeriod":0,"limit":16.0}]}}}]"#;
+const SET: &str =
+    r#"[2,"1","SetChargingProfile",{"connectorId":0,"csChargingProfiles":{"chargingProfileId":1,"stackLevel":0,"chargingProfilePurpose":"TxDefaultProfile","chargingProfileKind":"Absolute","chargingSchedule":{"startSchedule":"2025-01-01T00:00:00Z","chargingRateUnit":"A","chargingSchedulePeriod":[{"startPeriod":0,"limit":16.0}]}}}]"#;
 
 const CLEAR: &str = r#"[2,"0","ClearChargingProfile",{}]"#;
 
@@ -258,6 +262,14 @@ fn a_socket_that_fails_leaves_its_call_waiting(rt: HostRuntime) -> Result<(), Fa
     Ok(())
 }
 
+/// A Heartbeat with so many bytes, blanks behind it.
+fn padded(alloc: Global, bytes: usize) -> Result<String, Fail> {
+    let mut text = String::from_str(alloc, HEARTBEAT)?;
+    let blanks = bytes.saturating_sub(HEARTBEAT.len());
+    text.push_str(" ".repeat(alloc, blanks)?.as_str())?;
+    Ok(text)
+}
+
 /// Without a moment no text is read, and a text that is too long isn't either.
 fn unread<C: Ledger, A: Ledger, R: Abort + Wait>(
     rt: &R,
@@ -274,9 +286,9 @@ fn unread<C: Ledger, A: Ledger, R: Abort + Wait>(
     let served = desk.serve(rt, core, messages_of(alloc, &[HEARTBEAT], true)?, 100)?;
     assert_eq!(rt; served.ended, Ended::Broken);
     desk.clock = Fixed(Some(instant_at(10)?));
-    let mut long = String::from_str(alloc, HEARTBEAT)?;
-    long.push_str(" ".repeat(alloc, 1_048_577 - HEARTBEAT.len())?.as_str())?;
-    let texts = [long.as_str(), HEARTBEAT, &long.as_str()[..1_048_576]];
+    let longest = padded(alloc, 1_048_576)?;
+    let too_long = padded(alloc, 1_048_577)?;
+    let texts = [too_long.as_str(), HEARTBEAT, longest.as_str()];
     let core = SessionCore::point(alloc, "CP1")?;
     let served = desk.serve(rt, core, messages_of(alloc, &texts, true)?, 10_000)?;
     assert_eq!(rt; served.ended, Ended::Closed);

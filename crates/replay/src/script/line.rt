@@ -6,9 +6,9 @@ ghost use Rattle.replay.specs.ByCases.Form.{form_of, words_view};
 ghost use Rattle.replay.specs.Line.{instant_in, is_stranger, text_of, said_at, line_of_form, line_of, fault_name};
 
 use crate::script::form::{LineWord, Words, split_words};
-use session::SentText;
 use messages::Side;
 use ocpp_scalars::{Instant, read_instant};
+use session::SentText;
 use site_rules::Site;
 use std::fmt;
 

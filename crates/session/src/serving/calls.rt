@@ -2,10 +2,10 @@
 
 ghost use Rattle.session.specs.Serving.{KeepsPass};
 
-use crate::session_core::{Peer, SessionCore};
 use crate::serving::Desk;
 use crate::serving::ended::Ended;
 use crate::serving::sockets::send_text;
+use crate::session_core::{Peer, SessionCore};
 use messages::{Call, push_call};
 use ocpp_scalars::{Moments, Refusal};
 use site_core::PointId;

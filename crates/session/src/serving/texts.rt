@@ -4,13 +4,13 @@ ghost use Rattle.std.specs.Prelude.{◌≡◌};
 ghost use Rattle.session.specs.Perform.{IsOfText};
 ghost use Rattle.session.specs.Serving.{KeepsPass};
 
-use crate::session_core::SessionCore;
 use crate::outcome::{Outcome, Performed};
-use crate::step::perform;
 use crate::serving::Desk;
 use crate::serving::calls::send_call;
 use crate::serving::ended::Ended;
 use crate::serving::sockets::{read_text, send_text};
+use crate::session_core::SessionCore;
+use crate::step::perform;
 use compile_pool::{answer_job, wait_answer};
 use ocpp_scalars::{Instant, Moments, Refusal};
 use ocppj_frame::ReadingMemory;
