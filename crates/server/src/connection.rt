@@ -1,6 +1,6 @@
 //! One connection, from its handshake on.
 
-use crate::handshake::{Request16, shake_hands};
+use crate::handshake::{ClientRequest, shake_hands};
 use crate::path::{PathPeer, peer_of_path};
 use crossbeam_channel::Sender;
 use ocpp_scalars::Moments;
@@ -43,7 +43,7 @@ fn core_of<C: Ledger, A: Ledger, R: Wait>(
     rt: &R,
     alloc: Global,
     shared: &Shared<C, A>,
-    asked: &Request16,
+    asked: &ClientRequest,
 ) -> Result<Option<SessionCore>, AllocError> {
     let peer = peer_of_path(asked.path.as_str());
     let (PathPeer::Operator(id) | PathPeer::Point(id)) = peer;

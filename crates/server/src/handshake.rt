@@ -13,7 +13,7 @@ const OCPP_16: &str = "ocpp1.6";
 
 /// What a client asked for in its handshake.
 #[derive(Drop)]
-pub(crate) struct Request16 {
+pub(crate) struct ClientRequest {
     /// The path of its URL, without the query.
     pub(crate) path: String,
     /// Whether it offered OCPP 1.6 among its subprotocols.
@@ -24,7 +24,7 @@ pub(crate) struct Request16 {
 #[derive(Drop)]
 struct Reading<'a> {
     alloc: Global,
-    asked: &'a mut Option<Request16>,
+    asked: &'a mut Option<ClientRequest>,
 }
 
 impl Callback for Reading<'_> {
@@ -46,7 +46,7 @@ impl Callback for Reading<'_> {
                 return Ok(response);
             };
         }
-        *asked = Some(Request16 { path, offers_ocpp });
+        *asked = Some(ClientRequest { path, offers_ocpp });
         Ok(response)
     }
 }
@@ -66,7 +66,7 @@ fn offers_ocpp(headers: &HeaderMap<HeaderValue>) -> bool {
 pub(crate) fn shake_hands<S: Read + Write + Drop>(
     alloc: Global,
     stream: S,
-) -> Option<(WebSocket<S, NoMask>, Request16)> {
+) -> Option<(WebSocket<S, NoMask>, ClientRequest)> {
     let mut asked = None;
     let reading = Reading {
         alloc,

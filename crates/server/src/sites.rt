@@ -1,6 +1,6 @@
 //! The server: it accepts connections, and ends once so many have ended.
 
-ghost use Rattle.std.specs.Prelude.{◌≡◌, ◌≤◌, length};
+ghost use Rattle.std.specs.Prelude.{◌≡◌, ◌≤◌};
 
 use crate::connection::serve_connection;
 use compile_pool::{MAX_JOBS, Open, run_pool};
@@ -147,14 +147,14 @@ fn serve_beside_workers<
                 { run_pool(rt, alloc, workers, &queue, shared, &Open) },
             );
             drop(pool);
-            let office = Office {
+            let context = Context {
                 rt,
                 alloc,
                 shared,
                 jobs: &jobs,
                 clock,
             };
-            let served = serve_connections(office, listener, passes);
+            let served = serve_connections(context, listener, passes);
             shared.lock(rt).finish();
             shared.wake();
             drop(jobs);
@@ -165,7 +165,7 @@ fn serve_beside_workers<
 
 /// What each connection has at hand.
 #[derive(Drop)]
-struct Office<'a, C: Ledger, A: Ledger, R: Wait, M: Moments> {
+struct Context<'a, C: Ledger, A: Ledger, R: Wait, M: Moments> {
     rt: &'a R,
     alloc: Global,
     shared: &'a Shared<C, A>,
@@ -181,17 +181,17 @@ fn serve_connections<
     R: Threads + Wait + Sync,
     M: Moments + Sync,
 >(
-    office: Office<'_, C, A, R, M>,
+    context: Context<'_, C, A, R, M>,
     listener: &TcpListener,
     passes: Vec<Pass<C, A>>,
 ) -> Result<Served<C, A>, ServeFault> {
-    let Office {
+    let Context {
         rt,
         alloc,
         shared,
         jobs,
         clock,
-    } = office;
+    } = context;
     let sessions = passes.len();
     let (Ok(ended), Ok(running)) = (
         Vec::with_capacity(alloc, sessions),

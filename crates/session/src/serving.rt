@@ -23,7 +23,7 @@ use version_store::{Job, Pass, Shared};
 
 /// What each session has at hand.
 #[derive(Drop)]
-pub(crate) struct Desk<'a, C: Ledger, A: Ledger, R: Wait, M: Moments> {
+pub(crate) struct Context<'a, C: Ledger, A: Ledger, R: Wait, M: Moments> {
     pub(crate) rt: &'a R,
     pub(crate) alloc: Global,
     pub(crate) shared: &'a Shared<C, A>,
@@ -55,7 +55,7 @@ pub fn serve_socket<
 ) -> (Ended, Pass<C, A>)
     ensures { KeepsPass pass result.1 }
 {
-    let desk = Desk {
+    let context = Context {
         rt,
         alloc,
         shared,
@@ -63,14 +63,14 @@ pub fn serve_socket<
         clock,
     };
     let (mut socket, mut core, mut pass) = (socket, core, pass);
-    let ended = match attach(&desk, &mut core, &mut pass) {
-        Ok(()) => serve_texts(&desk, &mut socket, &core, &mut pass),
+    let ended = match attach(&context, &mut core, &mut pass) {
+        Ok(()) => serve_texts(&context, &mut socket, &core, &mut pass),
         Err(ended) => {
             let _ = socket.close(None);
             ended
         }
     };
-    lose(&desk, core);
+    lose(&context, core);
     (ended, pass)
 }
 
@@ -83,16 +83,16 @@ fn serve_texts<
     R: Wait,
     M: Moments,
 >(
-    desk: &Desk<'_, C, A, R, M>,
+    context: &Context<'_, C, A, R, M>,
     socket: &mut WebSocket<S, K>,
     core: &SessionCore,
     pass: &mut Pass<C, A>,
 ) -> Ended
     ensures { KeepsPass pass.old pass.new }
 {
-    let mut memory = ReadingMemory::new(desk.alloc);
-    for _text in desk.rt.forever() {
-        if let Err(ended) = serve_text(desk, socket, core, &mut memory, pass) {
+    let mut memory = ReadingMemory::new(context.alloc);
+    for _text in context.rt.forever() {
+        if let Err(ended) = serve_text(context, socket, core, &mut memory, pass) {
             return ended;
         }
     }

@@ -2,7 +2,7 @@
 
 ghost use Rattle.session.specs.Serving.{KeepsPass};
 
-use crate::serving::Desk;
+use crate::serving::Context;
 use crate::serving::ended::Ended;
 use crate::serving::sockets::send_text;
 use crate::session_core::{Peer, SessionCore};
@@ -18,7 +18,7 @@ use version_store::Pass;
 
 /// Gives a point's session its link, before its first text. Without one it ends.
 pub(crate) fn attach<C: Ledger, A: Ledger, R: Wait, M: Moments>(
-    desk: &Desk<'_, C, A, R, M>,
+    context: &Context<'_, C, A, R, M>,
     core: &mut SessionCore,
     pass: &mut Pass<C, A>,
 ) -> Result<(), Ended>
@@ -27,10 +27,10 @@ pub(crate) fn attach<C: Ledger, A: Ledger, R: Wait, M: Moments>(
     if let Peer::Operator { .. } = core.peer() {
         return Ok(());
     }
-    let Ok(point) = core.point_id().copy(desk.alloc) else {
+    let Ok(point) = core.point_id().copy(context.alloc) else {
         return Err(Ended::OutOfMemory);
     };
-    let mut book = desk.shared.lock(desk.rt);
+    let mut book = context.shared.lock(context.rt);
     let attached = book.attach(pass, point);
     drop(book);
     match attached {
@@ -52,34 +52,34 @@ pub(crate) fn send_call<
     R: Wait,
     M: Moments,
 >(
-    desk: &Desk<'_, C, A, R, M>,
+    context: &Context<'_, C, A, R, M>,
     socket: &mut WebSocket<S, K>,
     core: &SessionCore,
 ) -> Result<(), Ended> {
     let Peer::Point { link: Some(link) } = core.peer() else {
         return Ok(());
     };
-    let Some(call) = next_call(desk, core.point_id(), link)? else {
+    let Some(call) = next_call(context, core.point_id(), link)? else {
         return Ok(());
     };
-    match text_of_call(desk.alloc, &call) {
-        Ok(text) => send_text(desk.alloc, socket, text.as_str()),
+    match text_of_call(context.alloc, &call) {
+        Ok(text) => send_text(context.alloc, socket, text.as_str()),
         Err(AllocError) => Err(Ended::OutOfMemory),
     }
 }
 
 /// The first call that waits for a point, which is in flight from then on.
 fn next_call<C: Ledger, A: Ledger, R: Wait, M: Moments>(
-    desk: &Desk<'_, C, A, R, M>,
+    context: &Context<'_, C, A, R, M>,
     point: &PointId,
     link: u64,
 ) -> Result<Option<Call>, Ended> {
-    let mut book = desk.shared.lock(desk.rt);
+    let mut book = context.shared.lock(context.rt);
     // Most often there is nothing to send, or the point has a later link.
     if book.link_to_send(point.as_str()) != Some(link) {
         return Ok(None);
     }
-    let Ok(point) = point.copy(desk.alloc) else {
+    let Ok(point) = point.copy(context.alloc) else {
         return Err(Ended::OutOfMemory);
     };
     match book.send(point, link) {
@@ -98,11 +98,11 @@ fn text_of_call(alloc: Global, call: &Call) -> Result<String, AllocError> {
 /// The link of a point's session is lost: a call that was in flight over it waits again. What the book refuses
 /// is dropped: the point has a later link.
 pub(crate) fn lose<C: Ledger, A: Ledger, R: Wait, M: Moments>(
-    desk: &Desk<'_, C, A, R, M>,
+    context: &Context<'_, C, A, R, M>,
     core: SessionCore,
 ) {
     if let Peer::Point { link: Some(link) } = core.peer() {
-        let mut book = desk.shared.lock(desk.rt);
+        let mut book = context.shared.lock(context.rt);
         let _ = book.lost(core.into_point_id(), link);
     }
 }

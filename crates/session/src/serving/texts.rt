@@ -5,7 +5,7 @@ ghost use Rattle.session.specs.Perform.{IsOfText};
 ghost use Rattle.session.specs.Serving.{KeepsPass};
 
 use crate::outcome::{Outcome, Performed};
-use crate::serving::Desk;
+use crate::serving::Context;
 use crate::serving::calls::send_call;
 use crate::serving::ended::Ended;
 use crate::serving::sockets::{read_text, send_text};
@@ -30,7 +30,7 @@ pub(crate) fn serve_text<
     R: Wait,
     M: Moments,
 >(
-    desk: &Desk<'_, C, A, R, M>,
+    context: &Context<'_, C, A, R, M>,
     socket: &mut WebSocket<S, K>,
     core: &SessionCore,
     memory: &mut ReadingMemory,
@@ -41,18 +41,18 @@ pub(crate) fn serve_text<
     let Some(text) = read_text(socket)? else {
         return Ok(());
     };
-    let Some(now) = desk.clock.now() else {
+    let Some(now) = context.clock.now() else {
         return Err(Ended::Broken);
     };
-    if let Some(answer) = answer_text(desk, core, memory, pass, now, text.as_str())? {
-        send_text(desk.alloc, socket, answer.as_str())?;
+    if let Some(answer) = answer_text(context, core, memory, pass, now, text.as_str())? {
+        send_text(context.alloc, socket, answer.as_str())?;
     }
-    send_call(desk, socket, core)
+    send_call(context, socket, core)
 }
 
 /// Makes the step of a text. The text that answers it, if one does.
 fn answer_text<C: Ledger, A: Ledger, R: Wait, M: Moments>(
-    desk: &Desk<'_, C, A, R, M>,
+    context: &Context<'_, C, A, R, M>,
     core: &SessionCore,
     memory: &mut ReadingMemory,
     pass: &mut Pass<C, A>,
@@ -65,7 +65,7 @@ fn answer_text<C: Ledger, A: Ledger, R: Wait, M: Moments>(
         return Err(Ended::OutOfMemory);
     };
     let outcome = match todo.take_step() {
-        Some(step) => Some(outcome_of(desk, pass, step)),
+        Some(step) => Some(outcome_of(context, pass, step)),
         None => None,
     };
     let is_short = matches!(outcome, Some(Outcome::Refused(Refusal::OutOfMemory)));
@@ -79,35 +79,40 @@ fn answer_text<C: Ledger, A: Ledger, R: Wait, M: Moments>(
 
 /// Makes a step on the shared book. A request for a schedule is compiled, and its answer collected.
 fn outcome_of<C: Ledger, A: Ledger, R: Wait, M: Moments>(
-    desk: &Desk<'_, C, A, R, M>,
+    context: &Context<'_, C, A, R, M>,
     pass: &mut Pass<C, A>,
     step: Step,
 ) -> Outcome
     requires { IsOfText step }
     ensures { KeepsPass pass.old pass.new }
 {
-    let mut book = desk.shared.lock(desk.rt);
+    let mut book = context.shared.lock(context.rt);
     let performed = perform(&mut book, pass, step);
     drop(book);
     match performed {
-        Performed::Job(job) => answer_of(desk, pass, job),
+        Performed::Job(job) => answer_of(context, pass, job),
         Performed::Outcome(outcome) => outcome,
     }
 }
 
 /// The answer to a request that is kept: compiled by a worker, or here where none takes it.
 fn answer_of<C: Ledger, A: Ledger, R: Wait, M: Moments>(
-    desk: &Desk<'_, C, A, R, M>,
+    context: &Context<'_, C, A, R, M>,
     pass: &mut Pass<C, A>,
     job: Job,
 ) -> Outcome
     ensures { KeepsPass pass.old pass.new }
 {
     let number = job.number();
-    if let Err(unsent) = desk.jobs.send(desk.rt, job) {
-        answer_job(desk.rt, desk.alloc, desk.shared, unsent.into_inner());
+    if let Err(unsent) = context.jobs.send(context.rt, job) {
+        answer_job(
+            context.rt,
+            context.alloc,
+            context.shared,
+            unsent.into_inner(),
+        );
     }
-    match wait_answer(desk.rt, desk.shared, pass, number) {
+    match wait_answer(context.rt, context.shared, pass, number) {
         Ok(answer) => Outcome::Answered(answer),
         Err(refusal) => Outcome::Refused(refusal),
     }
