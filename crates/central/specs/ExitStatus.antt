@@ -1,11 +1,13 @@
 -- The program's exit statuses: 0 done; 1 the site file has a fault; 2 the script has one; 3 a device
--- failed or memory ran out; 4 no such command line.
+-- or a socket failed or memory ran out; 4 no such command line.
 use Rattle.std.specs.Prelude.{ℕ, ◌==◌, if◌then◌else◌}
 use Rattle.replay.specs.declared.script.run.ReplayFault.{ReplayFault}
 use Rattle.replay.specs.declared.script.run.ReplayFault.TheVariants as replay_fault
 use Rattle.replay.specs.declared.script.run.Summary.{Summary}
+use Rattle.client.specs.declared.fault.ClientFault.{ClientFault}
+use Rattle.client.specs.declared.fault.ClientFault.TheVariants as client_fault
 use Rattle.central.specs.declared.program.program_fault.ProgramFault.{ProgramFault}
-use Rattle.central.specs.declared.program.program_fault.ProgramFault.TheVariants.{Words, Site, SiteFile, Help, Replay, OutOfMemory}
+use Rattle.central.specs.declared.program.program_fault.ProgramFault.TheVariants.{Words, Site, SiteFile, Write, Replay, Serve, Client, File, NoSuchPoint, OutOfMemory}
 
 abbrev pub replay_status : ReplayFault → ℕ
 replay_status replay_fault.Read = 3
@@ -13,12 +15,21 @@ replay_status replay_fault.ScriptTooLong = 2
 replay_status replay_fault.Write = 3
 replay_status replay_fault.OutOfMemory = 3
 
+-- a URL that can't be one is a fault of the command line
+abbrev pub client_status : ClientFault → ℕ
+client_status client_fault.Url = 4
+client_status _ = 3
+
 abbrev pub fault_status : ProgramFault → ℕ
 fault_status Words = 4
 fault_status (Site fault) = 1
 fault_status SiteFile = 3
-fault_status Help = 3
+fault_status Write = 3
 fault_status (Replay fault) = replay_status fault
+fault_status (Serve fault) = 3
+fault_status (Client fault) = client_status fault
+fault_status File = 3
+fault_status NoSuchPoint = 4
 fault_status OutOfMemory = 3
 
 abbrev pub summary_status : Summary → ℕ

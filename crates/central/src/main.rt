@@ -1,18 +1,26 @@
-//! The central system as a program: `central replay --site F` plays a script from standard input on
-//! a site and writes its output to standard output.
+//! The central system as a program. `central replay --site F` plays a script from standard input on a site and
+//! writes its output to standard output; `central serve --site F --listen A --workers N --sessions K` serves the
+//! site to operators and charge points over WebSocket. `central call` and `central point` are the other ends: an
+//! operator's client, and a simulated charge point.
 #![tactic(auto)]
 
 mod program;
 
+use crate::program::calling::call_site;
 use crate::program::command_line::{Job, job_of};
+use crate::program::pointing::run_point;
 use crate::program::program_fault::{ProgramFault, summary_status};
-use crate::program::site_file::read_site_file;
+use crate::program::replaying::replay_file;
+use crate::program::serving::serve_file;
 use clap::error::ErrorKind;
-use replay::{Summary, replay};
 use std::alloc::AllocGlobal;
-use std::io::{BufWriter, Write};
+use std::marker::Sync;
+use std::net::{Net, TcpListener, TcpStream};
 use std::process::ExitCode;
-use std::rt::{Env, Files};
+use std::random::RandomSource;
+use std::rt::{Env, Runtime};
+use std::sync::Wait;
+use std::thread::Threads;
 use std::{env, io};
 
 fn main(rt: HostRuntime) -> ExitCode {
@@ -20,7 +28,17 @@ fn main(rt: HostRuntime) -> ExitCode {
 }
 
 /// Does what the command line says. Returns the exit status.
-fn run<R: Env + Files + Input + Print + Eprint + AllocGlobal>(rt: &R) -> u8 {
+fn run<
+    R: Runtime
+        + AllocGlobal
+        + Net<Listener = TcpListener, Stream = TcpStream>
+        + RandomSource
+        + Threads
+        + Wait
+        + Sync
+        + Copy
+        + Drop,
+>(rt: &R) -> u8 {
     match do_job(rt) {
         Ok(status) => status,
         Err(fault) => {
@@ -31,12 +49,26 @@ fn run<R: Env + Files + Input + Print + Eprint + AllocGlobal>(rt: &R) -> u8 {
 }
 
 /// Does the job of the command line, or prints why it has none.
-fn do_job<R: Env + Files + Input + Print + Eprint + AllocGlobal>(
-    rt: &R,
-) -> Result<u8, ProgramFault> {
+fn do_job<
+    R: Runtime
+        + AllocGlobal
+        + Net<Listener = TcpListener, Stream = TcpStream>
+        + RandomSource
+        + Threads
+        + Wait
+        + Sync
+        + Copy
+        + Drop,
+>(rt: &R) -> Result<u8, ProgramFault> {
     let words = command_words(rt)?;
     match job_of(rt.alloc(), words.as_slice()) {
         Ok(Job::Replay { site }) => Ok(summary_status(replay_file(rt, site)?)),
+        Ok(Job::Serve(serving)) => {
+            serve_file(rt, serving)?;
+            Ok(0)
+        }
+        Ok(Job::Call(calling)) => call_site(rt, calling),
+        Ok(Job::Point(pointing)) => run_point(rt, pointing),
         Err(error) => refuse(rt, error),
     }
 }
@@ -56,25 +88,6 @@ fn command_words<R: Env + AllocGlobal>(rt: &R) -> Result<Vec<String>, ProgramFau
     Ok(words)
 }
 
-/// Plays the script of standard input on the site of a file.
-fn replay_file<R: Files + Input + Print + AllocGlobal>(
-    rt: &R,
-    path: &str,
-) -> Result<Summary, ProgramFault> {
-    let site = read_site_file(rt, path)?;
-    let Ok(mut writer) = BufWriter::new(rt.alloc(), io::writer(rt)) else {
-        return Err(ProgramFault::OutOfMemory);
-    };
-    match replay(rt.alloc(), &mut rt.reader(), &mut writer, site) {
-        Ok(summary) => Ok(summary),
-        Err(fault) => {
-            // What was answered before the fault is worth having; where it can't be written, the fault stands.
-            let _ = writer.flush();
-            Err(ProgramFault::Replay(fault))
-        }
-    }
-}
-
 /// Prints why a command line is no job, or the help that it asks for. Returns the exit status.
 fn refuse<R: Print + Eprint>(rt: &R, error: clap::Error) -> Result<u8, ProgramFault> {
     if error.kind() == ErrorKind::OutOfMemory {
@@ -86,6 +99,6 @@ fn refuse<R: Print + Eprint>(rt: &R, error: clap::Error) -> Result<u8, ProgramFa
     }
     match printed {
         Ok(()) => Ok(0),
-        Err(_) => Err(ProgramFault::Help),
+        Err(_) => Err(ProgramFault::Write),
     }
 }

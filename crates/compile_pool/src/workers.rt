@@ -43,7 +43,7 @@ pub fn answer_job<C: Ledger, A: Ledger, R: Wait>(
     let mut book = shared.lock(rt);
     post_or_drop(&mut book, number, compiled);
     drop(book);
-    shared.wake();
+    shared.wake_for(number);
 }
 
 /// Answers jobs, one after the other, until all senders of the channel are gone.

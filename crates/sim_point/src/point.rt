@@ -1,6 +1,6 @@
 //! A simulated charge point.
 
-ghost use Rattle.std.specs.Prelude.{◌≡◌, IfOk, IfErr, OnOk, OnErr, IsNone, IsSome, ◌↔◌, IsTrue, option_map, string_bytes};
+ghost use Rattle.std.specs.Prelude.{◌≡◌, ◌++◌, ◌∷◌, [], IfOk, IfErr, OnOk, OnErr, IsNone, IsSome, ◌↔◌, IsTrue, option_map, string_bytes};
 ghost use Rattle.std.specs.Str.{bytes_eq};
 ghost use Rattle.std.specs.Fmt.{decimal};
 ghost use Rattle.ocpp_scalars.specs.declared.refusal.Refusal.{Refusal};
@@ -79,6 +79,19 @@ impl SimPoint {
             in_flight: None,
             next_number: 0,
         })
+    }
+
+    /// Adds a step behind those that are still to come. Out of memory nothing changes, and the step comes back.
+    pub fn add_step(&mut self, step: SimStep) -> Result<(), (AllocError, SimStep)>
+        ensures added { OnOk result
+            (self.new ≡ record self.old { steps = self.old.steps ++ step ∷ [] }) }
+        ensures unchanged { OnErr result (self.new ≡ self.old) }
+        ensures back { IfErr result (λ refused. refused.1 ≡ step) }
+    {
+        match self.steps.push(step) {
+            Ok(()) => Ok(()),
+            Err(refused) => Err((AllocError, refused.value)),
+        }
     }
 
     /// Takes a text of the central system that comes at a moment (OCPP-J 1.6, 4.2), and returns the answer to

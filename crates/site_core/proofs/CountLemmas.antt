@@ -1,14 +1,14 @@
 -- The numbers tell of each step, and so of histories.
-use Rattle.std.proofs.Common.{◌≡◌, ℕ, ◌+◌, ◌==◌, Bool, true, false, cond, List, [], ◌∷◌, ◌++◌, length, suc, Option, Some, None, refl, sym, ap, ◌∙◌, add-zero, arith}
+use Rattle.std.proofs.Common.{◌≡◌, ℕ, ◌+◌, ◌==◌, Bool, true, false, cond, List, [], ◌∷◌, length, suc, Some, refl, sym, ap, ◌∙◌, add-zero, arith}
 use Rattle.std.proofs.lemmas.List.{length-map, length_push}
 use Rattle.std.proofs.lemmas.List.Sums.{sum_by-cons}
 use Rattle.site_core.specs.declared.step.Step.{Step}
 use Rattle.site_core.specs.declared.reply.Reply.{Reply}
 use Rattle.site_core.specs.State.{MachineState, Kept, ScheduleAnswer}
-use Rattle.site_core.specs.Requests.{request_of, with_answer, answered, without, stopped_request, all_stopped}
-use Rattle.site_core.specs.Step.{Made, Steps, counted}
-use Rattle.site_core.specs.History.{Event, Legal}
-use Rattle.site_core.specs.Counts.{changes_in, takes_in, answers_in, TellOf, NumbersTellOfHistories}
+use Rattle.site_core.specs.Requests.{request_of, with_answer, answered, without, stopped_request}
+use Rattle.site_core.specs.Step.{Made, counted}
+use Rattle.site_core.specs.History.{Event}
+use Rattle.site_core.specs.Counts.{TellOf, NumbersTellOfHistories}
 use Rattle.site_core.proofs.StepLemmas.{Does, does, leaves, takes_one, compiles_one, hands_one, finishes_all}
 use Rattle.site_core.specs.Theory.Requests.{found_number}
 

@@ -1,3 +1,4 @@
+pub mod CallQueueLemmas
 pub mod OutboxLemmas
 pub mod ObeyLemmas
 pub mod OutboxOrderLemmas

@@ -4,17 +4,15 @@ use Rattle.std.proofs.lemmas.Bool.{eqb-false}
 use Rattle.std.proofs.lemmas.List.{get_or_default}
 use Rattle.ocpp_scalars.specs.declared.refusal.Refusal.{Refusal}
 use Rattle.ocpp_scalars.specs.declared.refusal.Refusal.TheVariants.{Stopped, UnknownPoint, VersionsExhausted, TransactionsExhausted}
-use Rattle.profile.specs.declared.row.Row.{Row}
-use Rattle.site_rules.specs.Admission.{admission_refusal}
-use Rattle.point_book.specs.Changes.{first_cause, install_refusal}
+use Rattle.point_book.specs.Changes.{first_cause}
 use Rattle.sweep_compiler.specs.Compiled.{CompiledAnswer}
 use Rattle.site_core.specs.declared.reply.Reply.TheVariants.{Compiled}
 use Rattle.site_core.specs.Limits.{max_number, max_transaction}
-use Rattle.site_rules.specs.Site.{SiteState, place_of}
+use Rattle.site_rules.specs.Site.{place_of}
 use Rattle.site_core.specs.declared.numbers.Numbers.{Numbers}
 use Rattle.site_core.specs.ChargePoint.{ChargePointState}
 use Rattle.site_core.specs.State.{MachineState, Kept, IsMachine, no_point, point_at, connectors_in_book}
-use Rattle.site_core.specs.Step.{Made, at_point, at_place, version_refusal, transaction_number_refusal, refusal_to_add, refusal_to_call, refusal_to_install, refusal_to_start, Compiles}
+use Rattle.site_core.specs.Step.{Made, at_point, at_place, version_refusal, transaction_number_refusal, refusal_to_add, refusal_to_call, refusal_to_start, Compiles}
 use Rattle.site_core.specs.Post.{Posts}
 use Rattle.site_core.specs.ByCases.Requests.{IsCompiledIn, IsPostedIn}
 use Rattle.site_core.specs.ByCases.Made.{place_in, found_place}
@@ -45,15 +43,6 @@ pub call_draws_version : (numbers : Numbers) (point : ChargePointState)
     → None ≡ refusal_to_call numbers point → None ≡ version_refusal numbers
 call_draws_version numbers point none = (both_none (refusal_to_add point.outbox)
     (version_refusal numbers) none).1
-
--- an install that may be made is a call that may be added
-pub install_calls : (site : SiteState) (numbers : Numbers) (id : List ℕ) (row : Row)
-    (point : ChargePointState) → None ≡ refusal_to_install site numbers id row point
-    → None ≡ refusal_to_call numbers point
-install_calls site numbers id row point none =
-    let later = both_none (admission_refusal site id row.connector row.profile) (first_cause
-    (install_refusal point.book row) (refusal_to_call numbers point)) none in
-    (both_none (install_refusal point.book row) (refusal_to_call numbers point) later.1).1
 
 -- after an effect at one point, which has as many connectors as before
 pub moved_fits : (old : MachineState) (place : ℕ) (was new : ChargePointState) → IsMachine old

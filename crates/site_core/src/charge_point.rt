@@ -65,6 +65,13 @@ impl ChargePoint {
         })
     }
 
+    /// Gathers the calls to the point, as far as memory lasts, so that copies share them. Nothing else is changed.
+    pub fn gather_calls(&mut self)
+        ensures { self.new ≡ self.old }
+    {
+        self.outbox.gather_calls();
+    }
+
     /// What the point has.
     pub fn book(&self) -> &PointBook
         ensures { result.now ≡ self.now.book }

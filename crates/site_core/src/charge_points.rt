@@ -33,6 +33,15 @@ pub(crate) fn copy_of_points(
     Ok(copies)
 }
 
+/// Gathers the calls to each point, as far as memory lasts, so that copies share them.
+pub(crate) fn gather_calls(points: &mut Vec<ChargePoint>)
+    ensures { points.new.items ≡ points.old.items }
+{
+    for point in points.iter_mut() {
+        point.gather_calls();
+    }
+}
+
 /// The point at a place.
 pub(crate) fn point_at(points: &Vec<ChargePoint>, place: usize) -> &ChargePoint
     requires { place < length points.now.items }

@@ -6,6 +6,7 @@
 
 mod ask;
 mod call_laws;
+mod call_queue;
 mod charge_point;
 mod charge_points;
 mod headline;

@@ -6,7 +6,7 @@ ghost use Rattle.site_core.specs.State.{AreNumbers, link_of, link_to_send, openi
 ghost use Rattle.site_core.specs.State.{IsMachine};
 ghost use Rattle.site_core.specs.Step.{HasAskedConnector, Steps, IsRefused, IsRefusalOf, stepped, no_answer};
 ghost use Rattle.site_core.specs.Run.{HasOutcome, Runs};
-ghost use Rattle.site_core.specs.ByCases.Made.{place_in, KeepsNothing};
+ghost use Rattle.site_core.specs.ByCases.Made.{place_in};
 
 mod changes;
 mod links;
@@ -14,7 +14,7 @@ mod outlook;
 mod schedules;
 
 use crate::charge_point::ChargePoint;
-use crate::charge_points::{copy_of_points, opening_points, point_at};
+use crate::charge_points::{copy_of_points, gather_calls, opening_points, point_at};
 use crate::numbers::Numbers;
 use crate::outcome::{Outcome, Refused, RunFault};
 use crate::point_id::PointId;
@@ -97,7 +97,7 @@ impl Machine {
         })
     }
 
-    /// A copy, which shares the site and the points' books.
+    /// A copy, which shares the site, the points' books and the calls that were gathered.
     pub fn copy(&self) -> Result<Machine, AllocError>
         ensures { IfOk result (λ copy. copy ≡ self.now) }
     {
@@ -109,6 +109,14 @@ impl Machine {
             requests: copy_of_requests(self.alloc, &self.requests)?,
             is_stopped: self.is_stopped,
         })
+    }
+
+    /// Gathers the calls to each point, as far as memory lasts, so that copies made from then on share them.
+    /// Nothing else is changed by it.
+    pub fn gather_calls(&mut self)
+        ensures { self.new ≡ self.old }
+    {
+        gather_calls(&mut self.points);
     }
 
     /// Its site.
@@ -188,22 +196,27 @@ impl Machine {
                 connector,
                 begin,
             } => self.start_step(point, connector, begin),
-            other => with_step(self.lent_step(&other), other),
+            other => with_step(self.make(&other), other),
         }
     }
 
-    /// Makes a step of which nothing is kept.
+    /// Makes a step as `step` does, but copies what is kept of it, so that the caller still has it.
     // The method of each step is marked not to be inlined: with all of them in one function, each step
     // would clear the stack that the others want.
-    fn lent_step(&mut self, step: &Step) -> Result<Reply, Refusal>
-        requires { KeepsNothing step.now }
+    pub fn make(&mut self, step: &Step) -> Result<Reply, Refusal>
         ensures made { IfOk result (λ reply. Steps self.old step.now reply self.new) }
         ensures refused { IfErr result (λ refusal.
             IsRefusalOf (stepped no_answer self.old step.now) refusal × (self.new ≡ self.old)) }
         ensures asked { IfOk result HasAskedConnector }
     {
         match step {
+            Step::Install { point, row } => self.install_copy(point, row),
             Step::Clear { point, criteria } => self.clear(point, criteria),
+            Step::Start {
+                point,
+                connector,
+                begin,
+            } => self.start_copy(point, *connector, begin),
             Step::Stop { point, transaction } => self.stop(point, *transaction),
             Step::Take(take) => self.take(take),
             Step::Compile(number) => self.compile(*number),
@@ -213,7 +226,6 @@ impl Machine {
             Step::Send { point, link } => self.send(point, *link),
             Step::Confirm { point, link, call } => self.confirm(point, *link, *call),
             Step::Lost { point, link } => self.lose(point, *link),
-            Step::Install { .. } | Step::Start { .. } => unreachable!(),
         }
     }
 

@@ -4,6 +4,7 @@ ghost use Rattle.std.specs.Prelude.{◌≡◌, ◌+◌, ◌-◌, ◌<◌, ◌≤
 ghost use Rattle.site_core.specs.Limits.{max_calls, max_number};
 ghost use Rattle.site_core.specs.Outbox.{IsOutbox, added, attached, confirmed, is_exhausted, is_full, is_number_in_flight, lost, opening_outbox, sendable, sending_link, sent};
 
+use crate::call_queue::CallQueue;
 use crate::numbers::MAX_NUMBER;
 use messages::{Call, CallBody};
 use profile::Criteria;
@@ -63,9 +64,8 @@ impl PreparedCall {
 pub struct Outbox {
     /// The number of the point's present link.
     link: Option<u64>,
-    /// The calls that aren't confirmed, the last of them with the number before the next one. A
-    /// linked list, since a call brings its place along and the first one leaves at once.
-    bodies: LinkedList<CallBody>,
+    /// The calls that aren't confirmed, the last of them with the number before the next one.
+    bodies: CallQueue,
     /// The number of the next call.
     next: u64,
     /// Whether the first call was sent over the present link.
@@ -97,26 +97,31 @@ impl Outbox {
     pub fn new(alloc: Global) -> Result<Outbox, AllocError>
         ensures { IfOk result (λ outbox. outbox ≡ opening_outbox) }
     {
-        let mut bodies = LinkedList::new(alloc);
-        bodies.push_back(CallBody::Clear(EVERY_PROFILE))?;
         Ok(Outbox {
             link: None,
-            bodies,
+            bodies: CallQueue::new(alloc, CallBody::Clear(EVERY_PROFILE))?,
             next: 1,
             is_in_flight: false,
         })
     }
 
-    /// A copy.
+    /// A copy, which shares the calls that were gathered.
     pub fn copy(&self) -> Result<Outbox, AllocError>
         ensures { IfOk result (λ copy. copy ≡ self.now) }
     {
         Ok(Outbox {
             link: self.link,
-            bodies: copy_of_bodies(&self.bodies)?,
+            bodies: self.bodies.copy()?,
             next: self.next,
             is_in_flight: self.is_in_flight,
         })
+    }
+
+    /// Gathers the calls, as far as memory lasts, so that copies share them. Nothing else is changed by it.
+    pub fn gather_calls(&mut self)
+        ensures { self.new ≡ self.old }
+    {
+        self.bodies.gather();
     }
 
     /// How many calls aren't confirmed, the one in flight among them.
@@ -181,7 +186,7 @@ impl Outbox {
         requires number { self.old.next ≤ max_number }
         ensures { self.new ≡ added self.old call }
     {
-        join(&mut self.bodies, call.bodies);
+        self.bodies.append(call.bodies);
         self.next += 1;
     }
 
@@ -214,7 +219,7 @@ impl Outbox {
         if !self.is_number_in_flight(number) {
             return false;
         }
-        drop(self.bodies.pop_front());
+        self.bodies.remove_first();
         self.is_in_flight = false;
         true
     }
@@ -237,22 +242,4 @@ impl Outbox {
     {
         self.next - self.len() as u64
     }
-}
-
-/// Moves bodies behind others. Allocates nothing.
-fn join(bodies: &mut LinkedList<CallBody>, mut more: LinkedList<CallBody>)
-    requires { length bodies.old + length more < 2 ^ 63 }
-    ensures { bodies.new ≡ bodies.old ++ more }
-{
-    bodies.append(&mut more).unwrap();
-}
-
-fn copy_of_bodies(bodies: &LinkedList<CallBody>) -> Result<LinkedList<CallBody>, AllocError>
-    ensures { IfOk result (λ copy. copy ≡ bodies.now) }
-{
-    let mut copies = LinkedList::new(*bodies.allocator());
-    for body in bodies.iter() {
-        copies.push_back(body.copy()?)?;
-    }
-    Ok(copies)
 }

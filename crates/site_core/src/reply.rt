@@ -1,5 +1,9 @@
 //! What the steps of the central system reply.
 
+ghost use Rattle.std.specs.Prelude.{◌≡◌};
+ghost use Rattle.site_core.specs.State.{MachineState};
+ghost use Rattle.site_core.specs.Step.{is_event};
+
 use crate::shared_book::SharedBook;
 use meaning::{Ask, Composite};
 use messages::Call;
@@ -48,4 +52,29 @@ pub enum Reply {
     Confirmed,
     /// The point has no link now. A call that was in flight waits again.
     LinkLost,
+}
+
+impl Reply {
+    /// Whether a step with this reply is an event, where it is known if the central system was stopped
+    /// before it.
+    pub fn is_event(&self, was_stopped: bool) -> bool
+        ensures { (old : MachineState) → old.is_stopped ≡ was_stopped
+            → result ≡ is_event old self.now }
+    {
+        match self {
+            Reply::Accepted
+            | Reply::Started(_)
+            | Reply::Ended
+            | Reply::Taken { .. }
+            | Reply::Compiled
+            | Reply::Answered { .. }
+            | Reply::Attached(_)
+            | Reply::Sent(_)
+            | Reply::Confirmed
+            | Reply::LinkLost => true,
+            Reply::Unknown | Reply::Repeated(_) | Reply::NoSuch | Reply::NotYet | Reply::Nothing =>
+                false,
+            Reply::Finished => !was_stopped,
+        }
+    }
 }

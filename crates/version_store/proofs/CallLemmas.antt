@@ -24,6 +24,13 @@ pub refusal_shown : (store : StoreState) (result : Result Made Refusal) (refusal
 refusal_shown store (Ok made) refusal is = absurd (cc is)
 refusal_shown store (Err cause) refusal is = cc is
 
+-- the machine refuses for want of memory only what would be an event
+pub refusal_told : Laws → (store : StoreState) (result : Result Made Refusal) (refusal : Refusal)
+    → IsRefusalOf result refusal → IsRefusalTo store result refusal
+refusal_told laws store (Ok made) refusal cause =
+    (laws.memory store.present made.reply cause.0, cause.1)
+refusal_told laws store (Err first) refusal cause = cause
+
 -- what would be an event is refused for want of memory alone
 pub refused_event : (old : MachineState) (result : Result Made Refusal) (refusal : Refusal)
     → outlook_of old result ≡ Ok true → IsRefusalOf result refusal → refusal ≡ OutOfMemory

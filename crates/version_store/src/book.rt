@@ -12,7 +12,7 @@ mod changes;
 mod links;
 mod requests;
 
-use crate::folded::Folded;
+use crate::folded::{EventRoom, Folded};
 use crate::history::History;
 use crate::ledgers::Ledgers;
 use crate::pass::{Pass, passes_of};
@@ -134,6 +134,13 @@ impl<C: Ledger, A: Ledger> Book<C, A> {
         ensures { self.new ≡ self.old }
     {
         self.history.take_folded()
+    }
+
+    /// Gives back the memory of events that `Folded::into_room` left, so that the next fold needs no new one.
+    pub fn give_room(&mut self, room: EventRoom)
+        ensures { self.new ≡ self.old }
+    {
+        self.history.give_room(room);
     }
 
     /// How many changes were made and answers handed out, by all sessions.

@@ -1,12 +1,92 @@
-//! What a fold leaves behind.
+//! What a fold leaves behind, and the memory of events that is kept from fold to fold.
+
+ghost use Rattle.std.specs.Prelude.{◌≡◌, ◌≤◌, [], IfOk, vec_capacity};
+ghost use Rattle.version_store.specs.Limits.{room};
 
 use crate::stored_event::StoredEvent;
 use site_core::Machine;
+use std::alloc::{AllocError, Global};
+use std::marker::Model;
+
+/// So many events have their room from the beginning.
+pub(crate) const ROOM: usize = 4_096;
+
+/// The memory of as many events as may be stored, with none in it.
+#[derive(Drop)]
+pub struct EventRoom {
+    events: Vec<StoredEvent>,
+}
+
+// Clauses see nothing of it.
+impl Model for EventRoom {
+    ghost use Rattle.std.specs.Prelude.{◌≡◌, ◌≤◌, [], vec_capacity};
+    ghost use Rattle.version_store.specs.Limits.{room};
+
+    ghost Value = { Unit };
+
+    ghost view = { λ _. tt };
+
+    ghost invariant = { λ r. (r.events.items ≡ []) × (room ≤ vec_capacity r.events) };
+}
+
+impl EventRoom {
+    pub(crate) fn new(alloc: Global) -> Result<EventRoom, AllocError> {
+        Ok(EventRoom {
+            events: Vec::with_capacity(alloc, ROOM)?,
+        })
+    }
+
+    /// The memory that was given back, or else new.
+    pub(crate) fn take(
+        given: &mut Option<EventRoom>,
+        alloc: Global,
+    ) -> Result<EventRoom, AllocError> {
+        match given.take() {
+            Some(room) => Ok(room),
+            None => EventRoom::new(alloc),
+        }
+    }
+
+    pub(crate) fn into_events(self) -> Vec<StoredEvent>
+        ensures events { result.items ≡ [] }
+        ensures room { room ≤ vec_capacity result }
+    {
+        self.events
+    }
+}
 
 /// What a fold leaves behind: the old base and the events since. Nothing is read from it any more, but to drop it
 /// takes longer than the fold, since the points' books have mostly changed since.
 #[derive(Drop)]
 pub struct Folded {
-    pub(crate) base: Machine,
-    pub(crate) events: Vec<StoredEvent>,
+    base: Machine,
+    events: Vec<StoredEvent>,
+}
+
+// Clauses see nothing of it.
+impl Model for Folded {
+    ghost use Rattle.std.specs.Prelude.{◌≤◌, vec_capacity};
+    ghost use Rattle.version_store.specs.Limits.{room};
+
+    ghost Value = { Unit };
+
+    ghost view = { λ _. tt };
+
+    ghost invariant = { λ f. room ≤ vec_capacity f.events };
+}
+
+impl Folded {
+    pub(crate) fn new(base: Machine, events: Vec<StoredEvent>) -> Folded
+        requires { room ≤ vec_capacity events }
+    {
+        Folded { base, events }
+    }
+
+    /// Drops the old base and the events, and leaves the memory of the events to a later fold.
+    pub fn into_room(self) -> EventRoom {
+        let Folded { base, mut events } = self;
+        drop(base);
+        events.clear();
+        EventRoom { events }
+    }
 }

@@ -13,7 +13,7 @@ ghost use Rattle.version_store.specs.Limits.{fold_from};
 ghost use Rattle.version_store.specs.Store.{IsStore, opening_store, may_fold};
 ghost use Rattle.version_store.specs.Calls.{Adds, Tells, Makes, IsRefusalOf, PostsTo, event_alone};
 
-use crate::folded::Folded;
+use crate::folded::{EventRoom, Folded};
 use crate::laws::machine_laws;
 use crate::stored_event::StoredEvent;
 use crate::totals::Totals;
@@ -28,9 +28,6 @@ use sweep_compiler::Compiled;
 /// With so many events or more, a call that is to add one folds the history first.
 const FOLD_FROM: usize = 3_900;
 
-/// So many events have their room from the beginning.
-const ROOM: usize = 4_096;
-
 /// The state of the central system with the history that led to it.
 #[derive(Drop)]
 pub(crate) struct History {
@@ -44,6 +41,8 @@ pub(crate) struct History {
     made: Totals,
     /// What the last fold left behind, until it is taken.
     folded: Option<Folded>,
+    /// The memory of the events after the next fold, once it was given back.
+    spare: Option<EventRoom>,
 }
 
 impl Model for History {
@@ -90,10 +89,11 @@ impl History {
             alloc,
             base,
             based: Totals::none(),
-            events: Vec::with_capacity(alloc, ROOM)?,
+            events: EventRoom::new(alloc)?.into_events(),
             present,
             made: Totals::none(),
             folded: None,
+            spare: None,
         })
     }
 
@@ -129,6 +129,13 @@ impl History {
         self.folded.take()
     }
 
+    /// Gives memory of events back, for the next fold.
+    pub fn give_room(&mut self, room: EventRoom)
+        ensures { self.new ≡ self.old }
+    {
+        self.spare = Some(room);
+    }
+
     /// Makes a step that brings no answer, and adds its event, if it is one. On a refusal the step comes
     /// back.
     pub fn make(&mut self, step: Step) -> Result<Reply, Refused>
@@ -141,11 +148,51 @@ impl History {
         ensures kept { IfErr result (λ refused. self.new ≡ self.old) }
         ensures back { IfErr result (λ refused. refused.step ≡ step) }
     {
+        if self.events.len() < FOLD_FROM {
+            return self.make_in_room(step);
+        }
         match self.present.outlook(&step) {
-            Ok(true) => self.add(step),
+            Ok(true) => {
+                self.gather_calls();
+                self.make_folded(step)
+            }
             Ok(false) => Ok(self.tell(step)),
             Err(refusal) => Err(Refused { refusal, step }),
         }
+    }
+
+    /// Gathers the calls to each point, so that the new base shares them.
+    fn gather_calls(&mut self)
+        ensures { self.new ≡ self.old }
+    {
+        self.present.gather_calls();
+    }
+
+    /// Makes a step, for the event of which there is room.
+    fn make_in_room(&mut self, step: Step) -> Result<Reply, Refused>
+        requires can_fold { may_fold step ≡ true }
+        requires few { length self.old.events < fold_from }
+        ensures makes { IfOk result (λ reply. Makes self.old step reply self.new) }
+        ensures own { IfOk result (λ reply. is_reply_to step reply ≡ true) }
+        ensures asked { IfOk result HasAskedConnector }
+        ensures counts { IfOk result (λ reply. self.new.made ≡ totals_after self.old.made reply) }
+        ensures refusal { IfErr result (λ refused. IsRefusalOf self.old step refused.refusal) }
+        ensures kept { IfErr result (λ refused. self.new ≡ self.old) }
+        ensures back { IfErr result (λ refused. refused.step ≡ step) }
+    {
+        machine_laws();
+        let was_stopped = self.present.is_stopped();
+        let reply = match self.present.make(&step) {
+            Ok(reply) => reply,
+            Err(refusal) => return Err(Refused { refusal, step }),
+        };
+        if !reply.is_event(was_stopped) {
+            return Ok(reply);
+        }
+        self.present.open_requests();
+        self.made = self.made.after(&reply);
+        self.events.push_reserved(StoredEvent::alone(step));
+        Ok(reply)
     }
 
     /// Makes a step that is no event.
@@ -164,57 +211,10 @@ impl History {
         }
     }
 
-    /// Makes a step that is an event, and adds it. On a refusal the step comes back.
-    fn add(&mut self, step: Step) -> Result<Reply, Refused>
-        requires can_fold { may_fold step ≡ true }
-        requires added { outlook self.old.present step ≡ Ok true }
-        ensures adds { IfOk result (λ reply. Adds self.old (event_alone step) reply self.new) }
-        ensures own { IfOk result (λ reply. is_reply_to step reply ≡ true) }
-        ensures asked { IfOk result HasAskedConnector }
-        ensures refusal { IfErr result (λ refused. refused.refusal ≡ Refusal.OutOfMemory) }
-        ensures kept { IfErr result (λ refused. self.new ≡ self.old) }
-        ensures back { IfErr result (λ refused. refused.step ≡ step) }
-    {
-        let event = match step.copy(self.alloc) {
-            Ok(copy) => StoredEvent::alone(copy),
-            Err(_) => return Err(without_memory(step)),
-        };
-        if self.events.len() < FOLD_FROM {
-            self.add_to_events(step, event)
-        } else {
-            self.add_to_base(step, event)
-        }
-    }
-
-    /// Makes a step and adds its event to those that are stored.
-    fn add_to_events(&mut self, step: Step, event: StoredEvent) -> Result<Reply, Refused>
-        requires can_fold { may_fold step ≡ true }
-        requires added { outlook self.old.present step ≡ Ok true }
-        requires event { event ≡ event_alone step }
-        requires few { length self.old.events < fold_from }
-        ensures adds { IfOk result (λ reply. Adds self.old (event_alone step) reply self.new) }
-        ensures own { IfOk result (λ reply. is_reply_to step reply ≡ true) }
-        ensures asked { IfOk result HasAskedConnector }
-        ensures refusal { IfErr result (λ refused. refused.refusal ≡ Refusal.OutOfMemory) }
-        ensures kept { IfErr result (λ refused. self.new ≡ self.old) }
-        ensures back { IfErr result (λ refused. refused.step ≡ step) }
-    {
-        machine_laws();
-        let reply = match self.present.step(step) {
-            Ok(reply) => reply,
-            Err(refused) => return Err(refused),
-        };
-        self.present.open_requests();
-        self.made = self.made.after(&reply);
-        self.events.push_reserved(event);
-        Ok(reply)
-    }
-
     /// Folds the history, makes a step, and adds its event.
-    fn add_to_base(&mut self, step: Step, event: StoredEvent) -> Result<Reply, Refused>
+    fn make_folded(&mut self, step: Step) -> Result<Reply, Refused>
         requires can_fold { may_fold step ≡ true }
         requires added { outlook self.old.present step ≡ Ok true }
-        requires event { event ≡ event_alone step }
         requires many { fold_from ≤ length self.old.events }
         ensures adds { IfOk result (λ reply. Adds self.old (event_alone step) reply self.new) }
         ensures own { IfOk result (λ reply. is_reply_to step reply ≡ true) }
@@ -227,21 +227,20 @@ impl History {
         let Ok(base) = self.present.copy() else {
             return Err(without_memory(step));
         };
-        let Ok(events) = Vec::with_capacity(self.alloc, ROOM) else {
+        let Ok(room) = EventRoom::take(&mut self.spare, self.alloc) else {
             return Err(without_memory(step));
         };
-        let reply = match self.present.step(step) {
+        let reply = match self.present.make(&step) {
             Ok(reply) => reply,
-            Err(refused) => return Err(refused),
+            Err(refusal) => return Err(Refused { refusal, step }),
         };
         self.present.open_requests();
-        self.folded = Some(Folded {
-            base: replace(&mut self.base, base),
-            events: replace(&mut self.events, events),
-        });
+        let old_base = replace(&mut self.base, base);
+        let old_events = replace(&mut self.events, room.into_events());
+        self.folded = Some(Folded::new(old_base, old_events));
         self.based = self.made;
         self.made = self.made.after(&reply);
-        self.events.push_reserved(event);
+        self.events.push_reserved(StoredEvent::alone(step));
         Ok(reply)
     }
 

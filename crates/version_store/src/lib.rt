@@ -20,7 +20,7 @@ mod whole_history;
 
 pub use answer::Answer;
 pub use book::Book;
-pub use folded::Folded;
+pub use folded::{EventRoom, Folded};
 pub use job::Job;
 pub use missing::Missing;
 pub use pass::Pass;

@@ -21,19 +21,23 @@ use std::sync::{Condvar, Mutex, MutexGuard, Wait};
 #[derive(Drop)]
 pub struct Shared<C: Ledger, A: Ledger> {
     book: Mutex<Book<C, A>>,
-    /// Those wait here who wait for an answer.
-    answered: Condvar,
+    /// Those wait here who wait for an answer, each where the number of its request says.
+    places: Vec<Condvar>,
     sessions: u64,
 }
 
+/// So many places there are to wait at: as many as requests may be kept, so that those kept have each its own.
+const PLACES: u64 = 64;
+
 impl<C: Ledger, A: Ledger> Model for Shared<C, A> {
-    ghost use Rattle.std.specs.Prelude.{ℕ, ◌≡◌};
+    ghost use Rattle.std.specs.Prelude.{ℕ, ◌≡◌, length};
 
     ghost Value = { ℕ };
 
     ghost view = { λ shared. shared.sessions };
 
-    ghost invariant = { λ shared. (shared.sessions ≡ C.parts) × (shared.sessions ≡ A.parts) };
+    ghost invariant = { λ shared. (shared.sessions ≡ C.parts) × (shared.sessions ≡ A.parts)
+        × (length shared.places.items ≡ 64) };
 }
 
 impl<C: Ledger, A: Ledger> Shared<C, A> {
@@ -57,7 +61,7 @@ impl<C: Ledger, A: Ledger> Shared<C, A> {
         let (book, passes) = Book::make(alloc, changes, answers, site, sessions)?;
         let shared = Shared {
             book: Mutex::new(book),
-            answered: Condvar::new(),
+            places: new_places(alloc)?,
             sessions,
         };
         Ok((shared, passes))
@@ -87,13 +91,27 @@ impl<C: Ledger, A: Ledger> Shared<C, A> {
             return book;
         };
         drop(book);
-        drop(folded);
-        self.book.lock(rt)
+        let room = folded.into_room();
+        let mut book = self.book.lock(rt);
+        book.give_room(room);
+        book
     }
 
-    /// Wakes all who wait for an answer. Whoever has called `post` or `finish` calls it then.
+    /// Wakes all who wait for an answer. Whoever has called `finish` calls it then.
     pub fn wake(&self) {
-        self.answered.notify_all();
+        for place in &self.places {
+            place.notify_all();
+        }
+    }
+
+    /// Wakes those who wait for the answer to the request of a number. Whoever has posted it calls it then.
+    pub fn wake_for(&self, number: u64) {
+        self.place_of(number).notify_all();
+    }
+
+    /// Where it is waited for the answer to the request of a number.
+    fn place_of(&self, number: u64) -> &Condvar {
+        &self.places[(number % PLACES) as usize]
     }
 
     /// The book, once the request of a number has its answer, or isn't kept.
@@ -102,9 +120,8 @@ impl<C: Ledger, A: Ledger> Shared<C, A> {
         ensures answered { awaits (mutex_guard_value result).present number ≡ false }
     {
         let book = self.lock(rt);
-        let book = self
-            .answered
-            .wait_while(rt, book, |book| book.awaits(number));
+        let place = self.place_of(number);
+        let book = place.wait_while(rt, book, |book| book.awaits(number));
         book.stored();
         book
     }
@@ -128,4 +145,14 @@ impl<C: Ledger, A: Ledger> Shared<C, A> {
         let book = self.book.into_inner();
         Ok(book.settle(passes))
     }
+}
+
+fn new_places(alloc: Global) -> Result<Vec<Condvar>, AllocError>
+    ensures { IfOk result (λ places. length places.items ≡ 64) }
+{
+    let mut places = Vec::new(alloc);
+    for _place in 0..PLACES {
+        places.push(Condvar::new())?;
+    }
+    Ok(places)
 }

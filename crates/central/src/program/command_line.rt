@@ -1,71 +1,176 @@
 //! The command line, by clap's own definition of how words are read.
 
-ghost use Rattle.std.specs.Prelude.{◌≡◌, false, codes, Some, IfOk, map, string_bytes};
-ghost use Rattle.clap.specs.Words.{FailsBy, app_of, rule_of};
-ghost use Rattle.central.specs.CommandLine.{needed_option, required_option, central_app, line_faults, site_named, site_of_job};
+ghost use Rattle.std.specs.Prelude.{◌≡◌, IfOk, IfSome, IsSomeAnd, map, option_map, string_bytes};
+ghost use Rattle.clap.specs.Words.{FailsBy, all_of, first_of, found_of, rows_of};
+ghost use Rattle.central.specs.CommandLine.{IsCalling, IsJob, IsNumber, IsPointing, IsServing, line_faults, subcommand_named};
 
-use crate::program::help_text::{
-    ABOUT, REPLAY_ABOUT, REPLAY_EXAMPLE, SITE_HELP, STATUSES, VERSION,
-};
-use clap::{Arg, ArgAction, Command, Error};
+use crate::program::commands::central_command;
+use clap::{ArgMatches, Error};
 use std::alloc::{AllocError, Global};
 
 /// What a command line asks for.
-#[derive(Debug, Drop)]
+#[derive(Clone, Copy, Debug)]
 pub enum Job<'a> {
     /// To play a script on the site of a file.
     Replay { site: &'a str },
+    /// To serve the site of a file to those who connect.
+    Serve(Serving<'a>),
+    /// To send an operator's calls.
+    Call(Calling<'a>),
+    /// To simulate a charge point.
+    Point(Pointing<'a>),
+}
+
+/// How a site is to be served.
+#[derive(Clone, Copy, Debug)]
+pub struct Serving<'a> {
+    /// The site's file.
+    pub site: &'a str,
+    /// The address that is listened at: a host and a port.
+    pub listen: &'a str,
+    /// How many workers compile schedules.
+    pub workers: u64,
+    /// After so many connections the program ends.
+    pub sessions: u64,
+}
+
+/// What an operator's client sends: what is given here, or else the lines of standard input.
+#[derive(Clone, Copy, Debug)]
+pub struct Calling<'a> {
+    /// Where it connects.
+    pub url: &'a str,
+    /// The file of a SetChargingProfile's payload.
+    pub set_profile: Option<&'a str>,
+    /// A ClearChargingProfile's payload.
+    pub clear: Option<&'a str>,
+    pub ask: Option<Asking<'a>>,
+}
+
+/// A GetCompositeSchedule: the texts of its connector and of its duration in seconds.
+#[derive(Clone, Copy, Debug)]
+pub struct Asking<'a> {
+    pub connector: &'a str,
+    pub seconds: &'a str,
+}
+
+/// A simulated charge point.
+#[derive(Clone, Copy, Debug)]
+pub struct Pointing<'a> {
+    /// The central system's URL, without the point's identity.
+    pub url: &'a str,
+    /// The file of the site.
+    pub site: &'a str,
+    /// The point's identity.
+    pub id: &'a str,
 }
 
 /// The job of a command line, whose first word is the program's name.
 pub fn job_of<'a>(alloc: Global, words: &'a [String]) -> Result<Job<'a>, Error>
-    ensures job { IfOk result
-        (λ job. site_named (map string_bytes words.now) ≡ Some (site_of_job job)) }
+    ensures job { IfOk result (λ job. IsSomeAnd (subcommand_named (map string_bytes words.now))
+        (λ named. IsJob named.0 named.1 job)) }
     ensures faults { FailsBy (line_faults (map string_bytes words.now)) result }
 {
     let command = central_command(alloc)?;
     let matches = command.try_get_matches_from(words)?;
-    let Some((_, given)) = matches.subcommand() else {
+    let Some((name, given)) = matches.subcommand() else {
         return Err(Error::from(AllocError));
     };
-    let Some(site) = given.get_str("site") else {
+    // clap has seen to it that the options are there, and their numbers in range.
+    let Some(job) = job_named(name, given) else {
         return Err(Error::from(AllocError));
     };
-    Ok(Job::Replay { site })
+    Ok(job)
 }
 
-/// `central replay --site F`, with what help says of it.
-#[tactic(auto, unfolding(crate::specs::CommandLine::central_app))]
-fn central_command<'a>(alloc: Global) -> Result<Command<'a>, AllocError>
-    ensures { IfOk result (λ command. app_of command ≡ central_app) }
+/// The job of a subcommand with its options.
+fn job_named<'a>(name: &str, given: &ArgMatches<'a>) -> Option<Job<'a>>
+    ensures { IfSome result (λ job. IsJob name.now (rows_of (found_of given.now)) job) }
 {
-    let replay = Command::new(alloc, "replay")
-        .about(REPLAY_ABOUT)
-        .after_help(REPLAY_EXAMPLE)
-        .arg(site(alloc))?;
-    Command::new(alloc, "central")
-        .version(VERSION)
-        .about(ABOUT)
-        .after_help(STATUSES)
-        .subcommand_required(true)
-        .subcommand(replay)
+    if name == "replay" {
+        let site = text_of(given, "site")?;
+        return Some(Job::Replay { site });
+    }
+    if name == "serve" {
+        let serving = serving_of(given)?;
+        return Some(Job::Serve(serving));
+    }
+    if name == "call" {
+        let calling = calling_of(given)?;
+        return Some(Job::Call(calling));
+    }
+    if name == "point" {
+        let pointing = pointing_of(given)?;
+        return Some(Job::Point(pointing));
+    }
+    None
 }
 
-/// `--site F`, which is needed.
-fn site<'a>(alloc: Global) -> Arg<'a>
-    ensures rule { rule_of result ≡ required_option (codes "site") }
-    ensures global { result.global ≡ false }
+fn serving_of<'a>(given: &ArgMatches<'a>) -> Option<Serving<'a>>
+    ensures { IfSome result (λ serving. IsServing (rows_of (found_of given.now)) serving) }
 {
-    required(alloc, "site").value_name("F").help(SITE_HELP)
+    let site = text_of(given, "site")?;
+    let listen = text_of(given, "listen")?;
+    let workers = number_of(given, "workers")?;
+    let sessions = number_of(given, "sessions")?;
+    if workers < 1 || sessions < 1 {
+        return None;
+    }
+    Some(Serving {
+        site,
+        listen,
+        workers,
+        sessions,
+    })
 }
 
-/// An option that is needed and takes one value.
-fn required<'a>(alloc: Global, name: &'a str) -> Arg<'a>
-    ensures rule { rule_of result ≡ needed_option name.now }
-    ensures global { result.global ≡ false }
+fn calling_of<'a>(given: &ArgMatches<'a>) -> Option<Calling<'a>>
+    ensures { IfSome result (λ calling. IsCalling (rows_of (found_of given.now)) calling) }
 {
-    Arg::new(alloc, name)
-        .long(name)
-        .required(true)
-        .action(ArgAction::Set)
+    let url = text_of(given, "url")?;
+    let set_profile = text_of(given, "set-profile");
+    let clear = text_of(given, "clear");
+    let ask = match texts_of(given, "ask") {
+        Some(&[connector, seconds]) => Some(Asking { connector, seconds }),
+        Some(_) => return None,
+        None => None,
+    };
+    Some(Calling {
+        url,
+        set_profile,
+        clear,
+        ask,
+    })
+}
+
+fn pointing_of<'a>(given: &ArgMatches<'a>) -> Option<Pointing<'a>>
+    ensures { IfSome result (λ pointing. IsPointing (rows_of (found_of given.now)) pointing) }
+{
+    let url = text_of(given, "url")?;
+    let site = text_of(given, "site")?;
+    let id = text_of(given, "id")?;
+    Some(Pointing { url, site, id })
+}
+
+/// The value of an option.
+fn text_of<'a>(given: &ArgMatches<'a>, option: &str) -> Option<&'a str>
+    ensures { option_map (λ text. text.now) result
+        ≡ first_of option.now (rows_of (found_of given.now)) }
+{
+    given.get_str(option)
+}
+
+/// The values of an option.
+fn texts_of<'b, 'a>(given: &'b ArgMatches<'a>, option: &str) -> Option<&'b [&'a str]>
+    ensures { option_map (λ texts. map (λ text. text.now) texts.now) result
+        ≡ all_of option.now (rows_of (found_of given.now)) }
+{
+    given.get_raw(option)
+}
+
+/// The whole number that is the value of an option.
+fn number_of(given: &ArgMatches<'_>, option: &str) -> Option<u64>
+    ensures { IfSome result
+        (λ number. IsNumber option.now (rows_of (found_of given.now)) number) }
+{
+    given.get_one(option)
 }

@@ -1,20 +1,22 @@
 //! What the help says.
 
 /// What `central --version` prints behind the name: the version, and the kit that proves it.
-pub const VERSION: &str = "0.1.0\nproved with rattle-kit-13b logic dac8208d650f15bf";
+pub const VERSION: &str = "0.1.0\nproved with rattle-kit-13f logic dac8208d650f15bf";
 
 /// What the program does.
 pub const ABOUT: &str =
     "A central system for smart charging by OCPP 1.6: it installs charging profiles, composes
-the schedules that they mean, and answers operators and charge points.";
+the schedules that they mean, and answers operators and charge points, over WebSocket or
+from a script.";
 
 /// The program's exit statuses.
 pub const STATUSES: &str = "Exit statuses:
-  0  the whole script was played, and no line of it has a fault
+  0  the whole script was played, and no line of it has a fault; or all sessions have ended
   1  the site file has a fault: 'central: site: NAME' on standard error
   2  the whole script was played, and lines '! LINE NAME' of the output name its faults;
      or the script has more than 16,777,216 bytes: 'central: script: ScriptTooLong'
   3  a file or a device can't be read or written: 'central: device: read' or 'central: device: write';
+     or the address can't be listened at, or no connection accepted there: 'central: device: socket';
      or memory ran out: 'central: OutOfMemory'
   4  the command line isn't one of these";
 
@@ -23,6 +25,106 @@ pub const REPLAY_ABOUT: &str = "Plays a script of texts on a site, and prints th
 
 /// What `--site` names.
 pub const SITE_HELP: &str = "The site, a JSON file";
+
+/// What `serve` does.
+pub const SERVE_ABOUT: &str =
+    "Serves a site over WebSocket: operators' programs and charge points connect.";
+
+/// What `--listen` names.
+pub const LISTEN_HELP: &str = "The address to listen at: an IP address or a name, and a port";
+
+/// What `--workers` counts.
+pub const WORKERS_HELP: &str = "How many workers compile schedules, from 1 to 8";
+
+/// What `--sessions` counts.
+pub const SESSIONS_HELP: &str = "After so many connections it ends, from 1 to 64";
+
+/// Who connects to `serve`, and a call of it.
+pub const SERVE_NOTES: &str = "F is a site file; 'central replay --help' shows one. It prints
+  listening A                    once clients may connect
+  done changes V answers W       in the end: so many changes were made, so many schedules handed out
+and each client offers the subprotocol ocpp1.6 at one of these paths:
+  /ID                            the charge point ID (/ocpp/ID and the like, too)
+  /operator/ID                   an operator of the charge point ID
+A client with neither is closed at once, and counts as a connection. There is no encryption and no
+password: put it behind a proxy that has both, and let it listen at the loopback address.
+
+Example:
+  central serve --site site.json --listen 127.0.0.1:9000 --workers 2 --sessions 64
+
+The exit statuses are those of 'central --help'.";
+
+/// What `call` does.
+pub const CALL_ABOUT: &str =
+    "An operator's client: sends calls to a central system that serves, and prints the answers.";
+
+/// What `--url` of `call` names.
+pub const OPERATOR_URL_HELP: &str = "The operator's URL, ws://HOST:PORT/operator/ID";
+
+/// What `--set-profile` names.
+pub const SET_PROFILE_HELP: &str = "Sends SetChargingProfile with the payload that this file holds";
+
+/// What `--clear` says.
+pub const CLEAR_HELP: &str =
+    "Sends ClearChargingProfile with this payload; {} clears all, fuse limits too";
+
+/// What the values of `--ask` are.
+pub static ASK_VALUES: [&str; 2] = ["CONNECTOR", "SECONDS"];
+
+/// What `--ask` says.
+pub const ASK_HELP: &str = "Sends GetCompositeSchedule; connector 0 is the whole point";
+
+/// What `call` reads, and calls of it.
+pub const CALL_NOTES: &str =
+    "It sends what the options say, in this order, or without any the lines of standard input, one
+OCPP-J frame a line. After each it waits for the answer, and prints every text that comes until
+then. A line that is no CALL isn't sent: '! LINE NotACall'.
+
+Examples:
+  central call --url ws://127.0.0.1:9000/operator/CP1 --ask 1 86400
+  central call --url ws://127.0.0.1:9000/operator/CP1 --set-profile night.json --ask 0 3600
+  central call --url ws://127.0.0.1:9000/operator/CP1 --clear '{\"id\":1}'
+where night.json is, say,
+  {\"connectorId\":0,\"csChargingProfiles\":{\"chargingProfileId\":1,\"stackLevel\":0,
+   \"chargingProfilePurpose\":\"TxDefaultProfile\",\"chargingProfileKind\":\"Recurring\",\"recurrencyKind\":\"Daily\",
+   \"chargingSchedule\":{\"startSchedule\":\"2025-01-01T22:00:00Z\",\"duration\":28800,\"chargingRateUnit\":\"A\",
+    \"chargingSchedulePeriod\":[{\"startPeriod\":0,\"limit\":10}]}}}
+
+Exit statuses: 0 all was accepted; 2 an answer was an error or Rejected, or a line is no CALL; 3 nobody
+listens there in OCPP 1.6, the connection failed, a file or a device did, or memory ran out; 4 the
+command line isn't one of these.";
+
+/// What `point` does.
+pub const POINT_ABOUT: &str =
+    "A simulated charge point: connects to a central system, and does what its lines say.";
+
+/// What `--url` of `point` names.
+pub const POINT_URL_HELP: &str = "The central system's URL, ws://HOST:PORT, to which /ID is added";
+
+/// What `--id` names.
+pub const ID_HELP: &str = "The point's identity, one of the site's";
+
+/// What `point` reads and prints, and a call of it.
+pub const POINT_NOTES: &str =
+    "The point has the ceilings of the site file F. It does what the lines of standard input say:
+  heartbeat                      sends a Heartbeat
+  start CONNECTOR TAG METER      sends a StartTransaction, with meterStart in Wh
+  stop CONNECTOR                 sends the StopTransaction of the connector's transaction
+  pause SECONDS                  waits, and answers what comes meanwhile
+and disconnects behind the last one. It answers the central system's calls from its own profiles and
+transactions. The central system sends the next one behind each text of the point, so that a step or two
+may be needed until all have come. Standard output has a line
+  sent TEXT                      for each text that it sends
+  got TEXT                       for each that comes
+  ! LINE NAME                    for each line that says none of this (BadLine, BadText), or a step
+                                 that makes no call (NoCall): a stop without a transaction, say
+
+Example:
+  central point --url ws://127.0.0.1:9000 --site site.json --id CP1
+
+Exit statuses: 0 all was done; 1 the site file has a fault; 2 lines have one; 3 nobody listens there in
+OCPP 1.6, the connection failed, a file or a device did, or memory ran out; 4 the command line isn't one
+of these, or the site has no such point.";
 
 /// The files of `replay`, and a call of it.
 pub const REPLAY_EXAMPLE: &str = "F is a JSON file that describes the site, for example

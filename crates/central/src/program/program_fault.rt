@@ -3,8 +3,11 @@
 ghost use Rattle.std.specs.Prelude.{◌≡◌};
 ghost use Rattle.central.specs.ExitStatus.{fault_status, summary_status};
 
+use client::ClientFault;
 use replay::{ReplayFault, Summary};
+use server::ServeFault;
 use site_rules::SiteFault;
+use std::alloc::AllocError;
 
 /// Why the program stops, in the words of its one line on standard error.
 #[derive(Debug, Drop, thiserror::Error)]
@@ -18,12 +21,24 @@ pub enum ProgramFault {
     /// The site file can't be read.
     #[error("central: device: read")]
     SiteFile,
-    /// The help can't be written.
+    /// Standard output can't be written, beside what a replay writes.
     #[error("central: device: write")]
-    Help,
+    Write,
     /// The replay stopped.
     #[error("{0}")]
     Replay(ReplayFault),
+    /// The sockets failed, or there was no memory for them.
+    #[error("central: {0}")]
+    Serve(ServeFault),
+    /// A client stopped.
+    #[error("central: {0}")]
+    Client(ClientFault),
+    /// The file of a payload can't be read, is no text, or is longer than a text may be.
+    #[error("central: device: read")]
+    File,
+    /// The site has no point of the identity that the command line names.
+    #[error("central: command line: no such point in the site file")]
+    NoSuchPoint,
     /// Memory ran out.
     #[error("central: OutOfMemory")]
     OutOfMemory,
@@ -38,8 +53,11 @@ impl ProgramFault {
             ProgramFault::Site(_) => 1,
             ProgramFault::Replay(ReplayFault::ScriptTooLong) => 2,
             ProgramFault::Replay(_) => 3,
-            ProgramFault::SiteFile | ProgramFault::Help | ProgramFault::OutOfMemory => 3,
-            ProgramFault::Words => 4,
+            ProgramFault::SiteFile | ProgramFault::Write | ProgramFault::OutOfMemory => 3,
+            ProgramFault::Serve(_) | ProgramFault::File => 3,
+            ProgramFault::Client(ClientFault::Url) => 4,
+            ProgramFault::Client(_) => 3,
+            ProgramFault::Words | ProgramFault::NoSuchPoint => 4,
         }
     }
 }
@@ -62,5 +80,17 @@ impl From<SiteFault> for ProgramFault {
             SiteFault::OutOfMemory => ProgramFault::OutOfMemory,
             fault => ProgramFault::Site(fault),
         }
+    }
+}
+
+impl From<ClientFault> for ProgramFault {
+    fn from(fault: ClientFault) -> ProgramFault {
+        ProgramFault::Client(fault)
+    }
+}
+
+impl From<AllocError> for ProgramFault {
+    fn from(_: AllocError) -> ProgramFault {
+        ProgramFault::OutOfMemory
     }
 }

@@ -1,14 +1,19 @@
 -- What a method makes of a step: what the step does, or nothing, for the first cause or for want of
 -- memory. Of private clauses.
-use Rattle.std.specs.Prelude.{◌≡◌, ℕ, List, Option, Some, None, Result, Ok, Err, if◌then◌else◌}
+use Rattle.std.specs.Prelude.{◌≡◌, ◌<◌, ◌≤◌, ℕ, List, length, Option, Some, None, Result, Ok, Err, if◌then◌else◌}
 use Rattle.ocpp_scalars.specs.declared.refusal.Refusal.{Refusal}
 use Rattle.ocpp_scalars.specs.declared.refusal.Refusal.TheVariants.{Stopped, Superseded, UnknownPoint}
 use Rattle.site_rules.specs.Site.{place_of}
-use Rattle.site_core.specs.declared.step.Step.{Step}
-use Rattle.site_core.specs.declared.step.Step.TheVariants as steps
+use Rattle.transactions.specs.declared.begin.Begin.{Begin}
+use Rattle.transactions.specs.declared.active_table.Began.{Began}
+use Rattle.transactions.specs.declared.active_table.Began.TheVariants.{Fresh, Repeat}
+use Rattle.transactions.specs.ActiveTable.{began}
+use Rattle.site_core.specs.declared.numbers.Numbers.{Numbers}
 use Rattle.site_core.specs.declared.reply.Reply.{Reply}
+use Rattle.site_core.specs.declared.reply.Reply.TheVariants.{Started, Repeated}
+use Rattle.site_core.specs.ChargePoint.{ChargePointState, Start}
 use Rattle.site_core.specs.State.{MachineState, outbox_at, is_this_number}
-use Rattle.site_core.specs.Step.{Made, IsRefusalOf}
+use Rattle.site_core.specs.Step.{Made, Answers, Does, IsRefusalOf, starts, next_transaction, refusal_to_start, effect_alone}
 
 -- made, with this reply and this state after it
 abbrev pub IsMade : Result Made Refusal → Reply → MachineState → Type 0
@@ -39,8 +44,19 @@ abbrev pub linked_place_in : MachineState → List ℕ → ℕ → Result ℕ Re
 linked_place_in state point link =
     if state.is_stopped then Err Stopped else found_linked state link (place_of state.site point)
 
--- a step of which nothing is kept: any but an install and a start
-abbrev pub KeepsNothing : Step → Type 0
-KeepsNothing (steps.Install point row) = ⊥
-KeepsNothing (steps.Start point connector begin) = ⊥
-KeepsNothing step = Unit {0}
+-- a start at a point that nothing refuses and that isn't told again
+pub record IsFresh (numbers : Numbers) (connector : ℕ) (begin : Begin) (point : ChargePointState)
+    : Type 0 where
+  pub starts_so : starts numbers connector begin point
+      ≡ Ok (Does (Started (next_transaction numbers))
+      (effect_alone (Start connector begin (next_transaction numbers))))
+  pub above : 0 < connector
+  pub connector_is : connector ≤ length point.book.ceilings
+  pub fresh : began point.book.transactions connector begin ≡ Fresh
+  pub numbers_last : refusal_to_start numbers ≡ None
+
+-- what a start at a point is that nothing refuses
+abbrev pub IsBegan : Numbers → ℕ → Begin → ChargePointState → Began → Type 0
+IsBegan numbers connector begin point (Repeat number) =
+    starts numbers connector begin point ≡ Ok (Answers (Repeated number))
+IsBegan numbers connector begin point Fresh = IsFresh numbers connector begin point

@@ -1,12 +1,14 @@
 //! The steps that change what a point has.
 
-ghost use Rattle.std.specs.Prelude.{◌≡◌, ◌<◌, ◌≤◌, None, Some, IfNone, IfOk, IfErr, MatchResult, length};
+ghost use Rattle.std.specs.Prelude.{◌≡◌, ◌<◌, ◌≤◌, None, Some, Err, IfNone, IfOk, IfErr, OnOk, OnErr, MatchResult, length};
 ghost use Rattle.site_rules.specs.Site.{place_of};
 ghost use Rattle.transactions.specs.declared.active_table.Began.{Began};
 ghost use Rattle.site_core.specs.declared.step.Step.{Step};
+ghost use Rattle.site_core.specs.declared.reply.Reply.{Reply};
+ghost use Rattle.site_core.specs.ChargePoint.{BookChange};
 ghost use Rattle.site_core.specs.State.{point_at, book_at, outbox_at};
-ghost use Rattle.site_core.specs.Step.{HasAskedConnector, at_point, told_at, done_at, version_refusal, refusal_to_call, refusal_to_install, installs, clears, refusal_to_start, starts_as, starts, stops, Steps, IsRefused};
-ghost use Rattle.site_core.specs.ByCases.Made.{IsMade, IsNotMade};
+ghost use Rattle.site_core.specs.Step.{HasAskedConnector, at_point, told_at, affected, version_refusal, refusal_to_call, refusal_to_install, installing, installs, clears, refusal_to_start, next_transaction, effect_alone, starts, stops, Steps, IsRefused};
+ghost use Rattle.site_core.specs.ByCases.Made.{IsMade, IsNotMade, IsBegan};
 ghost use Rattle.site_core.specs.Limits.{max_number, max_calls};
 ghost use Rattle.transactions.specs.ActiveTable.{began};
 ghost use Rattle.point_book.specs.Changes.{install_refusal};
@@ -21,6 +23,7 @@ use crate::step::Step;
 use ocpp_scalars::Refusal;
 use profile::{Criteria, Row};
 use site_rules::admit;
+use std::alloc::AllocFailed;
 use transactions::{Began, Begin};
 
 impl Machine {
@@ -66,6 +69,39 @@ impl Machine {
                 },
             }),
         }
+    }
+
+    /// Installs a copy of a row at a point.
+    #[inline(never)]
+    pub(super) fn install_copy(&mut self, point: &PointId, row: &Row) -> Result<Reply, Refusal>
+        ensures made { IfOk result (λ reply. IsMade (at_point self.old point.now (told_at self.old
+            (installs self.old.site self.old.numbers point.now row.now))) reply self.new) }
+        ensures refused { IfErr result (λ refusal. IsNotMade self.old
+            (at_point self.old point.now (told_at self.old
+            (installs self.old.site self.old.numbers point.now row.now))) refusal self.new) }
+        ensures asked { IfOk result HasAskedConnector }
+    {
+        let place = self.place_at(point)?;
+        self.install_copy_at(point, place, row)
+    }
+
+    /// Begins a transaction at a connector of a point with a copy of what began, or answers a start that is
+    /// told again.
+    #[inline(never)]
+    pub(super) fn start_copy(
+        &mut self,
+        point: &PointId,
+        connector: u32,
+        begin: &Begin,
+    ) -> Result<Reply, Refusal>
+        ensures made { IfOk result (λ reply. IsMade (at_point self.old point.now
+            (told_at self.old (starts self.old.numbers connector begin.now))) reply self.new) }
+        ensures refused { IfErr result (λ refusal. IsNotMade self.old (at_point self.old point.now
+            (told_at self.old (starts self.old.numbers connector begin.now))) refusal self.new) }
+        ensures asked { IfOk result HasAskedConnector }
+    {
+        let place = self.place_at(point)?;
+        self.start_copy_at(place, connector, begin)
     }
 
     /// Installs a row at a point. On a refusal the row comes back.
@@ -143,6 +179,8 @@ impl Machine {
         ensures refusal { result ≡ refusal_to_install self.now.site self.now.numbers point.now
             row.now (point_at self.now place) }
         ensures allowed { IfNone result (install_refusal (book_at self.now place) row.now ≡ None) }
+        ensures calls { IfNone result
+            (refusal_to_call self.now.numbers (point_at self.now place) ≡ None) }
         ensures room { IfNone result (length (outbox_at self.now place).calls < max_calls) }
         ensures number { IfNone result ((outbox_at self.now place).next ≤ max_number) }
         ensures connector { IfNone result
@@ -199,13 +237,53 @@ impl Machine {
         if let Some(refusal) = self.refusal_to_install(point, place, &row) {
             return Err((refusal, row));
         }
-        match self.points[place].install(self.alloc, row) {
-            Ok(()) => {
-                self.numbers.version += 1;
-                Ok(Reply::Accepted)
-            }
+        match self.put(place, row) {
+            Ok(reply) => Ok(reply),
             Err(failed) => Err((Refusal::OutOfMemory, failed.value)),
         }
+    }
+
+    /// Installs a copy of a row at a point, which is at this place.
+    fn install_copy_at(
+        &mut self,
+        point: &PointId,
+        place: usize,
+        row: &Row,
+    ) -> Result<Reply, Refusal>
+        requires here { place_of self.old.site point.now ≡ Some place }
+        requires within { place < length self.old.points }
+        ensures made { IfOk result (λ reply. IsMade (told_at self.old
+            (installs self.old.site self.old.numbers point.now row.now) place) reply self.new) }
+        ensures refused { IfErr result (λ refusal. IsNotMade self.old (told_at self.old
+            (installs self.old.site self.old.numbers point.now row.now) place) refusal self.new) }
+        ensures asked { IfOk result HasAskedConnector }
+    {
+        if let Some(refusal) = self.refusal_to_install(point, place, row) {
+            return Err(refusal);
+        }
+        let row = row.copy()?;
+        match self.put(place, row) {
+            Ok(reply) => Ok(reply),
+            Err(_) => Err(Refusal::OutOfMemory),
+        }
+    }
+
+    /// Installs a row, which may be installed, at the point at a place. Out of memory the row comes back.
+    fn put(&mut self, place: usize, row: Row) -> Result<Reply, AllocFailed<Row>>
+        requires within { place < length self.old.points }
+        requires allowed { install_refusal (book_at self.old place) row ≡ None }
+        requires calls { refusal_to_call self.old.numbers (point_at self.old place) ≡ None }
+        requires room { length (outbox_at self.old place).calls < max_calls }
+        requires number { (outbox_at self.old place).next ≤ max_number }
+        requires connector { row.connector ≤ length (book_at self.old place).ceilings }
+        ensures reply { IfOk result (λ reply. reply ≡ Reply.Accepted) }
+        ensures made { OnOk result (self.new ≡ affected self.old place (installing row)) }
+        ensures kept { OnErr result (self.new ≡ self.old) }
+        ensures back { IfErr result (λ failed. failed.value ≡ row) }
+    {
+        self.points[place].install(self.alloc, row)?;
+        self.numbers.version += 1;
+        Ok(Reply::Accepted)
     }
 
     /// Removes the profiles that match each criterion that is given from the point at a place.
@@ -246,13 +324,68 @@ impl Machine {
         ensures back { IfErr result (λ refused. refused.1 ≡ begin) }
         ensures asked { IfOk result HasAskedConnector }
     {
+        match self.began_at(place, connector, &begin) {
+            Ok(Began::Repeat(number)) => Ok(Reply::Repeated(number)),
+            Ok(Began::Fresh) => match self.start_fresh(place, connector, begin) {
+                Ok(reply) => Ok(reply),
+                Err(failed) => Err((Refusal::OutOfMemory, failed.value)),
+            },
+            Err(refusal) => Err((refusal, begin)),
+        }
+    }
+
+    /// Begins a transaction at a connector of the point at a place with a copy of what began, or answers a
+    /// start that is told again.
+    fn start_copy_at(
+        &mut self,
+        place: usize,
+        connector: u32,
+        begin: &Begin,
+    ) -> Result<Reply, Refusal>
+        requires within { place < length self.old.points }
+        ensures made { IfOk result (λ reply. IsMade
+            (told_at self.old (starts self.old.numbers connector begin.now) place) reply self.new) }
+        ensures refused { IfErr result (λ refusal. IsNotMade self.old
+            (told_at self.old (starts self.old.numbers connector begin.now) place)
+            refusal self.new) }
+        ensures asked { IfOk result HasAskedConnector }
+    {
+        match self.began_at(place, connector, begin)? {
+            Began::Repeat(number) => Ok(Reply::Repeated(number)),
+            Began::Fresh => {
+                let begin = begin.copy(self.alloc)?;
+                match self.start_fresh(place, connector, begin) {
+                    Ok(reply) => Ok(reply),
+                    Err(_) => Err(Refusal::OutOfMemory),
+                }
+            }
+        }
+    }
+
+    /// What a start at a connector of the point at a place would be, or why it is refused, if memory lasts.
+    pub(super) fn began_at(
+        &self,
+        place: usize,
+        connector: u32,
+        begin: &Begin,
+    ) -> Result<Began, Refusal>
+        requires within { place < length self.now.points }
+        ensures refusal { IfErr result (λ refusal.
+            starts self.now.numbers connector begin.now (point_at self.now place) ≡ Err refusal) }
+        ensures starts { IfOk result (λ began. IsBegan self.now.numbers connector begin.now
+            (point_at self.now place) began) }
+    {
         let book = point_at(&self.points, place).book();
         if connector == 0 || connector > book.connectors() {
-            return Err((Refusal::UnknownConnector, begin));
+            return Err(Refusal::UnknownConnector);
         }
-        match book.began(connector, &begin) {
-            Began::Repeat(number) => Ok(Reply::Repeated(number)),
-            Began::Fresh => self.start_fresh(place, connector, begin),
+        let began = book.began(connector, begin);
+        if let Began::Repeat(_) = began {
+            return Ok(began);
+        }
+        match self.refusal_to_start() {
+            Some(refusal) => Err(refusal),
+            None => Ok(began),
         }
     }
 
@@ -268,36 +401,30 @@ impl Machine {
         None
     }
 
-    /// Begins a new transaction at a connector, with the next number. On a refusal what began comes back.
+    /// Begins a new transaction at a connector, with the next number. Out of memory what began comes back.
     fn start_fresh(
         &mut self,
         place: usize,
         connector: u32,
         begin: Begin,
-    ) -> Result<Reply, (Refusal, Begin)>
+    ) -> Result<Reply, AllocFailed<Begin>>
         requires within { place < length self.old.points }
         requires above { 0 < connector }
         requires connector { connector ≤ length (book_at self.old place).ceilings }
         requires new { began (book_at self.old place).transactions connector begin ≡ Began.Fresh }
-        ensures made { IfOk result (λ reply. IsMade (done_at self.old place
-            (starts_as Began.Fresh self.old.numbers connector begin)) reply self.new) }
-        ensures refused { IfErr result (λ refused. IsNotMade self.old (done_at self.old place
-            (starts_as Began.Fresh self.old.numbers connector begin)) refused.0 self.new) }
-        ensures back { IfErr result (λ refused. refused.1 ≡ begin) }
-        ensures asked { IfOk result HasAskedConnector }
+        requires numbers { refusal_to_start self.old.numbers ≡ None }
+        ensures reply { IfOk result (λ reply.
+            reply ≡ Reply.Started (next_transaction self.old.numbers)) }
+        ensures made { OnOk result (self.new ≡ affected self.old place (effect_alone
+            (BookChange.Start connector begin (next_transaction self.old.numbers)))) }
+        ensures kept { OnErr result (self.new ≡ self.old) }
+        ensures back { IfErr result (λ failed. failed.value ≡ begin) }
     {
-        if let Some(refusal) = self.refusal_to_start() {
-            return Err((refusal, begin));
-        }
         let number = (self.numbers.transaction + 1) as i32;
-        match self.points[place].start(connector, begin, number) {
-            Ok(()) => {
-                self.numbers.version += 1;
-                self.numbers.transaction += 1;
-                Ok(Reply::Started(number))
-            }
-            Err(failed) => Err((Refusal::OutOfMemory, failed.value)),
-        }
+        self.points[place].start(connector, begin, number)?;
+        self.numbers.version += 1;
+        self.numbers.transaction += 1;
+        Ok(Reply::Started(number))
     }
 
     /// Ends the transaction of this number, where it is active at the point at a place.

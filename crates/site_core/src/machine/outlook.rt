@@ -70,16 +70,9 @@ impl Machine {
             (starts self.now.numbers connector begin.now))) }
     {
         let place = self.place_at(point)?;
-        let book = point_at(&self.points, place).book();
-        if connector == 0 || connector > book.connectors() {
-            return Err(Refusal::UnknownConnector);
-        }
-        if let Began::Repeat(_) = book.began(connector, begin) {
-            return Ok(false);
-        }
-        match self.refusal_to_start() {
-            Some(refusal) => Err(refusal),
-            None => Ok(true),
+        match self.began_at(place, connector, begin)? {
+            Began::Repeat(_) => Ok(false),
+            Began::Fresh => Ok(true),
         }
     }
 

@@ -1,8 +1,10 @@
 -- The words are read as clap reads them, with this program's command.
 use Rattle.std.proofs.Common.{◌≡◌, []}
+use Rattle.std.specs.Prelude.{map, string_bytes}
 use Rattle.std.proofs.lemmas.Result.{err_from_is_err_and}
-use Rattle.clap.specs.Words.{HasKind, Kinds}
-use Rattle.central.proofs.CommandLineLemmas.{fails_as, site_found}
+use Rattle.clap.specs.Words.{HasKind, Kinds, app_of, found_of, rows_of, subcommand_rows_of}
+use Rattle.central.specs.CommandLine.{IsJob}
+use Rattle.central.proofs.CommandLineLemmas.{fails_as, met_is_named, met_with, named_with}
 use Rattle.central.proofs.program.command_line.job_of.Goals as goal
 
 pub returns-in_err-matches-clause-faults : goal.returns-in_err-matches-clause-faults
@@ -15,4 +17,9 @@ returns-clause-faults c = fails_as _ _ (λ (kinds : Kinds). kinds ≡ []) c.in_o
 
 pub returns-clause-job : goal.returns-clause-job
 returns-clause-job c =
-    site_found _ _ c.in_ok-matches.matches c.in-Some.given.now _ c.in_ok-command.ensures c.in_ok-matches.ensures.matches c.in-Some.ensures.rows c.in-Some-get_str.ensures
+    let all = c.in_ok-matches.matches in
+    let rows = rows_of (found_of c.in-Some.given.now) in
+    let same = met_is_named (app_of c.in_ok-command.command) (map string_bytes c.args.words.now) all c.in_ok-command.ensures c.in_ok-matches.ensures.matches in
+    let met = met_with all c.in-Some.name.now rows c.in-Some.ensures.name c.in-Some.ensures.rows in
+    named_with (λ named. IsJob named.0 named.1 c.in-Some-job_named.job) (subcommand_rows_of all) (map string_bytes c.args.words.now)
+    c.in-Some.name.now rows same met c.in-Some-job_named.ensures

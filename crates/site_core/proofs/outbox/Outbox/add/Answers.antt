@@ -6,18 +6,21 @@ use Rattle.site_core.specs.Outbox.{OutboxState, added, numbered}
 use Rattle.site_core.proofs.OutboxLemmas.{numbered_length, numbered_join}
 use Rattle.site_core.proofs.outbox.Outbox.add.Goals as goal
 
-pub join-requires : goal.join-requires
-join-requires c =
-    let few : length c.self.inside.bodies ≤ 256 = c.self.invariant.2 in
+pub append-requires : goal.append-requires
+append-requires c =
     let one : length c.call.inside.bodies ≡ 1 = c.call.invariant in
+    let calls : length (numbered (c.self.inside.next - length c.self.inside.bodies) c.self.inside.bodies) ≡ length c.args.self.now.calls =
+    ap (λ (o : OutboxState). length o.calls) c.self.view_is in
+    let bodies = numbered_length (c.self.inside.next - length c.self.inside.bodies) c.self.inside.bodies in
+    let room : length c.args.self.now.calls < 256 = c.requires.room in
     omega arith
 
 pub invariant_of-self : goal.invariant_of-self
 invariant_of-self c =
     let one : length c.call.inside.bodies ≡ 1 = c.call.invariant in
     let drawn : length c.self.inside.bodies ≤ c.self.inside.next = c.self.invariant.0 in
-    let many : length c.join.new.bodies ≡ length c.self.inside.bodies + length c.call.inside.bodies =
-    ap (λ (bodies : List CallBody). length bodies) c.join.ensures ∙ length-append c.self.inside.bodies c.call.inside.bodies in
+    let many : length c.append.new.self ≡ length c.self.inside.bodies + length c.call.inside.bodies =
+    ap (λ (bodies : List CallBody). length bodies) c.append.ensures ∙ length-append c.self.inside.bodies c.call.inside.bodies in
     let calls : length (numbered (c.self.inside.next - length c.self.inside.bodies) c.self.inside.bodies) ≡ length c.args.self.now.calls =
     ap (λ (o : OutboxState). length o.calls) c.self.view_is in
     let next : c.self.inside.next ≡ c.args.self.now.next = ap (λ (o : OutboxState). o.next) c.self.view_is in
@@ -33,7 +36,7 @@ returns c =
       calls = numbered ((c.self.inside.next + 1) - length bodies) bodies;
       next = c.self.inside.next + 1;
       is_in_flight = c.self.inside.is_in_flight;
-    }) c.join.ensures
+    }) c.append.ensures
     ∙ ap (λ (calls : List Call). record {
       link = c.self.inside.link;
       calls = calls;

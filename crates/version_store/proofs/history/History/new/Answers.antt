@@ -9,7 +9,7 @@ abbrev new : (c : goal.After-none-2) → StoreState
 new c = record {
   base = c.in_ok-base.base;
   based = c.none.result;
-  events = c.in_ok-with_capacity.field-0.items;
+  events = c.into_events.result.items;
   present = c.in_ok-present.present;
   made = c.none-2.result;
 }
@@ -18,10 +18,10 @@ pub invariant_of-result : goal.invariant_of-result
 invariant_of-result c =
     let present : c.in_ok-present.present ≡ opening c.args.site = c.in_ok-present.ensures in
     let base : c.in_ok-base.base ≡ c.in_ok-present.present = c.in_ok-base.ensures in
-    let events = c.in_ok-with_capacity.ensures.items in
+    let events = c.into_events.ensures.events in
     let opened : opening_store c.args.site ≡ new c =
     cc (present, base, events, c.none.ensures, c.none-2.ensures) in (
       subst IsStore opened (store_opens c.machine_laws.ensures c.args.site),
       subst HasRoom opened (omega arith),
-      c.in_ok-with_capacity.ensures.capacity,
+      c.into_events.ensures.room,
     )

@@ -16,33 +16,26 @@ push_reserved-requires c =
     c.post.new.self c.in_ok-again.ensures.posts.made in
     omega (arith, room, c.self.invariant.1, c.self.invariant.2, c.self.inside.events.ok)
 
-abbrev event : (c : goal.After-push_reserved) → StoredEvent
-event c = compile_event c.args.number c.args.brought.answer
-
-abbrev new : (c : goal.After-push_reserved) → StoreState
-new c = the_view (record c.self.inside {
-  events = c.push_reserved.new.self;
-  present = c.post.new.self;
-})
-
-abbrev then : (c : goal.After-push_reserved) → StoreState
-then c = with_event (the_view c.self.inside) (event c) (made_with Compiled c.post.new.self)
-
 pub invariant_of-self-2 : goal.invariant_of-self-2
 invariant_of-self-2 c =
+    let old : StoreState = the_view c.self.inside in
+    let event : StoredEvent = compile_event c.args.number c.args.brought.answer in
+    let then : StoreState = with_event old event (made_with Compiled c.post.new.self) in
+    let new : StoreState = the_view (record c.self.inside {
+      events = c.push_reserved.new.self;
+      present = c.post.new.self;
+    }) in
     let posts = c.in_ok-again.ensures.posts in
-    let given = posted_may_be_given c.self.inside.present c.args.number c.args.brought
-    c.post.new.self posts in
-    let is = store_goes_on c.machine_laws.ensures _ c.self.invariant.0 (event c) Compiled
-    c.post.new.self posts.made given in
-    let less = room_compiled c.self.inside.present c.args.number c.args.brought.answer
-    c.post.new.self posts.made in
-    let longer = length_push c.self.inside.events.items (event c) in
-    let room : HasRoom (then c) = omega (arith, longer, less, c.self.invariant.1) in
-    let stored : event c ≡ c.compiled.result =
+    let given = posted_may_be_given old.present c.args.number c.args.brought c.post.new.self posts in
+    let is = store_goes_on c.machine_laws.ensures old c.self.invariant.0 event Compiled c.post.new.self
+    posts.made given in
+    let less = room_compiled old.present c.args.number c.args.brought.answer c.post.new.self
+    posts.made in
+    let longer = length_push old.events event in
+    let room : HasRoom then = omega (arith, longer, less, c.self.invariant.1) in
+    let stored : event ≡ c.compiled.result =
     ap (compile_event c.args.number) (sym c.in_ok-again.ensures.again) ∙ sym c.compiled.ensures in
-    let same : then c ≡ new c =
-    cc (c.push_reserved.ensures.items, stored, nothing_more c.self.inside.made) in (
+    let same : then ≡ new = cc (c.push_reserved.ensures.items, stored, nothing_more old.made) in (
       subst IsStore same is,
       subst HasRoom same room,
       omega (arith, c.push_reserved.ensures.capacity, c.self.invariant.2),

@@ -1,0 +1,118 @@
+//! The job of `central call`.
+
+use crate::program::command_line::Calling;
+use crate::program::payload_file::read_payload_file;
+use crate::program::program_fault::ProgramFault;
+use client::{
+    ClientFault, Lines, OperatorClient, Outcome, ask_call, clear_call, connect, set_profile_call,
+};
+use std::alloc::AllocGlobal;
+use std::fmt::Display;
+use std::io;
+use std::net::TcpStream;
+use std::random::RandomSource;
+use std::rt::{Files, Net};
+use std::sync::Wait;
+use tungstenite::RandomKeys;
+
+/// The exit status where something wasn't accepted.
+const REFUSED: u8 = 2;
+
+/// A client, connected, and whether everything that it sent was accepted.
+#[derive(Drop)]
+struct Caller<'a, R: RandomSource> {
+    rt: &'a R,
+    client: OperatorClient<TcpStream, RandomKeys<R>>,
+    all_accepted: bool,
+}
+
+/// Sends what the options say, or the lines of standard input. Returns the exit status.
+pub fn call_site<
+    R: Files
+        + Input
+        + Print
+        + AllocGlobal
+        + Net<Stream = TcpStream>
+        + RandomSource
+        + Wait
+        + Copy
+        + Drop,
+>(rt: &R, calling: Calling<'_>) -> Result<u8, ProgramFault> {
+    let payload = match calling.set_profile {
+        Some(path) => Some(read_payload_file(rt, path)?),
+        None => None,
+    };
+    let socket = connect(rt, rt.alloc(), calling.url)?;
+    let mut caller = Caller {
+        rt,
+        client: OperatorClient::new(rt.alloc(), socket),
+        all_accepted: true,
+    };
+    match (&payload, calling.clear, calling.ask) {
+        (None, None, None) => caller.send_lines()?,
+        _ => caller.send_given(payload, calling)?,
+    }
+    caller.client.end();
+    Ok(if caller.all_accepted { 0 } else { REFUSED })
+}
+
+impl<R: Input + Print + AllocGlobal + RandomSource + Wait + Drop> Caller<'_, R> {
+    /// Sends the calls of the options.
+    fn send_given(
+        &mut self,
+        payload: Option<String>,
+        calling: Calling<'_>,
+    ) -> Result<(), ProgramFault> {
+        let alloc = self.rt.alloc();
+        if let Some(payload) = payload {
+            let text = set_profile_call(alloc, payload.as_str())?;
+            self.send("set-profile", text.as_str())?;
+        }
+        if let Some(payload) = calling.clear {
+            let text = clear_call(alloc, payload)?;
+            self.send("clear", text.as_str())?;
+        }
+        if let Some(asking) = calling.ask {
+            let text = ask_call(alloc, asking.connector, asking.seconds)?;
+            self.send("ask", text.as_str())?;
+        }
+        Ok(())
+    }
+
+    /// Sends the lines of standard input.
+    fn send_lines(&mut self) -> Result<(), ProgramFault> {
+        let mut lines = Lines::new(self.rt.alloc(), self.rt.reader())?;
+        for _line in self.rt.forever() {
+            if !lines.advance()? {
+                return Ok(());
+            }
+            match lines.text() {
+                Some(text) => self.send(lines.number(), text)?,
+                None => self.report(lines.number(), "BadText")?,
+            }
+        }
+        unreachable!()
+    }
+
+    /// Sends a text, which is reported by this name where it is no CALL.
+    fn send<N: Display + Drop>(&mut self, name: N, text: &str) -> Result<(), ProgramFault> {
+        let mut writer = io::writer(self.rt);
+        match self.client.call(self.rt, &mut writer, text)? {
+            Outcome::Accepted => Ok(()),
+            Outcome::Refused => {
+                self.all_accepted = false;
+                Ok(())
+            }
+            Outcome::NotACall => self.report(name, "NotACall"),
+        }
+    }
+
+    /// Prints what is wrong with a text.
+    fn report<N: Display + Drop>(&mut self, name: N, fault: &str) -> Result<(), ProgramFault> {
+        self.all_accepted = false;
+        match println!(self.rt; "! {name} {fault}") {
+            Ok(()) => Ok(()),
+            Err(_) => Err(ProgramFault::Client(ClientFault::Write)),
+        }
+    }
+}

@@ -1,0 +1,55 @@
+//! Connections to a central system (OCPP-J 1.6, chapter 3.1).
+
+use crate::fault::ClientFault;
+use http::{HeaderName, HeaderValue, Request};
+use std::alloc::{Alloc, Global};
+use std::net::{Net, TcpStream};
+use std::random::RandomSource;
+use tungstenite::handshake::client::request_of;
+use tungstenite::{Error, RandomKeys, WebSocket, client};
+
+/// A connection whose handshake is done.
+pub type Connection<R> = WebSocket<TcpStream, RandomKeys<R>>;
+
+/// The port of a `ws` URL without one (RFC 6455, section 3).
+const DEFAULT_PORT: u16 = 80;
+
+/// Connects to a URL, and shakes hands in the subprotocol of OCPP 1.6.
+pub fn connect<R: Net<Stream = TcpStream> + RandomSource + Copy + Drop>(
+    rt: &R,
+    alloc: Global,
+    url: &str,
+) -> Result<Connection<R>, ClientFault> {
+    let request = request_to(alloc, url)?;
+    let Some(host) = request.uri().host() else {
+        return Err(ClientFault::Url);
+    };
+    let port = request.uri().port_u16().unwrap_or(DEFAULT_PORT);
+    let Ok(stream) = TcpStream::connect(rt, (host, port)) else {
+        return Err(ClientFault::Connection);
+    };
+    // A text leaves at once. Where that can't be set, it leaves later.
+    let _ = stream.set_nodelay(true);
+    match client(alloc, *rt, request, stream) {
+        Ok((socket, _)) => Ok(socket),
+        Err(_) => Err(ClientFault::Handshake),
+    }
+}
+
+/// The request of the handshake.
+fn request_to(alloc: Global, url: &str) -> Result<Request<()>, ClientFault> {
+    let mut request = match request_of(alloc, url) {
+        Ok(request) => request,
+        Err(Error::OutOfMemory) => return Err(ClientFault::OutOfMemory),
+        Err(_) => return Err(ClientFault::Url),
+    };
+    if request.uri().scheme_str() != Some("ws") {
+        return Err(ClientFault::Url);
+    }
+    let name = HeaderName::from_static("sec-websocket-protocol");
+    let value = HeaderValue::from_static("ocpp1.6");
+    match request.headers_mut().insert(name, value) {
+        Ok(_) => Ok(request),
+        Err(_) => Err(ClientFault::OutOfMemory),
+    }
+}

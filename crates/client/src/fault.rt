@@ -1,0 +1,41 @@
+//! Why a client stops.
+
+use std::alloc::AllocError;
+use thiserror::Error;
+
+/// Why a client stops before its end, in the words that the program prints.
+#[derive(Clone, Copy, Debug, Error, PartialEq, Eq)]
+pub enum ClientFault {
+    /// The URL isn't of the form `ws://HOST:PORT/PATH`; without a port it is 80.
+    #[error("url: not ws://HOST:PORT/PATH")]
+    Url,
+    /// Nobody listens there.
+    #[error("url: no connection")]
+    Connection,
+    /// Whoever listens there doesn't speak WebSocket with the subprotocol of OCPP 1.6.
+    #[error("url: no OCPP 1.6 there")]
+    Handshake,
+    /// The central system closed the connection before the end. It does so at once where its site has no such point.
+    #[error("url: closed by the central system, which may have no such point")]
+    Closed,
+    /// The connection failed before the end.
+    #[error("device: socket")]
+    Socket,
+    /// The clock can't be read.
+    #[error("device: clock")]
+    Clock,
+    /// Standard input can't be read.
+    #[error("device: read")]
+    Read,
+    /// Standard output can't be written.
+    #[error("device: write")]
+    Write,
+    #[error("OutOfMemory")]
+    OutOfMemory,
+}
+
+impl From<AllocError> for ClientFault {
+    fn from(_: AllocError) -> ClientFault {
+        ClientFault::OutOfMemory
+    }
+}

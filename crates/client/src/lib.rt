@@ -1,0 +1,20 @@
+//! Programs for people at the other end of the central system's sockets (OCPP-J 1.6): an operator's client, which
+//! sends texts and prints what they are answered, and a simulated charge point that is led by lines of text.
+#![tactic(auto)]
+
+mod connecting;
+mod fault;
+mod lines;
+mod operator;
+mod operator_texts;
+mod point_lines;
+mod sockets;
+mod terminal_point;
+
+pub use connecting::{Connection, connect};
+pub use fault::ClientFault;
+pub use lines::Lines;
+pub use operator::{OperatorClient, Outcome};
+pub use operator_texts::{ask_call, clear_call, set_profile_call};
+pub use point_lines::{PointLine, point_line};
+pub use terminal_point::TerminalPoint;

@@ -1,0 +1,123 @@
+//! An operator's client.
+
+use crate::fault::ClientFault;
+use crate::sockets::{Came, close, receive, send};
+use ocppj_frame::{
+    Field, Frame, FrameFault, MessageId, Payload, ReadingMemory, read_frame, text_field,
+};
+use std::alloc::Global;
+use std::io::{Read, Write};
+use std::sync::Wait;
+use tungstenite::{MaskKeys, WebSocket};
+
+/// What became of a text.
+#[derive(Clone, Copy, Debug, PartialEq, Eq)]
+pub enum Outcome {
+    /// It was answered, neither by an error nor as Rejected.
+    Accepted,
+    /// It was answered by a CALLERROR, or as Rejected.
+    Refused,
+    /// It is no CALL, so it wasn't sent: no answer would ever come.
+    NotACall,
+}
+
+/// An operator's client, connected.
+#[derive(Drop)]
+pub struct OperatorClient<S: Read + Write, K: MaskKeys> {
+    alloc: Global,
+    socket: WebSocket<S, K>,
+    memory: ReadingMemory,
+}
+
+impl<S: Read + Write + Drop, K: MaskKeys + Drop> OperatorClient<S, K> {
+    pub fn new(alloc: Global, socket: WebSocket<S, K>) -> OperatorClient<S, K> {
+        OperatorClient {
+            alloc,
+            socket,
+            memory: ReadingMemory::new(alloc),
+        }
+    }
+
+    /// Sends a CALL and waits for its answer. Each text that comes until then is written on a line of its own.
+    pub fn call<R: Wait, W: Write>(
+        &mut self,
+        rt: &R,
+        writer: &mut W,
+        text: &str,
+    ) -> Result<Outcome, ClientFault> {
+        let Some(id) = id_of_call(&mut self.memory, text)? else {
+            return Ok(Outcome::NotACall);
+        };
+        send(self.alloc, &mut self.socket, text)?;
+        for _message in rt.forever() {
+            let Came::Text(answer) = receive(&mut self.socket)? else {
+                continue;
+            };
+            write_line(writer, answer.as_str())?;
+            if let Some(outcome) = outcome_of(&mut self.memory, answer.as_str(), &id)? {
+                return Ok(outcome);
+            }
+        }
+        unreachable!()
+    }
+
+    /// Closes the connection.
+    pub fn end(mut self) {
+        close(&mut self.socket);
+    }
+}
+
+fn write_line<W: Write>(writer: &mut W, text: &str) -> Result<(), ClientFault> {
+    match writeln!(writer, "{text}").and_then(|()| writer.flush()) {
+        Ok(()) => Ok(()),
+        Err(_) => Err(ClientFault::Write),
+    }
+}
+
+/// The id of a text's CALL, that of a malformed one too: the central system answers that.
+fn id_of_call(memory: &mut ReadingMemory, text: &str) -> Result<Option<MessageId>, ClientFault> {
+    match read_frame(memory, text) {
+        Ok(Frame::Call { id, .. }) => Ok(Some(id)),
+        Ok(_) => Ok(None),
+        Err(FrameFault::Formation { id }) => Ok(Some(id)),
+        Err(FrameFault::Dropped) => Ok(None),
+        Err(FrameFault::OutOfMemory) => Err(ClientFault::OutOfMemory),
+    }
+}
+
+/// What a text says of the CALL of an id, if it answers that.
+fn outcome_of(
+    memory: &mut ReadingMemory,
+    text: &str,
+    call: &MessageId,
+) -> Result<Option<Outcome>, ClientFault> {
+    match read_frame(memory, text) {
+        Ok(frame) => Ok(outcome_in(&frame, call.as_str())),
+        Err(FrameFault::OutOfMemory) => Err(ClientFault::OutOfMemory),
+        Err(_) => Ok(None),
+    }
+}
+
+fn outcome_in(frame: &Frame<'_>, call: &str) -> Option<Outcome> {
+    match frame {
+        Frame::Reply { id, payload } => {
+            if id.as_str() != call {
+                None
+            } else if is_rejected(payload) {
+                Some(Outcome::Refused)
+            } else {
+                Some(Outcome::Accepted)
+            }
+        }
+        Frame::Fault { id } if id.as_str() == call => Some(Outcome::Refused),
+        _ => None,
+    }
+}
+
+/// Whether the payload of an answer has this status.
+fn is_rejected(payload: &Payload<'_>) -> bool {
+    match text_field(payload.root(), "status") {
+        Field::Value(status) => status == "Rejected",
+        _ => false,
+    }
+}

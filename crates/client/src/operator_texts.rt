@@ -1,0 +1,20 @@
+//! An operator's calls, made from what a command line gives. Their ids say what they are.
+
+use ocppj_frame::write_call;
+use std::alloc::{AllocError, Global};
+
+/// SetChargingProfile (chapter 5.16) with a payload that is given as its text.
+pub fn set_profile_call(alloc: Global, payload: &str) -> Result<String, AllocError> {
+    write_call(alloc, "set-profile", "SetChargingProfile", payload)
+}
+
+/// ClearChargingProfile (chapter 5.5) with a payload that is given as its text.
+pub fn clear_call(alloc: Global, payload: &str) -> Result<String, AllocError> {
+    write_call(alloc, "clear", "ClearChargingProfile", payload)
+}
+
+/// GetCompositeSchedule (chapter 5.7) of a connector, and for so many seconds, each given as its text.
+pub fn ask_call(alloc: Global, connector: &str, seconds: &str) -> Result<String, AllocError> {
+    let payload = format!(in alloc; "{{\"connectorId\":{connector},\"duration\":{seconds}}}")?;
+    write_call(alloc, "ask", "GetCompositeSchedule", payload.as_str())
+}

@@ -1,0 +1,70 @@
+//! What a line tells a simulated charge point to do.
+
+use ocpp_scalars::IdTag;
+use sim_point::SimStep;
+use std::alloc::{AllocError, Global};
+use std::str::FromStr;
+
+/// What a line tells a simulated point to do.
+#[derive(Debug, Drop)]
+pub enum PointLine {
+    /// To make a call of its own.
+    Step(SimStep),
+    /// To wait so many seconds, and to answer what comes meanwhile.
+    Pause(u64),
+}
+
+/// The longest pause, a day in seconds.
+const MAX_PAUSE: u64 = 86_400;
+
+/// Reads a line: `heartbeat`, `start CONNECTOR TAG METER`, `stop CONNECTOR` or `pause SECONDS`, with blanks
+/// between its words. `None` where it is none of these.
+pub fn point_line(alloc: Global, text: &str) -> Result<Option<PointLine>, AllocError> {
+    let mut words = text.split_whitespace();
+    let line = match words.next() {
+        Some("heartbeat") => Some(PointLine::Step(SimStep::Heartbeat)),
+        Some("start") => start_step(alloc, words.next(), words.next(), words.next())?,
+        Some("stop") => number(words.next()).map(|connector| PointLine::Step(SimStep::Stop {
+            connector,
+        })),
+        Some("pause") => pause(words.next()),
+        _ => None,
+    };
+    match words.next() {
+        None => Ok(line),
+        Some(_) => Ok(None),
+    }
+}
+
+fn start_step(
+    alloc: Global,
+    connector: Option<&str>,
+    tag: Option<&str>,
+    meter: Option<&str>,
+) -> Result<Option<PointLine>, AllocError> {
+    let (Some(connector), Some(tag), Some(meter)) = (number(connector), tag, number(meter)) else {
+        return Ok(None);
+    };
+    let Some(tag) = IdTag::try_copy(alloc, tag)? else {
+        return Ok(None);
+    };
+    Ok(Some(PointLine::Step(SimStep::Start {
+        connector,
+        tag,
+        meter,
+    })))
+}
+
+fn pause(seconds: Option<&str>) -> Option<PointLine> {
+    match number(seconds) {
+        Some(seconds) if seconds <= MAX_PAUSE => Some(PointLine::Pause(seconds)),
+        _ => None,
+    }
+}
+
+fn number<N: FromStr>(word: Option<&str>) -> Option<N>
+where
+    N::Err: Drop,
+{
+    word?.parse().ok()
+}

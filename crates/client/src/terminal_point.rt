@@ -1,0 +1,169 @@
+//! A simulated charge point that is led by lines of text.
+
+use crate::fault::ClientFault;
+use crate::lines::Lines;
+use crate::point_lines::{PointLine, point_line};
+use crate::sockets::{Came, close, receive, send};
+use ocpp_scalars::{Instant, Moments};
+use sim_point::{SimPoint, SimStep};
+use std::alloc::Global;
+use std::io::{Read, Write};
+use std::net::OpenStream;
+use std::rt::Clock;
+use std::sync::Wait;
+use std::time;
+use std::time::Duration;
+use tungstenite::{MaskKeys, WebSocket};
+
+/// A simulated charge point, connected. What it sends and gets is written, each text on a line of its own
+/// behind `sent` or `got`.
+#[derive(Drop)]
+pub struct TerminalPoint<'a, S: Read + Write, K: MaskKeys, W: Write> {
+    pub alloc: Global,
+    pub socket: WebSocket<S, K>,
+    pub point: SimPoint,
+    pub writer: &'a mut W,
+}
+
+impl<S: Read + Write + OpenStream + Drop, K: MaskKeys + Drop, W: Write> TerminalPoint<'_, S, K, W> {
+    /// Does what each line says, and closes the connection behind the last one. A line that says nothing, or a
+    /// step that makes no call, is written as `! NUMBER NAME`. Returns how many there were.
+    pub fn play<R: Wait + Clock, I: Read + Drop, M: Moments>(
+        mut self,
+        rt: &R,
+        lines: &mut Lines<I>,
+        clock: &M,
+    ) -> Result<u64, ClientFault> {
+        let mut faults = 0u64;
+        for _line in rt.forever() {
+            if !lines.advance()? {
+                break;
+            }
+            if let Some(name) = self.take_line(rt, lines.text(), clock)? {
+                write_fault(self.writer, lines.number(), name)?;
+                faults = faults.saturating_add(1);
+            }
+        }
+        close(&mut self.socket);
+        Ok(faults)
+    }
+
+    /// Does what a line says. The name of its fault, if it has one.
+    fn take_line<R: Wait + Clock, M: Moments>(
+        &mut self,
+        rt: &R,
+        text: Option<&str>,
+        clock: &M,
+    ) -> Result<Option<&'static str>, ClientFault> {
+        let Some(text) = text else {
+            return Ok(Some("BadText"));
+        };
+        match point_line(self.alloc, text)? {
+            Some(PointLine::Step(step)) => self.make_step(rt, step, clock),
+            Some(PointLine::Pause(seconds)) => {
+                self.pause(rt, seconds, clock)?;
+                Ok(None)
+            }
+            None => Ok(Some("BadLine")),
+        }
+    }
+
+    /// Makes the call of a step, and waits for its reply. The name of the fault, if the step makes none.
+    fn make_step<R: Wait, M: Moments>(
+        &mut self,
+        rt: &R,
+        step: SimStep,
+        clock: &M,
+    ) -> Result<Option<&'static str>, ClientFault> {
+        if self.point.add_step(step).is_err() {
+            return Err(ClientFault::OutOfMemory);
+        }
+        let Ok(call) = self.point.next_call(present(clock)?) else {
+            return Err(ClientFault::OutOfMemory);
+        };
+        let Some(call) = call else {
+            return Ok(Some("NoCall"));
+        };
+        self.send(call.as_str())?;
+        for _message in rt.forever() {
+            if !self.point.is_waiting() {
+                break;
+            }
+            self.take_message(clock)?;
+        }
+        Ok(None)
+    }
+
+    /// Answers what comes within so many seconds.
+    fn pause<R: Wait + Clock, M: Moments>(
+        &mut self,
+        rt: &R,
+        seconds: u64,
+        clock: &M,
+    ) -> Result<(), ClientFault> {
+        let Ok(start) = time::Instant::now(rt) else {
+            return Err(ClientFault::Clock);
+        };
+        for _message in rt.forever() {
+            let Ok(elapsed) = start.elapsed(rt) else {
+                return Err(ClientFault::Clock);
+            };
+            let Some(left) = Duration::from_secs(seconds).checked_sub(elapsed) else {
+                break;
+            };
+            if left.is_zero() {
+                break;
+            }
+            self.wait_at_most(Some(left))?;
+            self.take_message(clock)?;
+        }
+        self.wait_at_most(None)
+    }
+
+    /// Sets how long a message is waited for.
+    fn wait_at_most(&mut self, time: Option<Duration>) -> Result<(), ClientFault> {
+        match self.socket.get_ref().set_read_timeout(time) {
+            Ok(()) => Ok(()),
+            Err(_) => Err(ClientFault::Socket),
+        }
+    }
+
+    /// Takes the next message, if one comes while it is waited for, and answers it.
+    fn take_message<M: Moments>(&mut self, clock: &M) -> Result<(), ClientFault> {
+        let Came::Text(text) = receive(&mut self.socket)? else {
+            return Ok(());
+        };
+        write_text(self.writer, "got", text.as_str())?;
+        match self.point.on_text(present(clock)?, text.as_str()) {
+            Ok(Some(answer)) => self.send(answer.as_str()),
+            Ok(None) => Ok(()),
+            Err(_) => Err(ClientFault::OutOfMemory),
+        }
+    }
+
+    fn send(&mut self, text: &str) -> Result<(), ClientFault> {
+        send(self.alloc, &mut self.socket, text)?;
+        write_text(self.writer, "sent", text)
+    }
+}
+
+fn present<M: Moments>(clock: &M) -> Result<Instant, ClientFault> {
+    match clock.now() {
+        Some(now) => Ok(now),
+        None => Err(ClientFault::Clock),
+    }
+}
+
+fn write_text<W: Write>(writer: &mut W, what: &str, text: &str) -> Result<(), ClientFault> {
+    match writeln!(writer, "{what} {text}").and_then(|()| writer.flush()) {
+        Ok(()) => Ok(()),
+        Err(_) => Err(ClientFault::Write),
+    }
+}
+
+fn write_fault<W: Write>(writer: &mut W, number: u64, name: &str) -> Result<(), ClientFault> {
+    match writeln!(writer, "! {number} {name}").and_then(|()| writer.flush()) {
+        Ok(()) => Ok(()),
+        Err(_) => Err(ClientFault::Write),
+    }
+}

@@ -1,0 +1,175 @@
+"""The programs for people at the other end, `central call` and `central point`, and the example that uses them all."""
+import os
+import re
+import subprocess
+import tempfile
+
+from serving import ENVIRONMENT, PATIENCE, Serving, expect, free_port
+
+TOP = os.path.dirname(os.path.dirname(os.path.dirname(os.path.abspath(__file__))))
+SITE = '{"unit":"A","points":[{"id":"P1","ceiling":63.0,"connectors":[32.0,16.0]}]}'
+MOMENTS = re.compile(rb'"(scheduleStart|currentTime|timestamp)":"[^"]*"')
+SCHEDULE = b'[3,"%s",{"status":"Accepted","connectorId":%d,"scheduleStart":"NOW","chargingSchedule":{"duration":60,' \
+    b'"chargingRateUnit":"A","chargingSchedulePeriod":[{"startPeriod":0,"limit":%s}]}}]\n'
+PROFILE = '{"connectorId":0,"csChargingProfiles":{"chargingProfileId":1,"stackLevel":0,' \
+    '"chargingProfilePurpose":"TxDefaultProfile","chargingProfileKind":"Absolute","chargingSchedule":\n' \
+    '{"startSchedule":"2025-01-01T00:00:00Z","chargingRateUnit":"A","chargingSchedulePeriod":[{"startPeriod":0,"limit":8}]}}}\n'
+
+
+def without_moments(out):
+    return MOMENTS.sub(rb'"\1":"NOW"', out)
+
+
+def run(program, arguments, given=b""):
+    """How a run ends by itself: its status, and what it printed, without moments."""
+    done = subprocess.run(
+        [program, *arguments], input=given, stdout=subprocess.PIPE, stderr=subprocess.PIPE, timeout=PATIENCE, check=False, env=ENVIRONMENT
+    )
+    return done.returncode, without_moments(done.stdout), done.stderr
+
+
+def operator(serving, *options, given=b"", point="P1"):
+    url = f"ws://127.0.0.1:{serving.port}/operator/{point}"
+    return run(serving.program, ["call", "--url", url, *options], given)
+
+
+def point(serving, lines, identity="P1"):
+    with tempfile.NamedTemporaryFile("w", suffix=".json") as site:
+        site.write(serving.site)
+        site.flush()
+        url = f"ws://127.0.0.1:{serving.port}"
+        return run(serving.program, ["point", "--url", url, "--site", site.name, "--id", identity], lines)
+
+
+def options_of_call(program):
+    """Each option sends its call, in their order; what is refused makes the status 2."""
+    accepted, refused = b'[3,"%s",{"status":"Accepted"}]\n', b'[3,"ask",{"status":"Rejected","reason":"UnknownConnector"}]\n'
+    with Serving(program, SITE, 4) as serving, tempfile.NamedTemporaryFile("w", suffix=".json") as profile:
+        profile.write(PROFILE)
+        profile.flush()
+        wanted = accepted % b"set-profile" + SCHEDULE % (b"ask", 1, b"8.0")
+        expect("install and ask", operator(serving, "--ask", "1", "60", "--set-profile", profile.name), (0, wanted, b""))
+        wanted = accepted % b"clear" + SCHEDULE % (b"ask", 2, b"16.0")
+        expect("clear and ask", operator(serving, "--clear", '{"id":1}', "--ask", "2", "60"), (0, wanted, b""))
+        expect("clear nothing", operator(serving, "--clear", "{}"), (0, b'[3,"clear",{"status":"Unknown"}]\n', b""))
+        expect("ask another connector", operator(serving, "--ask", "3", "60"), (2, refused, b""))
+        expect("the totals", serving.totals(), (2, 2))
+
+
+def lines_of_call(program):
+    """The lines of standard input, each answered before the next; what is no CALL isn't sent."""
+    lines = (
+        b'[2,"a","GetCompositeSchedule",{"connectorId":1,"duration":60}]\r\n'
+        b'[2,"b"\n\n[3,"a",{}]\n\xff\n[2,"c","Reset",{"type":"Soft"}]\n[2,"d"]\n'
+        b'[2,"e","GetCompositeSchedule",{"connectorId":1,"duration":"60"}]'
+    )
+    wanted = (
+        SCHEDULE % (b"a", 1, b"32.0") + b"! 2 NotACall\n! 4 NotACall\n! 5 BadText\n"
+        b'[4,"c","NotImplemented","",{}]\n[4,"d","FormationViolation","",{}]\n'
+        b'[4,"e","TypeConstraintViolation","duration",{}]\n'
+    )
+    with Serving(program, SITE, 2) as serving:
+        expect("its end", operator(serving, given=lines), (2, wanted, b""))
+        expect("without a line", operator(serving), (0, b"", b""))
+        expect("the totals", serving.totals(), (0, 1))
+
+
+def faults_of_call(program):
+    """What ends `call` before its time, in its words, and with which status."""
+    closed = b"central: url: closed by the central system, which may have no such point\n"
+    with Serving(program, SITE, 2) as serving, tempfile.NamedTemporaryFile("wb") as binary:
+        expect("no such point", operator(serving, "--ask", "1", "60", point="P2"), (3, b"", closed))
+        expect("no JSON", operator(serving, "--clear", "{id:1}"), (2, b"! clear NotACall\n", b""))
+        for path in ("none", "/", binary.name):
+            binary.write(b"\xff")
+            binary.flush()
+            expect(f"the file {path}", operator(serving, "--set-profile", path), (3, b"", b"central: device: read\n"))
+        expect("the totals", serving.totals(), (0, 0))
+    no_url = (4, b"", b"central: url: not ws://HOST:PORT/PATH\n")
+    for url in ("", "x", "http://127.0.0.1/", "wss://127.0.0.1/operator/P1"):
+        expect(f"the URL {url!r}", run(program, ["call", "--url", url, "--ask", "1", "60"]), no_url)
+    nobody = (3, b"", b"central: url: no connection\n")
+    expect("nobody", run(program, ["call", "--url", f"ws://127.0.0.1:{free_port()}/operator/P1", "--ask", "1", "60"]), nobody)
+
+
+def command_lines(program):
+    """Options that are wanting, wrong or doubled."""
+    for line in (
+        ["call"],
+        ["call", "--url", "ws://x/", "--ask", "1"],
+        ["call", "--url", "ws://x/", "--ask", "1", "x"],
+        ["call", "--url", "ws://x/", "--ask", "-1", "60"],
+        ["call", "--url", "ws://x/", "--clear"],
+        ["point", "--url", "ws://x", "--site", "s"],
+        ["point", "--url", "ws://x", "--site", "s", "--id", "a", "--id", "b"],
+    ):
+        status, out, error = run(program, line)
+        expect(f"the end of {line}", (status, out, error != b""), (4, b"", True))
+    for command, words in (("call", (b"--set-profile", b"NotACall", b"--ask")), ("point", (b"heartbeat", b"pause SECONDS", b"--id"))):
+        status, out, error = run(program, [command, "--help"])
+        expect(f"the help of {command}", (status, error, [word for word in words if word not in out]), (0, b"", []))
+
+
+def day_of_a_point(program):
+    """A point that is led by lines: what it sends and gets, its answers from its own profiles, and lines with a fault."""
+    lines = b"heartbeat\nstart 1 ann 7\n\nstop 2\nstart 3 ann 0\nhop\nstart 1 ann\npause 1\nheartbeat\n\xff\nstop 1"
+    wanted = (
+        b'sent [2,"0","Heartbeat",{}]\ngot [3,"0",{"currentTime":"NOW"}]\n'
+        b'sent [2,"1","StartTransaction",{"connectorId":1,"idTag":"ann","meterStart":7,"timestamp":"NOW"}]\n'
+        b'got [2,"0","ClearChargingProfile",{}]\nsent [3,"0",{"status":"Unknown"}]\n'
+        b'got [3,"1",{"idTagInfo":{"status":"Accepted"},"transactionId":1}]\n'
+        b"! 4 NoCall\n! 5 NoCall\n! 6 BadLine\n! 7 BadLine\n"
+        b'sent [2,"2","Heartbeat",{}]\ngot [3,"2",{"currentTime":"NOW"}]\n! 10 BadText\n'
+        b'sent [2,"3","StopTransaction",{"transactionId":1,"timestamp":"NOW","meterStop":7}]\ngot [3,"3",{}]\n'
+    )
+    with Serving(program, SITE, 2) as serving:
+        expect("its end", point(serving, lines), (2, wanted, b""))
+        expect("without a line", point(serving, b""), (0, b"", b""))
+        expect("the totals", serving.totals(), (2, 0))
+
+
+def pause_of_a_point(program):
+    """What comes in a pause is answered in it: a call behind the last reply, before the next step is made."""
+    got = b'got [2,"0","ClearChargingProfile",{}]\n'
+    answered = b'sent [3,"0",{"status":"Unknown"}]\n'
+    with Serving(program, SITE, 1) as serving:
+        status, out, error = point(serving, b"heartbeat\npause 2\nheartbeat\n")
+        expect("its end", (status, error), (0, b""))
+        reply = b'[3,"0",{"currentTime":"NOW"}]\n'
+        expect("what comes in the pause", out.partition(reply)[2].startswith(got + answered + b"sent "), True)
+        expect("the totals", serving.totals(), (0, 0))
+
+
+def faults_of_a_point(program):
+    """What ends `point` before its time."""
+    no_point = b"central: command line: no such point in the site file\n"
+    with Serving(program, SITE, 1) as serving:
+        expect("an identity that isn't the site's", point(serving, b"", "P2"), (4, b"", no_point))
+        expect("without a line", point(serving, b""), (0, b"", b""))
+        serving.totals()
+        with_site = point(serving, b"heartbeat\n")
+        expect("nobody", with_site, (3, b"", b"central: url: no connection\n"))
+    arguments = ["point", "--url", "ws://127.0.0.1:1", "--site", "none", "--id", "P1"]
+    expect("no site file", run(program, arguments), (3, b"", b"central: device: read\n"))
+
+
+def example(program):
+    """The example of a day over sockets prints what stands beside it."""
+    folder = os.path.join(TOP, "examples", "day-over-sockets")
+    port = str(free_port())
+    with open(os.path.join(folder, "stdout"), "rb") as file:
+        wanted = without_moments(file.read()).replace(b":9000\n", b":PORT\n")
+    status, out, error = run(os.path.join(folder, "run"), [program, port])
+    expect("its end", (status, error), (0, b""))
+    expect("what it prints", out.replace(f":{port}\n".encode(), b":PORT\n"), wanted)
+
+
+def tests():
+    yield "the options of call", options_of_call
+    yield "the lines of call", lines_of_call
+    yield "the faults of call", faults_of_call
+    yield "command lines", command_lines
+    yield "a point's day", day_of_a_point
+    yield "a point's pause", pause_of_a_point
+    yield "the faults of a point", faults_of_a_point
+    yield "the example", example

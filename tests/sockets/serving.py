@@ -1,0 +1,140 @@
+"""The program as it serves: on a free port, ended by its own process number."""
+import os
+import re
+import resource
+import select
+import socket
+import subprocess
+import tempfile
+import time
+
+# A build that is watched by a sanitizer (as `rt try` makes it) is told not to keep memory that was freed. Others don't look.
+ENVIRONMENT = {"ASAN_OPTIONS": "quarantine_size_mb=1:detect_stack_use_after_return=0", **os.environ}
+
+# Seconds that anything may take on a machine that is busy. A test that passes waits for none of them to run out.
+PATIENCE = 100.0
+
+
+class Unexpected(Exception):
+    """What was seen isn't what was wanted."""
+
+
+def shown(value):
+    text = repr(value)
+    return text if len(text) <= 300 else f"{text[:200]}..({len(text)} characters)"
+
+
+def expect(what, seen, wanted):
+    if seen != wanted:
+        raise Unexpected(f"{what}: seen {shown(seen)}, wanted {shown(wanted)}")
+
+
+def free_port():
+    with socket.socket() as probe:
+        probe.bind(("127.0.0.1", 0))
+        return probe.getsockname()[1]
+
+
+def limit(limits):
+    """Gives this process limits, and those that it starts."""
+    for kind, most in limits.items():
+        resource.setrlimit(kind, (most, most))
+
+
+class Serving:
+    """`PROGRAM serve` of a site for so many connections. At the end of a `with` block it doesn't run any more.
+
+    `limits` are those of `resource.setrlimit` that the program has, by their kind.
+    """
+
+    def __init__(self, program, site, sessions, workers=2, limits=None):
+        self.program = program
+        self.site = site
+        self.sessions = sessions
+        self.workers = workers
+        self.limits = limits or {}
+        self.port = None
+        self.process = None
+
+    def __enter__(self):
+        self.folder = tempfile.TemporaryDirectory()
+        path = os.path.join(self.folder.name, "site.json")
+        with open(path, "w", encoding="utf-8") as file:
+            file.write(self.site)
+        for _ in range(5):  # somebody else may take the free port meanwhile
+            self.port = free_port()
+            if self._started(path):
+                return self
+        self.folder.cleanup()
+        raise Unexpected(f"no port to listen at; last the program said {self.said}")
+
+    def __exit__(self, *_):
+        if self.process.poll() is None:
+            self.process.kill()
+        self.process.wait(PATIENCE)
+        for pipe in (self.process.stdout, self.process.stderr):
+            pipe.close()
+        self.folder.cleanup()
+
+    def _started(self, path):
+        address = f"127.0.0.1:{self.port}"
+        numbers = ["--workers", str(self.workers), "--sessions", str(self.sessions)]
+        command = [self.program, "serve", "--site", path, "--listen", address, *numbers]
+        self.process = subprocess.Popen(
+            command, stdout=subprocess.PIPE, stderr=subprocess.PIPE, env=ENVIRONMENT, preexec_fn=lambda: limit(self.limits)
+        )
+        select.select([self.process.stdout], [], [], PATIENCE)
+        line = self.process.stdout.readline() if self.process.poll() is None else b""
+        if line == f"listening {address}\n".encode():
+            return True
+        self.process.kill()
+        self.said = (line, *self.process.communicate())
+        return False
+
+    def peak_memory(self):
+        """The most kilobytes that the program has had in memory at one time."""
+        with open(f"/proc/{self.process.pid}/status", encoding="ascii") as file:
+            return int(re.search(r"VmHWM:\s*(\d+) kB", file.read()).group(1))
+
+    def threads(self):
+        """How many threads of the program live."""
+        return len(os.listdir(f"/proc/{self.process.pid}/task"))
+
+    def processor_time(self):
+        with open(f"/proc/{self.process.pid}/stat", encoding="ascii") as file:
+            return sum(map(int, file.read().rpartition(")")[2].split()[11:13]))
+
+    def until_idle(self):
+        """Waits until it does nothing: because all is done, or because it waits for a client that doesn't read."""
+        used, since = self.processor_time(), time.monotonic()
+        while time.monotonic() < since + 1:
+            time.sleep(0.05)
+            if self.processor_time() != used:
+                used, since = self.processor_time(), time.monotonic()
+
+    def fault(self):
+        """Waits until the program ends by itself. Its status, and what it printed since the first line."""
+        try:
+            out, err = self.process.communicate(timeout=PATIENCE)
+        except subprocess.TimeoutExpired:
+            raise Unexpected(f"the program still runs {PATIENCE:.0f} seconds after its last session") from None
+        return self.process.returncode, out, err
+
+    def totals(self):
+        """Waits until the program ends by itself, well. The changes and answers of its last line."""
+        status, out, err = self.fault()
+        expect("exit status", status, 0)
+        expect("standard error", err, b"")
+        found = re.fullmatch(rb"done changes (\d+) answers (\d+)\n", out)
+        if not found:
+            raise Unexpected(f"the last line: seen {out!r}, wanted 'done changes V answers W'")
+        return int(found[1]), int(found[2])
+
+
+def until(what, is_so):
+    """Waits until something is so."""
+    end = time.monotonic() + PATIENCE
+    while not is_so():
+        if time.monotonic() > end:
+            raise Unexpected(f"after {PATIENCE:.0f} seconds not yet: {what}")
+        time.sleep(0.01)

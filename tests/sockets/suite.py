@@ -1,0 +1,73 @@
+"""suite.py PROGRAM [SUBJECT..]: runs the tests of all subjects, or of some. The last line is 'N passed, M failed'."""
+import asyncio
+import inspect
+import os
+import sys
+import time
+
+import crowds
+import days
+import endings
+import handshakes
+import messages
+import node_clients
+import programs
+import reconnects
+import replays
+from node_client import NodeClient
+
+SUBJECTS = {
+    "handshakes": handshakes,
+    "messages": messages,
+    "days": days,
+    "replays": replays,
+    "reconnects": reconnects,
+    "crowds": crowds,
+    "node_clients": node_clients,
+    "endings": endings,
+    "programs": programs,
+}
+
+# No test takes a tenth of it on a machine that is busy.
+LONGEST_TEST = 240.0
+
+
+async def run_in_loop(test, program):
+    try:
+        await asyncio.wait_for(test(program), LONGEST_TEST)
+    finally:
+        await NodeClient.end_all()
+
+
+def problem_of(test, program):
+    """Runs a test. What was seen and wanted where it fails, else None."""
+    try:
+        if inspect.iscoroutinefunction(test):
+            asyncio.run(run_in_loop(test, program))
+        else:
+            test(program)
+    except Exception as fault:  # whatever ends a test is its failure
+        return f"{type(fault).__name__}: {fault}"
+    return None
+
+
+def main():
+    if len(sys.argv) < 2 or any(name not in SUBJECTS for name in sys.argv[2:]):
+        sys.exit(f"{__doc__}\nsubjects: {', '.join(SUBJECTS)}")
+    program = os.path.abspath(sys.argv[1])
+    passed = failed = 0
+    for subject in sys.argv[2:] or SUBJECTS:
+        began = time.monotonic()
+        for name, test in SUBJECTS[subject].tests():
+            problem = problem_of(test, program)
+            if problem is None:
+                passed += 1
+            else:
+                failed += 1
+                print(f"{subject}: {name}: {problem}", flush=True)
+        print(f"{subject}: {time.monotonic() - began:.1f} s", flush=True)
+    print(f"{passed} passed, {failed} failed")
+    sys.exit(1 if failed else 0)
+
+
+main()
