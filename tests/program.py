@@ -190,7 +190,7 @@ def command_line_problems(program):
         (["help"], (b"Usage", b"Exit statuses:")),
         (["replay", "--help"], replay),
         (["help", "replay"], replay),
-        (["--version"], (b"central 0.1.0\nproved with rattle-kit-13f logic dac8208d650f15bf\n",)),
+        (["--version"], (b"central 0.1.0\nproved with rattle-kit-13b logic dac8208d650f15bf\n",)),
     ):
         done = run(program, arguments, b"")
         missing = [text for text in wanted if text not in done.stdout]
@@ -278,7 +278,8 @@ def memory_problems(program, folder):
     for crate, test, in_a_row, least in (
         ("core_tests", "runs::a_step_is_made_again_where_memory_was_refused", 1, 20),
         ("core_tests", "runs::a_run_goes_on_where_memory_was_refused", 1, 2),
-        ("core_tests", "stored_histories::a_call_is_made_again_where_memory_was_refused", 1, 30),
+        # A book's call lends its step to the machine, and so copies no more of it than the machine keeps.
+        ("core_tests", "stored_histories::a_call_is_made_again_where_memory_was_refused", 1, 20),
         # From each allocation on all are refused: past its beginning the test makes none, until its last step.
         ("core_tests", "runs::a_step_without_an_event_wants_no_memory", 1_000_000, 1),
         # A chunk of the arena that is refused is asked for at half its size, and so on: all of that is refused.
