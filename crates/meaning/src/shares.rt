@@ -1,6 +1,6 @@
 //! The shares of a sum.
 
-ghost use Rattle.std.specs.Prelude.{◌≡◌, ◌↔◌, [], IsTrue};
+ghost use Rattle.std.specs.Prelude.{◌≡◌, []};
 
 use crate::cause::Share;
 use std::alloc::Global;
@@ -43,12 +43,5 @@ impl Shares {
         ensures { result.now ≡ self.now }
     {
         self.items.as_slice()
-    }
-
-    /// Whether both are equal.
-    pub fn same(&self, other: &Shares) -> bool
-        ensures { IsTrue result ↔ (self.now ≡ other.now) }
-    {
-        self.as_slice() == other.as_slice()
     }
 }
