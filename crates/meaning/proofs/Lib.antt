@@ -2,5 +2,6 @@ pub mod AskCauses
 pub mod AskLemmas
 pub mod Sums
 pub mod GreatestLemmas
+pub mod Bounds
 pub mod Compiling
 pub mod WorkedExamples

@@ -1,0 +1,25 @@
+-- Rows that prevail, the bounds that they are, and what the least of some bounds is.
+use Rattle.std.proofs.Common.{◌≡◌, ℕ, ◌<◌, ◌≤◌, Bool, true, false, Option, Some, None, option_map, cond, min, nat_lt, refl, ap, sym, ◌∙◌, arith}
+use Rattle.std.proofs.lemmas.Bool.Decides.{nat_tests}
+use Rattle.meaning.specs.declared.bound.Bound.{Bound}
+use Rattle.meaning.specs.declared.bound.ProfileLimit.{ProfileLimit}
+use Rattle.meaning.specs.Cause.{RowLimit, level_of, lesser, lesser_of}
+use Rattle.meaning.specs.ByCases.Cause.{told, level_told, lesser_told}
+use Rattle.meaning.specs.Theory.Greatest.{greatest_of}
+
+-- the higher of two rows, as it is told
+pub higher_told : (best next : Option RowLimit)
+    → greatest_of level_told (option_map told best) (option_map told next) ≡ option_map told (greatest_of level_of best next)
+higher_told None None = refl
+higher_told None (Some next) = refl
+higher_told (Some best) None = refl
+higher_told (Some best) (Some next) = go (nat_lt (level_of best) (level_of next))
+  where
+    go : (b : Bool) → Some (cond b (told next) (told best)) ≡ option_map told (Some (cond b next best))
+    go true = refl
+    go false = refl
+
+-- the lesser of a row and a bound, as the row is told
+pub lesser_is : (best : Option RowLimit) (other : Bound) → lesser_told (option_map told best) other ≡ lesser_of best other
+lesser_is None other = refl
+lesser_is (Some best) other = refl
