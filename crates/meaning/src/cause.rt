@@ -1,5 +1,7 @@
 //! Why a limit is what it is, and why a profile has no part in it.
 
+ghost use Rattle.std.specs.Prelude.{◌≡◌, ◌↔◌, IsTrue};
+
 use crate::shares::Shares;
 use profile::Purpose;
 
@@ -47,6 +49,15 @@ pub struct Reason {
     pub cause: Cause,
     /// Where the cause is the sum, what each active connector has in it; else none.
     pub shares: Shares,
+}
+
+impl Reason {
+    /// Whether two reasons are equal.
+    pub fn same(&self, other: &Reason) -> bool
+        ensures { IsTrue result ↔ (self.now ≡ other.now) }
+    {
+        self.limit == other.limit && self.cause == other.cause && self.shares.same(&other.shares)
+    }
 }
 
 /// Why a profile that a point has doesn't prevail for a connector at an instant. Of several reasons the first in

@@ -1,6 +1,6 @@
 //! The shares of a sum.
 
-ghost use Rattle.std.specs.Prelude.{◌≡◌, []};
+ghost use Rattle.std.specs.Prelude.{◌≡◌, ◌↔◌, IsTrue, []};
 
 use crate::cause::Share;
 use std::alloc::Global;
@@ -44,4 +44,25 @@ impl Shares {
     {
         self.items.as_slice()
     }
+
+    /// Whether two lists of shares are equal.
+    pub fn same(&self, other: &Shares) -> bool
+        ensures { IsTrue result ↔ (self.now ≡ other.now) }
+    {
+        same_shares(self.as_slice(), other.as_slice())
+    }
+}
+
+fn same_shares(shares: &[Share], others: &[Share]) -> bool
+    ensures { IsTrue result ↔ (shares.now ≡ others.now) }
+{
+    if shares.len() != others.len() {
+        return false;
+    }
+    for place in 0..shares.len() {
+        if shares[place] != others[place] {
+            return false;
+        }
+    }
+    true
 }
