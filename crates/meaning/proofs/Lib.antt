@@ -3,5 +3,6 @@ pub mod AskLemmas
 pub mod Sums
 pub mod GreatestLemmas
 pub mod Bounds
+pub mod Causes
 pub mod Compiling
 pub mod WorkedExamples

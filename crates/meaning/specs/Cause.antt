@@ -7,7 +7,6 @@ use Rattle.profile.specs.declared.row.Row.{Row}
 use Rattle.profile.specs.Greatest.{greatest}
 use Rattle.profile.specs.ChargingProfile.{rate}
 use Rattle.profile.specs.Row.{base}
-use Rattle.meaning.specs.declared.bound.Bound.{Bound}
 use Rattle.meaning.specs.declared.cause.PrevailingProfile.{PrevailingProfile}
 use Rattle.meaning.specs.declared.cause.Cause.{Cause}
 use Rattle.meaning.specs.declared.cause.Cause.TheVariants.{Profile, ConnectorCeiling, PointCeiling, Sum}
@@ -60,6 +59,10 @@ profile_of row = record {
 }
 
 -- a limit, with what sets it
+pub record Bound : Type 0 where
+  pub limit : ℕ
+  pub cause : Cause
+
 abbrev pub bound_of : Cause → ℕ → Bound
 bound_of cause limit = record { limit = limit; cause = cause }
 

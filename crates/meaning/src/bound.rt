@@ -7,12 +7,21 @@ ghost use Rattle.meaning.specs.Cause.{lesser};
 ghost use Rattle.meaning.specs.ByCases.Cause.{level_told, lesser_told};
 
 use crate::cause::{Cause, PrevailingProfile};
+use std::marker::Model;
 
 /// A limit in tenths, with what sets it.
-#[derive(Clone, Copy)]
+#[derive(Drop)]
 pub(crate) struct Bound {
     pub limit: u32,
     pub cause: Cause,
+}
+
+impl Model for Bound {
+    ghost use Rattle.meaning.specs.Cause.{Bound};
+
+    ghost Value = { Bound };
+
+    ghost view = { λ b. record { limit = b.limit; cause = b.cause } };
 }
 
 impl Bound {

@@ -1,11 +1,10 @@
 -- Of private clauses: a prevailing row as it is told.
 use Rattle.std.specs.Prelude.{ℕ, Option, Some, None, option_map}
 use Rattle.profile.specs.declared.purpose.Purpose.{Purpose}
-use Rattle.meaning.specs.declared.bound.Bound.{Bound}
 use Rattle.meaning.specs.declared.bound.ProfileLimit.{ProfileLimit}
 use Rattle.meaning.specs.declared.cause.Cause.TheVariants.{Profile}
 use Rattle.meaning.specs.View.{PointState}
-use Rattle.meaning.specs.Cause.{RowLimit, profile_of, bound_of, lesser, prevailing_row, transaction_row}
+use Rattle.meaning.specs.Cause.{RowLimit, Bound, profile_of, bound_of, lesser, prevailing_row, transaction_row}
 
 abbrev pub told : RowLimit → ProfileLimit
 told best = record { profile = profile_of best.row; limit = best.limit }

@@ -9,12 +9,11 @@ use Rattle.profile.specs.declared.row.Row.{Row}
 use Rattle.profile.specs.ChargingProfile.{rate}
 use Rattle.profile.specs.Greatest.{greater, greatest}
 use Rattle.profile.specs.Row.{base}
-use Rattle.meaning.specs.declared.bound.Bound.{Bound}
 use Rattle.meaning.specs.declared.cause.Cause.TheVariants.{PointCeiling, ConnectorCeiling, Sum}
 use Rattle.meaning.specs.View.{PointState, active_since, ceiling_of}
 use Rattle.meaning.specs.Prevailing.{counted, level_and_limit, prevailing}
 use Rattle.meaning.specs.Limit.{or_else, at_most, own_limit, point_limit, shared_limit, limit, limit_by}
-use Rattle.meaning.specs.Cause.{RowLimit, with_limit, row_limit, level_of, prevailing_row, row_or_else, transaction_row, bound_of, lesser, lesser_of, own_bound, below_point, bound_by, bound, reason}
+use Rattle.meaning.specs.Cause.{RowLimit, Bound, with_limit, row_limit, level_of, prevailing_row, row_or_else, transaction_row, bound_of, lesser, lesser_of, own_bound, below_point, bound_by, bound, reason}
 
 abbrev limit_of : RowLimit → ℕ
 limit_of best = best.limit

@@ -1,9 +1,9 @@
 -- That one connector more adds its own limit where it is active.
 use Rattle.std.proofs.Common.{◌≡◌, ℕ, ◌+◌, min, ◌∙◌, sym, ap, cond, Bool, filter, is_some, arith, rules}
 use Rattle.std.specs.List.{range_with_len, sum_by}
-use Rattle.meaning.specs.declared.bound.Bound.{Bound}
 use Rattle.meaning.specs.View.{point_state, active_since}
 use Rattle.meaning.specs.Limit.{own_limit}
+use Rattle.meaning.specs.Cause.{Bound}
 use Rattle.meaning.specs.Theory.Reasons.{own_is}
 use Rattle.meaning.proofs.Sums.{sum_passing_more, min_more}
 use Rattle.meaning.proofs.view.View.shared_limit_up_to.Goals as goal
@@ -21,7 +21,7 @@ loop-index-preserved c =
     elim c.if-is_some.branch [
       | then-is_some w ↦
           let here = ap (λ (b : Bool). cond b (before + give next) before) (active ∙ w.if-is_some.true) in
-          let own : w.from.result ≡ give next = w.from.ensures ∙ (ap (λ (b : Bound). b.limit) w.own_bound-own.ensures ∙ own_is state next c.args.asked c.args.instant) in
+          let own : w.from.result ≡ give next = w.from.ensures ∙ (ap (λ (b : Bound). b.limit) (w.own.view_is ∙ w.own_bound-own.ensures) ∙ own_is state next c.args.asked c.args.instant) in
           w.sum-is ∙ (w.min-sum.ensures ∙ (ap (λ (n : ℕ). min c.args.most (c.loop-index.sum + n)) own ∙ (min_more c.args.most c.loop-index.sum before (give next) c.loop-index.invariant ∙ ap (min c.args.most) (sym (more ∙ here)))))
       | else-is_some w ↦
           let here = ap (λ (b : Bool). cond b (before + give next) before) (active ∙ w.if-is_some.false) in
