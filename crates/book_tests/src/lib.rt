@@ -10,6 +10,10 @@ pub use fixtures::{
 };
 
 #[cfg(test)]
+mod books_in_words;
+#[cfg(test)]
+mod explained_limits;
+#[cfg(test)]
 mod limits_of_a_profile;
 #[cfg(test)]
 mod point_books;

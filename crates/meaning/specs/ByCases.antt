@@ -1,3 +1,4 @@
 pub mod Exact
 pub mod Ask
 pub mod PlainCompiler
+pub mod Cause

@@ -2,6 +2,8 @@ pub mod Limits
 pub mod View
 pub mod Prevailing
 pub mod Limit
+pub mod Cause
+pub mod WhyNot
 pub mod Composite
 pub mod Exact
 pub mod Compiled

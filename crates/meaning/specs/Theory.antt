@@ -4,3 +4,4 @@ pub mod Greatest
 pub mod ExactPeriods
 pub mod ExactAnswers
 pub mod PlainCompiler
+pub mod Reasons

@@ -102,7 +102,7 @@ limits_are state connector asked instant most looked h =
     ∙ map_sum (own_limit_seen instant) (connector_seen state asked) (λ looked. own_limit state looked asked instant) (own_seen state asked instant) (looked_at state connector))
     ∙ limit_seen_by (connector == 0) state connector asked instant))
 
-places_are : (state : PointState) (connector asked instant : ℕ) (most : List SeenRow) (looked : List SeenConnector) → AreGathered state connector asked most looked
+pub places_are : (state : PointState) (connector asked instant : ℕ) (most : List SeenRow) (looked : List SeenConnector) → AreGathered state connector asked most looked
     → (list_any (is_place_seen instant) most || list_any (is_place_looked instant) looked) ≡ is_place_asked state connector asked instant
 places_are state connector asked instant most looked h =
     ap (λ (b : Bool). b || list_any (is_place_looked instant) looked) (ap (list_any (is_place_seen instant)) h.for_point ∙ any_seen ChargePointMaxProfile state 0 asked instant)

@@ -76,10 +76,10 @@ change_both make place place' value value' instant (Some next) (Some other) h h'
 
 -- ---- over a list, one element after the other
 
-take_one : {X : Type 0} (i next : ℕ) (xs : List X) (x : X) → next ≡ i + 1 → i < length xs → x ≡ get_or xs i x → take next xs ≡ take i xs ++ x ∷ []
+pub take_one : {X : Type 0} (i next : ℕ) (xs : List X) (x : X) → next ≡ i + 1 → i < length xs → x ≡ get_or xs i x → take next xs ≡ take i xs ++ x ∷ []
 take_one {X = X} i next xs x e below is = ap (λ (n : ℕ). take n xs) e ∙ (take_more xs i x below ∙ ap (λ (y : X). take i xs ++ y ∷ []) (sym is))
 
-any_push : {X : Type 0} (test : X → Bool) (xs : List X) (x : X) → (list_any test xs || test x) ≡ list_any test (xs ++ x ∷ [])
+pub any_push : {X : Type 0} (test : X → Bool) (xs : List X) (x : X) → (list_any test xs || test x) ≡ list_any test (xs ++ x ∷ [])
 any_push test xs x = sym (list_any-append test xs (x ∷ []) ∙ ap (λ b. list_any test xs || b) (or-false (test x)))
 
 -- the first of rows that has a limit is that of some of them, or else of the others

@@ -69,7 +69,7 @@ abbrev pub spent : (ℕ → Bool) → ℕ → ℕ
 spent place zero = 0
 spent place (suc n) = 1 + count_by place (range_with_len 1 n)
 
-count_more : (place : ℕ → Bool) (n : ℕ) → count_by place (range_with_len 1 (n + 1)) ≡ count_by place (range_with_len 1 n) + cond (place (suc n)) 1 0
+pub count_more : (place : ℕ → Bool) (n : ℕ) → count_by place (range_with_len 1 (n + 1)) ≡ count_by place (range_with_len 1 n) + cond (place (suc n)) 1 0
 count_more place n =
     ap (count_by place) (range_more 1 n (suc n) (omega arith)) ∙ sum_by_push (λ (x : ℕ). cond (place x) 1 0) (range_with_len 1 n) (suc n)
 
@@ -80,7 +80,7 @@ count_grow place n (suc more) =
     let so_far = count_grow place n more in
     rw (e, count_more place (n + more)) (omega arith)
 
-count_upto : (place : ℕ → Bool) (n m : ℕ) → n ≤ m → count_by place (range_with_len 1 n) ≤ count_by place (range_with_len 1 m)
+pub count_upto : (place : ℕ → Bool) (n m : ℕ) → n ≤ m → count_by place (range_with_len 1 n) ≤ count_by place (range_with_len 1 m)
 count_upto place n m h =
     let e : n + (m - n) ≡ m = omega arith in
     rw e at (count_grow place n (m - n))

@@ -1,21 +1,22 @@
 //! The limit that is asked.
 
-ghost use Rattle.std.specs.Prelude.{◌≡◌, ◌≤◌, length, min, IfOk};
+ghost use Rattle.std.specs.Prelude.{◌≡◌, ◌<◌, ◌≤◌, ◌^◌, length, min, IfOk};
 ghost use Rattle.std.specs.List.{sum_by};
 ghost use Rattle.meaning.specs.View.{point_state};
 ghost use Rattle.meaning.specs.Limit.{limit};
+ghost use Rattle.meaning.specs.Cause.{reason};
 ghost use Rattle.sweep_compiler.specs.ByCases.Seen.{largest_limit, own_limit_seen};
-ghost use Rattle.sweep_compiler.specs.ByCases.NextPlace.{IsNextAsked, IsNextOfAll};
+ghost use Rattle.sweep_compiler.specs.ByCases.NextPlace.{IsNextAsked, IsNextOfAll, IsNextOfAllRows, IsNextReason};
 
-use crate::falling::{first_limit, next_after};
+use crate::falling::{first_limit, next_after, next_of_each};
 use crate::gatherer::Gatherer;
 use crate::looked::{Looked, at_most};
 use crate::seen::Seen;
-use meaning::View;
+use meaning::{Reason, View, reason_at};
 use ocpp_scalars::Instant;
 use profile::Purpose;
 use recurrence::sooner;
-use std::alloc::AllocError;
+use std::alloc::{AllocError, Global};
 use std::marker::Model;
 
 /// The limit of a connector, 0 being the whole point, in a schedule asked from an instant on: the
@@ -89,6 +90,25 @@ impl<'a> AskedLimit<'a> {
         let most = next_after(self.most.as_mut_slice(), instant);
         sooner(most, next_of_all(self.looked.as_mut_slice(), instant))
     }
+
+    /// The limit at an instant with what sets it.
+    pub(crate) fn reason_at(&self, alloc: Global, instant: Instant) -> Result<Reason, AllocError>
+        requires has_connector { self.now.connector ≤ length self.now.state.ceilings }
+        requires numbered { length self.now.state.ceilings < 2 ^ 32 }
+        ensures { IfOk result (λ found.
+            found ≡ reason self.now.state self.now.connector self.now.asked instant) }
+    {
+        reason_at(alloc, &self.view, self.connector, self.asked, instant)
+    }
+
+    /// The next place of any of its rows after an instant, up to which its reason stays.
+    pub(crate) fn next_of_each(&mut self, instant: Instant) -> Option<Instant>
+        ensures same { self.new ≡ self.old }
+        ensures next { IsNextReason self.old instant result }
+    {
+        let most = next_of_each(self.most.as_mut_slice(), instant);
+        sooner(most, next_of_all_rows(self.looked.as_mut_slice(), instant))
+    }
 }
 
 /// What connectors may draw together at an instant, or the most that there is where that is less.
@@ -110,6 +130,18 @@ fn next_of_all(looked: &mut [Looked<'_>], instant: Instant) -> Option<Instant>
     let mut soonest = None;
     for place in 0..looked.len() {
         soonest = sooner(soonest, looked[place].next_after(instant));
+    }
+    soonest
+}
+
+/// The next place of any row of some connectors after an instant.
+fn next_of_all_rows(looked: &mut [Looked<'_>], instant: Instant) -> Option<Instant>
+    ensures same { looked.new ≡ looked.old }
+    ensures next { IsNextOfAllRows looked.old instant result }
+{
+    let mut soonest = None;
+    for place in 0..looked.len() {
+        soonest = sooner(soonest, looked[place].next_of_each(instant));
     }
     soonest
 }

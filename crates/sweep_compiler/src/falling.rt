@@ -2,7 +2,7 @@
 
 ghost use Rattle.std.specs.Prelude.{◌≡◌, IfOk};
 ghost use Rattle.sweep_compiler.specs.ByCases.Seen.{first_limit, inserted, place_of};
-ghost use Rattle.sweep_compiler.specs.ByCases.NextPlace.{IsNextOfFirst};
+ghost use Rattle.sweep_compiler.specs.ByCases.NextPlace.{IsNextOfEach, IsNextOfFirst};
 
 use crate::seen::Seen;
 use ocpp_scalars::Instant;
@@ -34,6 +34,18 @@ pub(crate) fn next_after(rows: &mut [Seen<'_>], instant: Instant) -> Option<Inst
         if rows[place].limit(instant).is_some() {
             return soonest;
         }
+    }
+    soonest
+}
+
+/// The next place of any of the rows after an instant: up to there each keeps the limit that it has.
+pub(crate) fn next_of_each(rows: &mut [Seen<'_>], instant: Instant) -> Option<Instant>
+    ensures same { rows.new ≡ rows.old }
+    ensures next { IsNextOfEach rows.old instant result }
+{
+    let mut soonest = None;
+    for place in 0..rows.len() {
+        soonest = sooner(soonest, rows[place].next_after(instant));
     }
     soonest
 }

@@ -3,9 +3,9 @@
 ghost use Rattle.std.specs.Prelude.{◌≡◌};
 ghost use Rattle.meaning.specs.Limit.{at_most};
 ghost use Rattle.sweep_compiler.specs.ByCases.Seen.{own_limit_seen};
-ghost use Rattle.sweep_compiler.specs.ByCases.NextPlace.{IsNextLooked};
+ghost use Rattle.sweep_compiler.specs.ByCases.NextPlace.{IsNextLooked, IsNextOfEachLooked};
 
-use crate::falling::{first_limit, next_after};
+use crate::falling::{first_limit, next_after, next_of_each};
 use crate::seen::Seen;
 use ocpp_scalars::Instant;
 use recurrence::sooner;
@@ -67,6 +67,16 @@ impl<'a> Looked<'a> {
     {
         let own = next_after(self.own.as_mut_slice(), instant);
         let default = next_after(self.default.as_mut_slice(), instant);
+        sooner(own, default)
+    }
+
+    /// The next place of any of its rows after an instant.
+    pub(crate) fn next_of_each(&mut self, instant: Instant) -> Option<Instant>
+        ensures same { self.new ≡ self.old }
+        ensures next { IsNextOfEachLooked self.old instant result }
+    {
+        let own = next_of_each(self.own.as_mut_slice(), instant);
+        let default = next_of_each(self.default.as_mut_slice(), instant);
         sooner(own, default)
     }
 }

@@ -1,14 +1,17 @@
 //! How often a limit was evaluated.
 
-ghost use Rattle.std.specs.Prelude.{◌≡◌, ℕ, ◌+◌, ◌<◌, ◌^◌};
+ghost use Rattle.std.specs.Prelude.{◌≡◌, ℕ, ◌+◌, ◌<◌, ◌≤◌, ◌^◌, length, IfOk};
 ghost use Rattle.meaning.specs.Limit.{limit};
+ghost use Rattle.meaning.specs.Cause.{reason};
 
 use crate::asked::AskedLimit;
+use meaning::Reason;
 use ocpp_scalars::Instant;
+use std::alloc::{AllocError, Global};
 use std::marker::Model;
 
-/// How often a limit was evaluated: each call of `limit_at` is a turn. Only the call itself
-/// counts one.
+/// How often a limit was evaluated: each call of `limit_at` or `reason_at` is a turn. Only the call
+/// itself counts one.
 #[derive(Debug, Drop)]
 pub struct Turns {
     count: u64,
@@ -46,5 +49,23 @@ impl Turns {
     {
         self.count += 1;
         asked.at(instant)
+    }
+
+    /// The limit that is asked with what sets it, at an instant, which is one turn.
+    pub(crate) fn reason_at(
+        &mut self,
+        alloc: Global,
+        asked: &AskedLimit<'_>,
+        instant: Instant,
+    ) -> Result<Reason, AllocError>
+        requires room { self.old + 1 < 2 ^ 64 }
+        requires has_connector { asked.now.connector ≤ length asked.now.state.ceilings }
+        requires numbered { length asked.now.state.ceilings < 2 ^ 32 }
+        ensures reason { IfOk result (λ found.
+            found ≡ reason asked.now.state asked.now.connector asked.now.asked instant) }
+        ensures turn { self.new ≡ self.old + 1 }
+    {
+        self.count += 1;
+        asked.reason_at(alloc, instant)
     }
 }

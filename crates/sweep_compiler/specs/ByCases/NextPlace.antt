@@ -3,9 +3,10 @@
 use Rattle.std.specs.Prelude.{◌≡◌, ℕ, nat_le, nat_lt, Bool, ◌&&◌, List, Option, Some, None}
 use Rattle.std.specs.List.{list_any, sum_by}
 use Rattle.meaning.specs.Limit.{limit}
+use Rattle.meaning.specs.Cause.{reason}
 use Rattle.sweep_compiler.specs.Places.{is_place_asked}
 use Rattle.sweep_compiler.specs.ByCases.NextChange.{IsNextChange}
-use Rattle.sweep_compiler.specs.ByCases.Seen.{SeenRow, SeenConnector, LimitAsked, limit_seen, is_place_seen, first_limit, own_limit_seen, is_place_looked}
+use Rattle.sweep_compiler.specs.ByCases.Seen.{SeenRow, SeenConnector, LimitAsked, limit_seen, is_place_seen, first_limit, own_limit_seen, is_place_looked, any_changed, any_changed_looked}
 
 -- of a row
 abbrev pub IsNextSeen : SeenRow → ℕ → Option ℕ → Type 0
@@ -38,3 +39,21 @@ IsNextOfAll looked instant next =
 abbrev pub IsNextAsked : LimitAsked → ℕ → Option ℕ → Type 0
 IsNextAsked of instant next =
     IsNextChange (is_place_asked of.state of.connector of.asked) (limit of.state of.connector of.asked) instant next
+
+-- of each of the rows
+abbrev pub IsNextOfEach : List SeenRow → ℕ → Option ℕ → Type 0
+IsNextOfEach rows instant next = IsNextChange (λ k. list_any (is_place_seen k) rows) (λ k. any_changed instant k rows) instant next
+
+-- of each of a connector's rows
+abbrev pub IsNextOfEachLooked : SeenConnector → ℕ → Option ℕ → Type 0
+IsNextOfEachLooked seen instant next = IsNextChange (λ k. is_place_looked k seen) (λ k. any_changed_looked instant k seen) instant next
+
+-- of each row of some connectors
+abbrev pub IsNextOfAllRows : List SeenConnector → ℕ → Option ℕ → Type 0
+IsNextOfAllRows looked instant next =
+    IsNextChange (λ k. list_any (is_place_looked k) looked) (λ k. list_any (any_changed_looked instant k) looked) instant next
+
+-- of what sets the limit that is asked
+abbrev pub IsNextReason : LimitAsked → ℕ → Option ℕ → Type 0
+IsNextReason of instant next =
+    IsNextChange (is_place_asked of.state of.connector of.asked) (reason of.state of.connector of.asked) instant next

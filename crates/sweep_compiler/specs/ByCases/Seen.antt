@@ -1,5 +1,5 @@
 -- Of private clauses: the rows that count for an ask, as a sweep goes through them again and again.
-use Rattle.std.specs.Prelude.{◌≡◌, ℕ, nat_lt, zero, suc, Bool, ◌||◌, List, [], ◌∷◌, map, Option, None, if◌then◌else◌}
+use Rattle.std.specs.Prelude.{◌≡◌, ℕ, ◌==◌, nat_lt, zero, suc, Bool, true, false, not, ◌||◌, List, [], ◌∷◌, map, Option, Some, None, if◌then◌else◌}
 use Rattle.std.specs.List.{fold, list_any}
 use Rattle.profile.specs.declared.purpose.Purpose.{Purpose}
 use Rattle.profile.specs.declared.purpose.Purpose.TheVariants.{ChargePointMaxProfile, TxDefaultProfile, TxProfile}
@@ -88,3 +88,21 @@ pub record LimitAsked : Type 0 where
 pub record AreGathered (state : PointState) (connector asked : ℕ) (most : List SeenRow) (looked : List SeenConnector) : Type 0 where
   pub for_point : most ≡ rows_seen ChargePointMaxProfile state 0 asked
   pub for_connectors : looked ≡ connectors_seen state connector asked
+
+-- whether two limits differ, each where it is there
+abbrev pub limits_differ : Option ℕ → Option ℕ → Bool
+limits_differ None None = false
+limits_differ None (Some limit) = true
+limits_differ (Some limit) None = true
+limits_differ (Some limit) (Some other) = not (limit == other)
+
+-- whether a row's limit at an instant isn't what it was at another
+abbrev pub has_changed : ℕ → ℕ → SeenRow → Bool
+has_changed before instant seen = limits_differ (limit_seen before seen) (limit_seen instant seen)
+
+-- whether that of any of some rows isn't
+abbrev pub any_changed : ℕ → ℕ → List SeenRow → Bool
+any_changed before instant rows = list_any (has_changed before instant) rows
+
+abbrev pub any_changed_looked : ℕ → ℕ → SeenConnector → Bool
+any_changed_looked before instant seen = any_changed before instant seen.own || any_changed before instant seen.default

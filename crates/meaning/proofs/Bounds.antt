@@ -1,0 +1,42 @@
+-- Rows that prevail, the bounds that they are, and what the least of some bounds is.
+use Rattle.std.proofs.Common.{◌≡◌, ℕ, Bool, true, false, List, [], ◌∷◌, ◌++◌, filter, map, Option, Some, None, option_map, cond, nat_lt, refl, ap, ◌∙◌}
+use Rattle.std.proofs.lemmas.List.{append-nil, map-append}
+use Rattle.std.proofs.lemmas.List.Elements.{filter-append}
+use Rattle.meaning.specs.declared.bound.ProfileLimit.{ProfileLimit}
+use Rattle.meaning.specs.declared.cause.Share.{Share}
+use Rattle.meaning.specs.Cause.{RowLimit, Bound, level_of, lesser_of}
+use Rattle.meaning.specs.ByCases.Cause.{told, level_told, lesser_told}
+use Rattle.meaning.specs.Theory.Greatest.{greatest_of}
+
+-- the higher of two rows, as it is told
+pub higher_told : (best next : Option RowLimit)
+    → greatest_of level_told (option_map told best) (option_map told next) ≡ option_map told (greatest_of level_of best next)
+higher_told None None = refl
+higher_told None (Some next) = refl
+higher_told (Some best) None = refl
+higher_told (Some best) (Some next) = go (nat_lt (level_of best) (level_of next))
+  where
+    go : (b : Bool) → Some (cond b (told next) (told best)) ≡ option_map told (Some (cond b next best))
+    go true = refl
+    go false = refl
+
+-- the lesser of a row and a bound, as the row is told
+pub lesser_is : (best : Option RowLimit) (other : Bound) → lesser_told (option_map told best) other ≡ lesser_of best other
+lesser_is None other = refl
+lesser_is (Some best) other = refl
+
+-- a share, by what sets it
+abbrev pub share_by : ℕ → Bound → Share
+share_by connector bound = record { connector = connector; limit = bound.limit; cause = bound.cause }
+
+pub passed_more : {X Y : Type 0} (give : X → Y) (test : X → Bool) (xs ys : List X) (x : X) → ys ≡ xs ++ x ∷ [] → test x ≡ true
+    → map give (filter test ys) ≡ map give (filter test xs) ++ give x ∷ []
+passed_more give test xs ys x e passes =
+    ap (λ zs. map give (filter test zs)) e
+    ∙ (ap (map give) (filter-append test xs (x ∷ []) ∙ ap (λ b. filter test xs ++ cond b (x ∷ []) []) passes) ∙ map-append give (filter test xs) (x ∷ []))
+
+pub passed_skip : {X Y : Type 0} (give : X → Y) (test : X → Bool) (xs ys : List X) (x : X) → ys ≡ xs ++ x ∷ [] → test x ≡ false
+    → map give (filter test ys) ≡ map give (filter test xs)
+passed_skip give test xs ys x e fails =
+    ap (λ zs. map give (filter test zs)) e
+    ∙ ap (map give) (filter-append test xs (x ∷ []) ∙ (ap (λ b. filter test xs ++ cond b (x ∷ []) []) fails ∙ append-nil (filter test xs)))

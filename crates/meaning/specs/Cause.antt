@@ -1,0 +1,159 @@
+-- What sets the limit of a connector at an instant (OCPP 1.6, 3.13).
+use Rattle.std.specs.Prelude.{◌≡◌, ℕ, ◌+◌, ◌<◌, ◌==◌, nat_lt, Bool, true, false, List, [], ◌∷◌, ◌++◌, map, Option, Some, None, option_map, if◌then◌else◌}
+use Rattle.std.specs.List.{filter_map}
+use Rattle.profile.specs.declared.purpose.Purpose.{Purpose}
+use Rattle.profile.specs.declared.purpose.Purpose.TheVariants.{ChargePointMaxProfile, TxDefaultProfile, TxProfile}
+use Rattle.profile.specs.declared.row.Row.{Row}
+use Rattle.profile.specs.Greatest.{greatest}
+use Rattle.profile.specs.ChargingProfile.{rate}
+use Rattle.profile.specs.Row.{base}
+use Rattle.meaning.specs.declared.cause.PrevailingProfile.{PrevailingProfile}
+use Rattle.meaning.specs.declared.cause.Cause.{Cause}
+use Rattle.meaning.specs.declared.cause.Cause.TheVariants.{Profile, ConnectorCeiling, PointCeiling, Sum}
+use Rattle.meaning.specs.declared.cause.Share.{Share}
+use Rattle.meaning.specs.declared.cause.Reason.{Reason}
+use Rattle.meaning.specs.View.{PointState, active_since, ceiling_of}
+use Rattle.meaning.specs.Prevailing.{counted}
+use Rattle.meaning.specs.Limit.{active_connectors, shared_limit}
+
+-- a row, and the limit that it has at an instant
+pub record RowLimit : Type 0 where
+  pub row : Row
+  pub limit : ℕ
+
+abbrev pub with_limit : Row → ℕ → RowLimit
+with_limit row limit = record { row = row; limit = limit }
+
+-- a row with its limit for a connector at an instant, where it has one
+abbrev pub row_limit : PointState → ℕ → ℕ → ℕ → Row → Option RowLimit
+row_limit state connector asked instant row =
+    option_map (with_limit row) (rate row.profile (base row (active_since state connector) asked) instant)
+
+abbrev pub level_of : RowLimit → ℕ
+level_of best = best.row.profile.stack_level
+
+-- Of the profiles of one purpose the row with the highest stack level prevails, among those that have a limit
+-- at the instant (OCPP 1.6, 3.13), and its limit is `prevailing`, by the law `reasons`.
+abbrev pub prevailing_row : Purpose → PointState → ℕ → ℕ → ℕ → Option RowLimit
+prevailing_row purpose state connector asked instant =
+    greatest level_of (filter_map (row_limit state connector asked instant) (counted purpose state connector))
+
+abbrev pub row_or_else : Option RowLimit → Option RowLimit → Option RowLimit
+row_or_else None other = other
+row_or_else (Some first) other = Some first
+
+-- the prevailing TxProfile, or else the prevailing TxDefaultProfile (OCPP 1.6, 3.13)
+abbrev pub transaction_row : PointState → ℕ → ℕ → ℕ → Option RowLimit
+transaction_row state connector asked instant =
+    row_or_else
+    (prevailing_row TxProfile state connector asked instant)
+    (prevailing_row TxDefaultProfile state connector asked instant)
+
+-- a profile, by what it is told by
+abbrev pub profile_of : Row → PrevailingProfile
+profile_of row = record {
+  id = row.profile.id;
+  purpose = row.profile.purpose;
+  stack_level = row.profile.stack_level;
+  connector = row.connector;
+}
+
+-- a limit, with what sets it
+pub record Bound : Type 0 where
+  pub limit : ℕ
+  pub cause : Cause
+
+abbrev pub bound_of : Cause → ℕ → Bound
+bound_of cause limit = record { limit = limit; cause = cause }
+
+-- of two bounds the lesser, and the first of equals
+abbrev pub lesser : Bound → Bound → Bound
+lesser first second = if nat_lt second.limit first.limit then second else first
+
+-- the same of a row that prevails, where one does, and a bound
+abbrev pub lesser_of : Option RowLimit → Bound → Bound
+lesser_of None other = other
+lesser_of (Some best) other = lesser (bound_of (Profile (profile_of best.row)) best.limit) other
+
+-- what sets a connector's own limit: its transaction's profile, else its ceiling
+abbrev pub own_bound : PointState → ℕ → ℕ → ℕ → Bound
+own_bound state connector asked instant =
+    lesser_of
+    (transaction_row state connector asked instant)
+    (bound_of ConnectorCeiling (ceiling_of state connector))
+
+-- the same below the point's: the ChargePointMaxProfile comes first, the point's ceiling last
+abbrev pub below_point : PointState → ℕ → ℕ → Bound → Bound
+below_point state asked instant bound =
+    lesser_of
+    (prevailing_row ChargePointMaxProfile state 0 asked instant)
+    (lesser bound (bound_of PointCeiling state.ceiling))
+
+abbrev pub bound_by : Bool → PointState → ℕ → ℕ → ℕ → Bound
+bound_by true state connector asked instant =
+    below_point state asked instant (bound_of Sum (shared_limit state asked instant))
+bound_by false state connector asked instant =
+    below_point state asked instant (own_bound state connector asked instant)
+
+-- What sets the limit of a connector: what has the least limit, and of equals the first in this order: the
+-- prevailing ChargePointMaxProfile; the prevailing TxProfile, or else TxDefaultProfile, and the connector's
+-- ceiling, or at connector 0 the sum; the point's ceiling (the order is this system's choice).
+abbrev pub bound : PointState → ℕ → ℕ → ℕ → Bound
+bound state connector asked instant = bound_by (connector == 0) state connector asked instant
+
+-- what an active connector has in the sum
+abbrev pub share : PointState → ℕ → ℕ → ℕ → Share
+share state asked instant connector = record {
+  connector = connector;
+  limit = (own_bound state connector asked instant).limit;
+  cause = (own_bound state connector asked instant).cause;
+}
+
+-- the shares of the active connectors, by rising connector, where the cause is the sum
+abbrev pub shares_by : Cause → PointState → ℕ → ℕ → List Share
+shares_by Sum state asked instant = map (share state asked instant) (active_connectors state)
+shares_by other state asked instant = []
+
+abbrev pub reason_by : PointState → ℕ → ℕ → Bound → Reason
+reason_by state asked instant bound = record {
+  limit = bound.limit;
+  cause = bound.cause;
+  shares = shares_by bound.cause state asked instant;
+}
+
+-- The limit of a connector at an instant, in a schedule asked from `asked` on, with what sets it.
+abbrev pub reason : PointState → ℕ → ℕ → ℕ → Reason
+reason state connector asked instant =
+    reason_by state asked instant (bound state connector asked instant)
+
+-- the reasons that an ask of a connector from a start on means: at each count of seconds after it
+abbrev pub reason_asked : PointState → ℕ → ℕ → ℕ → Reason
+reason_asked state connector start second = reason state connector start (start + second)
+
+-- for which connector a purpose counts: a ChargePointMaxProfile for the whole point
+abbrev pub counts_for : Purpose → ℕ → ℕ
+counts_for ChargePointMaxProfile connector = 0
+counts_for TxDefaultProfile connector = connector
+counts_for TxProfile connector = connector
+
+-- a profile is a row of the point, which prevails and has exactly this limit
+pub record IsPrevailing (state : PointState) (connector asked instant limit : ℕ) (profile : PrevailingProfile)
+    : Type 0 where
+  pub row : Row
+  pub before : List Row
+  pub after : List Row
+  pub stands : state.rows ≡ before ++ row ∷ after
+  pub told : profile ≡ profile_of row
+  pub prevails :
+      prevailing_row profile.purpose state (counts_for profile.purpose connector) asked instant
+      ≡ Some (with_limit row limit)
+
+-- What a cause says of a limit.
+abbrev pub IsSetBy : PointState → ℕ → ℕ → ℕ → ℕ → Cause → Type 0
+IsSetBy state connector asked instant limit (Profile profile) =
+    IsPrevailing state connector asked instant limit profile
+IsSetBy state connector asked instant limit ConnectorCeiling =
+    (0 < connector) × (limit ≡ ceiling_of state connector)
+IsSetBy state connector asked instant limit PointCeiling = limit ≡ state.ceiling
+IsSetBy state connector asked instant limit Sum =
+    (connector ≡ 0) × (limit ≡ shared_limit state asked instant)

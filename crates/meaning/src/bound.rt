@@ -1,0 +1,77 @@
+//! Limits with what sets them, and the lesser of two.
+
+ghost use Rattle.std.specs.Prelude.{◌≡◌, ℕ, [], ◌∷◌};
+ghost use Rattle.std.specs.List.{filter_map};
+ghost use Rattle.profile.specs.Greatest.{greatest};
+ghost use Rattle.meaning.specs.Cause.{lesser};
+ghost use Rattle.meaning.specs.ByCases.Cause.{level_told, lesser_told};
+
+use crate::cause::{Cause, PrevailingProfile};
+use std::marker::Model;
+
+/// A limit in tenths, with what sets it.
+#[derive(Drop)]
+pub(crate) struct Bound {
+    pub limit: u32,
+    pub cause: Cause,
+}
+
+impl Model for Bound {
+    ghost use Rattle.meaning.specs.Cause.{Bound};
+
+    ghost Value = { Bound };
+
+    ghost view = { λ b. record { limit = b.limit; cause = b.cause } };
+}
+
+impl Bound {
+    /// Of two bounds the lesser, and the first of equals.
+    pub(crate) fn or_less(self, second: Bound) -> Bound
+        ensures { result ≡ lesser self second }
+    {
+        if second.limit < self.limit {
+            second
+        } else {
+            self
+        }
+    }
+}
+
+/// A profile that prevails, with its limit in tenths.
+#[derive(Clone, Copy)]
+pub(crate) struct ProfileLimit {
+    pub profile: PrevailingProfile,
+    pub limit: u32,
+}
+
+/// Of a profile's limit, where there is one, and a bound the lesser, and the first of equals.
+pub(crate) fn lesser_of(best: Option<ProfileLimit>, other: Bound) -> Bound
+    ensures { result ≡ lesser_told best other }
+{
+    match best {
+        Some(best) => {
+            let first = Bound {
+                limit: best.limit,
+                cause: Cause::Profile(best.profile),
+            };
+            first.or_less(other)
+        }
+        None => other,
+    }
+}
+
+/// Of two limits, where they are there, the one of the higher stack level, and the first of equals.
+pub(crate) fn higher_level(
+    best: Option<ProfileLimit>,
+    next: Option<ProfileLimit>,
+) -> Option<ProfileLimit>
+    ensures { result ≡ greatest level_told (filter_map (λ limit. limit) (best ∷ (next ∷ []))) }
+{
+    match (best, next) {
+        (Some(first), Some(second)) if first.profile.stack_level < second.profile.stack_level => {
+            Some(second)
+        }
+        (None, _) => next,
+        (Some(_), _) => best,
+    }
+}

@@ -1,0 +1,87 @@
+//! Why a limit is what it is, and why a profile has no part in it.
+
+ghost use Rattle.std.specs.Prelude.{◌≡◌, ◌↔◌, IsTrue};
+
+use crate::shares::Shares;
+use profile::Purpose;
+
+/// A profile that prevails, by what it is told by (chapter 7, ChargingProfile).
+#[derive(Clone, Copy, Debug, PartialEq, Eq)]
+pub struct PrevailingProfile {
+    /// chargingProfileId.
+    pub id: i32,
+    /// chargingProfilePurpose.
+    pub purpose: Purpose,
+    pub stack_level: u32,
+    /// The connector at which it stands, 0 being the whole point.
+    pub connector: u32,
+}
+
+/// What sets a limit (chapter 3.13).
+#[derive(Clone, Copy, Debug, PartialEq, Eq)]
+pub enum Cause {
+    /// A profile that prevails.
+    Profile(PrevailingProfile),
+    /// The connector's ceiling.
+    ConnectorCeiling,
+    /// The point's ceiling.
+    PointCeiling,
+    /// At connector 0: what the active connectors may draw together.
+    Sum,
+}
+
+/// What an active connector has in the sum of connector 0.
+#[derive(Clone, Copy, Debug, PartialEq, Eq)]
+pub struct Share {
+    /// From 1 on.
+    pub connector: u32,
+    /// Its own limit, in tenths of A or W.
+    pub limit: u32,
+    /// What sets that: a profile, or the connector's ceiling.
+    pub cause: Cause,
+}
+
+/// A limit, with what sets it.
+#[derive(Debug, Drop)]
+pub struct Reason {
+    /// In tenths of A or W.
+    pub limit: u32,
+    pub cause: Cause,
+    /// Where the cause is the sum, what each active connector has in it; else none.
+    pub shares: Shares,
+}
+
+impl Reason {
+    /// Whether two reasons are equal.
+    pub fn same(&self, other: &Reason) -> bool
+        ensures { IsTrue result ↔ (self.now ≡ other.now) }
+    {
+        self.limit == other.limit && self.cause == other.cause && self.shares.same(&other.shares)
+    }
+}
+
+/// Why a profile that a point has doesn't prevail for a connector at an instant. Of several reasons the first in
+/// this order counts.
+#[derive(Clone, Copy, Debug, PartialEq, Eq)]
+pub enum WhyNot {
+    /// It stands at another connector.
+    OtherConnector,
+    /// It is a TxProfile, and there is no transaction.
+    NoTransaction,
+    /// It stands at connector 0, and the connector has a TxDefaultProfile of its stack level.
+    Hidden,
+    /// It isn't valid yet: validFrom is to come.
+    NotYetValid,
+    /// It isn't valid any more: validTo has come.
+    NoLongerValid,
+    /// Its schedule hasn't begun.
+    BeforeAnchor,
+    /// Its schedule's duration is over.
+    PastDuration,
+    /// None of its periods has begun.
+    BeforeFirstPeriod,
+    /// A profile of its purpose with a higher stack level prevails.
+    BelowHigherLevel,
+    /// It is a TxDefaultProfile, and a TxProfile prevails.
+    BehindTxProfile,
+}

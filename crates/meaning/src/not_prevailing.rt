@@ -1,0 +1,131 @@
+//! Why a profile that a point has doesn't prevail.
+
+ghost use Rattle.std.specs.Prelude.{◌≡◌, ℕ, ◌<◌, Option, Some, length, slice_get};
+ghost use Rattle.profile.specs.declared.row.Row.{Row};
+ghost use Rattle.meaning.specs.View.{point_state};
+ghost use Rattle.meaning.specs.Cause.{counts_for};
+ghost use Rattle.meaning.specs.WhyNot.{why_not, why_not_counted, why_no_limit, why_no_limit_in, why_behind, is_elsewhere};
+
+use crate::cause::WhyNot;
+use crate::view::View;
+use ocpp_scalars::Instant;
+use profile::{Purpose, Row, is_candidate};
+
+/// Why the row at a place among those of a view doesn't prevail for a connector at an instant, in a
+/// schedule asked from `asked` on (chapter 3.13), or `None` where it does. A ChargePointMaxProfile
+/// prevails for the whole point; connector 0 is taken as one that never charges.
+pub fn why_not(
+    view: &View<'_>,
+    connector: u32,
+    asked: Instant,
+    instant: Instant,
+    place: usize,
+) -> Option<WhyNot>
+    requires within { place < length view.now.rows.now }
+    ensures { (row : Row) → slice_get view.now.rows.now place ≡ Some row
+        → result ≡ why_not (point_state view.now) connector asked instant row }
+{
+    let row = &view.rows[place];
+    let connector = match row.profile.purpose {
+        Purpose::ChargePointMaxProfile => 0,
+        Purpose::TxDefaultProfile | Purpose::TxProfile => connector as usize,
+    };
+    if let Some(why) = view.why_not_counted(connector, row) {
+        return Some(why);
+    }
+    if let Some(why) = view.why_no_limit(connector, asked, instant, row) {
+        return Some(why);
+    }
+    view.why_behind(connector, asked, instant, row)
+}
+
+impl View<'_> {
+    /// Why a row doesn't count for a connector.
+    fn why_not_counted(&self, connector: usize, row: &Row) -> Option<WhyNot>
+        ensures { result ≡ why_not_counted (point_state self.now) connector row.now }
+    {
+        if is_elsewhere(row.profile.purpose, connector, row.connector as usize) {
+            return Some(WhyNot::OtherConnector);
+        }
+        if matches!(row.profile.purpose, Purpose::TxProfile)
+            && self.active_since(connector).is_none()
+        {
+            return Some(WhyNot::NoTransaction);
+        }
+        if !is_candidate(row.profile.purpose, self.rows, connector, row) {
+            return Some(WhyNot::Hidden);
+        }
+        None
+    }
+
+    /// Why a row has no limit for a connector at an instant.
+    fn why_no_limit(
+        &self,
+        connector: usize,
+        asked: Instant,
+        instant: Instant,
+        row: &Row,
+    ) -> Option<WhyNot>
+        ensures { result ≡ why_no_limit (point_state self.now) connector asked instant row.now }
+    {
+        if row.profile.valid_from.is_some_and(|from| instant < from) {
+            return Some(WhyNot::NotYetValid);
+        }
+        if row.profile.valid_to.is_some_and(|to| to <= instant) {
+            return Some(WhyNot::NoLongerValid);
+        }
+        let base = row.base(self.active_since(connector), asked);
+        why_no_limit_in(row, row.profile.offset(base, instant))
+    }
+
+    /// Why a row with a limit doesn't prevail.
+    fn why_behind(
+        &self,
+        connector: usize,
+        asked: Instant,
+        instant: Instant,
+        row: &Row,
+    ) -> Option<WhyNot>
+        ensures { result ≡ why_behind (point_state self.now) connector asked instant row.now }
+    {
+        let purpose = row.profile.purpose;
+        if let Some(best) = self.prevailing_profile(purpose, connector, asked, instant) {
+            if row.profile.stack_level < best.profile.stack_level {
+                return Some(WhyNot::BelowHigherLevel);
+            }
+        }
+        let is_default = matches!(purpose, Purpose::TxDefaultProfile);
+        if is_default && self.prevailing_profile(Purpose::TxProfile, connector, asked, instant).is_some() {
+            return Some(WhyNot::BehindTxProfile);
+        }
+        None
+    }
+}
+
+/// Whether a profile that stands at a connector doesn't speak for another one.
+fn is_elsewhere(purpose: Purpose, connector: usize, at: usize) -> bool
+    ensures { result ≡ is_elsewhere purpose connector at }
+{
+    match purpose {
+        Purpose::ChargePointMaxProfile => at != 0,
+        Purpose::TxDefaultProfile => at != connector && at != 0,
+        Purpose::TxProfile => at != connector,
+    }
+}
+
+/// Why a row has no limit so many seconds into its schedule, or before it.
+fn why_no_limit_in(row: &Row, offset: Option<u64>) -> Option<WhyNot>
+    ensures { result ≡ why_no_limit_in row.now offset }
+{
+    let Some(offset) = offset else {
+        return Some(WhyNot::BeforeAnchor);
+    };
+    let schedule = &row.profile.schedule;
+    if schedule.duration.is_some_and(|duration| u64::from(duration) <= offset) {
+        return Some(WhyNot::PastDuration);
+    }
+    if schedule.periods.limit_in_force(offset).is_none() {
+        return Some(WhyNot::BeforeFirstPeriod);
+    }
+    None
+}

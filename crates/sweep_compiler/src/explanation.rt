@@ -1,0 +1,55 @@
+//! Explained schedules.
+
+ghost use Rattle.std.specs.Prelude.{◌≡◌};
+ghost use Rattle.sweep_compiler.specs.Explained.{Adjoin};
+
+use crate::stretch::Stretch;
+use std::marker::Model;
+
+/// What sets the limits of an asked schedule (chapter 3.13): stretches, the first from second 0 on, each next
+/// one from the end of the one before it, the last up to the end.
+#[derive(Debug, Drop)]
+pub struct Explanation {
+    /// Seconds.
+    duration: u32,
+    stretches: Vec<Stretch>,
+}
+
+impl Model for Explanation {
+    ghost use Rattle.sweep_compiler.specs.Explained.{ExplainedSchedule, Adjoin};
+
+    ghost Value = { ExplainedSchedule };
+
+    ghost view = { λ e. record { duration = e.duration; stretches = e.stretches.items } };
+
+    ghost invariant = { λ e. Adjoin 0 e.duration e.stretches.items };
+}
+
+impl Explanation {
+    /// The explanation of these stretches over so many seconds.
+    pub(crate) fn new(duration: u32, stretches: Vec<Stretch>) -> Explanation
+        requires adjoin { Adjoin 0 duration stretches.items }
+        ensures lasts { result.duration ≡ duration }
+        ensures same { result.stretches ≡ stretches.items }
+    {
+        Explanation {
+            duration,
+            stretches,
+        }
+    }
+
+    /// How many seconds it covers.
+    pub fn duration(&self) -> u32
+        ensures { result ≡ self.now.duration }
+    {
+        self.duration
+    }
+
+    /// The stretches in order.
+    pub fn stretches(&self) -> &[Stretch]
+        ensures value { result.now ≡ self.now.stretches }
+        ensures adjoin { Adjoin 0 self.now.duration self.now.stretches }
+    {
+        self.stretches.as_slice()
+    }
+}
