@@ -5,22 +5,18 @@
 
 mod ask;
 mod ask_laws;
-mod cause;
 mod composite;
 mod limit;
 mod plain_compiler;
 mod prevailing;
 mod schedule_laws;
-mod shares;
 mod view;
 
 pub use ask::{Ask, MAX_DURATION};
 pub use ask_laws::asks;
-pub use cause::{Cause, PrevailingProfile, Reason, Share, WhyNot};
 pub use composite::{Composite, CompositePeriod, MAX_COMPOSITE_PERIODS};
 pub use limit::limit_at;
 pub use plain_compiler::{add_second, compile_plain};
 pub use prevailing::has_its_transaction;
 pub use schedule_laws::{exact_schedule_exists, exact_schedules, one_schedule};
-pub use shares::Shares;
 pub use view::View;

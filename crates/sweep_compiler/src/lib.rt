@@ -12,11 +12,9 @@ mod gatherer;
 mod limit_curve;
 mod looked;
 mod seen;
-mod stretch;
 mod sweep;
 mod turns;
 
 pub use compiled::Compiled;
 pub use compiler::compile;
-pub use stretch::Stretch;
 pub use turns::Turns;
