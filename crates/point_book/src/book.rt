@@ -2,10 +2,11 @@
 
 ghost use Rattle.std.specs.Prelude.{◌≡◌, ◌↔◌, ◌+◌, ◌<◌, ◌≤◌, None, IsTrue, IfErr, IfOk, OnOk, length};
 ghost use Rattle.std.specs.List.{list_any};
+ghost use Rattle.std.specs.Option.{option_copied};
 ghost use Rattle.profile.specs.Changes.{matches};
 ghost use Rattle.meaning.specs.View.{point_state};
 ghost use Rattle.stacking.specs.Rows.{AreRows};
-ghost use Rattle.transactions.specs.ActiveTable.{began, connector_of};
+ghost use Rattle.transactions.specs.ActiveTable.{active_at, began, connector_of};
 ghost use Rattle.point_book.specs.Book.{IsBook, empty_book, state_of};
 ghost use Rattle.point_book.specs.Changes.{install_refusal, IsRefused, book_installed, book_cleared, book_started, book_stopped};
 
@@ -16,7 +17,7 @@ use profile::{Criteria, Row};
 use stacking::Rows;
 use std::alloc::{AllocError, Global};
 use std::marker::Model;
-use transactions::{ActiveTable, Began, Begin};
+use transactions::{ActiveTable, Began, Begin, Transaction};
 
 /// What the central system keeps of a charge point: its ceilings, its profiles and its active
 /// transactions. Every profile stands at connector 0 or at one that the point has, and every
@@ -117,6 +118,13 @@ impl PointBook {
         ensures { result ≡ connector_of self.now.transactions id }
     {
         self.transactions.connector_of(id)
+    }
+
+    /// The active transaction at a connector; connector 0 and one that the point lacks have none.
+    pub fn transaction_at(&self, connector: u32) -> Option<&Transaction>
+        ensures { option_copied result ≡ active_at self.now.transactions connector }
+    {
+        self.transactions.active_at(connector)
     }
 
     /// Installs a row, which takes the place of those with its chargingProfileId and of those with

@@ -4,3 +4,4 @@ pub mod Input
 pub mod MachineSteps
 pub mod Player
 pub mod Asked
+pub mod Quiet

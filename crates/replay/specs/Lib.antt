@@ -9,6 +9,8 @@ pub mod Lines
 pub mod PrintedLine
 pub mod Play
 pub mod Run
+pub mod Playing
+pub mod Quiet
 pub mod ScriptRun
 pub mod Output
 pub mod Input

@@ -6,4 +6,5 @@ pub mod line;
 pub mod lines;
 pub mod output;
 pub mod play;
+pub mod quiet;
 pub mod run;

@@ -122,7 +122,7 @@ impl CallQueue {
     }
 
     /// A copy of all calls.
-    fn bodies(&self, alloc: Global) -> Result<Vec<CallBody>, AllocError>
+    pub fn bodies(&self, alloc: Global) -> Result<Vec<CallBody>, AllocError>
         ensures { IfOk result (λ bodies. bodies.items ≡ self.now) }
     {
         let mut bodies = Vec::with_capacity(alloc, self.len())?;

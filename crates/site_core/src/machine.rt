@@ -1,8 +1,9 @@
 //! The machine: the state of the central system, and its one step.
 
-ghost use Rattle.std.specs.Prelude.{◌≡◌, ◌<◌, ◌≤◌, Some, IfOk, IfErr, MatchResult, Ok, Err, length};
+ghost use Rattle.std.specs.Prelude.{◌≡◌, ◌<◌, ◌≤◌, Some, IfOk, IfErr, MatchResult, Ok, Err, length, option_map};
 ghost use Rattle.site_rules.specs.Site.{place_of};
-ghost use Rattle.site_core.specs.State.{AreNumbers, link_of, link_to_send, opening, opening_at, outbox_len};
+ghost use Rattle.site_core.specs.State.{AreNumbers, Kept, book_at, link_of, link_to_send, opening, opening_at, outbox_at, outbox_len};
+ghost use Rattle.site_core.specs.Requests.{request_of};
 ghost use Rattle.site_core.specs.State.{IsMachine};
 ghost use Rattle.site_core.specs.Step.{HasAskedConnector, Steps, IsRefused, IsRefusalOf, stepped, no_answer};
 ghost use Rattle.site_core.specs.Run.{HasOutcome, Runs};
@@ -16,13 +17,16 @@ mod schedules;
 use crate::charge_point::ChargePoint;
 use crate::charge_points::{copy_of_points, gather_calls, opening_points, point_at};
 use crate::numbers::Numbers;
+use crate::outbox::Outbox;
 use crate::outcome::{Outcome, Refused, RunFault};
 use crate::point_id::PointId;
 use crate::reply::Reply;
 use crate::request::Request;
-use crate::requests::copy_of_requests;
+use crate::requests::{copy_of_requests, request_asked};
 use crate::step::Step;
+use meaning::Ask;
 use ocpp_scalars::Refusal;
+use point_book::PointBook;
 use site_rules::Site;
 use std::alloc::{AllocError, Global};
 use std::marker::Model;
@@ -147,6 +151,37 @@ impl Machine {
         ensures { result ≡ self.now.is_stopped }
     {
         self.is_stopped
+    }
+
+    /// What the point of an identity has, if the site has such a point.
+    pub fn book_of(&self, point: &str) -> Option<&PointBook>
+        ensures { option_map (λ book. book.now) result
+            ≡ option_map (book_at self.now) (place_of self.now.site point.now) }
+    {
+        match self.site.place_of(point) {
+            Some(place) => Some(point_at(&self.points, place).book()),
+            None => None,
+        }
+    }
+
+    /// The calls to the point of an identity, and the link to it, if the site has such a point.
+    pub fn outbox_of(&self, point: &str) -> Option<&Outbox>
+        ensures { option_map (λ outbox. outbox.now) result
+            ≡ option_map (outbox_at self.now) (place_of self.now.site point.now) }
+    {
+        match self.site.place_of(point) {
+            Some(place) => Some(point_at(&self.points, place).outbox()),
+            None => None,
+        }
+    }
+
+    /// The place of its point in the site file and the ask of the request of a number, if it is kept.
+    pub fn request_asked(&self, number: u64) -> Option<(usize, Ask)>
+        ensures { result
+            ≡ option_map (λ (kept : Kept). (kept.place, kept.ask))
+            (request_of number self.now.requests) }
+    {
+        request_asked(&self.requests, number)
     }
 
     /// The present link of the point of an identity, if it has one.

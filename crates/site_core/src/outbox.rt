@@ -2,7 +2,7 @@
 
 ghost use Rattle.std.specs.Prelude.{◌≡◌, ◌+◌, ◌-◌, ◌<◌, ◌≤◌, ◌^◌, ◌++◌, IfErr, IfOk, IsSome, OnErr, OnOk, length};
 ghost use Rattle.site_core.specs.Limits.{max_calls, max_number};
-ghost use Rattle.site_core.specs.Outbox.{IsOutbox, added, attached, confirmed, is_exhausted, is_full, is_number_in_flight, lost, opening_outbox, sendable, sending_link, sent};
+ghost use Rattle.site_core.specs.Outbox.{IsOutbox, added, attached, confirmed, is_exhausted, is_full, is_number_in_flight, lost, numbered, opening_outbox, sendable, sending_link, sent};
 
 use crate::call_queue::CallQueue;
 use crate::numbers::MAX_NUMBER;
@@ -132,6 +132,15 @@ impl Outbox {
         self.bodies.len()
     }
 
+    /// The calls that aren't confirmed, in the order of their numbers, which begin with `first_number`.
+    pub fn bodies(&self, alloc: Global) -> Result<Vec<CallBody>, AllocError>
+        ensures { IfOk result (λ bodies.
+            numbered (self.now.next - length self.now.calls) bodies.items ≡ self.now.calls) }
+    {
+        let bodies = self.bodies.bodies(alloc)?;
+        Ok(bodies)
+    }
+
     /// Whether as many calls aren't confirmed as may be, so that no more may be added.
     pub fn is_full(&self) -> bool
         ensures { result ≡ is_full self.now }
@@ -151,6 +160,13 @@ impl Outbox {
         ensures { result ≡ self.now.link }
     {
         self.link
+    }
+
+    /// Whether the first call was sent over the present link, and isn't confirmed.
+    pub fn is_in_flight(&self) -> bool
+        ensures { result ≡ self.now.is_in_flight }
+    {
+        self.is_in_flight
     }
 
     /// The point's present link, where a call is to be sent over it now.
@@ -235,8 +251,9 @@ impl Outbox {
         self.first_number() == number
     }
 
-    /// The number of the first call, or the next one's where there is none.
-    fn first_number(&self) -> u64
+    /// The number of the first call that isn't confirmed, or the next one's where there is none. So many
+    /// calls are confirmed.
+    pub fn first_number(&self) -> u64
         ensures value { result ≡ self.now.next - length self.now.calls }
         ensures outbox { IsOutbox self.now }
     {

@@ -11,10 +11,22 @@ ghost use Rattle.site_core.specs.ByCases.Requests.{refusal_to_compile, IsCompile
 
 use crate::reply::Reply;
 use crate::request::Request;
-use meaning::Composite;
+use meaning::{Ask, Composite};
 use ocpp_scalars::Refusal;
 use std::alloc::{AllocError, Global};
 use sweep_compiler::{Compiled, Turns, compile};
+
+/// The place in the site file and the ask of the request of a number, if it is kept.
+pub(crate) fn request_asked(requests: &[Request], number: u64) -> Option<(usize, Ask)>
+    ensures { result
+        ≡ option_map (λ (kept : Kept). (kept.place, kept.ask)) (request_of number requests.now) }
+{
+    let Some(place) = place_of(requests, number) else {
+        return None;
+    };
+    let request = &requests[place];
+    Some((request.place, request.ask))
+}
 
 /// The place of the request of a number.
 fn place_of(requests: &[Request], number: u64) -> Option<usize>

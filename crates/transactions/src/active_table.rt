@@ -115,6 +115,13 @@ impl ActiveTable {
         }
     }
 
+    /// The active transaction at a connector; connector 0 and one that the table lacks have none.
+    pub fn active_at(&self, connector: u32) -> Option<&Transaction>
+        ensures { option_copied result ≡ active_at self.now connector }
+    {
+        active_at(self.slots.as_slice(), connector)
+    }
+
     /// The start of the active transaction at connectors 1, 2, ..
     pub fn starts(&self) -> &[Option<Instant>]
         ensures { result.now ≡ starts self.now }

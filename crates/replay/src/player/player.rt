@@ -69,6 +69,20 @@ impl Player {
         self.machine.site()
     }
 
+    /// The central system's machine.
+    pub fn machine(&self) -> &Machine
+        ensures { result.now ≡ self.now.machine }
+    {
+        &self.machine
+    }
+
+    /// The requests that are held.
+    pub fn held(&self) -> &[Held]
+        ensures { result.now ≡ self.now.held }
+    {
+        self.held.as_slice()
+    }
+
     /// What a text asks for.
     pub fn asked_of(&mut self, text: &SentText<'_>) -> Result<Asked, AllocError>
         ensures asked { IfOk result (λ asked. asked ≡ asked_of text.now) }

@@ -1,0 +1,19 @@
+-- The lines that are left, from what is known now, lead to what the wanted lines do.
+use Rattle.std.proofs.Common.{◌≡◌, List, length}
+use Rattle.std.specs.List.{fold}
+use Rattle.replay.specs.Lines.{script_lines}
+use Rattle.replay.specs.PrintedLine.{PrintedLine}
+use Rattle.replay.specs.Run.{played_more}
+use Rattle.replay.specs.Quiet.{played_up_to}
+use Rattle.replay.specs.ByCases.Quiet.{lines_left}
+use Rattle.replay.proofs.script.quiet.play_quietly.Given as goal
+
+abbrev pub invariant-loop-playing : goal.invariant-loop-playing
+invariant-loop-playing l =
+    (done : List PrintedLine)
+    × (fold played_more (record { number = l.playing.number; faults = l.playing.faults; lines = done; state = l.playing.state })
+      (lines_left l.last_line l.playing.number (script_lines l.playing.rest))
+    ≡ played_up_to l.fn.site l.fn.script.now l.last_line)
+
+abbrev pub decreases-loop-playing : goal.decreases-loop-playing
+decreases-loop-playing l = length l.playing.rest

@@ -1,0 +1,6 @@
+-- The lines that a script has still to play up to the last that is wanted. Of invariants.
+use Rattle.std.specs.Prelude.{ℕ, ◌+◌, ◌-◌, List, take, Option, Some, None}
+
+abbrev pub lines_left : Option ℕ → ℕ → List (List ℕ) → List (List ℕ)
+lines_left None number lines = lines
+lines_left (Some last) number lines = take (last + 1 - number) lines

@@ -1,0 +1,43 @@
+-- What stands after the first lines of a script, and what one line more leads to.
+use Rattle.std.specs.Prelude.{ℕ, ◌≡◌, ◌+◌, nat_le, Bool, true, if◌then◌else◌, List, [], ◌∷◌, take, Option, Some, None}
+use Rattle.std.specs.List.{fold}
+use Rattle.site_rules.specs.Site.{SiteState}
+use Rattle.replay.specs.Lines.{script_lines}
+use Rattle.replay.specs.Play.{line_played, IsPlayed}
+use Rattle.replay.specs.Run.{Played, first_played, played_more}
+use Rattle.replay.specs.Playing.{PlayingState}
+use Rattle.replay.specs.declared.script.quiet.PlayedLine.{PlayedLine}
+
+-- the lines up to the one of this number, the first having the number 1, or all of them
+abbrev pub lines_up_to : Option ℕ → List (List ℕ) → List (List ℕ)
+lines_up_to None lines = lines
+lines_up_to (Some last) lines = take last lines
+
+-- these lines of a script, played on a site as the whole script is
+unfoldable pub played_up_to : SiteState → List ℕ → Option ℕ → Played
+played_up_to site script last =
+    fold played_more (first_played site) (lines_up_to last (script_lines script))
+
+-- whether the line of a number is no later one than the last that is wanted
+abbrev pub is_up_to : Option ℕ → ℕ → Bool
+is_up_to None number = true
+is_up_to (Some last) number = nat_le number last
+
+-- The next line was played:
+pub record IsNextLine (old : PlayingState) (line : PlayedLine) (new : PlayingState) : Type 0 where
+  -- it is the first that was left,
+  pub first : script_lines old.rest ≡ line.line.now ∷ script_lines new.rest
+  pub number : line.number ≡ old.number
+  pub next : new.number ≡ old.number + 1
+  -- printed what it prints then, and led to what it leads to,
+  pub played : IsPlayed (line_played old.state old.number line.line.now) line.printed new.state
+  -- and its fault counts.
+  pub faults :
+      new.faults
+      ≡ old.faults
+      + (if (line_played old.state old.number line.line.now).is_fault then 1 else 0)
+
+-- the next line was played, or none was left
+abbrev pub IsNext : PlayingState → Option PlayedLine → PlayingState → Type 0
+IsNext old None new = (script_lines old.rest ≡ []) × (new ≡ old)
+IsNext old (Some line) new = IsNextLine old line new

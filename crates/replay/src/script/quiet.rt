@@ -1,0 +1,152 @@
+//! A script that is played line after line without a writer, and what stands after so many of its lines.
+
+ghost use Rattle.std.specs.Prelude.{◌≡◌, ◌≤◌, IfOk, length};
+ghost use Rattle.replay.specs.Limits.{max_script_bytes};
+ghost use Rattle.replay.specs.Quiet.{played_up_to};
+
+use crate::player::held::Held;
+use crate::player::player::Player;
+use crate::script::lines::split_line;
+use crate::script::play::{Printed, play_line};
+use site_core::Machine;
+use site_rules::Site;
+use std::alloc::{AllocError, Global};
+use std::marker::Model;
+
+/// A line of a script that was played.
+#[derive(Debug, Drop)]
+pub struct PlayedLine<'a> {
+    /// Its number, from 1.
+    pub number: u64,
+    /// The line without its ending.
+    pub line: &'a [u8],
+    /// What it printed, and whether it has a fault.
+    pub printed: Printed,
+}
+
+/// A script on a site, between two of its lines: what the lines so far led to, and those that are left.
+#[derive(Drop)]
+pub struct Playing<'a> {
+    player: Player,
+    /// What is left of the script.
+    rest: &'a [u8],
+    /// The number of the next line.
+    number: u64,
+    script_faults: u64,
+}
+
+impl<'a> Model for Playing<'a> {
+    ghost use Rattle.std.specs.Prelude.{◌+◌, ◌≤◌, length};
+    ghost use Rattle.replay.specs.Limits.{max_script_bytes};
+    ghost use Rattle.replay.specs.Playing.{PlayingState};
+
+    ghost Value = { PlayingState };
+
+    ghost view = { λ p. record {
+      number = p.number;
+      faults = p.script_faults;
+      state = p.player;
+      rest = p.rest.now;
+    } };
+
+    ghost invariant = { λ p. (p.script_faults + 1 ≤ p.number)
+        × (p.number + length p.rest.now ≤ max_script_bytes + 1) };
+}
+
+impl<'a> Playing<'a> {
+    ghost use Rattle.std.specs.Prelude.{◌&&◌, not, ◌==◌};
+    ghost use Rattle.replay.specs.Playing.{before_first_line};
+    ghost use Rattle.replay.specs.Quiet.{IsNext, is_up_to};
+
+    /// A script on a site before its first line.
+    pub fn new(alloc: Global, script: &'a [u8], site: Site) -> Result<Playing<'a>, AllocError>
+        requires { length script.now ≤ max_script_bytes }
+        ensures { IfOk result (λ playing. playing ≡ before_first_line site script.entry.now) }
+    {
+        Ok(Playing {
+            player: Player::new(alloc, site)?,
+            rest: script,
+            number: 1,
+            script_faults: 0,
+        })
+    }
+
+    /// Plays the next line, if one is left. Out of memory the script can't go on.
+    pub fn play_next(&mut self) -> Result<Option<PlayedLine<'a>>, AllocError>
+        ensures { IfOk result (λ line. IsNext self.old line self.new) }
+    {
+        if self.rest.is_empty() {
+            return Ok(None);
+        }
+        let number = self.number;
+        let (line, others) = split_line(self.rest);
+        let printed = play_line(&mut self.player, number, line)?;
+        self.script_faults += u64::from(printed.is_fault);
+        self.number = number + 1;
+        self.rest = others;
+        Ok(Some(PlayedLine {
+            number,
+            line,
+            printed,
+        }))
+    }
+
+    /// Whether a line is left, and no later one than the last that is wanted.
+    fn has_line_up_to(&self, last_line: Option<u64>) -> bool
+        ensures { result
+            ≡ (not (length self.now.rest == 0) && is_up_to last_line self.now.number) }
+    {
+        !self.rest.is_empty() && last_line.is_none_or(|last| self.number <= last)
+    }
+
+    /// What the central system knows now.
+    pub fn machine(&self) -> &Machine
+        ensures { result.now ≡ self.now.state.machine }
+    {
+        self.player.machine()
+    }
+
+    /// The requests that are held, in the order of their lines.
+    pub fn held(&self) -> &[Held]
+        ensures { result.now ≡ self.now.state.held }
+    {
+        self.player.held()
+    }
+
+    /// How many of the lines so far have a fault.
+    pub fn script_faults(&self) -> u64
+        ensures { result ≡ self.now.faults }
+    {
+        self.script_faults
+    }
+
+    /// The number of the next line, from 1, whether or not there is one.
+    pub fn next_line(&self) -> u64
+        ensures { result ≡ self.now.number }
+    {
+        self.number
+    }
+}
+
+/// Plays a script on a site up to the line of a number, or the whole of it, and prints nothing. What
+/// stands then is what the definition of a script's play says of these lines. A script that is shorter is played whole.
+pub fn play_quietly(
+    alloc: Global,
+    script: &[u8],
+    site: Site,
+    last_line: Option<u64>,
+) -> Result<Playing<'_>, AllocError>
+    requires { length script.now ≤ max_script_bytes }
+    ensures state { IfOk result
+        (λ playing. playing.state ≡ (played_up_to site script.entry.now last_line).state) }
+    ensures faults { IfOk result
+        (λ playing. playing.faults ≡ (played_up_to site script.entry.now last_line).faults) }
+    ensures number { IfOk result
+        (λ playing. playing.number ≡ (played_up_to site script.entry.now last_line).number) }
+{
+    let mut playing = Playing::new(alloc, script, site)?;
+    while playing.has_line_up_to(last_line) {
+        let _ = playing.play_next()?;
+    }
+    Ok(playing)
+}

@@ -1,0 +1,41 @@
+//! The calls of a charge point that it hasn't confirmed.
+
+use messages::{Call, CallBody};
+use site_core::Outbox;
+use std::alloc::{AllocError, Global};
+
+/// A call that isn't confirmed.
+#[derive(Debug, Drop)]
+pub struct WaitingCall {
+    pub call: Call,
+    /// Whether it went out over the point's present link.
+    pub is_in_flight: bool,
+}
+
+/// The calls of an outbox that aren't confirmed, in the order of their numbers.
+pub fn waiting_calls(alloc: Global, outbox: &Outbox) -> Result<Vec<WaitingCall>, AllocError> {
+    let mut number = outbox.first_number();
+    let mut is_in_flight = outbox.is_in_flight();
+    let mut calls = Vec::new(alloc);
+    for body in outbox.bodies(alloc)? {
+        calls.push(WaitingCall {
+            call: Call { number, body },
+            is_in_flight,
+        })?;
+        number = number.saturating_add(1);
+        is_in_flight = false;
+    }
+    Ok(calls)
+}
+
+/// The call in flight, if one is.
+pub fn call_in_flight(alloc: Global, outbox: &Outbox) -> Result<Option<(u64, CallBody)>, AllocError> {
+    if !outbox.is_in_flight() {
+        return Ok(None);
+    }
+    let number = outbox.first_number();
+    for body in outbox.bodies(alloc)? {
+        return Ok(Some((number, body)));
+    }
+    Ok(None)
+}

@@ -1,0 +1,103 @@
+//! What is left undone at the end of a script, in sentences.
+
+use crate::trace::{HeldLine, Trace};
+use crate::traced_calls::{AddedCall, PointCalls};
+use crate::words::counted;
+use std::alloc::{AllocError, Global};
+
+/// What is left undone after the lines of a script, a sentence a line: requests that no line released, calls that never
+/// went out or were never answered, and calls that a point rejected. Nothing is said of a point that never sent a text
+/// and for which only call 0 waits, which clears what the point has from before.
+pub fn ending_text(alloc: Global, trace: &Trace<'_>) -> Result<String, AllocError> {
+    let mut out = String::new(alloc);
+    push_held(&mut out, trace)?;
+    let site = trace.playing().machine().site();
+    for (place, calls) in trace.points().iter().enumerate() {
+        if let Some(point) = site.point(place) {
+            push_rejected(&mut out, point.id, calls)?;
+            push_unanswered(&mut out, point.id, calls)?;
+            push_waiting(alloc, &mut out, point.id, calls)?;
+        }
+    }
+    Ok(out)
+}
+
+/// Appends a sentence for each request that is held.
+fn push_held(out: &mut String, trace: &Trace<'_>) -> Result<(), AllocError> {
+    for held in trace.playing().held() {
+        let number = held.number;
+        match line_of_request(trace.held(), number) {
+            Some(line) => {
+                let since = line.line;
+                let point = &line.point;
+                write!(
+                    out,
+                    "{point}: request {number} was held at line {since} and never released\n"
+                )?;
+            }
+            None => write!(out, "request {number} was held and never released\n")?,
+        }
+    }
+    Ok(())
+}
+
+fn line_of_request(lines: &[HeldLine], request: u64) -> Option<&HeldLine> {
+    lines.iter().find(|line| line.request == request)
+}
+
+/// Appends a sentence for each call that the point rejected.
+fn push_rejected(out: &mut String, id: &str, calls: &PointCalls) -> Result<(), AllocError> {
+    for rejected in &calls.rejected {
+        let line = rejected.line;
+        let status = &rejected.status;
+        let number = rejected.call.number;
+        let what = &rejected.call.what;
+        let sent = rejected.call.line;
+        write!(
+            out,
+            "{id}: call {number} ({what}), which went out after line {sent}, was answered {status} at line {line}\n"
+        )?;
+    }
+    Ok(())
+}
+
+/// Appends a sentence where a call is in flight.
+fn push_unanswered(out: &mut String, id: &str, calls: &PointCalls) -> Result<(), AllocError> {
+    if let Some(call) = &calls.in_flight {
+        let number = call.number;
+        let what = &call.what;
+        let line = call.line;
+        write!(
+            out,
+            "{id}: call {number} ({what}) went out after line {line} and was never answered\n"
+        )?;
+    }
+    Ok(())
+}
+
+/// Appends a sentence where calls never went out.
+fn push_waiting(
+    alloc: Global,
+    out: &mut String,
+    id: &str,
+    calls: &PointCalls,
+) -> Result<(), AllocError> {
+    let Some(line) = first_line(&calls.waiting) else {
+        return Ok(());
+    };
+    let count = counted(alloc, calls.waiting.len(), "call")?;
+    let why = match &calls.in_flight {
+        Some(_) => "a call goes out once the one before it is answered",
+        None => "a call goes out after a text of the point",
+    };
+    write!(
+        out,
+        "{id}: {count} never went out, waiting since line {line}: {why}\n"
+    )?;
+    Ok(())
+}
+
+/// The first line that added one of these calls.
+fn first_line(waiting: &[AddedCall]) -> Option<u64> {
+    waiting.iter().find_map(|added| added.line)
+}

@@ -1,0 +1,23 @@
+//! What stands at each charge point after the lines of a script, as tables for people and as JSON; what each line
+//! printed; and what was left undone at the end of a script, in sentences.
+#![tactic(auto)]
+
+mod call_of_point;
+mod call_words;
+mod ending;
+mod json;
+mod json_standing;
+mod profile_words;
+mod reply;
+mod standing;
+mod table;
+mod trace;
+mod traced_calls;
+mod words;
+
+pub use ending::ending_text;
+pub use json_standing::standing_json;
+pub use standing::standing_text;
+pub use table::Table;
+pub use trace::{HeldLine, Trace, TracedLine, trace_script, trace_text};
+pub use traced_calls::{AddedCall, PointCalls, RejectedCall, SentCall};

@@ -1,0 +1,127 @@
+//! What a table says of a profile.
+
+use crate::words::{instant_or_dash, seconds_text, tenths_text, text};
+use ocpp_scalars::Instant;
+use profile::{Kind, Profile, Purpose, Recurrency, Row, Unit};
+use std::alloc::{AllocError, Global};
+
+/// How many periods a table shows of a schedule.
+const SHOWN_PERIODS: usize = 6;
+
+/// chargingProfilePurpose, as payloads write it.
+pub fn purpose_name(purpose: Purpose) -> &'static str {
+    match purpose {
+        Purpose::ChargePointMaxProfile => "ChargePointMaxProfile",
+        Purpose::TxDefaultProfile => "TxDefaultProfile",
+        Purpose::TxProfile => "TxProfile",
+    }
+}
+
+/// chargingProfileKind, as payloads write it.
+pub fn kind_name(kind: Kind) -> &'static str {
+    match kind {
+        Kind::Absolute => "Absolute",
+        Kind::Recurring(_) => "Recurring",
+        Kind::Relative => "Relative",
+    }
+}
+
+/// recurrencyKind, as payloads write it.
+pub fn recurrency_name(kind: Kind) -> Option<&'static str> {
+    match kind {
+        Kind::Recurring(Recurrency::Daily) => Some("Daily"),
+        Kind::Recurring(Recurrency::Weekly) => Some("Weekly"),
+        Kind::Absolute | Kind::Relative => None,
+    }
+}
+
+/// chargingRateUnit, as payloads write it.
+pub fn unit_name(unit: Unit) -> &'static str {
+    match unit {
+        Unit::A => "A",
+        Unit::W => "W",
+    }
+}
+
+/// The kind in two words at the most, as `Recurring Daily`.
+pub fn kind_text(alloc: Global, kind: Kind) -> Result<String, AllocError> {
+    let name = kind_name(kind);
+    match recurrency_name(kind) {
+        Some(recurrency) => format!(in alloc; "{name} {recurrency}"),
+        None => text(alloc, name),
+    }
+}
+
+/// From when on a row counts: the later of validFrom and the start of its schedule, where that is known without a
+/// transaction.
+pub fn from_text(alloc: Global, row: &Row) -> Result<String, AllocError> {
+    match (start_of(row), row.profile.valid_from) {
+        (Some(start), Some(from)) => instant_or_dash(alloc, Some(start.max(from))),
+        (Some(start), None) => instant_or_dash(alloc, Some(start)),
+        (None, Some(from)) => {
+            let from = instant_or_dash(alloc, Some(from))?;
+            format!(in alloc; "a transaction's start, {from} at the earliest")
+        }
+        (None, None) => text(alloc, "a transaction's start"),
+    }
+}
+
+/// Where a row's schedule starts, where no transaction decides it.
+fn start_of(row: &Row) -> Option<Instant> {
+    match row.profile.schedule.start {
+        Some(start) => Some(start),
+        None if row.profile.purpose == Purpose::ChargePointMaxProfile => Some(row.moment),
+        None => None,
+    }
+}
+
+/// Until when a row counts: validTo, or the end of a schedule that doesn't recur, whichever comes first.
+pub fn until_text(alloc: Global, row: &Row) -> Result<String, AllocError> {
+    let end = match (end_of(row), row.profile.valid_to) {
+        (Some(end), Some(to)) => Some(end.min(to)),
+        (Some(end), None) => Some(end),
+        (None, to) => to,
+    };
+    instant_or_dash(alloc, end)
+}
+
+/// The end of a row's schedule, where it has one that no transaction decides and that lies in the calendar.
+fn end_of(row: &Row) -> Option<Instant> {
+    if recurrency_name(row.profile.kind).is_some() {
+        return None;
+    }
+    let start = start_of(row)?;
+    let duration = row.profile.schedule.duration?;
+    Instant::try_new(start.seconds() + u64::from(duration))
+}
+
+/// The periods of a profile in short, as `0 s 16.0 A, 8 h 6.0 A`, and where its duration ends them.
+pub fn periods_text(alloc: Global, profile: &Profile) -> Result<String, AllocError> {
+    let unit = unit_name(profile.schedule.unit);
+    let periods = profile.schedule.periods.as_slice();
+    let mut out = String::new(alloc);
+    for (place, period) in periods.iter().enumerate() {
+        if place == SHOWN_PERIODS {
+            let count = periods.len();
+            write!(out, " .. ({count} periods)")?;
+            break;
+        }
+        if place > 0 {
+            out.push_str(", ")?;
+        }
+        let start = seconds_text(alloc, period.start)?;
+        let limit = tenths_text(alloc, period.limit)?;
+        write!(out, "{start} {limit} {unit}")?;
+    }
+    push_end(&mut out, profile.schedule.duration)?;
+    Ok(out)
+}
+
+/// Appends where a duration ends the periods.
+fn push_end(out: &mut String, duration: Option<u32>) -> Result<(), AllocError> {
+    if let Some(duration) = duration {
+        let end = seconds_text(*out.allocator(), duration)?;
+        write!(out, ", {end} end")?;
+    }
+    Ok(())
+}

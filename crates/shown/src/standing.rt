@@ -1,0 +1,185 @@
+//! What stands at each charge point, as tables for people.
+
+use crate::call_of_point::{WaitingCall, waiting_calls};
+use crate::call_words::{action_name, profiles_text};
+use crate::profile_words::{from_text, kind_text, periods_text, purpose_name, until_text};
+use crate::table::Table;
+use crate::words::{instant_text, text};
+use point_book::PointBook;
+use replay::Playing;
+use site_core::{Machine, Outbox};
+use std::alloc::{AllocError, Global};
+
+/// What stands at each point, in the order of the site file, and which requests are held: profiles, transactions
+/// and the calls that wait. A point with nothing has one line.
+pub fn standing_text(alloc: Global, playing: &Playing<'_>) -> Result<String, AllocError> {
+    let machine = playing.machine();
+    let mut out = String::new(alloc);
+    for place in 0..machine.site().len() {
+        if let Some(point) = machine.site().point(place) {
+            push_point(alloc, &mut out, machine, point.id)?;
+        }
+    }
+    push_held(alloc, &mut out, playing)?;
+    Ok(out)
+}
+
+/// Appends what stands at a point.
+fn push_point(
+    alloc: Global,
+    out: &mut String,
+    machine: &Machine,
+    id: &str,
+) -> Result<(), AllocError> {
+    let (Some(book), Some(outbox)) = (machine.book_of(id), machine.outbox_of(id)) else {
+        return Ok(());
+    };
+    let calls = waiting_calls(alloc, outbox)?;
+    let transactions = transaction_table(alloc, book)?;
+    if book.view().rows.is_empty() && transactions.is_none() && calls.len() <= 1 {
+        return push_empty_point(alloc, out, id, outbox, &calls);
+    }
+    write!(out, "{id}\n")?;
+    push_profiles(alloc, out, book)?;
+    match transactions {
+        Some(table) => {
+            out.push_str("  transactions\n")?;
+            table.push_to(out, 4)?;
+        }
+        None => out.push_str("  no transaction\n")?,
+    }
+    let calls_line = calls_text(alloc, outbox, calls.len())?;
+    write!(out, "  {calls_line}\n")?;
+    if !calls.is_empty() {
+        call_table(alloc, &calls)?.push_to(out, 4)?;
+    }
+    Ok(())
+}
+
+/// Appends the one line of a point with neither profiles nor transactions, and one call that waits at the most.
+fn push_empty_point(
+    alloc: Global,
+    out: &mut String,
+    id: &str,
+    outbox: &Outbox,
+    calls: &[WaitingCall],
+) -> Result<(), AllocError> {
+    let calls_line = calls_text(alloc, outbox, calls.len())?;
+    write!(out, "{id}: no profile, no transaction; {calls_line}")?;
+    if let Some(waiting) = calls.first() {
+        let number = waiting.call.number;
+        let action = action_name(&waiting.call.body);
+        let state = state_name(waiting);
+        write!(out, " (call {number}, {action}, {state})")?;
+    }
+    out.push('\n')?;
+    Ok(())
+}
+
+/// Appends the profiles of a point.
+fn push_profiles(alloc: Global, out: &mut String, book: &PointBook) -> Result<(), AllocError> {
+    let rows = book.view().rows;
+    if rows.is_empty() {
+        return out.push_str("  no profile\n");
+    }
+    let mut table = Table::new(
+        alloc,
+        &["id", "connector", "purpose", "level", "kind", "from", "until", "periods"],
+    )?;
+    for row in rows {
+        let profile = &row.profile;
+        table.push([
+            profile.id.to_string(alloc)?,
+            row.connector.to_string(alloc)?,
+            text(alloc, purpose_name(profile.purpose))?,
+            profile.stack_level.to_string(alloc)?,
+            kind_text(alloc, profile.kind)?,
+            from_text(alloc, row)?,
+            until_text(alloc, row)?,
+            periods_text(alloc, profile)?,
+        ])?;
+    }
+    out.push_str("  profiles\n")?;
+    table.push_to(out, 4)
+}
+
+/// The active transactions of a point, if there are any.
+fn transaction_table(alloc: Global, book: &PointBook) -> Result<Option<Table>, AllocError> {
+    let mut table = Table::new(alloc, &["connector", "id", "idTag", "since"])?;
+    let mut is_empty = true;
+    for before in 0..book.connectors() {
+        let connector = before + 1;
+        if let Some(active) = book.transaction_at(connector) {
+            is_empty = false;
+            table.push([
+                connector.to_string(alloc)?,
+                active.id.to_string(alloc)?,
+                text(alloc, active.begin.id_tag.as_str())?,
+                instant_text(alloc, active.begin.timestamp)?,
+            ])?;
+        }
+    }
+    Ok(if is_empty { None } else { Some(table) })
+}
+
+/// How many calls are confirmed, in flight and waiting.
+fn calls_text(alloc: Global, outbox: &Outbox, calls: usize) -> Result<String, AllocError> {
+    let confirmed = outbox.first_number();
+    let in_flight = usize::from(outbox.is_in_flight());
+    let waiting = calls.saturating_sub(in_flight);
+    let link = match outbox.link() {
+        Some(_) => "",
+        None => ", no link",
+    };
+    format!(in alloc; "calls: {confirmed} confirmed, {in_flight} in flight, {waiting} waiting{link}")
+}
+
+/// The calls that aren't confirmed.
+fn call_table(alloc: Global, calls: &[WaitingCall]) -> Result<Table, AllocError> {
+    let mut table = Table::new(alloc, &["number", "action", "profiles", "state"])?;
+    for waiting in calls {
+        table.push([
+            waiting.call.number.to_string(alloc)?,
+            text(alloc, action_name(&waiting.call.body))?,
+            profiles_text(alloc, &waiting.call.body)?,
+            text(alloc, state_name(waiting))?,
+        ])?;
+    }
+    Ok(table)
+}
+
+/// Whether a call went out.
+pub fn state_name(waiting: &WaitingCall) -> &'static str {
+    if waiting.is_in_flight {
+        "in flight"
+    } else {
+        "waiting"
+    }
+}
+
+/// Appends the requests that are held, if there are any.
+fn push_held(alloc: Global, out: &mut String, playing: &Playing<'_>) -> Result<(), AllocError> {
+    if playing.held().is_empty() {
+        return Ok(());
+    }
+    let mut table = Table::new(
+        alloc,
+        &["number", "id", "point", "connector", "start", "seconds"],
+    )?;
+    let machine = playing.machine();
+    for held in playing.held() {
+        if let Some((place, ask)) = machine.request_asked(held.number) {
+            let point = machine.site().point(place).map_or("-", |point| point.id);
+            table.push([
+                held.number.to_string(alloc)?,
+                text(alloc, held.id.as_str())?,
+                text(alloc, point)?,
+                ask.connector.to_string(alloc)?,
+                instant_text(alloc, ask.start)?,
+                ask.duration.to_string(alloc)?,
+            ])?;
+        }
+    }
+    out.push_str("held requests\n")?;
+    table.push_to(out, 2)
+}

@@ -1,0 +1,70 @@
+//! Small texts: numbers, instants, limits and cut texts.
+
+use ocpp_scalars::{Instant, push_instant, push_tenths};
+use std::alloc::{AllocError, Global};
+
+/// A copy of a text.
+pub fn text(alloc: Global, text: &str) -> Result<String, AllocError> {
+    String::from_str(alloc, text)
+}
+
+/// An instant, or a dash where there is none.
+pub fn instant_or_dash(alloc: Global, instant: Option<Instant>) -> Result<String, AllocError> {
+    match instant {
+        Some(instant) => instant_text(alloc, instant),
+        None => text(alloc, "-"),
+    }
+}
+
+/// An instant.
+pub fn instant_text(alloc: Global, instant: Instant) -> Result<String, AllocError> {
+    let mut out = String::new(alloc);
+    push_instant(&mut out, instant)?;
+    Ok(out)
+}
+
+/// So many tenths, as `16.0`.
+pub fn tenths_text(alloc: Global, tenths: u32) -> Result<String, AllocError> {
+    let mut out = String::new(alloc);
+    push_tenths(&mut out, tenths)?;
+    Ok(out)
+}
+
+/// So many seconds in the largest unit that says them exactly, as `8 h`.
+pub fn seconds_text(alloc: Global, seconds: u32) -> Result<String, AllocError> {
+    if seconds == 0 || seconds % 60 != 0 {
+        return format!(in alloc; "{seconds} s");
+    }
+    let minutes = seconds / 60;
+    if minutes % 60 != 0 {
+        return format!(in alloc; "{minutes} min");
+    }
+    let hours = minutes / 60;
+    if hours % 24 != 0 {
+        return format!(in alloc; "{hours} h");
+    }
+    let days = hours / 24;
+    format!(in alloc; "{days} d")
+}
+
+/// `1 call`, `2 calls`.
+pub fn counted(alloc: Global, count: usize, one: &str) -> Result<String, AllocError> {
+    if count == 1 {
+        format!(in alloc; "1 {one}")
+    } else {
+        format!(in alloc; "{count} {one}s")
+    }
+}
+
+/// The first characters of a text, with `..` behind them where it has more.
+pub fn cut(alloc: Global, text: &str, characters: usize) -> Result<String, AllocError> {
+    let mut out = String::new(alloc);
+    for (place, character) in text.chars().enumerate() {
+        if place == characters {
+            out.push_str("..")?;
+            return Ok(out);
+        }
+        out.push(character)?;
+    }
+    Ok(out)
+}
