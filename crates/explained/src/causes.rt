@@ -12,6 +12,7 @@ use sweep_compiler::Stretch;
 
 /// The upper edge of the strip, and its lower one.
 const UPPER: u64 = BOTTOM + 54;
+
 pub(crate) const LOWER: u64 = UPPER + 26;
 
 /// Appends the strip: a field for each stretch with the name of its cause, where that has room, else with
@@ -24,7 +25,10 @@ pub(crate) fn push_causes(
     entries: &[Entry],
 ) -> Result<(), AllocError> {
     let (x, base) = (LEFT - 10, UPPER + 17);
-    write!(out, "<text class=\"end soft\" x=\"{x}\" y=\"{base}\">set by</text>\n")?;
+    write!(
+        out,
+        "<text class=\"end soft\" x=\"{x}\" y=\"{base}\">set by</text>\n"
+    )?;
     let mut is_odd = false;
     for stretch in explained.stretches.iter().take(MAX_STRETCHES) {
         push_field(alloc, out, explained, Field::of(scale, stretch, is_odd))?;

@@ -7,6 +7,7 @@ use crate::scale::{BOTTOM, LEFT, RIGHT, Scale, TOP};
 use crate::steps::Steps;
 use crate::ticks::{MOST_LIMITS, MOST_TIMES, time_step};
 use crate::words::unit_name;
+use meaning::Cause;
 use ocpp_scalars::{push_integer, push_tenths};
 use profile::Unit;
 use std::alloc::{AllocError, Global};
@@ -66,11 +67,20 @@ pub(crate) fn push_entry_line(
             push_path(out, scale, steps)?;
             out.push_str("\"/>\n")
         }
+        Line::Level(_) if scale.is_passed_by(&entry.line) => Ok(()),
         Line::Level(limit) => {
-            let y = scale.y(*limit);
-            write!(out, "<path class=\"ceiling\" d=\"M{LEFT} {y}H{RIGHT}\"/>\n")
+            let (class, y) = (ceiling_class(entry), scale.y(*limit));
+            write!(out, "<path class=\"{class}\" d=\"M{LEFT} {y}H{RIGHT}\"/>\n")
         }
         Line::Nothing => Ok(()),
+    }
+}
+
+/// The class of a ceiling's line.
+pub(crate) fn ceiling_class(entry: &Entry) -> &'static str {
+    match entry.cause {
+        Cause::PointCeiling => "ceiling whole",
+        Cause::ConnectorCeiling | Cause::Profile(_) | Cause::Sum => "ceiling",
     }
 }
 
@@ -188,7 +198,7 @@ fn push_dates(
 }
 
 fn push_day(alloc: Global, out: &mut String, day: u64, x: u64) -> Result<(), AllocError> {
-    let (upper, lower, text) = (BOTTOM + 5, BOTTOM + 40, x + 4);
+    let (upper, lower, text) = (BOTTOM + 27, BOTTOM + 42, x + 5);
     write!(out, "<path class=\"day\" d=\"M{x} {upper}V{lower}\"/>")?;
     write!(out, "<text class=\"soft\" x=\"{text}\" y=\"{lower}\">")?;
     out.push_str(weekday(day))?;

@@ -104,10 +104,7 @@ fn started_for(explained: &Explained<'_>, row: &Row) -> Option<Instant> {
     view.starts.iter().find_map(|start| *start)
 }
 
-fn push_ceilings(
-    entries: &mut Vec<Entry>,
-    explained: &Explained<'_>,
-) -> Result<(), AllocError> {
+fn push_ceilings(entries: &mut Vec<Entry>, explained: &Explained<'_>) -> Result<(), AllocError> {
     let connector = explained.ask.connector as usize;
     if connector > 0 {
         if let Some(ceiling) = explained.view.ceilings.get(connector - 1) {

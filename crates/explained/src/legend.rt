@@ -1,7 +1,7 @@
 //! What the lines of a picture are.
 
 use crate::causes::LOWER;
-use crate::drawing::{push_letter, push_style};
+use crate::drawing::{ceiling_class, push_letter, push_style};
 use crate::entries::{Entry, Line};
 use crate::explained::Explained;
 use crate::markup::push_escaped;
@@ -13,11 +13,14 @@ use std::alloc::{AllocError, Global};
 
 /// The middle of the legend's first line, and from one line to the next.
 const FIRST: u64 = LOWER + 30;
+
 const LINE: u64 = 22;
 
 /// The lower edge of the legend of so many entries, with some room below it.
 pub(crate) fn lower_edge(entries: usize) -> u64 {
-    (entries as u64).saturating_mul(LINE).saturating_add(FIRST + 24)
+    (entries as u64)
+        .saturating_mul(LINE)
+        .saturating_add(FIRST + 24)
 }
 
 /// Appends the legend: the limit, and each entry with its letter, its line and what it is.
@@ -34,7 +37,10 @@ pub(crate) fn push_legend(
     push_sample(out, "limit", FIRST)?;
     push_text(out, text.as_str(), FIRST)?;
     for (place, entry) in entries.iter().enumerate() {
-        let middle = (place as u64).saturating_add(1).saturating_mul(LINE).saturating_add(FIRST);
+        let middle = (place as u64)
+            .saturating_add(1)
+            .saturating_mul(LINE)
+            .saturating_add(FIRST);
         push_entry(out, place, entry, middle)?;
         let text = entry_text(alloc, explained, scale, entry)?;
         push_text(out, text.as_str(), middle)?;
@@ -60,7 +66,7 @@ fn push_entry(
             push_style(out, place)?;
             write!(out, "\" d=\"M{from} {middle}H{to}\"/>")
         }
-        Line::Level(_) => push_sample(out, "ceiling", middle),
+        Line::Level(_) => push_sample(out, ceiling_class(entry), middle),
         Line::Nothing => Ok(()),
     }
 }
@@ -92,9 +98,12 @@ fn entry_text(
         push_limit(&mut text, limit, explained.unit)?;
     }
     if scale.is_passed_by(&entry.line) {
-        text.push_str(", above the picture where it is drawn at its upper edge")?;
+        text.push_str(", above the picture")?;
     }
     if let Line::Steps(steps) = &entry.line {
+        if scale.is_passed_by(&entry.line) {
+            text.push_str(" where it is at its upper edge")?;
+        }
         push_cut(alloc, &mut text, explained, steps)?;
     }
     Ok(text)

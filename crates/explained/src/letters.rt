@@ -39,6 +39,7 @@ pub(crate) fn push_letters(
 /// The spot above the beginning of a line; of a ceiling at the right edge.
 fn beginning(scale: Scale, line: &Line) -> Option<(u64, u64)> {
     match line {
+        Line::Level(_) if scale.is_passed_by(line) => None,
         Line::Level(limit) => Some((RIGHT - 22, above(scale, *limit))),
         Line::Nothing => None,
         Line::Steps(steps) => {

@@ -6,7 +6,7 @@ use crate::markup::{push_element, push_escaped};
 use crate::picture::{push_more, push_picture};
 use crate::steps::MAX_STRETCHES;
 use crate::styles::PAGE;
-use crate::table::heading;
+use crate::table::{heading, place};
 use crate::words::{push_profile, sentence};
 use ocpp_scalars::{Instant, push_instant};
 use std::alloc::{AllocError, Global};
@@ -19,10 +19,16 @@ pub fn write_page(alloc: Global, explained: &Explained<'_>) -> Result<String, Al
     let title = heading(alloc, explained)?;
     out.push_str("<!DOCTYPE html>\n<html lang=\"en\">\n<head>\n<meta charset=\"utf-8\">\n")?;
     out.push_str("<meta name=\"viewport\" content=\"width=device-width, initial-scale=1\">\n")?;
-    push_element(&mut out, "<title>The limit of ", title.as_str(), "</title>\n")?;
+    push_element(
+        &mut out,
+        "<title>The limit of ",
+        title.as_str(),
+        "</title>\n",
+    )?;
     out.push_str(PAGE)?;
     out.push_str("</head>\n<body>\n<main>\n")?;
-    push_element(&mut out, "<h1>The limit of ", title.as_str(), "</h1>\n<figure>\n")?;
+    let shown = place(alloc, explained)?;
+    push_element(&mut out, "<h1>", shown.as_str(), "</h1>\n<figure>\n")?;
     push_picture(alloc, &mut out, explained)?;
     out.push_str("</figure>\n")?;
     push_table(alloc, &mut out, explained)?;
@@ -76,11 +82,7 @@ fn push_clock(out: &mut String, moment: u64, text: &str) -> Result<(), AllocErro
     push_element(out, "\">", text, "</time>")
 }
 
-fn push_not_counted(
-    alloc: Global,
-    out: &mut String,
-    all: &[NotCounted],
-) -> Result<(), AllocError> {
+fn push_not_counted(alloc: Global, out: &mut String, all: &[NotCounted]) -> Result<(), AllocError> {
     if all.is_empty() {
         return Ok(());
     }

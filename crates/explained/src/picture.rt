@@ -41,7 +41,10 @@ pub(crate) fn push_picture(
     push_opening(out, height)?;
     push_told(alloc, out, explained)?;
     out.push_str(PICTURE)?;
-    write!(out, "<rect class=\"paper\" width=\"{BREADTH}\" height=\"{height}\"/>\n")?;
+    write!(
+        out,
+        "<rect class=\"paper\" width=\"{BREADTH}\" height=\"{height}\"/>\n"
+    )?;
     push_head(alloc, out, explained)?;
     push_drawing(alloc, out, explained, entries.as_slice(), &limit)?;
     out.push_str("</svg>\n")

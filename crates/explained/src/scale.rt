@@ -10,10 +10,12 @@ use crate::ticks::limit_step;
 
 /// The left and the right edge of the field in which the lines are.
 pub(crate) const LEFT: u64 = 84;
+
 pub(crate) const RIGHT: u64 = 936;
 
 /// Its upper and its lower edge.
 pub(crate) const TOP: u64 = 76;
+
 pub(crate) const BOTTOM: u64 = 376;
 
 /// How broad a picture is.
@@ -32,7 +34,7 @@ pub(crate) struct Scale {
 
 impl Scale {
     /// The scale on which the limits have their room. A profile or a ceiling of more than twice the largest
-    /// limit isn't counted: it is drawn at the upper edge.
+    /// limit isn't counted: a ceiling is left out then, and a profile is drawn at the upper edge.
     pub(crate) fn of(explained: &Explained<'_>, entries: &[Entry]) -> Scale {
         let limit = largest_limit(explained);
         let bound = match limit {

@@ -74,10 +74,7 @@ fn second_of(ask: &Ask, instant: Instant) -> u32 {
 }
 
 /// The limits of the stretches.
-pub(crate) fn stretch_steps(
-    alloc: Global,
-    explained: &Explained<'_>,
-) -> Result<Steps, AllocError> {
+pub(crate) fn stretch_steps(alloc: Global, explained: &Explained<'_>) -> Result<Steps, AllocError> {
     let mut items = Vec::new(alloc);
     for stretch in explained.stretches.iter().take(MAX_STRETCHES) {
         items.push(Step {

@@ -17,7 +17,8 @@ color:var(--ink);background:var(--paper);font:13px system-ui,-apple-system,"Sego
 .hilfrogwy .area{fill:var(--area);stroke:none}
 .hilfrogwy .limit{stroke-width:4;stroke-linejoin:round}
 .hilfrogwy .line{stroke-width:2}
-.hilfrogwy .ceiling{stroke:var(--soft);stroke-width:1.5;stroke-dasharray:3 4}
+.hilfrogwy .ceiling{stroke:var(--soft);stroke-width:1.5;stroke-dasharray:4 4}
+.hilfrogwy .whole{stroke-width:2.5;stroke-dasharray:12 6}
 .hilfrogwy .letter{font-weight:600;font-size:12px;paint-order:stroke;stroke:var(--paper);stroke-width:4px}
 .hilfrogwy .cause{fill:var(--area);stroke:var(--soft)}
 .hilfrogwy .odd{fill:none}
@@ -25,7 +26,7 @@ color:var(--ink);background:var(--paper);font:13px system-ui,-apple-system,"Sego
 .hilfrogwy .c0{stroke:var(--c0)}.hilfrogwy .c1{stroke:var(--c1)}.hilfrogwy .c2{stroke:var(--c2)}
 .hilfrogwy .c3{stroke:var(--c3)}.hilfrogwy .c4{stroke:var(--c4)}.hilfrogwy .c5{stroke:var(--c5)}
 .hilfrogwy .d0{stroke-dasharray:9 4}.hilfrogwy .d1{stroke-dasharray:2 3}.hilfrogwy .d2{stroke-dasharray:14 4 2 4}.hilfrogwy .d3{stroke-dasharray:5 5}
-.hilfrogwy .d4{stroke-dasharray:16 5}.hilfrogwy .d5{stroke-dasharray:8 3 2 3 2 3}.hilfrogwy .d6{stroke-dasharray:1 6}.hilfrogwy .d7{stroke-dasharray:4 2 1 2}
+.hilfrogwy .d4{stroke-dasharray:16 5}.hilfrogwy .d5{stroke-dasharray:8 3 2 3 2 3}.hilfrogwy .d6{stroke-dasharray:3 7}.hilfrogwy .d7{stroke-dasharray:4 2 1 2}
 </style>
 "#;
 
@@ -44,6 +45,6 @@ caption{text-align:left;color:var(--soft);padding:.3rem 0}
 th,td{text-align:left;vertical-align:top;padding:.3rem .8rem .3rem 0;border-bottom:1px solid var(--rule)}
 thead th{border-bottom:2px solid var(--soft)}
 tbody th{font-weight:400}
-.number{text-align:right;white-space:nowrap;font-variant-numeric:tabular-nums}
+.number{text-align:right;padding-right:1.6rem;white-space:nowrap;font-variant-numeric:tabular-nums}
 </style>
 "#;

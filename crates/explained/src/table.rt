@@ -9,7 +9,7 @@ use ocpp_scalars::push_integer;
 use std::alloc::{AllocError, Global};
 
 /// The fewest columns of a bar, and the most.
-const BAR: (usize, usize) = (8, 60);
+const BAR: (usize, usize) = (8, 40);
 
 /// The table of an explained schedule: a line for each stretch with its beginning and its end in UTC, its
 /// length, its limit and why, and below it the profiles that never set the limit. Where the columns of a
@@ -92,11 +92,11 @@ struct Widths {
 impl Widths {
     fn of(all: &[Cells]) -> Widths {
         let mut widths = Widths {
-            from: "from".len(),
-            to: "to".len(),
-            length: "length".len(),
-            limit: "limit".len(),
-            why: "why".len(),
+            from: 0,
+            to: 0,
+            length: 0,
+            limit: 0,
+            why: 0,
         };
         for cells in all {
             widths.from = widths.from.max(cells.from.len());
@@ -106,6 +106,17 @@ impl Widths {
             widths.why = widths.why.max(cells.why.len());
         }
         widths
+    }
+
+    /// The widths where each column has its name above it.
+    fn with_names(self) -> Widths {
+        Widths {
+            from: self.from.max("from".len()),
+            to: self.to.max("to".len()),
+            length: self.length.max("length".len()),
+            limit: self.limit.max("limit".len()),
+            why: self.why.max("why".len()),
+        }
     }
 
     /// The columns up to the limit, with the blanks between.
@@ -137,14 +148,18 @@ enum Layout {
 }
 
 impl Layout {
-    fn of(widths: Widths, columns: Option<usize>) -> Layout {
+    /// The first layout that has room for a bar.
+    fn of(bare: Widths, columns: Option<usize>) -> Layout {
         let Some(columns) = columns else {
             return Layout::Plain;
         };
         let (least, most) = BAR;
+        let widths = bare.with_names();
         let beside = columns.saturating_sub(widths.whole().saturating_add(2));
         let behind = columns.saturating_sub(widths.numbers().saturating_add(2));
-        let below = columns.saturating_sub(widths.limit.saturating_add(4));
+        let below = columns.saturating_sub(
+            bare.length.saturating_add(bare.limit).saturating_add(6),
+        );
         if beside >= least {
             Layout::OneLine(beside.min(most))
         } else if behind >= least {
@@ -173,11 +188,15 @@ fn push_stretches(
     columns: Option<usize>,
 ) -> Result<(), AllocError> {
     let all = all_cells(alloc, explained)?;
-    let widths = Widths::of(all.as_slice());
+    let bare = Widths::of(all.as_slice());
+    let layout = Layout::of(bare, columns);
     let sheet = Sheet {
         all: all.as_slice(),
-        widths,
-        layout: Layout::of(widths, columns),
+        widths: match layout {
+            Layout::Paragraphs(_) => bare,
+            Layout::Plain | Layout::OneLine(_) | Layout::TwoLines(_) => bare.with_names(),
+        },
+        layout,
         columns,
         largest: largest_limit(explained),
     };
@@ -259,8 +278,6 @@ impl Sheet<'_> {
         let mut line = String::from_str(alloc, cells.from.as_str())?;
         line.push_str(" to ")?;
         line.push_str(cells.to.as_str())?;
-        line.push_str(", ")?;
-        line.push_str(cells.length.as_str())?;
         let margins = Margins {
             indent: 0,
             columns: self.columns,
@@ -268,6 +285,8 @@ impl Sheet<'_> {
         push_lines(out, line.as_str(), margins)?;
         out.push_str("  ")?;
         push_right(out, cells.limit.as_str(), self.widths.limit)?;
+        out.push_str("  ")?;
+        push_right(out, cells.length.as_str(), self.widths.length)?;
         self.push_bar(out, limit, room)?;
         out.push('\n')?;
         self.push_why(out, cells, 2)
@@ -333,7 +352,11 @@ fn push_not_counted(
     }
     out.push('\n')?;
     let margins = Margins { indent: 0, columns };
-    push_lines(out, "Profiles that never set the limit in this time:", margins)?;
+    push_lines(
+        out,
+        "Profiles that never set the limit in this time:",
+        margins,
+    )?;
     let margins = Margins { indent: 2, columns };
     for one in all {
         let mut line = String::new(alloc);

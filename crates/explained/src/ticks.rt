@@ -7,13 +7,40 @@ const TIME_STEPS: [u32; 18] = [
 
 /// Tenths from one tick of the limit axis to the next.
 const LIMIT_STEPS: [u32; 29] = [
-    1, 2, 5, 10, 20, 50, 100, 200, 500, 1_000, 2_000, 5_000, 10_000, 20_000, 50_000, 100_000,
-    200_000, 500_000, 1_000_000, 2_000_000, 5_000_000, 10_000_000, 20_000_000, 50_000_000,
-    100_000_000, 200_000_000, 500_000_000, 1_000_000_000, 2_000_000_000,
+    1,
+    2,
+    5,
+    10,
+    20,
+    50,
+    100,
+    200,
+    500,
+    1_000,
+    2_000,
+    5_000,
+    10_000,
+    20_000,
+    50_000,
+    100_000,
+    200_000,
+    500_000,
+    1_000_000,
+    2_000_000,
+    5_000_000,
+    10_000_000,
+    20_000_000,
+    50_000_000,
+    100_000_000,
+    200_000_000,
+    500_000_000,
+    1_000_000_000,
+    2_000_000_000,
 ];
 
 /// The most spaces between the ticks of the time axis, and of the limit axis.
 pub(crate) const MOST_TIMES: u32 = 12;
+
 pub(crate) const MOST_LIMITS: u32 = 6;
 
 /// The seconds between the ticks of a time: the fewest that make at most 12 spaces, or a day.

@@ -26,11 +26,7 @@ pub(crate) fn push_times(
 
 /// Appends a text as lines, each ended, broken at its blanks. A line after the first stands two columns
 /// further in. A word that no line holds has one of its own.
-pub(crate) fn push_lines(
-    out: &mut String,
-    text: &str,
-    margins: Margins,
-) -> Result<(), AllocError> {
+pub(crate) fn push_lines(out: &mut String, text: &str, margins: Margins) -> Result<(), AllocError> {
     push_times(out, ' ', margins.indent)?;
     let indent = margins.indent.saturating_add(2);
     let mut column = margins.indent;

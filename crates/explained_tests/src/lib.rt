@@ -3,6 +3,8 @@
 #![tactic(auto)]
 
 #[cfg(test)]
+mod pictures;
+#[cfg(test)]
 mod samples;
 #[cfg(test)]
 mod tables;

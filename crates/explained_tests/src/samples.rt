@@ -1,19 +1,42 @@
 //! Explained schedules made by hand.
 
 use book_tests::{instant_at, row_of};
-use meaning::{Ask, Cause, PrevailingProfile, Reason, Share, Shares};
+use meaning::{Ask, Cause, PrevailingProfile, Reason, Share, Shares, View};
+use ocpp_scalars::Instant;
 use profile::{Purpose, Row};
 use std::alloc::Global;
 use std::test::Fail;
 use sweep_compiler::Stretch;
 
-/// The rows of lines.
-pub fn rows_of(alloc: Global, lines: &str) -> Result<Vec<Row>, Fail> {
-    let mut rows = Vec::new(alloc);
-    for line in lines.lines() {
-        rows.push(row_of(alloc, line)?)?;
+/// A point of 63 A with two connectors of 32 A, no transaction, and rows.
+#[derive(Drop)]
+pub struct Point {
+    rows: Vec<Row>,
+    starts: Vec<Option<Instant>>,
+}
+
+impl Point {
+    /// A point with the rows of lines.
+    pub fn with_rows(alloc: Global, lines: &str) -> Result<Point, Fail> {
+        let mut point = Point {
+            rows: Vec::new(alloc),
+            starts: Vec::new(alloc),
+        };
+        for line in lines.lines() {
+            point.rows.push(row_of(alloc, line)?)?;
+        }
+        Ok(point)
     }
-    Ok(rows)
+
+    /// What it has.
+    pub fn view(&self) -> View<'_> {
+        View {
+            ceiling: 630,
+            ceilings: &[320, 320],
+            starts: self.starts.as_slice(),
+            rows: self.rows.as_slice(),
+        }
+    }
 }
 
 /// What is asked of a connector, so many seconds after midnight.
