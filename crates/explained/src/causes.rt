@@ -1,0 +1,119 @@
+//! The strip below a picture's field that names what sets the limit of each stretch.
+
+use crate::drawing::push_letter;
+use crate::entries::{Entry, place_of};
+use crate::explained::Explained;
+use crate::markup::push_escaped;
+use crate::scale::{BOTTOM, LEFT, Scale};
+use crate::steps::MAX_STRETCHES;
+use crate::words::{push_length, push_limit, push_short_cause, push_why};
+use std::alloc::{AllocError, Global};
+use sweep_compiler::Stretch;
+
+/// The upper edge of the strip, and its lower one.
+const UPPER: u64 = BOTTOM + 54;
+
+pub(crate) const LOWER: u64 = UPPER + 26;
+
+/// Appends the strip: a field for each stretch with the name of its cause, where that has room, else with
+/// its letter. Each field has a title that a pointing device shows.
+pub(crate) fn push_causes(
+    alloc: Global,
+    out: &mut String,
+    explained: &Explained<'_>,
+    scale: Scale,
+    entries: &[Entry],
+) -> Result<(), AllocError> {
+    let (x, base) = (LEFT - 10, UPPER + 17);
+    write!(
+        out,
+        "<text class=\"end soft\" x=\"{x}\" y=\"{base}\">set by</text>\n"
+    )?;
+    let mut is_odd = false;
+    for stretch in explained.stretches.iter().take(MAX_STRETCHES) {
+        push_field(alloc, out, explained, Field::of(scale, stretch, is_odd))?;
+        push_name(alloc, out, Field::of(scale, stretch, is_odd), entries)?;
+        is_odd = !is_odd;
+    }
+    Ok(())
+}
+
+/// The field of a stretch.
+#[derive(Clone, Copy)]
+struct Field<'a> {
+    stretch: &'a Stretch,
+    left: u64,
+    breadth: u64,
+    is_odd: bool,
+}
+
+impl<'a> Field<'a> {
+    fn of(scale: Scale, stretch: &'a Stretch, is_odd: bool) -> Field<'a> {
+        let left = scale.x(stretch.start);
+        Field {
+            stretch,
+            left,
+            breadth: scale.x(stretch.end).saturating_sub(left),
+            is_odd,
+        }
+    }
+}
+
+fn push_field(
+    alloc: Global,
+    out: &mut String,
+    explained: &Explained<'_>,
+    field: Field<'_>,
+) -> Result<(), AllocError> {
+    let (x, width, height) = (field.left, field.breadth, LOWER - UPPER);
+    let class = if field.is_odd { "cause odd" } else { "cause" };
+    write!(out, "<rect class=\"{class}\" x=\"{x}\" y=\"{UPPER}\"")?;
+    write!(out, " width=\"{width}\" height=\"{height}\"><title>")?;
+    let reason = &field.stretch.reason;
+    let mut title = String::new(alloc);
+    push_limit(&mut title, reason.limit, explained.unit)?;
+    title.push_str(" for ")?;
+    let length = field.stretch.end.saturating_sub(field.stretch.start);
+    push_length(&mut title, length)?;
+    title.push_str(": ")?;
+    push_why(&mut title, reason, explained.unit)?;
+    push_escaped(out, title.as_str())?;
+    out.push_str("</title></rect>\n")
+}
+
+/// Appends the name of a cause where its field has room for it, or its letter.
+fn push_name(
+    alloc: Global,
+    out: &mut String,
+    field: Field<'_>,
+    entries: &[Entry],
+) -> Result<(), AllocError> {
+    let Some(place) = place_of(entries, field.stretch.reason.cause) else {
+        return Ok(());
+    };
+    let mut letter = String::new(alloc);
+    push_letter(&mut letter, place)?;
+    let mut name = String::new(alloc);
+    push_letter(&mut name, place)?;
+    name.push(' ')?;
+    push_short_cause(&mut name, field.stretch.reason.cause)?;
+    if has_room(field, name.as_str()) {
+        push_middle(out, field, name.as_str())
+    } else if has_room(field, letter.as_str()) {
+        push_middle(out, field, letter.as_str())
+    } else {
+        Ok(())
+    }
+}
+
+/// Whether a text of ASCII fits into a field: a character takes less than 8 units.
+fn has_room(field: Field<'_>, text: &str) -> bool {
+    (text.len() as u64).saturating_mul(7).saturating_add(4) <= field.breadth
+}
+
+fn push_middle(out: &mut String, field: Field<'_>, text: &str) -> Result<(), AllocError> {
+    let (x, base) = (field.left.saturating_add(field.breadth / 2), UPPER + 17);
+    write!(out, "<text class=\"name\" x=\"{x}\" y=\"{base}\">")?;
+    push_escaped(out, text)?;
+    out.push_str("</text>\n")
+}

@@ -1,0 +1,82 @@
+//! The cells of a table of stretches.
+
+use crate::clock::{ClockTime, needs_seconds, push_date, push_time};
+use crate::explained::Explained;
+use crate::words::{push_length, push_limit, push_why};
+use std::alloc::{AllocError, Global};
+use sweep_compiler::Stretch;
+
+/// The cells of a stretch.
+#[derive(Drop)]
+pub(crate) struct Cells {
+    /// When it begins, with the date where the stretch before begins on another day.
+    pub(crate) from: String,
+    /// When it ends, with the date where that isn't the day of its beginning.
+    pub(crate) to: String,
+    pub(crate) length: String,
+    pub(crate) limit: String,
+    pub(crate) why: String,
+}
+
+/// Makes the cells of one stretch after another.
+#[derive(Drop)]
+pub(crate) struct CellMaker<'a> {
+    explained: &'a Explained<'a>,
+    with_seconds: bool,
+    /// The day on which the stretch before begins.
+    day: Option<u64>,
+}
+
+impl<'a> CellMaker<'a> {
+    pub(crate) fn new(explained: &'a Explained<'a>) -> CellMaker<'a> {
+        CellMaker {
+            explained,
+            with_seconds: needs_seconds(explained),
+            day: None,
+        }
+    }
+
+    /// The cells of the next stretch.
+    pub(crate) fn cells(&mut self, alloc: Global, stretch: &Stretch) -> Result<Cells, AllocError> {
+        let from = ClockTime::of(self.explained.moment(stretch.start));
+        let to = ClockTime::of(self.explained.moment(stretch.end));
+        let dates = (self.day != Some(from.day), to.day != from.day);
+        self.day = Some(from.day);
+        let mut length = String::new(alloc);
+        push_length(&mut length, stretch.end.saturating_sub(stretch.start))?;
+        let mut limit = String::new(alloc);
+        push_limit(&mut limit, stretch.reason.limit, self.explained.unit)?;
+        let mut why = String::new(alloc);
+        push_why(&mut why, &stretch.reason, self.explained.unit)?;
+        Ok(Cells {
+            from: self.time(alloc, from, dates.0)?,
+            to: self.time(alloc, to, dates.1)?,
+            length,
+            limit,
+            why,
+        })
+    }
+
+    fn time(&self, alloc: Global, time: ClockTime, dated: bool) -> Result<String, AllocError> {
+        let mut out = String::new(alloc);
+        if dated {
+            push_date(alloc, &mut out, time.day)?;
+            out.push(' ')?;
+        }
+        push_time(&mut out, time.second, self.with_seconds)?;
+        Ok(out)
+    }
+}
+
+/// The cells of all stretches.
+pub(crate) fn all_cells(
+    alloc: Global,
+    explained: &Explained<'_>,
+) -> Result<Vec<Cells>, AllocError> {
+    let mut maker = CellMaker::new(explained);
+    let mut all = Vec::new(alloc);
+    for stretch in explained.stretches {
+        all.push(maker.cells(alloc, stretch)?)?;
+    }
+    Ok(all)
+}

@@ -1,0 +1,96 @@
+//! Times of day and dates in UTC.
+
+use crate::explained::Explained;
+use ocpp_scalars::{Instant, LAST_SECOND, push_instant};
+use std::alloc::{AllocError, Global};
+
+/// Seconds in a day.
+pub(crate) const DAY: u64 = 86_400;
+
+/// A moment as a clock in UTC shows it.
+#[derive(Clone, Copy)]
+pub(crate) struct ClockTime {
+    /// Days since 1970-01-01.
+    pub(crate) day: u64,
+    /// Seconds since midnight; 86,400 at the end of the calendar alone.
+    pub(crate) second: u64,
+}
+
+impl ClockTime {
+    /// The clock time of a moment, in seconds since 1970.
+    pub(crate) fn of(moment: u64) -> ClockTime {
+        if moment > LAST_SECOND {
+            return ClockTime {
+                day: LAST_SECOND / DAY,
+                second: DAY,
+            };
+        }
+        ClockTime {
+            day: moment / DAY,
+            second: moment % DAY,
+        }
+    }
+}
+
+/// Appends a time of day, `hh:mm` or `hh:mm:ss`.
+pub(crate) fn push_time(
+    out: &mut String,
+    second: u64,
+    with_seconds: bool,
+) -> Result<(), AllocError> {
+    push_two_digits(out, second / 3600)?;
+    out.push(':')?;
+    push_two_digits(out, second / 60 % 60)?;
+    if with_seconds {
+        out.push(':')?;
+        push_two_digits(out, second % 60)?;
+    }
+    Ok(())
+}
+
+/// Appends the last two digits of a number.
+fn push_two_digits(out: &mut String, number: u64) -> Result<(), AllocError> {
+    push_digit(out, number / 10 % 10)?;
+    push_digit(out, number % 10)
+}
+
+fn push_digit(out: &mut String, digit: u64) -> Result<(), AllocError> {
+    let digit = char::from_digit((digit % 10) as u32, 10);
+    out.push(digit.unwrap_or('0'))
+}
+
+/// Appends the date of a day, `YYYY-MM-DD`.
+pub(crate) fn push_date(alloc: Global, out: &mut String, day: u64) -> Result<(), AllocError> {
+    let Some(instant) = Instant::try_new(day.saturating_mul(DAY)) else {
+        return Ok(());
+    };
+    let mut text = String::new(alloc);
+    push_instant(&mut text, instant)?;
+    match text.as_str().split_once('T') {
+        Some((date, _)) => out.push_str(date),
+        None => Ok(()),
+    }
+}
+
+/// The day of the week of a day, `Mon`.
+pub(crate) fn weekday(day: u64) -> &'static str {
+    match day % 7 {
+        0 => "Thu",
+        1 => "Fri",
+        2 => "Sat",
+        3 => "Sun",
+        4 => "Mon",
+        5 => "Tue",
+        _ => "Wed",
+    }
+}
+
+/// Whether a time in the stretches isn't a whole minute.
+pub(crate) fn needs_seconds(explained: &Explained<'_>) -> bool {
+    for stretch in explained.stretches {
+        if explained.moment(stretch.start) % 60 != 0 || explained.moment(stretch.end) % 60 != 0 {
+            return true;
+        }
+    }
+    explained.moment(0) % 60 != 0 || explained.end() % 60 != 0
+}

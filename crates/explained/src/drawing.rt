@@ -1,0 +1,208 @@
+//! The lines of a picture, its axes and its grid.
+
+use crate::clock::{DAY, push_date, push_time, weekday};
+use crate::entries::{Entry, Line};
+use crate::explained::Explained;
+use crate::scale::{BOTTOM, LEFT, RIGHT, Scale, TOP};
+use crate::steps::Steps;
+use crate::ticks::{MOST_LIMITS, MOST_TIMES, time_step};
+use crate::words::unit_name;
+use meaning::Cause;
+use ocpp_scalars::{push_integer, push_tenths};
+use profile::Unit;
+use std::alloc::{AllocError, Global};
+
+/// Appends the data of a path along steps.
+pub(crate) fn push_path(out: &mut String, scale: Scale, steps: &Steps) -> Result<(), AllocError> {
+    let mut is_down = false;
+    for step in &steps.items {
+        let x = scale.x(step.second);
+        if is_down {
+            write!(out, "H{x}")?;
+        }
+        if let Some(limit) = step.limit {
+            let y = scale.y(limit);
+            if is_down {
+                write!(out, "V{y}")?;
+            } else {
+                write!(out, "M{x} {y}")?;
+            }
+        }
+        is_down = step.limit.is_some();
+    }
+    if is_down {
+        let x = scale.x(steps.end);
+        write!(out, "H{x}")?;
+    }
+    Ok(())
+}
+
+/// Appends the limit as a thick line, over the area below it.
+pub(crate) fn push_limit_line(
+    out: &mut String,
+    scale: Scale,
+    steps: &Steps,
+) -> Result<(), AllocError> {
+    out.push_str("<path class=\"area\" d=\"")?;
+    push_path(out, scale, steps)?;
+    let end = scale.x(steps.end);
+    write!(out, "L{end} {BOTTOM}L{LEFT} {BOTTOM}Z\"/>\n")?;
+    out.push_str("<path class=\"limit\" d=\"")?;
+    push_path(out, scale, steps)?;
+    out.push_str("\"/>\n")
+}
+
+/// Appends the line of an entry, by its place among them, with its letter at its beginning.
+pub(crate) fn push_entry_line(
+    out: &mut String,
+    scale: Scale,
+    place: usize,
+    entry: &Entry,
+) -> Result<(), AllocError> {
+    match &entry.line {
+        Line::Steps(steps) => {
+            out.push_str("<path class=\"line ")?;
+            push_style(out, place)?;
+            out.push_str("\" d=\"")?;
+            push_path(out, scale, steps)?;
+            out.push_str("\"/>\n")
+        }
+        Line::Level(_) if scale.is_passed_by(&entry.line) => Ok(()),
+        Line::Level(limit) => {
+            let (class, y) = (ceiling_class(entry), scale.y(*limit));
+            write!(out, "<path class=\"{class}\" d=\"M{LEFT} {y}H{RIGHT}\"/>\n")
+        }
+        Line::Nothing => Ok(()),
+    }
+}
+
+/// The class of a ceiling's line.
+pub(crate) fn ceiling_class(entry: &Entry) -> &'static str {
+    match entry.cause {
+        Cause::PointCeiling => "ceiling whole",
+        Cause::ConnectorCeiling | Cause::Profile(_) | Cause::Sum => "ceiling",
+    }
+}
+
+/// Appends the names of a profile's colour and dash, by its place.
+pub(crate) fn push_style(out: &mut String, place: usize) -> Result<(), AllocError> {
+    let (colour, dash) = (place % 6, place % 8);
+    write!(out, "c{colour} d{dash}")
+}
+
+/// Appends the letter of an entry by its place: A to Z, and then A1 and on.
+pub(crate) fn push_letter(out: &mut String, place: usize) -> Result<(), AllocError> {
+    out.push((b'A' + (place % 26) as u8) as char)?;
+    if place >= 26 {
+        push_integer(out, place / 26)?;
+    }
+    Ok(())
+}
+
+/// Appends the ticks of the limits, with a line of the grid for each.
+pub(crate) fn push_limit_axis(
+    out: &mut String,
+    scale: Scale,
+    unit: Unit,
+) -> Result<(), AllocError> {
+    for count in 0..=MOST_LIMITS {
+        let limit = scale.step.saturating_mul(count);
+        if u64::from(limit) <= scale.top {
+            push_limit_tick(out, scale, limit, unit)?;
+        }
+    }
+    Ok(())
+}
+
+fn push_limit_tick(
+    out: &mut String,
+    scale: Scale,
+    limit: u32,
+    unit: Unit,
+) -> Result<(), AllocError> {
+    let y = scale.y(limit);
+    write!(out, "<path class=\"grid\" d=\"M{LEFT} {y}H{RIGHT}\"/>")?;
+    let (x, base) = (LEFT - 10, y + 4);
+    write!(out, "<text class=\"end soft\" x=\"{x}\" y=\"{base}\">")?;
+    if scale.step % 10 == 0 {
+        push_integer(out, limit / 10)?;
+    } else {
+        push_tenths(out, limit)?;
+    }
+    out.push(' ')?;
+    out.push_str(unit_name(unit))?;
+    out.push_str("</text>\n")
+}
+
+/// Appends the ticks of the times, and the dates.
+pub(crate) fn push_time_axis(
+    alloc: Global,
+    out: &mut String,
+    explained: &Explained<'_>,
+    scale: Scale,
+) -> Result<(), AllocError> {
+    let step = u64::from(time_step(scale.duration).max(1));
+    let start = explained.moment(0);
+    let first = start.div_ceil(step).saturating_mul(step);
+    for count in 0..=u64::from(MOST_TIMES) {
+        let moment = first.saturating_add(step.saturating_mul(count));
+        if moment <= explained.end() {
+            push_time_tick(out, explained, scale, moment, step)?;
+        }
+    }
+    push_dates(alloc, out, explained, scale)
+}
+
+/// The second of an ask at which a moment is, at most its duration.
+fn second_at(explained: &Explained<'_>, moment: u64) -> u32 {
+    let second = moment.saturating_sub(explained.moment(0));
+    second.min(u64::from(explained.ask.duration)) as u32
+}
+
+fn push_time_tick(
+    out: &mut String,
+    explained: &Explained<'_>,
+    scale: Scale,
+    moment: u64,
+    step: u64,
+) -> Result<(), AllocError> {
+    let x = scale.x(second_at(explained, moment));
+    let (foot, base) = (BOTTOM + 5, BOTTOM + 20);
+    write!(out, "<path class=\"grid\" d=\"M{x} {TOP}V{foot}\"/>")?;
+    write!(out, "<text class=\"middle soft\" x=\"{x}\" y=\"{base}\">")?;
+    push_time(out, moment % DAY, step % 60 != 0)?;
+    out.push_str("</text>\n")
+}
+
+/// Appends the date where the ask begins, and where each day begins in it.
+fn push_dates(
+    alloc: Global,
+    out: &mut String,
+    explained: &Explained<'_>,
+    scale: Scale,
+) -> Result<(), AllocError> {
+    let (start, end) = (explained.moment(0), explained.end());
+    let first_midnight = (start / DAY + 1) * DAY;
+    let room = scale.x(second_at(explained, first_midnight)) - LEFT;
+    if start % DAY == 0 || end <= first_midnight || room >= 100 {
+        push_day(alloc, out, start / DAY, LEFT)?;
+    }
+    for count in 0..8 {
+        let midnight = first_midnight + count * DAY;
+        let x = scale.x(second_at(explained, midnight));
+        if midnight < end && x + 90 <= RIGHT {
+            push_day(alloc, out, midnight / DAY, x)?;
+        }
+    }
+    Ok(())
+}
+
+fn push_day(alloc: Global, out: &mut String, day: u64, x: u64) -> Result<(), AllocError> {
+    let (upper, lower, text) = (BOTTOM + 27, BOTTOM + 42, x + 5);
+    write!(out, "<path class=\"day\" d=\"M{x} {upper}V{lower}\"/>")?;
+    write!(out, "<text class=\"soft\" x=\"{text}\" y=\"{lower}\">")?;
+    out.push_str(weekday(day))?;
+    out.push(' ')?;
+    push_date(alloc, out, day)?;
+    out.push_str("</text>\n")
+}

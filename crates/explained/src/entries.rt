@@ -1,0 +1,122 @@
+//! What a picture shows beside the limit: the profiles that have one in its time, and the ceilings.
+
+use crate::explained::Explained;
+use crate::steps::{MAX_STRETCHES, Steps, profile_steps};
+use meaning::{Cause, PrevailingProfile, has_its_transaction};
+use ocpp_scalars::Instant;
+use profile::{Purpose, Row};
+use std::alloc::{AllocError, Global};
+
+/// What may set the limit, with its own limit through the time.
+#[derive(Drop)]
+pub(crate) struct Entry {
+    pub(crate) cause: Cause,
+    pub(crate) line: Line,
+}
+
+/// The line of an entry.
+#[derive(Drop)]
+pub(crate) enum Line {
+    /// A profile's.
+    Steps(Steps),
+    /// A ceiling's, in tenths.
+    Level(u32),
+    /// None of its own, as the sum.
+    Nothing,
+}
+
+/// The profiles that have a limit in the time of the ask, the ceilings, and what else sets a limit.
+pub(crate) fn entries_of(
+    alloc: Global,
+    explained: &Explained<'_>,
+) -> Result<Vec<Entry>, AllocError> {
+    let mut entries = Vec::new(alloc);
+    for row in explained.view.rows {
+        if let Some(entry) = profile_entry(alloc, explained, row)? {
+            entries.push(entry)?;
+        }
+    }
+    push_ceilings(&mut entries, explained)?;
+    for stretch in explained.stretches.iter().take(MAX_STRETCHES) {
+        let cause = stretch.reason.cause;
+        if place_of(entries.as_slice(), cause).is_none() {
+            entries.push(Entry {
+                cause,
+                line: Line::Nothing,
+            })?;
+        }
+    }
+    Ok(entries)
+}
+
+/// The place of a cause among the entries.
+pub(crate) fn place_of(entries: &[Entry], cause: Cause) -> Option<usize> {
+    entries.iter().position(|entry| entry.cause == cause)
+}
+
+/// The entry of a profile, where it may set a limit and has one in the time of the ask.
+fn profile_entry(
+    alloc: Global,
+    explained: &Explained<'_>,
+    row: &Row,
+) -> Result<Option<Entry>, AllocError> {
+    let started = started_for(explained, row);
+    if !applies(explained, row) || !has_its_transaction(row.profile.purpose, started) {
+        return Ok(None);
+    }
+    let base = row.base(started, explained.ask.start);
+    let steps = profile_steps(alloc, &row.profile, base, &explained.ask)?;
+    if !steps.has_limit() {
+        return Ok(None);
+    }
+    Ok(Some(Entry {
+        cause: Cause::Profile(told_by(row)),
+        line: Line::Steps(steps),
+    }))
+}
+
+/// What a row is told by.
+fn told_by(row: &Row) -> PrevailingProfile {
+    PrevailingProfile {
+        id: row.profile.id,
+        purpose: row.profile.purpose,
+        stack_level: row.profile.stack_level,
+        connector: row.connector,
+    }
+}
+
+/// Whether a row stands for the connector of the ask.
+fn applies(explained: &Explained<'_>, row: &Row) -> bool {
+    let connector = explained.ask.connector;
+    connector == 0 || row.connector == 0 || row.connector == connector
+}
+
+/// The start of the transaction from which a row counts: that at the connector of the ask; for the whole
+/// point that at the connector of the row, or the first one.
+fn started_for(explained: &Explained<'_>, row: &Row) -> Option<Instant> {
+    let view = &explained.view;
+    if explained.ask.connector > 0 {
+        return view.active_since(explained.ask.connector as usize);
+    }
+    if row.connector > 0 || row.profile.purpose == Purpose::ChargePointMaxProfile {
+        return view.active_since(row.connector as usize);
+    }
+    view.starts.iter().find_map(|start| *start)
+}
+
+fn push_ceilings(entries: &mut Vec<Entry>, explained: &Explained<'_>) -> Result<(), AllocError> {
+    let connector = explained.ask.connector as usize;
+    if connector > 0 {
+        if let Some(ceiling) = explained.view.ceilings.get(connector - 1) {
+            entries.push(Entry {
+                cause: Cause::ConnectorCeiling,
+                line: Line::Level(*ceiling),
+            })?;
+        }
+    }
+    entries.push(Entry {
+        cause: Cause::PointCeiling,
+        line: Line::Level(explained.view.ceiling),
+    })?;
+    Ok(())
+}

@@ -1,0 +1,65 @@
+//! What is explained.
+
+use meaning::{Ask, Cause, PrevailingProfile, View, WhyNot};
+use profile::Unit;
+use sweep_compiler::Stretch;
+
+/// What is explained: an ask of a point's schedule (chapter 5.7), with the stretches that answer it.
+#[derive(Clone, Copy)]
+pub struct Explained<'a> {
+    /// The identity of the charge point.
+    pub point: &'a str,
+    /// The unit of the site's limits.
+    pub unit: Unit,
+    pub ask: Ask,
+    /// What the point has.
+    pub view: View<'a>,
+    /// The stretches of the ask, in order.
+    pub stretches: &'a [Stretch],
+    /// The profiles that never set the limit in this time.
+    pub not_counted: &'a [NotCounted],
+}
+
+/// A profile that never sets the limit, with its reason.
+#[derive(Clone, Copy, Debug, PartialEq, Eq)]
+pub struct NotCounted {
+    pub profile: PrevailingProfile,
+    pub reason: NoPart,
+}
+
+/// Why a profile never sets the limit.
+#[derive(Clone, Copy, Debug, PartialEq, Eq)]
+pub enum NoPart {
+    /// It doesn't prevail.
+    NotPrevailing(WhyNot),
+    /// It prevails, but another limit is as low or lower.
+    NotLeast,
+}
+
+impl Explained<'_> {
+    /// The seconds from 1970 to the end of the ask, its last second behind.
+    pub(crate) fn end(&self) -> u64 {
+        self.ask.start.seconds() + u64::from(self.ask.duration)
+    }
+
+    /// The seconds from 1970 to a second of the ask.
+    pub(crate) fn moment(&self, second: u32) -> u64 {
+        self.ask.start.seconds() + u64::from(second)
+    }
+}
+
+/// Whether a profile sets a limit in one of the stretches, or a share of it.
+pub fn is_named(stretches: &[Stretch], profile: PrevailingProfile) -> bool {
+    let cause = Cause::Profile(profile);
+    for stretch in stretches {
+        if stretch.reason.cause == cause {
+            return true;
+        }
+        for share in stretch.reason.shares.as_slice() {
+            if share.cause == cause {
+                return true;
+            }
+        }
+    }
+    false
+}

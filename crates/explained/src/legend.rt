@@ -1,0 +1,125 @@
+//! What the lines of a picture are.
+
+use crate::causes::LOWER;
+use crate::drawing::{ceiling_class, push_letter, push_style};
+use crate::entries::{Entry, Line};
+use crate::explained::Explained;
+use crate::markup::push_escaped;
+use crate::scale::{LEFT, Scale};
+use crate::steps::Steps;
+use crate::table::push_moment;
+use crate::words::{push_cause, push_limit};
+use std::alloc::{AllocError, Global};
+
+/// The middle of the legend's first line, and from one line to the next.
+const FIRST: u64 = LOWER + 30;
+
+const LINE: u64 = 22;
+
+/// The lower edge of the legend of so many entries, with some room below it.
+pub(crate) fn lower_edge(entries: usize) -> u64 {
+    (entries as u64)
+        .saturating_mul(LINE)
+        .saturating_add(FIRST + 24)
+}
+
+/// Appends the legend: the limit, and each entry with its letter, its line and what it is.
+pub(crate) fn push_legend(
+    alloc: Global,
+    out: &mut String,
+    explained: &Explained<'_>,
+    scale: Scale,
+    entries: &[Entry],
+    limit: &Steps,
+) -> Result<(), AllocError> {
+    let mut text = String::from_str(alloc, "the limit")?;
+    push_cut(alloc, &mut text, explained, limit)?;
+    push_sample(out, "limit", FIRST)?;
+    push_text(out, text.as_str(), FIRST)?;
+    for (place, entry) in entries.iter().enumerate() {
+        let middle = (place as u64)
+            .saturating_add(1)
+            .saturating_mul(LINE)
+            .saturating_add(FIRST);
+        push_entry(out, place, entry, middle)?;
+        let text = entry_text(alloc, explained, scale, entry)?;
+        push_text(out, text.as_str(), middle)?;
+    }
+    Ok(())
+}
+
+/// Appends the letter of an entry and a piece of its line.
+fn push_entry(
+    out: &mut String,
+    place: usize,
+    entry: &Entry,
+    middle: u64,
+) -> Result<(), AllocError> {
+    let base = middle.saturating_add(4);
+    write!(out, "<text class=\"letter\" x=\"{LEFT}\" y=\"{base}\">")?;
+    push_letter(out, place)?;
+    out.push_str("</text>")?;
+    match entry.line {
+        Line::Steps(_) => {
+            let (from, to) = (LEFT + 28, LEFT + 88);
+            out.push_str("<path class=\"line ")?;
+            push_style(out, place)?;
+            write!(out, "\" d=\"M{from} {middle}H{to}\"/>")
+        }
+        Line::Level(_) => push_sample(out, ceiling_class(entry), middle),
+        Line::Nothing => Ok(()),
+    }
+}
+
+/// Appends a piece of a line of a class.
+fn push_sample(out: &mut String, class: &str, middle: u64) -> Result<(), AllocError> {
+    let (from, to) = (LEFT + 28, LEFT + 88);
+    write!(out, "<path class=\"{class}\" d=\"M{from} {middle}H{to}\"/>")
+}
+
+fn push_text(out: &mut String, text: &str, middle: u64) -> Result<(), AllocError> {
+    let (x, base) = (LEFT + 100, middle.saturating_add(4));
+    write!(out, "<text x=\"{x}\" y=\"{base}\">")?;
+    push_escaped(out, text)?;
+    out.push_str("</text>\n")
+}
+
+/// What an entry is, and what of its line the picture doesn't show.
+fn entry_text(
+    alloc: Global,
+    explained: &Explained<'_>,
+    scale: Scale,
+    entry: &Entry,
+) -> Result<String, AllocError> {
+    let mut text = String::new(alloc);
+    push_cause(&mut text, entry.cause)?;
+    if let Line::Level(limit) = entry.line {
+        text.push_str(", ")?;
+        push_limit(&mut text, limit, explained.unit)?;
+    }
+    if scale.is_passed_by(&entry.line) {
+        text.push_str(", above the picture")?;
+    }
+    if let Line::Steps(steps) = &entry.line {
+        if scale.is_passed_by(&entry.line) {
+            text.push_str(" where it is at its upper edge")?;
+        }
+        push_cut(alloc, &mut text, explained, steps)?;
+    }
+    Ok(text)
+}
+
+/// Appends until when a line is drawn, where it was cut.
+pub(crate) fn push_cut(
+    alloc: Global,
+    out: &mut String,
+    explained: &Explained<'_>,
+    steps: &Steps,
+) -> Result<(), AllocError> {
+    if steps.end >= explained.ask.duration {
+        return Ok(());
+    }
+    out.push_str(", drawn up to ")?;
+    push_moment(alloc, out, explained, steps.end)?;
+    out.push_str(" alone: it has too many steps")
+}

@@ -1,0 +1,80 @@
+//! The letters at the lines of a picture, none upon another.
+
+use crate::drawing::push_letter;
+use crate::entries::{Entry, Line};
+use crate::scale::{LEFT, RIGHT, Scale};
+use std::alloc::{AllocError, Global};
+
+/// How far apart letters have to be, to the side and in height.
+const APART: (u64, u64) = (20, 13);
+
+/// How often a letter is moved to the side before it is left out.
+const TRIES: usize = 12;
+
+/// Where letters stand.
+type Spots = Vec<(u64, u64)>;
+
+/// Appends the letter of each entry above the beginning of its line.
+pub(crate) fn push_letters(
+    alloc: Global,
+    out: &mut String,
+    scale: Scale,
+    entries: &[Entry],
+) -> Result<(), AllocError> {
+    let mut spots = Vec::new(alloc);
+    for (place, entry) in entries.iter().enumerate() {
+        if let Some(spot) = beginning(scale, &entry.line) {
+            if let Some(spot) = free_spot(&spots, spot) {
+                spots.push(spot)?;
+                let (x, y) = spot;
+                write!(out, "<text class=\"letter\" x=\"{x}\" y=\"{y}\">")?;
+                push_letter(out, place)?;
+                out.push_str("</text>\n")?;
+            }
+        }
+    }
+    Ok(())
+}
+
+/// The spot above the beginning of a line; of a ceiling at the right edge.
+fn beginning(scale: Scale, line: &Line) -> Option<(u64, u64)> {
+    match line {
+        Line::Level(_) if scale.is_passed_by(line) => None,
+        Line::Level(limit) => Some((RIGHT - 22, above(scale, *limit))),
+        Line::Nothing => None,
+        Line::Steps(steps) => {
+            for step in &steps.items {
+                if let Some(limit) = step.limit {
+                    return Some((scale.x(step.second) + 6, above(scale, limit)));
+                }
+            }
+            None
+        }
+    }
+}
+
+/// Just above a limit's line.
+fn above(scale: Scale, limit: u32) -> u64 {
+    scale.y(limit).saturating_sub(6)
+}
+
+/// The first free spot beside a spot: to its right, or to its left in the right half.
+fn free_spot(spots: &Spots, spot: (u64, u64)) -> Option<(u64, u64)> {
+    let (mut x, y) = spot;
+    let goes_left = x > (LEFT + RIGHT) / 2;
+    for _ in 0..TRIES {
+        if !spots.iter().any(|other| is_near(*other, (x, y))) {
+            return Some((x, y));
+        }
+        x = if goes_left {
+            x.saturating_sub(APART.0)
+        } else {
+            x.saturating_add(APART.0)
+        };
+    }
+    None
+}
+
+fn is_near(one: (u64, u64), other: (u64, u64)) -> bool {
+    one.0.abs_diff(other.0) < APART.0 && one.1.abs_diff(other.1) < APART.1
+}

@@ -1,0 +1,33 @@
+//! Explained schedules, for people and for programs: a table with the reason of each limit, the same as JSON,
+//! and a picture as SVG or as an HTML page. Nothing here decides: it prints the stretches that it is given.
+#![tactic(auto)]
+
+mod causes;
+mod cells;
+mod clock;
+mod drawing;
+mod entries;
+mod explained;
+mod json_text;
+mod legend;
+mod length;
+mod letters;
+mod markup;
+mod page;
+mod picture;
+mod scale;
+mod steps;
+mod styles;
+mod table;
+mod ticks;
+mod words;
+mod wrapping;
+
+pub use explained::{Explained, NoPart, NotCounted, is_named};
+pub use json_text::write_json;
+pub use length::{Length, length_of};
+pub use page::write_page;
+pub use picture::write_picture;
+pub use steps::{MAX_STEPS, MAX_STRETCHES};
+pub use table::write_table;
+pub use words::{push_cause, push_length, push_limit, push_profile, push_why, sentence};

@@ -1,0 +1,97 @@
+//! The page: the picture with the table below it, as HTML.
+
+use crate::cells::{CellMaker, Cells};
+use crate::explained::{Explained, NotCounted};
+use crate::markup::{push_element, push_escaped};
+use crate::picture::{push_more, push_picture};
+use crate::steps::MAX_STRETCHES;
+use crate::styles::PAGE;
+use crate::table::{heading, place};
+use crate::words::{push_profile, sentence};
+use ocpp_scalars::{Instant, push_instant};
+use std::alloc::{AllocError, Global};
+
+/// An explained schedule as a page, a whole HTML file that loads nothing: the picture, the stretches in a table
+/// (the first `MAX_STRETCHES`; where there are more, the page says so), and the profiles that never set the
+/// limit.
+pub fn write_page(alloc: Global, explained: &Explained<'_>) -> Result<String, AllocError> {
+    let mut out = String::new(alloc);
+    let title = heading(alloc, explained)?;
+    out.push_str("<!DOCTYPE html>\n<html lang=\"en\">\n<head>\n<meta charset=\"utf-8\">\n")?;
+    out.push_str("<meta name=\"viewport\" content=\"width=device-width, initial-scale=1\">\n")?;
+    push_element(
+        &mut out,
+        "<title>The limit of ",
+        title.as_str(),
+        "</title>\n",
+    )?;
+    out.push_str(PAGE)?;
+    out.push_str("</head>\n<body>\n<main>\n")?;
+    let shown = place(alloc, explained)?;
+    push_element(&mut out, "<h1>", shown.as_str(), "</h1>\n<figure>\n")?;
+    push_picture(alloc, &mut out, explained)?;
+    out.push_str("</figure>\n")?;
+    push_table(alloc, &mut out, explained)?;
+    push_not_counted(alloc, &mut out, explained.not_counted)?;
+    out.push_str("</main>\n</body>\n</html>\n")?;
+    Ok(out)
+}
+
+const HEAD: &str = r#"<h2 id="stretches">Each limit, and why</h2>
+<div class="wide" role="region" aria-labelledby="stretches" tabindex="0">
+<table>
+<caption>Times in UTC</caption>
+<thead><tr><th scope="col">From</th><th scope="col">To</th><th scope="col">Length</th><th scope="col" class="number">Limit</th><th scope="col">Why</th></tr></thead>
+<tbody>
+"#;
+
+fn push_table(
+    alloc: Global,
+    out: &mut String,
+    explained: &Explained<'_>,
+) -> Result<(), AllocError> {
+    out.push_str(HEAD)?;
+    let mut maker = CellMaker::new(explained);
+    for stretch in explained.stretches.iter().take(MAX_STRETCHES) {
+        let cells = maker.cells(alloc, stretch)?;
+        out.push_str("<tr><th scope=\"row\">")?;
+        push_clock(out, explained.moment(stretch.start), cells.from.as_str())?;
+        out.push_str("</th><td>")?;
+        push_clock(out, explained.moment(stretch.end), cells.to.as_str())?;
+        push_cells(out, &cells)?;
+    }
+    out.push_str("</tbody>\n</table>\n</div>\n<p>")?;
+    push_more(out, explained.stretches.len(), MAX_STRETCHES)?;
+    out.push_str("</p>\n")
+}
+
+/// Appends the length, the limit and why, and ends the row.
+fn push_cells(out: &mut String, cells: &Cells) -> Result<(), AllocError> {
+    push_element(out, "</td><td>", cells.length.as_str(), "</td>")?;
+    push_element(out, "<td class=\"number\">", cells.limit.as_str(), "</td>")?;
+    push_element(out, "<td>", cells.why.as_str(), "</td></tr>\n")
+}
+
+/// Appends a clock time, with its instant for programs.
+fn push_clock(out: &mut String, moment: u64, text: &str) -> Result<(), AllocError> {
+    let Some(instant) = Instant::try_new(moment) else {
+        return push_escaped(out, text);
+    };
+    out.push_str("<time datetime=\"")?;
+    push_instant(out, instant)?;
+    push_element(out, "\">", text, "</time>")
+}
+
+fn push_not_counted(alloc: Global, out: &mut String, all: &[NotCounted]) -> Result<(), AllocError> {
+    if all.is_empty() {
+        return Ok(());
+    }
+    out.push_str("<h2>Profiles that never set the limit in this time</h2>\n<ul>\n")?;
+    for one in all {
+        let mut name = String::new(alloc);
+        push_profile(&mut name, one.profile)?;
+        push_element(out, "<li>", name.as_str(), ": ")?;
+        push_element(out, "", sentence(one.reason), "</li>\n")?;
+    }
+    out.push_str("</ul>\n")
+}

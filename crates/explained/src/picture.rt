@@ -1,0 +1,130 @@
+//! The picture, as SVG.
+
+use crate::causes::push_causes;
+use crate::cells::CellMaker;
+use crate::drawing::{push_entry_line, push_limit_axis, push_limit_line, push_time_axis};
+use crate::entries::{Entry, entries_of};
+use crate::explained::Explained;
+use crate::legend::{lower_edge, push_legend};
+use crate::letters::push_letters;
+use crate::markup::{push_element, push_escaped};
+use crate::scale::{BREADTH, LEFT, Scale};
+use crate::steps::{Steps, stretch_steps};
+use crate::styles::PICTURE;
+use crate::table::{heading, place, push_moment};
+use crate::words::{push_length, unit_name};
+use ocpp_scalars::push_integer;
+use std::alloc::{AllocError, Global};
+
+/// So many stretches are told in a picture's description.
+const TOLD: usize = 12;
+
+/// An explained schedule as a picture, a whole SVG file: the limit as a thick line, under it the profiles and
+/// the ceilings, each with its own dashes and a letter, and below the times what sets each limit. A profile's
+/// line has at most `MAX_STEPS` steps and the limit at most `MAX_STRETCHES`; where one is cut, the picture
+/// says so.
+pub fn write_picture(alloc: Global, explained: &Explained<'_>) -> Result<String, AllocError> {
+    let mut out = String::from_str(alloc, "<?xml version=\"1.0\" encoding=\"UTF-8\"?>\n")?;
+    push_picture(alloc, &mut out, explained)?;
+    Ok(out)
+}
+
+/// Appends the element `svg`.
+pub(crate) fn push_picture(
+    alloc: Global,
+    out: &mut String,
+    explained: &Explained<'_>,
+) -> Result<(), AllocError> {
+    let entries = entries_of(alloc, explained)?;
+    let limit = stretch_steps(alloc, explained)?;
+    let height = lower_edge(entries.len());
+    push_opening(out, height)?;
+    push_told(alloc, out, explained)?;
+    out.push_str(PICTURE)?;
+    write!(
+        out,
+        "<rect class=\"paper\" width=\"{BREADTH}\" height=\"{height}\"/>\n"
+    )?;
+    push_head(alloc, out, explained)?;
+    push_drawing(alloc, out, explained, entries.as_slice(), &limit)?;
+    out.push_str("</svg>\n")
+}
+
+fn push_opening(out: &mut String, height: u64) -> Result<(), AllocError> {
+    out.push_str("<svg xmlns=\"http://www.w3.org/2000/svg\" class=\"hilfrogwy\" role=\"img\"")?;
+    out.push_str(" aria-labelledby=\"picture-title picture-description\"")?;
+    write!(out, " viewBox=\"0 0 {BREADTH} {height}\"")?;
+    write!(out, " width=\"{BREADTH}\" height=\"{height}\">\n")
+}
+
+/// Appends title and description.
+fn push_told(alloc: Global, out: &mut String, explained: &Explained<'_>) -> Result<(), AllocError> {
+    let title = heading(alloc, explained)?;
+    push_element(
+        out,
+        "<title id=\"picture-title\">The limit of ",
+        title.as_str(),
+        "</title>\n",
+    )?;
+    out.push_str("<desc id=\"picture-description\">Times in UTC.")?;
+    let mut maker = CellMaker::new(explained);
+    for stretch in explained.stretches.iter().take(TOLD) {
+        let cells = maker.cells(alloc, stretch)?;
+        push_element(out, " ", cells.from.as_str(), " to ")?;
+        push_element(out, "", cells.to.as_str(), ": ")?;
+        push_element(out, "", cells.limit.as_str(), ", ")?;
+        push_element(out, "", cells.why.as_str(), ".")?;
+    }
+    push_more(out, explained.stretches.len(), TOLD)?;
+    out.push_str("</desc>\n")
+}
+
+/// Appends how many stretches come behind those that are told.
+pub(crate) fn push_more(out: &mut String, count: usize, told: usize) -> Result<(), AllocError> {
+    if count <= told {
+        return Ok(());
+    }
+    out.push_str(" There are ")?;
+    push_integer(out, count - told)?;
+    out.push_str(" more stretches.")
+}
+
+/// Appends what is shown, above the field.
+fn push_head(alloc: Global, out: &mut String, explained: &Explained<'_>) -> Result<(), AllocError> {
+    let head = place(alloc, explained)?;
+    write!(out, "<text class=\"head\" x=\"{LEFT}\" y=\"30\">")?;
+    push_escaped(out, head.as_str())?;
+    out.push_str("</text>\n")?;
+    let mut text = String::from_str(alloc, "limit in ")?;
+    text.push_str(unit_name(explained.unit))?;
+    text.push_str(", ")?;
+    push_moment(alloc, &mut text, explained, 0)?;
+    text.push_str(" to ")?;
+    push_moment(alloc, &mut text, explained, explained.ask.duration)?;
+    text.push_str(" UTC (")?;
+    push_length(&mut text, explained.ask.duration)?;
+    text.push(')')?;
+    write!(out, "<text class=\"soft\" x=\"{LEFT}\" y=\"52\">")?;
+    push_escaped(out, text.as_str())?;
+    out.push_str("</text>\n")
+}
+
+/// Appends axes, lines, letters, causes and legend.
+fn push_drawing(
+    alloc: Global,
+    out: &mut String,
+    explained: &Explained<'_>,
+    entries: &[Entry],
+    limit: &Steps,
+) -> Result<(), AllocError> {
+    let scale = Scale::of(explained, entries);
+    push_limit_axis(out, scale, explained.unit)?;
+    push_time_axis(alloc, out, explained, scale)?;
+    for (place, entry) in entries.iter().enumerate() {
+        push_entry_line(out, scale, place, entry)?;
+    }
+    push_limit_line(out, scale, limit)?;
+    push_letters(alloc, out, scale, entries)?;
+    push_causes(alloc, out, explained, scale, entries)?;
+    push_legend(alloc, out, explained, scale, entries, limit)
+}

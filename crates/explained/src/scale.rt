@@ -1,0 +1,106 @@
+//! Where times and limits lie in a picture.
+
+ghost use Rattle.std.specs.Prelude.{◌≤◌};
+
+use crate::entries::{Entry, Line};
+use crate::explained::Explained;
+use crate::steps::Steps;
+use crate::table::largest_limit;
+use crate::ticks::limit_step;
+
+/// The left and the right edge of the field in which the lines are.
+pub(crate) const LEFT: u64 = 84;
+
+pub(crate) const RIGHT: u64 = 936;
+
+/// Its upper and its lower edge.
+pub(crate) const TOP: u64 = 76;
+
+pub(crate) const BOTTOM: u64 = 376;
+
+/// How broad a picture is.
+pub(crate) const BREADTH: u64 = 960;
+
+/// What the edges of the field stand for.
+#[derive(Clone, Copy)]
+pub(crate) struct Scale {
+    /// The duration of the ask, in seconds.
+    pub(crate) duration: u32,
+    /// The limit at the upper edge, in tenths.
+    pub(crate) top: u64,
+    /// Tenths between two ticks.
+    pub(crate) step: u32,
+}
+
+impl Scale {
+    /// The scale on which the limits have their room. A profile or a ceiling of more than twice the largest
+    /// limit isn't counted: a ceiling is left out then, and a profile is drawn at the upper edge.
+    pub(crate) fn of(explained: &Explained<'_>, entries: &[Entry]) -> Scale {
+        let limit = largest_limit(explained);
+        let bound = match limit {
+            0 => u32::MAX,
+            _ => limit.saturating_mul(2),
+        };
+        let mut largest = limit;
+        for entry in entries {
+            largest = largest.max(largest_within(&entry.line, bound));
+        }
+        // Some room above the largest limit.
+        let largest = largest.saturating_add(largest / 20).max(1);
+        let step = limit_step(largest);
+        Scale {
+            duration: explained.ask.duration,
+            top: u64::from(largest.div_ceil(step.max(1))) * u64::from(step),
+            step,
+        }
+    }
+
+    /// Where a second of the ask lies between the left and the right edge.
+    pub(crate) fn x(self, second: u32) -> u64
+        ensures left { LEFT ≤ result }
+        ensures right { result ≤ RIGHT }
+    {
+        let breadth = RIGHT - LEFT;
+        let share = u64::from(second) * breadth / u64::from(self.duration.max(1));
+        LEFT + share.min(breadth)
+    }
+
+    /// Where a limit lies between the upper and the lower edge.
+    pub(crate) fn y(self, limit: u32) -> u64
+        ensures upper { TOP ≤ result }
+        ensures lower { result ≤ BOTTOM }
+    {
+        let height = BOTTOM - TOP;
+        let share = u64::from(limit) * height / self.top.max(1);
+        BOTTOM - share.min(height)
+    }
+
+    /// Whether a line goes above the upper edge.
+    pub(crate) fn is_passed_by(self, line: &Line) -> bool {
+        match line {
+            Line::Level(limit) => u64::from(*limit) > self.top,
+            Line::Steps(steps) => u64::from(largest_step(steps, u32::MAX)) > self.top,
+            Line::Nothing => false,
+        }
+    }
+}
+
+/// The largest limit of a line that isn't above a bound.
+fn largest_within(line: &Line, bound: u32) -> u32 {
+    match line {
+        Line::Level(limit) if *limit <= bound => *limit,
+        Line::Steps(steps) => largest_step(steps, bound),
+        Line::Level(_) | Line::Nothing => 0,
+    }
+}
+
+fn largest_step(steps: &Steps, bound: u32) -> u32 {
+    let mut largest = 0;
+    for step in &steps.items {
+        let limit = step.limit.unwrap_or(0);
+        if limit <= bound {
+            largest = limit.max(largest);
+        }
+    }
+    largest
+}

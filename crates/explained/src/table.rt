@@ -1,0 +1,369 @@
+//! The table for people.
+
+use crate::cells::{Cells, all_cells};
+use crate::clock::{ClockTime, needs_seconds, push_date, push_time};
+use crate::explained::{Explained, NotCounted};
+use crate::words::{push_length, push_profile, sentence, unit_name};
+use crate::wrapping::{Margins, push_left, push_lines, push_right, push_times};
+use ocpp_scalars::push_integer;
+use std::alloc::{AllocError, Global};
+
+/// The fewest columns of a bar, and the most.
+const BAR: (usize, usize) = (8, 40);
+
+/// The table of an explained schedule: a line for each stretch with its beginning and its end in UTC, its
+/// length, its limit and why, and below it the profiles that never set the limit. Where the columns of a
+/// terminal are given, no line is broader than they are (unless one word is), and bars show the limits.
+pub fn write_table(
+    alloc: Global,
+    explained: &Explained<'_>,
+    columns: Option<usize>,
+) -> Result<String, AllocError> {
+    let mut out = String::new(alloc);
+    push_heading(alloc, &mut out, explained, columns)?;
+    push_stretches(alloc, &mut out, explained, columns)?;
+    push_not_counted(alloc, &mut out, explained.not_counted, columns)?;
+    Ok(out)
+}
+
+/// Appends what is explained, in a line.
+fn push_heading(
+    alloc: Global,
+    out: &mut String,
+    explained: &Explained<'_>,
+    columns: Option<usize>,
+) -> Result<(), AllocError> {
+    let mut text = heading(alloc, explained)?;
+    text.push_str(". The limit in ")?;
+    text.push_str(unit_name(explained.unit))?;
+    text.push_str(", times in UTC.")?;
+    push_lines(out, text.as_str(), Margins { indent: 0, columns })?;
+    out.push('\n')
+}
+
+/// What is explained: the point, the connector, and from when until when.
+pub(crate) fn heading(alloc: Global, explained: &Explained<'_>) -> Result<String, AllocError> {
+    let mut text = place(alloc, explained)?;
+    text.push_str(", from ")?;
+    push_moment(alloc, &mut text, explained, 0)?;
+    text.push_str(" to ")?;
+    push_moment(alloc, &mut text, explained, explained.ask.duration)?;
+    text.push_str(" (")?;
+    push_length(&mut text, explained.ask.duration)?;
+    text.push(')')?;
+    Ok(text)
+}
+
+/// The point and the connector.
+pub(crate) fn place(alloc: Global, explained: &Explained<'_>) -> Result<String, AllocError> {
+    let mut text = String::from_str(alloc, explained.point)?;
+    if explained.ask.connector == 0 {
+        text.push_str(", connector 0 (the whole point)")?;
+    } else {
+        text.push_str(", connector ")?;
+        push_integer(&mut text, explained.ask.connector)?;
+    }
+    Ok(text)
+}
+
+/// Appends a second of the ask with its date.
+pub(crate) fn push_moment(
+    alloc: Global,
+    out: &mut String,
+    explained: &Explained<'_>,
+    second: u32,
+) -> Result<(), AllocError> {
+    let time = ClockTime::of(explained.moment(second));
+    push_date(alloc, out, time.day)?;
+    out.push(' ')?;
+    push_time(out, time.second, needs_seconds(explained))
+}
+
+/// The widths of a table's columns.
+#[derive(Clone, Copy)]
+struct Widths {
+    from: usize,
+    to: usize,
+    length: usize,
+    limit: usize,
+    why: usize,
+}
+
+impl Widths {
+    fn of(all: &[Cells]) -> Widths {
+        let mut widths = Widths {
+            from: 0,
+            to: 0,
+            length: 0,
+            limit: 0,
+            why: 0,
+        };
+        for cells in all {
+            widths.from = widths.from.max(cells.from.len());
+            widths.to = widths.to.max(cells.to.len());
+            widths.length = widths.length.max(cells.length.len());
+            widths.limit = widths.limit.max(cells.limit.len());
+            widths.why = widths.why.max(cells.why.len());
+        }
+        widths
+    }
+
+    /// The widths where each column has its name above it.
+    fn with_names(self) -> Widths {
+        Widths {
+            from: self.from.max("from".len()),
+            to: self.to.max("to".len()),
+            length: self.length.max("length".len()),
+            limit: self.limit.max("limit".len()),
+            why: self.why.max("why".len()),
+        }
+    }
+
+    /// The columns up to the limit, with the blanks between.
+    fn numbers(self) -> usize {
+        self.from
+            .saturating_add(self.to)
+            .saturating_add(self.length)
+            .saturating_add(self.limit)
+            .saturating_add(6)
+    }
+
+    /// The columns of a whole line, with two blanks before why.
+    fn whole(self) -> usize {
+        self.numbers().saturating_add(2).saturating_add(self.why)
+    }
+}
+
+/// How the lines of a table lie.
+#[derive(Clone, Copy, PartialEq, Eq)]
+enum Layout {
+    /// A line for each stretch, and no bar.
+    Plain,
+    /// A line for each stretch, with a bar of so many columns in it.
+    OneLine(usize),
+    /// Why stands in a line of its own, and a bar of so many columns is behind the limit.
+    TwoLines(usize),
+    /// Each stretch is a paragraph, with a bar of so many columns.
+    Paragraphs(usize),
+}
+
+impl Layout {
+    /// The first layout that has room for a bar.
+    fn of(bare: Widths, columns: Option<usize>) -> Layout {
+        let Some(columns) = columns else {
+            return Layout::Plain;
+        };
+        let (least, most) = BAR;
+        let widths = bare.with_names();
+        let beside = columns.saturating_sub(widths.whole().saturating_add(2));
+        let behind = columns.saturating_sub(widths.numbers().saturating_add(2));
+        let below = columns.saturating_sub(
+            bare.length.saturating_add(bare.limit).saturating_add(6),
+        );
+        if beside >= least {
+            Layout::OneLine(beside.min(most))
+        } else if behind >= least {
+            Layout::TwoLines(behind.min(most))
+        } else {
+            Layout::Paragraphs(below.min(most))
+        }
+    }
+}
+
+/// A table with how it lies.
+#[derive(Drop)]
+struct Sheet<'a> {
+    all: &'a [Cells],
+    widths: Widths,
+    layout: Layout,
+    columns: Option<usize>,
+    /// The largest limit, in tenths.
+    largest: u32,
+}
+
+fn push_stretches(
+    alloc: Global,
+    out: &mut String,
+    explained: &Explained<'_>,
+    columns: Option<usize>,
+) -> Result<(), AllocError> {
+    let all = all_cells(alloc, explained)?;
+    let bare = Widths::of(all.as_slice());
+    let layout = Layout::of(bare, columns);
+    let sheet = Sheet {
+        all: all.as_slice(),
+        widths: match layout {
+            Layout::Paragraphs(_) => bare,
+            Layout::Plain | Layout::OneLine(_) | Layout::TwoLines(_) => bare.with_names(),
+        },
+        layout,
+        columns,
+        largest: largest_limit(explained),
+    };
+    sheet.push_head(out)?;
+    for (cells, stretch) in sheet.all.iter().zip(explained.stretches) {
+        sheet.push(alloc, out, cells, stretch.reason.limit)?;
+    }
+    Ok(())
+}
+
+/// The largest limit of the stretches, in tenths.
+pub(crate) fn largest_limit(explained: &Explained<'_>) -> u32 {
+    let mut largest = 0;
+    for stretch in explained.stretches {
+        largest = stretch.reason.limit.max(largest);
+    }
+    largest
+}
+
+impl Sheet<'_> {
+    fn push_head(&self, out: &mut String) -> Result<(), AllocError> {
+        if let Layout::Paragraphs(_) = self.layout {
+            return Ok(());
+        }
+        push_left(out, "from", self.widths.from)?;
+        out.push_str("  ")?;
+        push_left(out, "to", self.widths.to)?;
+        out.push_str("  ")?;
+        push_left(out, "length", self.widths.length)?;
+        out.push_str("  ")?;
+        push_right(out, "limit", self.widths.limit)?;
+        match self.layout {
+            Layout::Plain => out.push_str("  why\n"),
+            Layout::OneLine(bar) => {
+                push_times(out, ' ', bar.saturating_add(2))?;
+                out.push_str("  why\n")
+            }
+            Layout::TwoLines(_) | Layout::Paragraphs(_) => out.push('\n'),
+        }
+    }
+
+    /// Appends a stretch.
+    fn push(
+        &self,
+        alloc: Global,
+        out: &mut String,
+        cells: &Cells,
+        limit: u32,
+    ) -> Result<(), AllocError> {
+        match self.layout {
+            Layout::Plain => {
+                self.push_numbers(out, cells)?;
+                push_ended(out, "  ", cells.why.as_str())
+            }
+            Layout::OneLine(room) => {
+                self.push_numbers(out, cells)?;
+                let bar = self.push_bar(out, limit, room)?;
+                push_times(out, ' ', room.saturating_sub(bar))?;
+                push_ended(out, "  ", cells.why.as_str())
+            }
+            Layout::TwoLines(room) => {
+                self.push_numbers(out, cells)?;
+                self.push_bar(out, limit, room)?;
+                out.push('\n')?;
+                self.push_why(out, cells, 4)
+            }
+            Layout::Paragraphs(room) => self.push_paragraph(alloc, out, cells, limit, room),
+        }
+    }
+
+    fn push_paragraph(
+        &self,
+        alloc: Global,
+        out: &mut String,
+        cells: &Cells,
+        limit: u32,
+        room: usize,
+    ) -> Result<(), AllocError> {
+        let mut line = String::from_str(alloc, cells.from.as_str())?;
+        line.push_str(" to ")?;
+        line.push_str(cells.to.as_str())?;
+        let margins = Margins {
+            indent: 0,
+            columns: self.columns,
+        };
+        push_lines(out, line.as_str(), margins)?;
+        out.push_str("  ")?;
+        push_right(out, cells.limit.as_str(), self.widths.limit)?;
+        out.push_str("  ")?;
+        push_right(out, cells.length.as_str(), self.widths.length)?;
+        self.push_bar(out, limit, room)?;
+        out.push('\n')?;
+        self.push_why(out, cells, 2)
+    }
+
+    fn push_numbers(&self, out: &mut String, cells: &Cells) -> Result<(), AllocError> {
+        push_right(out, cells.from.as_str(), self.widths.from)?;
+        out.push_str("  ")?;
+        push_right(out, cells.to.as_str(), self.widths.to)?;
+        out.push_str("  ")?;
+        push_left(out, cells.length.as_str(), self.widths.length)?;
+        out.push_str("  ")?;
+        push_right(out, cells.limit.as_str(), self.widths.limit)
+    }
+
+    fn push_why(&self, out: &mut String, cells: &Cells, indent: usize) -> Result<(), AllocError> {
+        let margins = Margins {
+            indent,
+            columns: self.columns,
+        };
+        push_lines(out, cells.why.as_str(), margins)
+    }
+
+    /// Appends the bar of a limit with two blanks before it, and says how long it is.
+    fn push_bar(&self, out: &mut String, limit: u32, room: usize) -> Result<usize, AllocError> {
+        let bar = bar_of(limit, self.largest, room);
+        if bar > 0 {
+            out.push_str("  ")?;
+            push_times(out, '#', bar)?;
+        } else if let Layout::OneLine(_) = self.layout {
+            out.push_str("  ")?;
+        }
+        Ok(bar)
+    }
+}
+
+fn push_ended(out: &mut String, before: &str, text: &str) -> Result<(), AllocError> {
+    out.push_str(before)?;
+    out.push_str(text)?;
+    out.push('\n')
+}
+
+/// The length of the bar of a limit, in columns: the room for the largest limit, and at least one column
+/// for any above 0.
+fn bar_of(limit: u32, largest: u32, room: usize) -> usize {
+    if limit == 0 {
+        return 0;
+    }
+    let room = room.min(BAR.1);
+    let share = u64::from(limit) * room as u64 / u64::from(largest.max(1));
+    (share as usize).clamp(1, room.max(1))
+}
+
+/// Appends the profiles that never set the limit.
+fn push_not_counted(
+    alloc: Global,
+    out: &mut String,
+    all: &[NotCounted],
+    columns: Option<usize>,
+) -> Result<(), AllocError> {
+    if all.is_empty() {
+        return Ok(());
+    }
+    out.push('\n')?;
+    let margins = Margins { indent: 0, columns };
+    push_lines(
+        out,
+        "Profiles that never set the limit in this time:",
+        margins,
+    )?;
+    let margins = Margins { indent: 2, columns };
+    for one in all {
+        let mut line = String::new(alloc);
+        push_profile(&mut line, one.profile)?;
+        line.push_str(": ")?;
+        line.push_str(sentence(one.reason))?;
+        push_lines(out, line.as_str(), margins)?;
+    }
+    Ok(())
+}

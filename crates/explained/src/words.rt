@@ -1,0 +1,178 @@
+//! Limits, causes and reasons in words. The sentences of reasons stand here and nowhere else.
+
+use crate::explained::NoPart;
+use crate::length::length_of;
+use meaning::{Cause, PrevailingProfile, Reason, Share, WhyNot};
+use ocpp_scalars::{push_integer, push_tenths};
+use profile::{Purpose, Unit};
+use std::alloc::AllocError;
+
+/// The name of a purpose (chapter 7, ChargingProfilePurposeType).
+pub(crate) fn purpose_name(purpose: Purpose) -> &'static str {
+    match purpose {
+        Purpose::ChargePointMaxProfile => "ChargePointMaxProfile",
+        Purpose::TxDefaultProfile => "TxDefaultProfile",
+        Purpose::TxProfile => "TxProfile",
+    }
+}
+
+/// The name of a unit (chapter 7, ChargingRateUnitType).
+pub(crate) fn unit_name(unit: Unit) -> &'static str {
+    match unit {
+        Unit::A => "A",
+        Unit::W => "W",
+    }
+}
+
+/// The name of a reason, as programs read it.
+pub(crate) fn reason_name(reason: NoPart) -> &'static str {
+    match reason {
+        NoPart::NotLeast => "NotLeast",
+        NoPart::NotPrevailing(why) => why_not_name(why),
+    }
+}
+
+fn why_not_name(why: WhyNot) -> &'static str {
+    match why {
+        WhyNot::OtherConnector => "OtherConnector",
+        WhyNot::NoTransaction => "NoTransaction",
+        WhyNot::Hidden => "Hidden",
+        WhyNot::NotYetValid => "NotYetValid",
+        WhyNot::NoLongerValid => "NoLongerValid",
+        WhyNot::BeforeAnchor => "BeforeAnchor",
+        WhyNot::PastDuration => "PastDuration",
+        WhyNot::BeforeFirstPeriod => "BeforeFirstPeriod",
+        WhyNot::BelowHigherLevel => "BelowHigherLevel",
+        WhyNot::BehindTxProfile => "BehindTxProfile",
+    }
+}
+
+/// A reason in a sentence.
+pub fn sentence(reason: NoPart) -> &'static str {
+    match reason {
+        NoPart::NotLeast => "It prevails, but another limit is as low or lower.",
+        NoPart::NotPrevailing(why) => why_not_sentence(why),
+    }
+}
+
+fn why_not_sentence(why: WhyNot) -> &'static str {
+    match why {
+        WhyNot::OtherConnector => "It stands at another connector.",
+        WhyNot::NoTransaction => {
+            "It is a TxProfile, and the connector has no active transaction."
+        }
+        WhyNot::Hidden => {
+            "It stands at connector 0, and a TxDefaultProfile of the connector's own has its stack level."
+        }
+        WhyNot::NotYetValid => "It isn't valid yet: its validFrom is still to come.",
+        WhyNot::NoLongerValid => "It isn't valid any more: its validTo has come.",
+        WhyNot::BeforeAnchor => "Its schedule hasn't begun yet.",
+        WhyNot::PastDuration => "Its schedule is over: its duration has passed.",
+        WhyNot::BeforeFirstPeriod => "None of its periods has begun yet.",
+        WhyNot::BelowHigherLevel => {
+            "A profile of its purpose with a higher stack level prevails."
+        }
+        WhyNot::BehindTxProfile => "It is a TxDefaultProfile, and a TxProfile prevails.",
+    }
+}
+
+/// Appends a limit in tenths with its unit: `16.0 A`.
+pub fn push_limit(out: &mut String, tenths: u32, unit: Unit) -> Result<(), AllocError> {
+    push_tenths(out, tenths)?;
+    out.push(' ')?;
+    out.push_str(unit_name(unit))
+}
+
+/// Appends a length of time: `1 d 8 h`, `1 h 30 min`, `45 s`.
+pub fn push_length(out: &mut String, seconds: u32) -> Result<(), AllocError> {
+    let length = length_of(seconds);
+    let parts = [
+        (length.days, " d"),
+        (length.hours, " h"),
+        (length.minutes, " min"),
+        (length.seconds, " s"),
+    ];
+    let mut is_first = true;
+    for (count, unit) in parts {
+        if count > 0 {
+            if !is_first {
+                out.push(' ')?;
+            }
+            push_integer(out, count)?;
+            out.push_str(unit)?;
+            is_first = false;
+        }
+    }
+    if is_first {
+        out.push_str("0 s")?;
+    }
+    Ok(())
+}
+
+/// Appends what a profile is told by: `TxDefaultProfile 1, stack level 0, at connector 0`.
+pub fn push_profile(out: &mut String, profile: PrevailingProfile) -> Result<(), AllocError> {
+    push_short_profile(out, profile)?;
+    out.push_str(", stack level ")?;
+    push_integer(out, profile.stack_level)?;
+    out.push_str(", at connector ")?;
+    push_integer(out, profile.connector)
+}
+
+/// Appends a profile by its purpose and id alone: `TxDefaultProfile 1`.
+fn push_short_profile(out: &mut String, profile: PrevailingProfile) -> Result<(), AllocError> {
+    out.push_str(purpose_name(profile.purpose))?;
+    out.push(' ')?;
+    push_integer(out, profile.id)
+}
+
+/// Appends a cause without its shares.
+pub fn push_cause(out: &mut String, cause: Cause) -> Result<(), AllocError> {
+    match cause {
+        Cause::Profile(profile) => push_profile(out, profile),
+        Cause::ConnectorCeiling => out.push_str("the connector's ceiling"),
+        Cause::PointCeiling => out.push_str("the point's ceiling"),
+        Cause::Sum => out.push_str("sum of the active connectors"),
+    }
+}
+
+/// Appends a cause in a few words.
+pub(crate) fn push_short_cause(out: &mut String, cause: Cause) -> Result<(), AllocError> {
+    match cause {
+        Cause::Profile(profile) => push_short_profile(out, profile),
+        Cause::ConnectorCeiling => out.push_str("connector's ceiling"),
+        Cause::PointCeiling => out.push_str("point's ceiling"),
+        Cause::Sum => out.push_str("sum"),
+    }
+}
+
+/// Appends why a limit is what it is, with the shares where it is a sum.
+pub fn push_why(out: &mut String, reason: &Reason, unit: Unit) -> Result<(), AllocError> {
+    push_cause(out, reason.cause)?;
+    if reason.cause != Cause::Sum {
+        return Ok(());
+    }
+    let shares = reason.shares.as_slice();
+    if shares.is_empty() {
+        return out.push_str(": none is active");
+    }
+    let mut before = ": ";
+    for share in shares {
+        out.push_str(before)?;
+        push_share(out, share, unit)?;
+        before = ", ";
+    }
+    Ok(())
+}
+
+/// Appends a share: `connector 1 10.0 A by TxProfile 4`.
+fn push_share(out: &mut String, share: &Share, unit: Unit) -> Result<(), AllocError> {
+    out.push_str("connector ")?;
+    push_integer(out, share.connector)?;
+    out.push(' ')?;
+    push_limit(out, share.limit, unit)?;
+    out.push_str(" by ")?;
+    match share.cause {
+        Cause::ConnectorCeiling => out.push_str("its ceiling"),
+        cause => push_short_cause(out, cause),
+    }
+}

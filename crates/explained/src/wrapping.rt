@@ -1,0 +1,67 @@
+//! Texts broken into lines of so many columns.
+
+use ocpp_scalars::character_count;
+use std::alloc::AllocError;
+
+/// Where lines begin and end.
+#[derive(Clone, Copy)]
+pub(crate) struct Margins {
+    /// So many blanks stand before a line.
+    pub(crate) indent: usize,
+    /// The most columns of a line, where there is a bound.
+    pub(crate) columns: Option<usize>,
+}
+
+/// Appends so many of a character.
+pub(crate) fn push_times(
+    out: &mut String,
+    character: char,
+    times: usize,
+) -> Result<(), AllocError> {
+    for _ in 0..times {
+        out.push(character)?;
+    }
+    Ok(())
+}
+
+/// Appends a text as lines, each ended, broken at its blanks. A line after the first stands two columns
+/// further in. A word that no line holds has one of its own.
+pub(crate) fn push_lines(out: &mut String, text: &str, margins: Margins) -> Result<(), AllocError> {
+    push_times(out, ' ', margins.indent)?;
+    let indent = margins.indent.saturating_add(2);
+    let mut column = margins.indent;
+    let mut is_first = true;
+    for word in text.split(' ') {
+        let width = character_count(word);
+        if is_first {
+            column = column.saturating_add(width);
+        } else if fits(column, width, margins.columns) {
+            out.push(' ')?;
+            column = column.saturating_add(width).saturating_add(1);
+        } else {
+            out.push('\n')?;
+            push_times(out, ' ', indent)?;
+            column = indent.saturating_add(width);
+        }
+        out.push_str(word)?;
+        is_first = false;
+    }
+    out.push('\n')
+}
+
+/// Whether a line that has so many columns holds a blank and a word besides.
+fn fits(column: usize, width: usize, columns: Option<usize>) -> bool {
+    columns.is_none_or(|columns| column.saturating_add(width) < columns)
+}
+
+/// Appends a text of ASCII, with blanks before it up to a width.
+pub(crate) fn push_right(out: &mut String, text: &str, width: usize) -> Result<(), AllocError> {
+    push_times(out, ' ', width.saturating_sub(text.len()))?;
+    out.push_str(text)
+}
+
+/// Appends a text of ASCII, with blanks behind it up to a width.
+pub(crate) fn push_left(out: &mut String, text: &str, width: usize) -> Result<(), AllocError> {
+    out.push_str(text)?;
+    push_times(out, ' ', width.saturating_sub(text.len()))
+}
