@@ -1,0 +1,329 @@
+//! What is wrong with a CALL that a line of a script brings.
+
+use crate::field_fault::field_fault_message;
+use crate::finding::FaultName;
+use crate::json_outline::outline_of;
+use crate::line_hints::point_hint;
+use crate::payload_fields::{PayloadPart, UnknownField, unknown_payload_fields};
+use crate::profile_check::check_install;
+use crate::report::Report;
+use crate::requests::Requests;
+use crate::script_line::{LineText, Sender};
+use crate::sentences::sentence;
+use crate::shown::shown;
+use crate::similar::similar_name;
+use crate::text_check::not_composite;
+use meaning::Ask;
+use messages::{Action, ActionKind, CallFault, ScheduleRequest, Side, read_fields};
+use ocpp_scalars::Refusal;
+use ocppj_frame::Node;
+use profile::Criteria;
+use site_rules::{Site, SitePoint};
+use std::alloc::{AllocError, Global};
+
+/// A CALL of a line.
+#[derive(Clone, Copy)]
+pub(crate) struct Call<'a, 'node, 'memory> {
+    pub text: &'a LineText<'a>,
+    pub action: &'a str,
+    pub payload: Node<'node, 'memory>,
+}
+
+/// An operator's actions.
+const OPERATOR_ACTIONS: [&str; 3] = [
+    "SetChargingProfile",
+    "ClearChargingProfile",
+    "GetCompositeSchedule",
+];
+
+/// A point's actions.
+const POINT_ACTIONS: [&str; 10] = [
+    "BootNotification",
+    "Heartbeat",
+    "Authorize",
+    "StartTransaction",
+    "StopTransaction",
+    "StatusNotification",
+    "MeterValues",
+    "FirmwareStatusNotification",
+    "DiagnosticsStatusNotification",
+    "DataTransfer",
+];
+
+/// Checks a CALL.
+pub(crate) fn check_call(
+    report: &mut Report,
+    site: &Site,
+    requests: &mut Requests,
+    call: &Call<'_, '_, '_>,
+) -> Result<(), AllocError> {
+    let kind = ActionKind::named(call.action);
+    if call.text.sender == Sender::Hold && kind != Some(ActionKind::GetCompositeSchedule) {
+        return not_composite(report, call.text, "it is a CALL of another action");
+    }
+    match kind {
+        Some(kind) if is_of_sender(kind, call.text.sender) => {
+            check_action(report, site, requests, call, kind)
+        }
+        _ => check_not_implemented(report, call, kind.is_some()),
+    }
+}
+
+/// Whether an action is the sender's.
+fn is_of_sender(kind: ActionKind, sender: Sender) -> bool {
+    match (kind.side(), sender) {
+        (Side::Operator, Sender::Operator | Sender::Hold) | (Side::Point, Sender::Point) => true,
+        _ => false,
+    }
+}
+
+/// An action that its sender doesn't have.
+fn check_not_implemented(
+    report: &mut Report,
+    call: &Call<'_, '_, '_>,
+    is_known: bool,
+) -> Result<(), AllocError> {
+    let alloc = report.alloc;
+    let (sender, actions): (&str, &[&str]) = match call.text.sender {
+        Sender::Operator | Sender::Hold => ("an operator", &OPERATOR_ACTIONS),
+        Sender::Point => ("a point", &POINT_ACTIONS),
+    };
+    let action = shown(alloc, call.action)?;
+    let message = match similar_name(alloc, call.action, actions)? {
+        Some(meant) => {
+            format!(in alloc; "NotImplemented: \"{action}\" is no action of {sender} (\"{meant}\" is one)")?
+        }
+        None if is_known => {
+            format!(in alloc; "NotImplemented: \"{action}\" is an action of the other side, not of {sender}")?
+        }
+        None => format!(in alloc; "NotImplemented: \"{action}\" is no action of {sender} that is known here")?,
+    };
+    report.fault(FaultName::Call(CallFault::NotImplemented), message)
+}
+
+/// Checks the fields of an action, and what it asks for.
+fn check_action(
+    report: &mut Report,
+    site: &Site,
+    requests: &mut Requests,
+    call: &Call<'_, '_, '_>,
+    kind: ActionKind,
+) -> Result<(), AllocError> {
+    let alloc = report.alloc;
+    match read_fields(alloc, kind, call.payload) {
+        Ok(Action::SetChargingProfile { connector, profile }) => {
+            warn_unknown(report, call, kind)?;
+            check_install(report, site, call.text, connector, profile)
+        }
+        Ok(Action::ClearChargingProfile(criteria)) => check_clear(report, site, call, &criteria),
+        Ok(Action::GetCompositeSchedule(request)) => {
+            warn_unknown(report, call, kind)?;
+            check_ask(report, site, requests, call.text, &request)
+        }
+        Ok(Action::StartTransaction(start)) => {
+            check_start(report, site, call.text, start.connector)
+        }
+        Ok(_) => Ok(()),
+        Err(CallFault::Refused(Refusal::OutOfMemory)) => Err(AllocError),
+        Err(fault) => {
+            let message = field_fault_message(alloc, call.payload, kind, fault)?;
+            report.fault(FaultName::Call(fault), message)?;
+            if matches!(kind.side(), Side::Operator) {
+                warn_unknown(report, call, kind)?;
+            }
+            Ok(())
+        }
+    }
+}
+
+/// The fields of an operator's CALL that nothing looks at.
+fn unknown_fields<'a>(
+    alloc: Global,
+    call: &Call<'a, '_, '_>,
+    kind: ActionKind,
+) -> Result<Vec<UnknownField<'a>>, AllocError> {
+    let frame = call.text.frame;
+    let outline = outline_of(alloc, frame)?;
+    unknown_payload_fields(alloc, frame, &outline, kind)
+}
+
+/// Warns of fields that nothing looks at.
+fn warn_unknown(
+    report: &mut Report,
+    call: &Call<'_, '_, '_>,
+    kind: ActionKind,
+) -> Result<(), AllocError> {
+    let alloc = report.alloc;
+    for field in &unknown_fields(alloc, call, kind)? {
+        let name = shown(alloc, field.name)?;
+        let message = match similar_name(alloc, field.name, field.part.fields())? {
+            Some(meant) => {
+                format!(in alloc; "\"{name}\" is no field of OCPP there and counts for nothing (\"{meant}\" is one)")?
+            }
+            None => format!(in alloc; "\"{name}\" is no field of OCPP there and counts for nothing")?,
+        };
+        report.warn(message)?;
+    }
+    Ok(())
+}
+
+/// A ClearChargingProfile, which clears all that matches what is given.
+fn check_clear(
+    report: &mut Report,
+    site: &Site,
+    call: &Call<'_, '_, '_>,
+    criteria: &Criteria,
+) -> Result<(), AllocError> {
+    let alloc = report.alloc;
+    if site.place_of(call.text.point).is_none() {
+        let fault = CallFault::Refused(Refusal::UnknownPoint);
+        let message = unknown_point_message(alloc, site, call.text.point)?;
+        report.fault(FaultName::Call(fault), message)?;
+    }
+    let unknown = unknown_fields(alloc, call, ActionKind::ClearChargingProfile)?;
+    if has_no_criterion(criteria) {
+        let message = clears_all_message(alloc, &unknown)?;
+        return report.warn(message);
+    }
+    for field in &unknown {
+        let name = shown(alloc, field.name)?;
+        let message = format!(in alloc; "\"{name}\" is no criterion and counts for nothing, so more may be CLEARED than is meant: id, connectorId, chargingProfilePurpose and stackLevel are the criteria")?;
+        report.warn(message)?;
+    }
+    Ok(())
+}
+
+fn has_no_criterion(criteria: &Criteria) -> bool {
+    criteria.id.is_none()
+        && criteria.connector.is_none()
+        && criteria.purpose.is_none()
+        && criteria.stack_level.is_none()
+}
+
+/// That a clear has no criterion, and what was probably meant to be one.
+fn clears_all_message(
+    alloc: Global,
+    unknown: &Vec<UnknownField<'_>>,
+) -> Result<String, AllocError> {
+    let mut message = String::from_str(
+        alloc,
+        "this clears EVERYTHING that the point has, a fuse limit (ChargePointMaxProfile) too, since it names no criterion",
+    )?;
+    for field in unknown {
+        let name = shown(alloc, field.name)?;
+        let meant = criterion_meant(alloc, field.name)?;
+        let hint = match meant {
+            Some(meant) => format!(in alloc; "; \"{name}\" isn't one (\"{meant}\" is)")?,
+            None => format!(in alloc; "; \"{name}\" isn't one")?,
+        };
+        message.push_str(hint.as_str())?;
+    }
+    Ok(message)
+}
+
+/// The criterion that is probably meant.
+fn criterion_meant(alloc: Global, name: &str) -> Result<Option<&'static str>, AllocError> {
+    match name {
+        "chargingProfileId" | "profileId" | "chargingProfileID" => Ok(Some("id")),
+        "connector" | "evseId" => Ok(Some("connectorId")),
+        "purpose" => Ok(Some("chargingProfilePurpose")),
+        "level" => Ok(Some("stackLevel")),
+        _ => {
+            let kind = PayloadPart::Payload(ActionKind::ClearChargingProfile);
+            similar_name(alloc, name, kind.fields())
+        }
+    }
+}
+
+/// That the site lacks a point, as an answer has it.
+pub(crate) fn unknown_point_message(
+    alloc: Global,
+    site: &Site,
+    id: &str,
+) -> Result<String, AllocError> {
+    let hint = point_hint(alloc, site, id)?;
+    let id = shown(alloc, id)?;
+    format!(in alloc; "UnknownPoint: the site has no point \"{id}\"{hint}")
+}
+
+/// The point of the line.
+pub(crate) fn point_of<'a>(site: &'a Site, text: &LineText<'_>) -> Option<SitePoint<'a>> {
+    site.point(site.place_of(text.point)?)
+}
+
+/// A GetCompositeSchedule, as far as the point's book has no part in it.
+fn check_ask(
+    report: &mut Report,
+    site: &Site,
+    requests: &mut Requests,
+    text: &LineText<'_>,
+    request: &ScheduleRequest,
+) -> Result<(), AllocError> {
+    match ask_refusal(site, requests, text, request) {
+        None => requests.take(text.sender == Sender::Hold),
+        Some(Refusal::UnknownPoint) => {
+            let message = unknown_point_message(report.alloc, site, text.point)?;
+            report.fault(FaultName::Rejected(Refusal::UnknownPoint), message)
+        }
+        Some(refusal) => reject(report, refusal, None),
+    }
+}
+
+/// A refusal in its sentence, with what was found where that is known.
+pub(crate) fn reject(
+    report: &mut Report,
+    refusal: Refusal,
+    found: Option<&str>,
+) -> Result<(), AllocError> {
+    let name = refusal.name();
+    let why = sentence(refusal);
+    let message = match found {
+        Some(found) => format!(in report.alloc; "{name}: {why}: {found}")?,
+        None => format!(in report.alloc; "{name}: {why}")?,
+    };
+    report.fault(FaultName::Rejected(refusal), message)
+}
+
+/// Why a request for a schedule is refused, in the order of the checks.
+fn ask_refusal(
+    site: &Site,
+    requests: &Requests,
+    text: &LineText<'_>,
+    request: &ScheduleRequest,
+) -> Option<Refusal> {
+    let Some(point) = point_of(site, text) else {
+        return Some(Refusal::UnknownPoint);
+    };
+    if request.connector as usize > point.ceilings.len() {
+        return Some(Refusal::UnknownConnector);
+    }
+    if let Some(unit) = request.unit {
+        if !unit.is_same(site.unit()) {
+            return Some(Refusal::WrongUnit);
+        }
+    }
+    match Ask::try_new(request.connector, text.moment, request.duration) {
+        Err(refusal) => Some(refusal),
+        Ok(_) if requests.is_full() => Some(Refusal::TooManyOpen),
+        Ok(_) => None,
+    }
+}
+
+/// A StartTransaction at a connector that the point lacks.
+fn check_start(
+    report: &mut Report,
+    site: &Site,
+    text: &LineText<'_>,
+    connector: u32,
+) -> Result<(), AllocError> {
+    let Some(point) = point_of(site, text) else {
+        return Ok(());
+    };
+    let count = point.ceilings.len();
+    if connector >= 1 && connector as usize <= count {
+        return Ok(());
+    }
+    let message = format!(in report.alloc; "UnknownConnector: a transaction is started at connector {connector}; the point has connectors 1 to {count}")?;
+    let fault = CallFault::Refused(Refusal::UnknownConnector);
+    report.fault(FaultName::Call(fault), message)
+}

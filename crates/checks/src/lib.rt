@@ -1,0 +1,32 @@
+//! What is wrong with a site file and with a script, said for people before they are used.
+#![tactic(auto)]
+
+mod call_check;
+mod field_fault;
+mod finding;
+mod found;
+mod json_fault;
+mod json_outline;
+mod line_hints;
+mod never;
+mod payload_fields;
+mod profile_check;
+mod report;
+mod requests;
+mod script_check;
+mod script_line;
+mod sentences;
+mod shown;
+mod similar;
+mod site_check;
+mod site_fields;
+mod site_point;
+mod text_check;
+mod text_place;
+
+pub use finding::{FaultName, Finding, Place, Severity, exit_status};
+pub use never::{NeverRated, never_rated};
+pub use script_check::check_script;
+pub use script_line::LineFault;
+pub use sentences::{call_sentence, line_sentence, sentence, site_sentence};
+pub use site_check::check_site;

@@ -1,0 +1,234 @@
+//! What is wrong with an install, and what its profile does else than it says.
+
+use crate::call_check::{point_of, reject, unknown_point_message};
+use crate::finding::FaultName;
+use crate::never::{NeverRated, never_rated};
+use crate::report::Report;
+use crate::script_line::LineText;
+use ocpp_scalars::{Instant, Refusal, write_instant, write_tenths};
+use profile::{Kind, Period, Profile, ProfileKind, ProfileParts, Purpose, Recurrency};
+use site_rules::{Site, SitePoint, admit};
+use std::alloc::{AllocError, Global};
+
+/// Checks a SetChargingProfile whose fields are right.
+pub(crate) fn check_install(
+    report: &mut Report,
+    site: &Site,
+    text: &LineText<'_>,
+    connector: u32,
+    parts: ProfileParts,
+) -> Result<(), AllocError> {
+    warn_dropped(report, &parts)?;
+    let profile = match Profile::try_new(parts) {
+        Ok(profile) => profile,
+        Err((refusal, parts)) => return refuse_parts(report, refusal, &parts),
+    };
+    match admit(site, text.point, connector, &profile) {
+        Err(Refusal::UnknownPoint) => {
+            let message = unknown_point_message(report.alloc, site, text.point)?;
+            report.fault(FaultName::Rejected(Refusal::UnknownPoint), message)?;
+        }
+        Err(refusal) => reject(report, refusal, None)?,
+        Ok(()) => {
+            if let Some(point) = point_of(site, text) {
+                warn_ceiling(report, point, connector, &profile)?;
+            }
+        }
+    }
+    warn_transaction(report, &profile)?;
+    warn_rates(report, text.moment, &profile)
+}
+
+/// Fields that have no meaning beside the profile's purpose or kind.
+fn warn_dropped(report: &mut Report, parts: &ProfileParts) -> Result<(), AllocError> {
+    if parts.transaction.is_some() && !matches!(parts.purpose, Purpose::TxProfile) {
+        report.warn_text("transactionId counts for nothing but in a TxProfile")?;
+    }
+    if parts.recurrency.is_some() && parts.kind != ProfileKind::Recurring {
+        report.warn_text("recurrencyKind counts for nothing unless chargingProfileKind is Recurring")?;
+    }
+    if parts.schedule.start.is_some() && parts.kind == ProfileKind::Relative {
+        report.warn_text("startSchedule counts for nothing in a Relative profile, which begins with its transaction")?;
+    }
+    Ok(())
+}
+
+/// The refusal of a profile that isn't well formed.
+fn refuse_parts(
+    report: &mut Report,
+    refusal: Refusal,
+    parts: &ProfileParts,
+) -> Result<(), AllocError> {
+    let alloc = report.alloc;
+    let periods = parts.schedule.periods.as_slice();
+    let found = match refusal {
+        Refusal::LevelTooHigh => format!(in alloc; "stackLevel is {}", parts.stack_level)?,
+        Refusal::TooManyPeriods => format!(in alloc; "there are {}", periods.len())?,
+        Refusal::PeriodsOutOfOrder => out_of_order(alloc, periods)?,
+        _ => return reject(report, refusal, None),
+    };
+    reject(report, refusal, Some(found.as_str()))
+}
+
+/// The first period that doesn't start later than the one before it.
+fn out_of_order(alloc: Global, periods: &[Period]) -> Result<String, AllocError> {
+    let mut before: Option<u32> = None;
+    for (index, period) in periods.iter().enumerate() {
+        let start = period.start;
+        if let Some(earlier) = before {
+            if start <= earlier {
+                return format!(in alloc; "chargingSchedulePeriod[{index}] starts at {start}, and the one before it at {earlier}");
+            }
+        }
+        before = Some(start);
+    }
+    Ok(String::new(alloc))
+}
+
+/// A TxProfile that isn't bound to its transaction.
+fn warn_transaction(report: &mut Report, profile: &Profile) -> Result<(), AllocError> {
+    if matches!(profile.purpose, Purpose::TxProfile) && profile.transaction.is_none() {
+        report.warn_text("this TxProfile has no transactionId: where its transaction ends before the call reaches the point, the point may take it for the NEXT car")?;
+    }
+    Ok(())
+}
+
+/// A profile that never lowers a limit, since the ceilings of the site file are below it.
+fn warn_ceiling(
+    report: &mut Report,
+    point: SitePoint<'_>,
+    connector: u32,
+    profile: &Profile,
+) -> Result<(), AllocError> {
+    let ceiling = highest_ceiling(point, connector, profile.purpose);
+    let periods = profile.schedule.periods.as_slice();
+    if !periods.iter().all(|period| period.limit > ceiling) {
+        return Ok(());
+    }
+    let ceiling = tenths_text(report.alloc, ceiling)?;
+    let message = format!(in report.alloc; "each limit of this profile is above the ceiling of the site file there, {ceiling}: it never lowers anything")?;
+    report.warn(message)
+}
+
+/// The highest ceiling that a profile could lower, in tenths: the point's for the whole point, else the lower
+/// of the point's and the connector's, of the highest connector where it stands for all of them.
+fn highest_ceiling(point: SitePoint<'_>, connector: u32, purpose: Purpose) -> u32 {
+    if matches!(purpose, Purpose::ChargePointMaxProfile) {
+        return point.ceiling;
+    }
+    let mut highest = 0;
+    for (index, ceiling) in point.ceilings.iter().enumerate() {
+        if connector == 0 || index.saturating_add(1) == connector as usize {
+            highest = highest.max(*ceiling);
+        }
+    }
+    highest.min(point.ceiling)
+}
+
+fn tenths_text(alloc: Global, tenths: u32) -> Result<String, AllocError> {
+    match write_tenths(alloc, tenths) {
+        Ok(text) => Ok(text),
+        Err(_) => Err(AllocError),
+    }
+}
+
+fn instant_text(alloc: Global, instant: Instant) -> Result<String, AllocError> {
+    match write_instant(alloc, instant) {
+        Ok(text) => Ok(text),
+        Err(_) => Err(AllocError),
+    }
+}
+
+/// When a profile has no rate: never, or in stretches that probably weren't meant.
+fn warn_rates(
+    report: &mut Report,
+    moment: Instant,
+    profile: &Profile,
+) -> Result<(), AllocError> {
+    if let Some(why) = never_rated(profile) {
+        return report.warn_text(never_text(why));
+    }
+    if let Some(end) = profile.valid_to {
+        if end <= moment {
+            let end = instant_text(report.alloc, end)?;
+            let message = format!(in report.alloc; "validTo, {end}, is over when the profile is installed: no later schedule counts it")?;
+            report.warn(message)?;
+        }
+    }
+    warn_duration(report, profile)?;
+    match profile.kind {
+        Kind::Recurring(recurrency) => warn_recurrence(report, profile, recurrency),
+        Kind::Absolute | Kind::Relative => Ok(()),
+    }
+}
+
+/// Why a profile never has a rate.
+fn never_text(why: NeverRated) -> &'static str {
+    match why {
+        NeverRated::EmptyValidity => "this profile never counts: its validTo isn't after its validFrom",
+        NeverRated::ValidBeforeStart => "this profile never counts: its validTo isn't after its startSchedule",
+        NeverRated::ValidAfterEnd => "this profile never counts: its schedule is over, by startSchedule and duration, before its validFrom",
+        NeverRated::NoDuration => "this profile never counts: the duration of its schedule is 0",
+        NeverRated::PeriodsPastDuration => "this profile never counts: its first period starts when the duration is over",
+        NeverRated::PeriodsPastRecurrence => "this profile never counts: its first period starts when the day or week is over",
+    }
+}
+
+/// Periods that start when the duration is over.
+fn warn_duration(report: &mut Report, profile: &Profile) -> Result<(), AllocError> {
+    let Some(duration) = profile.schedule.duration else {
+        return Ok(());
+    };
+    match first_past(profile, u64::from(duration)) {
+        Some((index, start)) => {
+            let message = format!(in report.alloc; "chargingSchedulePeriod[{index}] starts at {start} s, when the duration of {duration} s is over: it never counts")?;
+            report.warn(message)
+        }
+        None => Ok(()),
+    }
+}
+
+/// The first period that starts at this offset or later, with its start.
+fn first_past(profile: &Profile, end: u64) -> Option<(usize, u32)> {
+    for (index, period) in profile.schedule.periods.as_slice().iter().enumerate() {
+        if u64::from(period.start) >= end {
+            return Some((index, period.start));
+        }
+    }
+    None
+}
+
+/// What a Daily or Weekly schedule says past its day or week, and when it says nothing.
+fn warn_recurrence(
+    report: &mut Report,
+    profile: &Profile,
+    recurrency: Recurrency,
+) -> Result<(), AllocError> {
+    let alloc = report.alloc;
+    let length = recurrency.length();
+    let unit = match recurrency {
+        Recurrency::Daily => "day",
+        Recurrency::Weekly => "week",
+    };
+    if let Some((index, start)) = first_past(profile, length) {
+        let message = format!(in alloc; "chargingSchedulePeriod[{index}] starts at {start} s, when the {unit} of {length} s is over: it never counts")?;
+        report.warn(message)?;
+    }
+    if let Some(duration) = profile.schedule.duration {
+        if u64::from(duration) > length {
+            let message = format!(in alloc; "the duration of {duration} s is longer than the {unit} of {length} s, which begins anew all the same")?;
+            report.warn(message)?;
+        } else if u64::from(duration) < length {
+            let message = format!(in alloc; "this profile sets no limit from {duration} s to {length} s of each {unit}: the profile below it counts then, or none")?;
+            report.warn(message)?;
+        }
+    }
+    match profile.schedule.periods.as_slice().first() {
+        Some(first) if first.start > 0 => {
+            let start = first.start;
+            let message = format!(in alloc; "this profile sets no limit in the first {start} s of each {unit}: the profile below it counts then, or none")?;
+            report.warn(message)
+        }
+        _ => Ok(()),
+    }
+}

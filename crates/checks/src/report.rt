@@ -1,0 +1,52 @@
+//! The findings in a script, gathered line by line.
+
+use crate::finding::{FaultName, Finding, Place};
+use std::alloc::{AllocError, Global};
+
+/// The findings so far, and the line that is looked at.
+#[derive(Drop)]
+pub(crate) struct Report {
+    pub alloc: Global,
+    findings: Vec<Finding>,
+    /// Counted from 1; 0 before the first.
+    line: u64,
+}
+
+impl Report {
+    pub(crate) fn new(alloc: Global) -> Report {
+        Report {
+            alloc,
+            findings: Vec::new(alloc),
+            line: 0,
+        }
+    }
+
+    pub(crate) fn into_findings(self) -> Vec<Finding> {
+        self.findings
+    }
+
+    /// Goes on to the next line.
+    pub(crate) fn next_line(&mut self) {
+        self.line = self.line.saturating_add(1);
+    }
+
+    /// A fault in this line.
+    pub(crate) fn fault(&mut self, name: FaultName, message: String) -> Result<(), AllocError> {
+        let place = Place::Line(self.line);
+        self.findings.push(Finding::fault(place, name, message))?;
+        Ok(())
+    }
+
+    /// A warning of this line.
+    pub(crate) fn warn(&mut self, message: String) -> Result<(), AllocError> {
+        let place = Place::Line(self.line);
+        self.findings.push(Finding::warning(place, message))?;
+        Ok(())
+    }
+
+    /// A warning of this line, in words that are there.
+    pub(crate) fn warn_text(&mut self, message: &str) -> Result<(), AllocError> {
+        let message = String::from_str(self.alloc, message)?;
+        self.warn(message)
+    }
+}

@@ -1,0 +1,240 @@
+//! What is wrong with a point of a site file.
+
+use crate::finding::{FaultName, Finding, Place};
+use crate::found::{Wish, field_message, message_of, what_stands};
+use crate::shown::shown;
+use crate::site_fields::SiteNames;
+use indexmap::IndexMap;
+use ocpp_scalars::{read_tenths, write_tenths};
+use ocppj_frame::{Entries, Field, Node, list_field, tenths_field, text_field};
+use site_rules::SiteFault;
+use std::alloc::{AllocError, Global};
+
+/// The most connectors of a point.
+const MAX_CONNECTORS: usize = 64;
+
+/// The most characters of a point's identity.
+const MAX_ID_CHARACTERS: usize = 48;
+
+/// What a limit is.
+const LIMIT: &str = "a number from 0 to 100000000.0 with at most one decimal";
+
+/// The identities of the points so far, and the index of the first point that has each.
+#[derive(Drop)]
+pub(crate) struct KnownIds {
+    places: IndexMap<String, usize>,
+}
+
+impl KnownIds {
+    pub(crate) fn new(alloc: Global) -> KnownIds {
+        KnownIds {
+            places: IndexMap::new(alloc),
+        }
+    }
+
+    /// The index of the earlier point that has an identity, which is kept where there is none.
+    fn earlier(
+        &mut self,
+        alloc: Global,
+        id: &str,
+        index: usize,
+    ) -> Result<Option<usize>, AllocError> {
+        if let Some(earlier) = self.places.get(id) {
+            return Ok(Some(*earlier));
+        }
+        self.places.insert(String::from_str(alloc, id)?, index)?;
+        Ok(None)
+    }
+}
+
+/// A point whose fields are checked.
+#[derive(Clone, Copy)]
+struct PointFields<'node, 'memory> {
+    index: usize,
+    fields: Node<'node, 'memory>,
+}
+
+impl PointFields<'_, '_> {
+    /// Where it stands, with its identity where that is a text.
+    fn place(self, alloc: Global) -> Result<Place, AllocError> {
+        let id = match text_field(self.fields, "id") {
+            Field::Value(id) if !id.is_empty() => Some(shown(alloc, id)?),
+            _ => None,
+        };
+        Ok(Place::Point {
+            index: self.index,
+            id,
+        })
+    }
+
+    fn fault(
+        self,
+        alloc: Global,
+        fault: SiteFault,
+        message: String,
+    ) -> Result<Finding, AllocError> {
+        let place = self.place(alloc)?;
+        Ok(Finding::fault(place, FaultName::Site(fault), message))
+    }
+}
+
+/// Checks a point, which is an object, and adds its faults to the findings.
+pub(crate) fn check_point(
+    alloc: Global,
+    index: usize,
+    fields: Node<'_, '_>,
+    names: &SiteNames<'_>,
+    known: &mut KnownIds,
+    findings: &mut Vec<Finding>,
+) -> Result<(), AllocError> {
+    let point = PointFields { index, fields };
+    check_id(alloc, point, names, known, findings)?;
+    let ceiling = check_ceiling(alloc, point, names, findings)?;
+    let together = check_connectors(alloc, point, names, findings)?;
+    if let (Some(ceiling), Some(together)) = (ceiling, together) {
+        if together > u64::from(ceiling) {
+            findings.push(remark_together(alloc, point, ceiling, together)?)?;
+        }
+    }
+    Ok(())
+}
+
+fn check_id(
+    alloc: Global,
+    point: PointFields<'_, '_>,
+    names: &SiteNames<'_>,
+    known: &mut KnownIds,
+    findings: &mut Vec<Finding>,
+) -> Result<(), AllocError> {
+    if let Field::Value(id) = text_field(point.fields, "id") {
+        if is_point_id(id) {
+            if let Some(earlier) = known.earlier(alloc, id, point.index)? {
+                let message = format!(in alloc;
+                    "id: points[{earlier}] has it too; each point has its own"
+                )?;
+                findings.push(point.fault(alloc, SiteFault::SameId, message)?)?;
+            }
+            return Ok(());
+        }
+    }
+    let wish = Wish {
+        field: "id",
+        wanted: "a text of 1 to 48 of the characters A-Z, a-z, 0-9, `.`, `_`, `-` and `~`",
+        hint: names.hint(Some(point.index), "id"),
+    };
+    let message = field_message(alloc, point.fields.field("id"), &wish)?;
+    findings.push(point.fault(alloc, SiteFault::BadId, message)?)?;
+    Ok(())
+}
+
+fn is_point_id(id: &str) -> bool {
+    !id.is_empty() && id.len() <= MAX_ID_CHARACTERS && id.bytes().all(is_id_byte)
+}
+
+fn is_id_byte(byte: u8) -> bool {
+    matches!(byte, b'A'..=b'Z' | b'a'..=b'z' | b'0'..=b'9' | b'.' | b'_' | b'-' | b'~')
+}
+
+/// Returns the ceiling, in tenths, where it is one.
+fn check_ceiling(
+    alloc: Global,
+    point: PointFields<'_, '_>,
+    names: &SiteNames<'_>,
+    findings: &mut Vec<Finding>,
+) -> Result<Option<u32>, AllocError> {
+    if let Field::Value(ceiling) = tenths_field(point.fields, "ceiling") {
+        return Ok(Some(ceiling));
+    }
+    let wish = Wish {
+        field: "ceiling",
+        wanted: LIMIT,
+        hint: names.hint(Some(point.index), "ceiling"),
+    };
+    let message = field_message(alloc, point.fields.field("ceiling"), &wish)?;
+    findings.push(point.fault(alloc, SiteFault::BadCeiling, message)?)?;
+    Ok(None)
+}
+
+/// Returns the sum of the connectors' ceilings, in tenths, where they are ceilings.
+fn check_connectors(
+    alloc: Global,
+    point: PointFields<'_, '_>,
+    names: &SiteNames<'_>,
+    findings: &mut Vec<Finding>,
+) -> Result<Option<u64>, AllocError> {
+    let Field::Value(entries) = list_field(point.fields, "connectors") else {
+        let wish = Wish {
+            field: "connectors",
+            wanted: "a list of 1 to 64 ceilings, of connectors 1, 2, .., such as [32.0,32.0]",
+            hint: names.hint(Some(point.index), "connectors"),
+        };
+        let message = field_message(alloc, point.fields.field("connectors"), &wish)?;
+        findings.push(point.fault(alloc, SiteFault::BadConnectors, message)?)?;
+        return Ok(None);
+    };
+    let count = entries.len();
+    if count == 0 || count > MAX_CONNECTORS {
+        let message = format!(in alloc;
+            "connectors: {count} entries; 1 to {MAX_CONNECTORS} are wanted"
+        )?;
+        findings.push(point.fault(alloc, SiteFault::BadConnectors, message)?)?;
+    }
+    check_ceilings(alloc, point, entries, findings)
+}
+
+fn check_ceilings(
+    alloc: Global,
+    point: PointFields<'_, '_>,
+    entries: Entries<'_, '_>,
+    findings: &mut Vec<Finding>,
+) -> Result<Option<u64>, AllocError> {
+    let mut together = Some(0u64);
+    let mut place: usize = 0;
+    for entry in entries.iter() {
+        match ceiling_of(entry) {
+            Some(ceiling) => {
+                together = together.map(|sum| sum.saturating_add(u64::from(ceiling)));
+            }
+            None => {
+                together = None;
+                let found = what_stands(alloc, Some(entry))?;
+                let found = format!(in alloc; "connectors[{place}]: {found}")?;
+                let message = message_of(alloc, &found, LIMIT)?;
+                findings.push(point.fault(alloc, SiteFault::BadConnectors, message)?)?;
+            }
+        }
+        place = place.saturating_add(1);
+    }
+    Ok(together)
+}
+
+fn ceiling_of(entry: Node<'_, '_>) -> Option<u32> {
+    match read_tenths(entry.number()?) {
+        Ok(ceiling) => Some(ceiling),
+        Err(_) => None,
+    }
+}
+
+/// The connectors of most points have more together than the point; it is worth a look all the same.
+fn remark_together(
+    alloc: Global,
+    point: PointFields<'_, '_>,
+    ceiling: u32,
+    together: u64,
+) -> Result<Finding, AllocError> {
+    let whole = together / 10;
+    let tenth = together % 10;
+    let place = point.place(alloc)?;
+    let ceiling = tenths_shown(alloc, ceiling)?;
+    let message = format!(in alloc;
+        "the connectors' ceilings are {whole}.{tenth} together, more than the point's {ceiling}; each connector alone is bounded by the point's"
+    )?;
+    Ok(Finding::remark(place, message))
+}
+
+fn tenths_shown(alloc: Global, tenths: u32) -> Result<String, AllocError> {
+    match write_tenths(alloc, tenths) {
+        Ok(text) => Ok(text),
+        Err(_) => Err(AllocError),
+    }
+}

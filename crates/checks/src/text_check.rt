@@ -1,0 +1,213 @@
+//! What is wrong with a text that a line of a script brings, as a frame (OCPP-J 1.6, chapter 4).
+
+use crate::call_check::{Call, check_call};
+use crate::finding::FaultName;
+use crate::json_fault::{JsonFault, json_fault_text};
+use crate::json_outline::outline_of;
+use crate::report::Report;
+use crate::requests::Requests;
+use crate::script_line::{LineFault, LineText, Sender};
+use crate::sentences::call_sentence;
+use crate::shown::shown;
+use messages::CallFault;
+use ocpp_scalars::character_count;
+use ocppj_frame::{
+    Field, Frame, FrameFault, MAX_ID_CHARACTERS, Node, ReadingMemory, read_frame, read_tree,
+    text_field,
+};
+use site_rules::Site;
+use std::alloc::{AllocError, Global};
+
+/// What became of a text.
+#[derive(Clone, Copy, PartialEq, Eq)]
+enum Reading {
+    /// It is a message, and was checked as one.
+    Checked,
+    /// It is no message.
+    Dropped,
+}
+
+/// Checks the text of a line.
+pub(crate) fn check_text(
+    report: &mut Report,
+    site: &Site,
+    memory: &mut ReadingMemory,
+    requests: &mut Requests,
+    text: &LineText<'_>,
+) -> Result<(), AllocError> {
+    match check_message(report, site, memory, requests, text)? {
+        Reading::Checked => Ok(()),
+        Reading::Dropped => check_dropped(report, memory, text),
+    }
+}
+
+/// Checks a text as a message, if it is one.
+fn check_message(
+    report: &mut Report,
+    site: &Site,
+    memory: &mut ReadingMemory,
+    requests: &mut Requests,
+    text: &LineText<'_>,
+) -> Result<Reading, AllocError> {
+    match read_frame(memory, text.frame) {
+        Ok(frame) => check_frame(report, site, requests, text, frame)?,
+        Err(FrameFault::Formation { .. }) => check_malformed(report, text)?,
+        Err(FrameFault::Dropped) => return Ok(Reading::Dropped),
+        Err(FrameFault::OutOfMemory) => return Err(AllocError),
+    }
+    Ok(Reading::Checked)
+}
+
+/// Checks a message.
+fn check_frame(
+    report: &mut Report,
+    site: &Site,
+    requests: &mut Requests,
+    text: &LineText<'_>,
+    frame: Frame<'_>,
+) -> Result<(), AllocError> {
+    match frame {
+        Frame::Call {
+            action,
+            payload,
+            ..
+        } => {
+            let call = Call {
+                text,
+                action: action.as_str(),
+                payload: payload.root(),
+            };
+            check_call(report, site, requests, &call)
+        }
+        _ if text.sender == Sender::Hold => not_composite(report, text, "it is no CALL"),
+        Frame::Reply { id, payload } => {
+            check_reply(report, text, id.as_str(), reply_status(payload.root()))
+        }
+        Frame::Fault { id } => check_reply(report, text, id.as_str(), Some("an error")),
+        Frame::Other => report.warn_text(
+            "the first element of the frame is none of 2 (CALL), 3 (CALLRESULT) and 4 (CALLERROR): the text is dropped without a word",
+        ),
+    }
+}
+
+/// The status of a reply, where it isn't accepted.
+fn reply_status<'memory>(payload: Node<'_, 'memory>) -> Option<&'memory str> {
+    match text_field(payload, "status") {
+        Field::Value("Accepted") => None,
+        Field::Value(status) => Some(status),
+        _ => None,
+    }
+}
+
+/// A point that doesn't accept a call, and an operator that replies.
+fn check_reply(
+    report: &mut Report,
+    text: &LineText<'_>,
+    id: &str,
+    status: Option<&str>,
+) -> Result<(), AllocError> {
+    if text.sender != Sender::Point {
+        return report.warn_text(
+            "an operator's CALLRESULT and CALLERROR are ignored: an operator sends CALLs, which begin with [2,",
+        );
+    }
+    let Some(status) = status else {
+        return Ok(());
+    };
+    let alloc = report.alloc;
+    let id = shown(alloc, id)?;
+    let status = shown(alloc, status)?;
+    let message = format!(in alloc; "the point answers call \"{id}\" with {status}: the central system keeps what the call is of, so its schedules say more than the point does")?;
+    report.warn(message)
+}
+
+/// A held line that is no request for a schedule.
+pub(crate) fn not_composite(
+    report: &mut Report,
+    text: &LineText<'_>,
+    why: &str,
+) -> Result<(), AllocError> {
+    let frame = shown(report.alloc, text.frame)?;
+    let message = format!(in report.alloc; "NotComposite: a frame that is held has to be a CALL of GetCompositeSchedule, and {why}: {frame}")?;
+    report.fault(FaultName::Line(LineFault::NotComposite), message)
+}
+
+/// A CALL whose action is no text or whose payload is no object.
+fn check_malformed(report: &mut Report, text: &LineText<'_>) -> Result<(), AllocError> {
+    if text.sender == Sender::Hold {
+        return not_composite(report, text, "it is malformed");
+    }
+    let sentence = call_sentence(CallFault::FormationViolation);
+    let frame = shown(report.alloc, text.frame)?;
+    let message = format!(in report.alloc; "FormationViolation: {sentence}: {frame}")?;
+    report.fault(FaultName::Call(CallFault::FormationViolation), message)
+}
+
+/// A text that is no message.
+fn check_dropped(
+    report: &mut Report,
+    memory: &mut ReadingMemory,
+    text: &LineText<'_>,
+) -> Result<(), AllocError> {
+    let why = why_dropped(report.alloc, memory, text)?;
+    if text.sender == Sender::Hold {
+        return not_composite(report, text, why.as_str());
+    }
+    let frame = shown(report.alloc, text.frame)?;
+    let message = format!(in report.alloc; "the text is no message and is dropped without a word: {why}: {frame}")?;
+    report.warn(message)
+}
+
+/// Why a text is no message.
+fn why_dropped(
+    alloc: Global,
+    memory: &mut ReadingMemory,
+    text: &LineText<'_>,
+) -> Result<String, AllocError> {
+    match read_tree(memory, text.frame) {
+        Ok(tree) => String::from_str(alloc, why_no_message(tree.root())),
+        Err(FrameFault::OutOfMemory) => Err(AllocError),
+        Err(_) => match outline_of(alloc, text.frame)?.fault {
+            Some(fault) => broken_at(alloc, text, &fault),
+            None => String::from_str(alloc, "it isn't JSON"),
+        },
+    }
+}
+
+/// Where the JSON of a frame breaks, by its column in the line.
+fn broken_at(
+    alloc: Global,
+    text: &LineText<'_>,
+    fault: &JsonFault,
+) -> Result<String, AllocError> {
+    let before = character_count(text.line).saturating_sub(character_count(text.frame));
+    let mut column = before.saturating_add(1);
+    for (offset, _) in text.frame.char_indices() {
+        if offset >= fault.offset {
+            break;
+        }
+        column = column.saturating_add(1);
+    }
+    let found = json_fault_text(alloc, fault)?;
+    format!(in alloc; "its JSON breaks at column {column}, where {found}")
+}
+
+/// Why a tree is no message.
+fn why_no_message(root: Node<'_, '_>) -> &'static str {
+    let Some(entries) = root.list() else {
+        return "a frame is a list such as [2,\"id\",\"Action\",{}]";
+    };
+    let (Some(kind), Some(id)) = (entries.get(0), entries.get(1)) else {
+        return "a frame is a list such as [2,\"id\",\"Action\",{}], and elements are missing";
+    };
+    if kind.number().is_none() {
+        return "the first element of a frame is the number 2, 3 or 4";
+    }
+    match id.text() {
+        None => "the second element of a frame, its id, is a text in double quotes",
+        Some(id) if character_count(id) > MAX_ID_CHARACTERS => {
+            "the id of a frame has at most 36 characters"
+        }
+        Some(_) => "the first element of a frame is the number 2, 3 or 4",
+    }
+}
