@@ -8,7 +8,8 @@ TOP is the repository, by default the one that this file stands in. What is comp
 - the actions in PROTOCOL, and those that DIFFERENCES says are there, with the names in messages/specs/ActionKind.antt;
 - the refusals in PROTOCOL with the names in ocpp_scalars/specs/Refusal.antt;
 - the replay cases in their README with the folders, and the version in CHANGELOG with that of the program;
-- each path in a document with the tree, each link with its file and its heading;
+- each path in a document with the tree, each name in brackets behind a file with that file, each link with its file and
+  its heading;
 - that no document names a paper, a request or a row by a number.
 """
 import os
@@ -269,9 +270,19 @@ def path_problems(top, files):
                 yield f"{page}:{number}: no {word} in the tree"
     for page in documents_of(files):
         for number, line in enumerate(without_blocks(text_of(top, page)), 1):
+            yield from name_problems(top, files, page, number, line)
             for link in re.findall(r"\]\(([^)\s]+)\)", line):
                 if not re.match(r"\w+:", link):
                     yield from link_problems(top, names, page, number, link)
+
+
+def name_problems(top, files, page, number, line):
+    """`FILE` (`name`, ..): each name has to stand in that file."""
+    for path, given in re.findall(r"`([\w./-]+\.\w+)` \(((?:`\w+`(?:, )?)+)\)", line):
+        texts = [text_of(top, name) for name in files if ("/" + name).endswith("/" + path)]
+        for word in re.findall(r"\w+", given):
+            if texts and not any(re.search(rf"\b{word}\b", text) for text in texts):
+                yield f"{page}:{number}: no {word} in {path}"
 
 
 def link_problems(top, names, page, number, link):
