@@ -19,16 +19,18 @@ import sys
 
 HERE = os.path.dirname(os.path.dirname(os.path.abspath(__file__)))
 
-# Definitions in Limits.antt that bound nothing which a user sends: they follow from another, or name a length.
+# Definitions in Limits.antt that bound nothing which a user sends, each with the page that has its number.
 NO_LIMITS = {
-    "ocpp_scalars last_day",  # the day of the last second
-    "profile day",
-    "profile week",
-    "version_store fold_from",  # how often a history is folded, which nobody sees
-    "version_store room",
+    "ocpp_scalars last_day": None,  # the day of the last second
+    "profile day": "docs/MEANING.md",
+    "profile week": "docs/MEANING.md",
+    "version_store fold_from": "docs/ARCHITECTURE.md",
+    "version_store room": "docs/DECISIONS.md",
 }
-# Pages for users, in which a large limit is a link.
-PAGES_WITHOUT_LIMITS = ("docs/PROTOCOL.md", "docs/MEANING.md", "docs/DIFFERENCES.md")
+# Pages in which a large limit is a link.
+PAGES_WITHOUT_LIMITS = [
+    f"docs/{page}.md" for page in ("PROTOCOL", "MEANING", "DIFFERENCES", "DECISIONS", "ARCHITECTURE", "WORKING")
+]
 # Words of paths that stand for others, and what is built and so isn't in the tree.
 PLACEHOLDERS = re.compile(r"[A-Z]{4,}/|/[A-Z]{3,}\b(?!\.md)|\*|\.\.\.|/out(/|$)|^out/|^NAME|CRATE")
 FILE_ENDINGS = (".rt", ".antt", ".py", ".md", ".json", ".js", ".c", ".txt", ".edit")
@@ -157,8 +159,11 @@ def limit_problems(top, files):
         values = {written(limit, limits[limit]) for limit in cited & set(limits)}
         if values != numbers and "by the library" not in source:
             yield f"OPERATING, {what}: {cell}, but by {source} it is {', '.join(sorted(values))}"
-    for limit in sorted(set(limits) - told - NO_LIMITS):
+    for limit in sorted(set(limits) - told - set(NO_LIMITS)):
         yield f"OPERATING: no row for {limit} = {limits[limit]:,}"
+    for limit, page in NO_LIMITS.items():
+        if page and not re.search(rf"(?<![\d,]){limits.get(limit, -1):,}(?![\d,]*\d)", text_of(top, page)):
+            yield f"{page}: {limit} isn't told, or with another number"
 
 
 def repeated_limit_problems(top, files):
