@@ -1,0 +1,339 @@
+#!/usr/bin/env python3
+"""documents.py [TOP]: compares the documents with the tree, and prints 'N passed, M failed'.
+
+TOP is the repository, by default the one that this file stands in. What is compared:
+
+- the table of limits in OPERATING with each crate's specs/Limits.antt and the limits of the command line, both ways;
+  that no other page for users has one of the large numbers, and no other table of refusals;
+- the actions in PROTOCOL, and those that DIFFERENCES says are there, with the names in messages/specs/ActionKind.antt;
+- the refusals in PROTOCOL with the names in ocpp_scalars/specs/Refusal.antt;
+- the replay cases in their README with the folders, and the version in CHANGELOG with that of the program;
+- each path in a document with the tree, each name in brackets behind a file with that file, each link with its file and
+  its heading;
+- that no document names a paper, a request or a row by a number.
+"""
+import os
+import re
+import subprocess
+import sys
+
+HERE = os.path.dirname(os.path.dirname(os.path.abspath(__file__)))
+
+# Definitions in Limits.antt that bound nothing which a user sends, each with the page that has its number.
+NO_LIMITS = {
+    "ocpp_scalars last_day": None,  # the day of the last second
+    "profile day": "docs/MEANING.md",
+    "profile week": "docs/MEANING.md",
+    "version_store fold_from": "docs/ARCHITECTURE.md",
+    "version_store room": "docs/DECISIONS.md",
+}
+# Pages in which a large limit is a link.
+PAGES_WITHOUT_LIMITS = [
+    f"docs/{page}.md" for page in ("PROTOCOL", "MEANING", "DIFFERENCES", "DECISIONS", "ARCHITECTURE", "WORKING")
+]
+# Words of paths that stand for others, and what is built and so isn't in the tree.
+PLACEHOLDERS = re.compile(r"[A-Z]{4,}/|/[A-Z]{3,}\b(?!\.md)|\*|\.\.\.|/out(/|$)|^out/|^NAME|CRATE")
+FILE_ENDINGS = (".rt", ".antt", ".py", ".md", ".json", ".js", ".c", ".txt", ".edit")
+TOP_FOLDERS = ("crates/", "docs/", "examples/", "tests/", "bench/", "dist/")
+NUMBER = re.compile(r"\d{4}-\d\d-\d\dT[\d:]+Z|-?\d[\d,]*(?:\.\d)?")
+NUMBERED = re.compile(
+    r"\b(?:document|paper|request|issue|ticket|row|requirement|theorem|wrong body)s?\s+#?\d+\b(?![,.]\d)"
+    r"|(?<![\w.:-])[TRW]\d{1,2}\b|(?<![\w#])#\d+\b",
+    re.IGNORECASE,
+)
+
+
+def text_of(top, path):
+    with open(os.path.join(top, path), encoding="utf-8") as file:
+        return file.read()
+
+
+def files_of(top):
+    """The files of the tree that git knows or would know, without what is built."""
+    listed = subprocess.run(
+        ["git", "-C", top, "ls-files", "--cached", "--others", "--exclude-standard"],
+        capture_output=True, text=True, check=True,
+    ).stdout.split("\n")
+    return [name for name in listed if name and os.path.exists(os.path.join(top, name))]
+
+
+def documents_of(files):
+    """README, CONTRIBUTING and the like, docs/, and the READMEs below examples, tests, bench and crates."""
+    return sorted(
+        name for name in files
+        if name.endswith(".md") and ("/" not in name or name.startswith("docs/") or name.endswith("README.md"))
+    )
+
+
+# ---- parts of a page
+
+def without_blocks(text):
+    """The lines of a page, those of its code blocks left empty."""
+    inside, lines = False, []
+    for line in text.split("\n"):
+        fence = line.lstrip().startswith("```")
+        lines.append("" if inside or fence else line)
+        inside = inside != fence
+    return lines
+
+
+def block_lines(text):
+    """The lines of the code blocks of a page, each with its number."""
+    inside = False
+    for number, line in enumerate(text.split("\n"), 1):
+        if line.lstrip().startswith("```"):
+            inside = not inside
+        elif inside:
+            yield number, line
+
+
+def section_of(text, heading):
+    """What stands below a heading, up to the next one of its level or above."""
+    level, lines, inside = 0, [], False
+    for line in without_blocks(text):
+        found = re.match(r"(#+) (.*)", line)
+        if found and inside and len(found.group(1)) <= level:
+            break
+        if found and not inside and found.group(2) == heading:
+            level, inside = len(found.group(1)), True
+        elif inside:
+            lines.append(line)
+    return "\n".join(lines)
+
+
+def rows_of(text):
+    """The rows of the tables of a text, each as its cells, without headers and rules."""
+    lines = text.split("\n")
+    for place, line in enumerate(lines):
+        follows = lines[place + 1] if place + 1 < len(lines) else ""
+        if line.startswith("|") and not re.match(r"\|[\s:|-]+\|?$", line) and not re.match(r"\|\s*-+", follows):
+            yield [cell.strip() for cell in line.strip().strip("|").split("|")]
+
+
+def anchors_of(text):
+    """The anchors of a page's headings, as GitHub and GitLab make them."""
+    anchors = set()
+    for line in without_blocks(text):
+        found = re.match(r"#+ (.*)", line)
+        if found:
+            plain = re.sub(r"\[([^\]]*)\]\([^)]*\)", r"\1", found.group(1)).replace("`", "")
+            anchors.add(re.sub(r"[^\w\- ]", "", plain.lower()).replace(" ", "-"))
+    return anchors
+
+
+# ---- limits
+
+def limits_of(top, files):
+    """The limits of the definitions: 'crate name' to its value."""
+    limits = {}
+    sources = [name for name in files if re.fullmatch(r"crates/\w+/specs/Limits\.antt", name)]
+    for name in [*sources, "crates/central/specs/CommandLine.antt"]:
+        crate = name.split("/")[1]
+        for limit, value in re.findall(r"^(\w+) = ([\d_]+)$", text_of(top, name), re.MULTILINE):
+            limits[f"{crate} {limit}"] = int(value.replace("_", ""))
+    return limits
+
+
+def written(limit, value):
+    """How the page writes a limit."""
+    if limit.endswith("max_tenths"):
+        return f"{value / 10:,.1f}"
+    if limit.endswith("last_second"):
+        days, seconds = divmod(value, 86_400)
+        assert (days, seconds) == (2_932_896, 86_399)
+        return "9999-12-31T23:59:59Z"
+    if limit.endswith("max_negative_whole"):
+        return f"-{value:,}"
+    return f"{value:,}"
+
+
+def limit_problems(top, files):
+    limits = limits_of(top, files)
+    told = set()
+    for what, cell, source in rows_of(section_of(text_of(top, "docs/OPERATING.md"), "Limits")):
+        numbers = set(NUMBER.findall(re.sub(r"\b[01] to |^1970-01-01T00:00:00Z to ", "", cell)))
+        cited = {f"{crate} {name}" for crate, name in re.findall(r"`(\w+)` `(\w+)`", source)}
+        told |= cited
+        for limit in sorted(cited - set(limits)):
+            yield f"OPERATING, {what}: no definition {limit}"
+        values = {written(limit, limits[limit]) for limit in cited & set(limits)}
+        if values != numbers and "by the library" not in source:
+            yield f"OPERATING, {what}: {cell}, but by {source} it is {', '.join(sorted(values))}"
+    for limit in sorted(set(limits) - told - set(NO_LIMITS)):
+        yield f"OPERATING: no row for {limit} = {limits[limit]:,}"
+    for limit, page in NO_LIMITS.items():
+        if page and not re.search(rf"(?<![\d,]){limits.get(limit, -1):,}(?![\d,]*\d)", text_of(top, page)):
+            yield f"{page}: {limit} isn't told, or with another number"
+
+
+def repeated_limit_problems(top, files):
+    large = {written(limit, value): limit for limit, value in limits_of(top, files).items()
+             if value >= 100_000 and limit not in NO_LIMITS and not limit.endswith(("max_duration", "last_second"))}
+    for page in PAGES_WITHOUT_LIMITS:
+        for number, line in enumerate(without_blocks(text_of(top, page)), 1):
+            for value in large:
+                if re.search(rf"(?<![\d,.]){re.escape(value.lstrip('-'))}(?![\d,.]\d)", line):
+                    yield f"{page}:{number}: the limit {value} ({large[value]}) stands in OPERATING"
+
+
+# ---- actions and refusals
+
+def action_problems(top, files):
+    definition = text_of(top, "crates/messages/specs/ActionKind.antt")
+    known = {side: set(re.findall(rf"^side_of_kind (\w+) = {side}$", definition, re.MULTILINE))
+             for side in ("Operator", "Point")}
+    named = set(re.findall(r'codes "(\w+)"', definition))
+    if named != known["Operator"] | known["Point"]:
+        yield f"ActionKind.antt: {sorted(named ^ (known['Operator'] | known['Point']))} has a name or a side alone"
+    protocol = text_of(top, "docs/PROTOCOL.md")
+    headings = re.findall(r"^### (\w+) \(OCPP 1\.6", section_of(protocol, "An operator's actions"), re.MULTILINE)
+    cells = [row[0] for row in rows_of(section_of(protocol, "A point's actions").split("\nNOW is")[0])]
+    pages = {
+        "Operator": set(headings),
+        "Point": set(re.findall(r"(\w+) \(\d\.\d+\)", " ".join(cells))),
+    }
+    for side, page in pages.items():
+        for name in sorted(page ^ known[side]):
+            yield f"PROTOCOL: {name} is {'no action' if name in page else 'missing among those'} of the {side.lower()}"
+    told = {side: set() for side in known}
+    for action, chapter, sender, here in (row[:4] for row in rows_of(
+            section_of(text_of(top, "docs/DIFFERENCES.md"), "The actions of OCPP 1.6"))):
+        if not here.startswith("no"):
+            told["Point" if sender == "point" else "Operator"].add(action)
+    for side in known:
+        for name in sorted(told[side] ^ known[side]):
+            yield f"DIFFERENCES: {name} is {'not there' if name in told[side] else 'there'}, by the code"
+
+
+def refusals_of(top):
+    return set(re.findall(r'codes "(\w+)"', text_of(top, "crates/ocpp_scalars/specs/Refusal.antt")))
+
+
+def refusal_problems(top, files):
+    known = refusals_of(top)
+    section = section_of(text_of(top, "docs/PROTOCOL.md"), "Refusals")
+    told = [name for row in rows_of(section) for name in re.findall(r"`(\w+)`", row[0])]
+    for name in sorted(set(told) ^ known):
+        yield f"PROTOCOL, Refusals: {name} is {'no refusal' if name in told else 'missing'}"
+    for name in sorted(name for name in set(told) if told.count(name) > 1):
+        yield f"PROTOCOL, Refusals: {name} has two rows"
+    for page in ("README.md", "docs/MEANING.md", "docs/DIFFERENCES.md", "docs/PROOFS.md"):
+        for row in rows_of("\n".join(without_blocks(text_of(top, page)))):
+            if row[0].strip("`") in known:
+                yield f"{page}: a row for the refusal {row[0]}, whose home is PROTOCOL"
+
+
+# ---- cases and the version
+
+def case_problems(top, files):
+    folders = {name.split("/")[2] for name in files if re.fullmatch(r"tests/replay/[^/]+/script", name)}
+    told = [row[0].strip("`") for row in rows_of(text_of(top, "tests/replay/README.md"))]
+    for name in sorted(set(told) ^ folders):
+        yield f"tests/replay/README.md: {name} is {'no case' if name in told else 'missing'}"
+    examples = {name.split("/")[1] for name in files if re.fullmatch(r"examples/[^/]+/.+", name)}
+    for name in sorted(examples - set(re.findall(r"\]\(([\w-]+)\)", text_of(top, "examples/README.md")))):
+        yield f"examples/README.md: {name} is missing"
+
+
+def version_problems(top, files):
+    changelog = re.findall(r"^## \[(\d+\.\d+\.\d+)\]", text_of(top, "CHANGELOG.md"), re.MULTILINE)
+    program = re.search(r'VERSION: &str = "(\d+\.\d+\.\d+)', text_of(top, "crates/central/src/program/help_text.rt"))
+    if not changelog or program is None or changelog[0] != program.group(1):
+        yield f"CHANGELOG's newest version {changelog[:1]} isn't the program's {program and program.group(1)}"
+
+
+# ---- paths and links
+
+def suffixes_of(files):
+    """Each file and folder of the tree by every end of its path."""
+    ends = set()
+    for name in files:
+        parts = name.split("/")
+        for last in range(1, len(parts) + 1):
+            for first in range(last):
+                ends.add("/".join(parts[first:last]))
+    return ends
+
+
+def is_path(word):
+    if not re.fullmatch(r"[\w./-]+", word) or PLACEHOLDERS.search(word) or word.startswith("/") or word in FILE_ENDINGS:
+        return False
+    return word.endswith(FILE_ENDINGS) or word.startswith(TOP_FOLDERS)
+
+
+def path_problems(top, files):
+    ends, names = suffixes_of(files), set(files)
+    for page in documents_of(files):
+        text = text_of(top, page)
+        spans = [(number, span) for number, line in enumerate(without_blocks(text), 1)
+                 for span in re.findall(r"`([^`]+)`", line)]
+        commands = [(number, word) for number, line in block_lines(text) for word in re.findall(r"[\w./-]+", line)
+                    if re.sub(r"^(\.\./)+", "", word).startswith(TOP_FOLDERS)]
+        for number, word in [*spans, *commands]:
+            plain = re.sub(r"^(\.\.?/)+", "", word).rstrip("/")
+            if is_path(word if word.endswith("/") else plain) and plain.rstrip(".") not in ends:
+                yield f"{page}:{number}: no {word} in the tree"
+    for page in documents_of(files):
+        for number, line in enumerate(without_blocks(text_of(top, page)), 1):
+            yield from name_problems(top, files, page, number, line)
+            for link in re.findall(r"\]\(([^)\s]+)\)", line):
+                if not re.match(r"\w+:", link):
+                    yield from link_problems(top, names, page, number, link)
+
+
+def name_problems(top, files, page, number, line):
+    """`FILE` (`name`, ..): each name has to stand in that file."""
+    for path, given in re.findall(r"`([\w./-]+\.\w+)` \(((?:`\w+`(?:, )?)+)\)", line):
+        texts = [text_of(top, name) for name in files if ("/" + name).endswith("/" + path)]
+        for word in re.findall(r"\w+", given):
+            if texts and not any(re.search(rf"\b{word}\b", text) for text in texts):
+                yield f"{page}:{number}: no {word} in {path}"
+
+
+def link_problems(top, names, page, number, link):
+    path, _, anchor = link.partition("#")
+    target = os.path.normpath(os.path.join(os.path.dirname(page), path)) if path else page
+    folder = any(name.startswith(target + "/") for name in names)
+    if target not in names and not folder:
+        yield f"{page}:{number}: the link {link} leads nowhere"
+    elif anchor and (folder or anchor not in anchors_of(text_of(top, target))):
+        yield f"{page}:{number}: no heading for the link {link}"
+
+
+# ---- numbers of papers
+
+def number_problems(top, files):
+    for page in documents_of(files):
+        for number, line in enumerate(without_blocks(text_of(top, page)), 1):
+            for found in NUMBERED.findall(re.sub(r"\]\([^)]*\)", "]", line)):
+                yield f"{page}:{number}: '{found}' cites something by its number"
+
+
+TESTS = {
+    "limits": limit_problems,
+    "limits on one page": repeated_limit_problems,
+    "actions": action_problems,
+    "refusals": refusal_problems,
+    "cases": case_problems,
+    "version": version_problems,
+    "paths and links": path_problems,
+    "numbers of papers": number_problems,
+}
+
+
+def main():
+    if len(sys.argv) > 2:
+        sys.exit(__doc__)
+    top = os.path.abspath(sys.argv[1]) if len(sys.argv) == 2 else HERE
+    files = files_of(top)
+    failed = 0
+    for name, test in TESTS.items():
+        problems = list(test(top, files))
+        for problem in problems:
+            print(f"{name}: {problem}")
+        failed += bool(problems)
+    print(f"{len(TESTS) - failed} passed, {failed} failed")
+    sys.exit(1 if failed else 0)
+
+
+main()
