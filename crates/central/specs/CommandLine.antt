@@ -1,15 +1,20 @@
 -- What a command line says, by clap's definition of how words are read.
-use Rattle.std.specs.Prelude.{◌≡◌, ◌≤◌, true, ℕ, List, [], ◌∷◌, codes, Option, None, Some, option_map}
+use Rattle.std.specs.Prelude.{◌≡◌, ◌≤◌, Bool, true, false, ℕ, List, [], ◌∷◌, codes, Option, None, Some, IfSome, option_map}
 use Rattle.std.specs.Str.Parse.{IsNumeral, digits_value, without_leading_plus}
+use Rattle.meaning.specs.Limits.{max_duration}
+use Rattle.site_rules.specs.Limits.{max_connectors}
 use Rattle.clap.specs.Words.{App, Kinds, Row, Rule, Text, all_of, fault_of, first_of, new_app, new_rule, one_of, subcommand_of, with_rule, with_subcommand}
-use Rattle.clap.specs.declared.builder.action.ArgAction.TheVariants.{Set}
+use Rattle.clap.specs.declared.builder.action.ArgAction.TheVariants.{Set, SetTrue}
 use Rattle.clap.specs.declared.builder.value_parser.ValueParser.TheVariants.{Unsigned}
 use Rattle.central.specs.declared.program.command_line.Job.{Job}
-use Rattle.central.specs.declared.program.command_line.Job.TheVariants.{Replay, Serve, Call, Point}
+use Rattle.central.specs.declared.program.command_line.Job.TheVariants.{Replay, Serve, Call, Point, Explain, Check, Show}
 use Rattle.central.specs.declared.program.command_line.Serving.{Serving}
 use Rattle.central.specs.declared.program.command_line.Calling.{Calling}
 use Rattle.central.specs.declared.program.command_line.Asking.{Asking}
 use Rattle.central.specs.declared.program.command_line.Pointing.{Pointing}
+use Rattle.central.specs.declared.program.command_line.Explaining.{Explaining}
+use Rattle.central.specs.declared.program.command_line.Checking.{Checking}
+use Rattle.central.specs.declared.program.command_line.Showing.{Showing}
 
 -- at most so many workers, and so many connections in all
 abbrev pub max_workers : ℕ
@@ -17,6 +22,10 @@ max_workers = 8
 
 abbrev pub max_sessions : ℕ
 max_sessions = 64
+
+-- at most so many lines of a script: it has no more bytes
+abbrev pub max_lines : ℕ
+max_lines = 16_777_216
 
 -- ---- the commands
 
@@ -32,9 +41,13 @@ optional name = record (option name) { value_names = 1 }
 abbrev pub needed : Text → Rule
 needed name = record (optional name) { required = true }
 
--- the same, where the value is a whole number from 1 on
-abbrev pub needed_number : Text → ℕ → Rule
-needed_number name most = record (needed name) { parser = Some (Unsigned 1 most) }
+-- an option the value of which is a whole number from one to another
+abbrev pub numbered : ℕ → ℕ → Rule → Rule
+numbered least most rule = record rule { parser = Some (Unsigned least most) }
+
+-- an option without a value
+abbrev pub flag : Text → Rule
+flag name = record (new_rule name) { long = Some name; action = Some SetTrue }
 
 -- `replay --site F`
 abbrev pub replay_command : App
@@ -46,8 +59,8 @@ serve_command =
     with_rule (with_rule (with_rule (with_rule (new_app (codes "serve"))
     (needed (codes "site")))
     (needed (codes "listen")))
-    (needed_number (codes "workers") max_workers))
-    (needed_number (codes "sessions") max_sessions)
+    (numbered 1 max_workers (needed (codes "workers"))))
+    (numbered 1 max_sessions (needed (codes "sessions")))
 
 -- an option that takes two whole numbers, for which the help has names
 abbrev pub optional_numbers : Text → ℕ → Rule
@@ -74,6 +87,34 @@ point_command =
     (needed (codes "site")))
     (needed (codes "id"))
 
+-- `explain --site F --point ID --connector C --start INSTANT --duration D [--at N] [--picture FILE] [--json]`
+abbrev pub explain_command : App
+explain_command =
+    with_rule (with_rule (with_rule (with_rule (with_rule (with_rule (with_rule (with_rule (new_app (codes "explain"))
+    (needed (codes "site")))
+    (needed (codes "point")))
+    (numbered 0 max_connectors (needed (codes "connector"))))
+    (needed (codes "start")))
+    (numbered 1 max_duration (needed (codes "duration"))))
+    (numbered 0 max_lines (optional (codes "at"))))
+    (optional (codes "picture")))
+    (flag (codes "json"))
+
+-- `check --site F [--trace]`
+abbrev pub check_command : App
+check_command =
+    with_rule (with_rule (new_app (codes "check"))
+    (needed (codes "site")))
+    (flag (codes "trace"))
+
+-- `show --site F [--at N] [--json]`
+abbrev pub show_command : App
+show_command =
+    with_rule (with_rule (with_rule (new_app (codes "show"))
+    (needed (codes "site")))
+    (numbered 0 max_lines (optional (codes "at"))))
+    (flag (codes "json"))
+
 -- a command that prints its version, and needs one of its subcommands
 abbrev pub top_command : Text → App
 top_command name =
@@ -82,8 +123,10 @@ top_command name =
 -- the program's commands
 unfoldable pub central_app : App
 central_app =
-    with_subcommand (with_subcommand (with_subcommand (with_subcommand (top_command (codes "central"))
-    replay_command.top) serve_command.top) call_command.top) point_command.top
+    with_subcommand (with_subcommand (with_subcommand (with_subcommand (with_subcommand (with_subcommand
+    (with_subcommand (top_command (codes "central"))
+    replay_command.top) serve_command.top) call_command.top) point_command.top)
+    explain_command.top) check_command.top) show_command.top
 
 -- the kinds of error that the words give, none where clap takes them
 unfoldable pub line_faults : List Text → Kinds
@@ -101,6 +144,17 @@ IsNumber option rows number =
     (text : Text) × (one_of option rows ≡ Some text)
     × IsNumeral 10 (without_leading_plus text)
     × (number ≡ digits_value 10 (without_leading_plus text))
+
+-- the value of an option, where it is given, is a numeral of this number
+pub record IsOptionalNumber (option : Text) (rows : List Row) (number : Option ℕ) : Type 0 where
+  pub value : IfSome number (IsNumber option rows)
+  pub absent : one_of option rows ≡ None → number ≡ None
+
+-- whether an option without a value is given
+pub record IsFlag (option : Text) (rows : List Row) (is_given : Bool) : Type 0 where
+  pub given : one_of option rows ≡ Some (codes "true") → is_given ≡ true
+  pub default : one_of option rows ≡ Some (codes "false") → is_given ≡ false
+  pub absent : one_of option rows ≡ None → is_given ≡ false
 
 -- how a site is to be served
 pub record IsServing (rows : List Row) (serving : Serving) : Type 0 where
@@ -129,9 +183,34 @@ pub record IsPointing (rows : List Row) (pointing : Pointing) : Type 0 where
   pub site : first_of (codes "site") rows ≡ Some pointing.site.now
   pub id : first_of (codes "id") rows ≡ Some pointing.id.now
 
+-- which schedule is to be explained, and how
+pub record IsExplaining (rows : List Row) (explaining : Explaining) : Type 0 where
+  pub site : first_of (codes "site") rows ≡ Some explaining.site.now
+  pub point : first_of (codes "point") rows ≡ Some explaining.point.now
+  pub connector : IsNumber (codes "connector") rows explaining.connector
+  pub start : first_of (codes "start") rows ≡ Some explaining.start.now
+  pub duration : IsNumber (codes "duration") rows explaining.duration
+  pub last_line : IsOptionalNumber (codes "at") rows explaining.last_line
+  pub picture : first_of (codes "picture") rows ≡ option_map (λ text. text.now) explaining.picture
+  pub json : IsFlag (codes "json") rows explaining.json
+
+-- which site is to be checked, with a script
+pub record IsChecking (rows : List Row) (checking : Checking) : Type 0 where
+  pub site : first_of (codes "site") rows ≡ Some checking.site.now
+  pub trace : IsFlag (codes "trace") rows checking.trace
+
+-- which site is to be shown, after how many lines of a script, and how
+pub record IsShowing (rows : List Row) (showing : Showing) : Type 0 where
+  pub site : first_of (codes "site") rows ≡ Some showing.site.now
+  pub last_line : IsOptionalNumber (codes "at") rows showing.last_line
+  pub json : IsFlag (codes "json") rows showing.json
+
 -- what a subcommand with its options asks for
 abbrev pub IsJob : Text → List Row → Job → Type 0
 IsJob name rows (Replay site) = (name ≡ codes "replay") × (first_of (codes "site") rows ≡ Some site.now)
 IsJob name rows (Serve serving) = (name ≡ codes "serve") × IsServing rows serving
 IsJob name rows (Call calling) = (name ≡ codes "call") × IsCalling rows calling
 IsJob name rows (Point pointing) = (name ≡ codes "point") × IsPointing rows pointing
+IsJob name rows (Explain explaining) = (name ≡ codes "explain") × IsExplaining rows explaining
+IsJob name rows (Check checking) = (name ≡ codes "check") × IsChecking rows checking
+IsJob name rows (Show showing) = (name ≡ codes "show") × IsShowing rows showing

@@ -7,11 +7,15 @@
 mod program;
 
 use crate::program::calling::call_site;
+use crate::program::checking::check_file;
 use crate::program::command_line::{Job, job_of};
+use crate::program::explaining::explain_file;
+use crate::program::pages::Screen;
 use crate::program::pointing::run_point;
 use crate::program::program_fault::{ProgramFault, summary_status};
 use crate::program::replaying::replay_file;
 use crate::program::serving::serve_file;
+use crate::program::showing::show_file;
 use clap::error::ErrorKind;
 use std::alloc::AllocGlobal;
 use std::marker::Sync;
@@ -22,9 +26,13 @@ use std::rt::{Env, Runtime};
 use std::sync::Wait;
 use std::thread::Threads;
 use std::{env, io};
+use std::io::IsTerminal;
 
 fn main(rt: HostRuntime) -> ExitCode {
-    ExitCode::from(run(&rt))
+    let screen = Screen {
+        is_terminal: rt.stdout().is_terminal(),
+    };
+    ExitCode::from(run(&rt, screen))
 }
 
 /// Does what the command line says. Returns the exit status.
@@ -38,8 +46,8 @@ fn run<
         + Sync
         + Copy
         + Drop,
->(rt: &R) -> u8 {
-    match do_job(rt) {
+>(rt: &R, screen: Screen) -> u8 {
+    match do_job(rt, screen) {
         Ok(status) => status,
         Err(fault) => {
             let _ = rt.eprintln(&fault);
@@ -59,7 +67,7 @@ fn do_job<
         + Sync
         + Copy
         + Drop,
->(rt: &R) -> Result<u8, ProgramFault> {
+>(rt: &R, screen: Screen) -> Result<u8, ProgramFault> {
     let words = command_words(rt)?;
     match job_of(rt.alloc(), words.as_slice()) {
         Ok(Job::Replay { site }) => Ok(summary_status(replay_file(rt, site)?)),
@@ -69,6 +77,15 @@ fn do_job<
         }
         Ok(Job::Call(calling)) => call_site(rt, calling),
         Ok(Job::Point(pointing)) => run_point(rt, pointing),
+        Ok(Job::Explain(explaining)) => {
+            explain_file(rt, screen, explaining)?;
+            Ok(0)
+        }
+        Ok(Job::Check(checking)) => check_file(rt, checking),
+        Ok(Job::Show(showing)) => {
+            show_file(rt, showing)?;
+            Ok(0)
+        }
         Err(error) => refuse(rt, error),
     }
 }

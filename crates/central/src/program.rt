@@ -1,13 +1,18 @@
 //! The program: its command line, its jobs, and its exit statuses.
 
 pub mod calling;
+pub mod checking;
 pub mod command_line;
 pub mod commands;
+pub mod explaining;
 pub mod help_text;
+pub mod pages;
 pub mod payload_file;
 pub mod pointing;
 pub mod program_fault;
 pub mod replaying;
+pub mod script_input;
 pub mod serving;
+pub mod showing;
 pub mod site_file;
 pub mod system_clock;

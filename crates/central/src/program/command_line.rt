@@ -2,7 +2,7 @@
 
 ghost use Rattle.std.specs.Prelude.{◌≡◌, IfOk, IfSome, IsSomeAnd, map, option_map, string_bytes};
 ghost use Rattle.clap.specs.Words.{FailsBy, all_of, first_of, found_of, rows_of};
-ghost use Rattle.central.specs.CommandLine.{IsCalling, IsJob, IsNumber, IsPointing, IsServing, line_faults, subcommand_named};
+ghost use Rattle.central.specs.CommandLine.{IsCalling, IsChecking, IsExplaining, IsFlag, IsJob, IsNumber, IsOptionalNumber, IsPointing, IsServing, IsShowing, line_faults, subcommand_named};
 
 use crate::program::commands::central_command;
 use clap::{ArgMatches, Error};
@@ -19,6 +19,12 @@ pub enum Job<'a> {
     Call(Calling<'a>),
     /// To simulate a charge point.
     Point(Pointing<'a>),
+    /// To say why limits are what they are.
+    Explain(Explaining<'a>),
+    /// To say what is wrong with a site file and a script.
+    Check(Checking<'a>),
+    /// To show what points have.
+    Show(Showing<'a>),
 }
 
 /// How a site is to be served.
@@ -64,6 +70,47 @@ pub struct Pointing<'a> {
     pub id: &'a str,
 }
 
+/// Which schedule is to be explained, and how.
+#[derive(Clone, Copy, Debug)]
+pub struct Explaining<'a> {
+    /// The file of the site.
+    pub site: &'a str,
+    /// The point's identity.
+    pub point: &'a str,
+    /// The connector, 0 being the whole point.
+    pub connector: u64,
+    /// The text of the instant from which on.
+    pub start: &'a str,
+    /// For so many seconds.
+    pub duration: u64,
+    /// So many lines of the script are played, or all.
+    pub last_line: Option<u64>,
+    /// The file of the picture to write.
+    pub picture: Option<&'a str>,
+    /// Whether for programs.
+    pub json: bool,
+}
+
+/// Which site is to be checked, with a script.
+#[derive(Clone, Copy, Debug)]
+pub struct Checking<'a> {
+    /// The file of the site.
+    pub site: &'a str,
+    /// Whether to show whose answer each is.
+    pub trace: bool,
+}
+
+/// What is to be shown of a site.
+#[derive(Clone, Copy, Debug)]
+pub struct Showing<'a> {
+    /// The file of the site.
+    pub site: &'a str,
+    /// So many lines of the script are played, or all.
+    pub last_line: Option<u64>,
+    /// Whether for programs.
+    pub json: bool,
+}
+
 /// The job of a command line, whose first word is the program's name.
 pub fn job_of<'a>(alloc: Global, words: &'a [String]) -> Result<Job<'a>, Error>
     ensures job { IfOk result (λ job. IsSomeAnd (subcommand_named (map string_bytes words.now))
@@ -101,6 +148,25 @@ fn job_named<'a>(name: &str, given: &ArgMatches<'a>) -> Option<Job<'a>>
     if name == "point" {
         let pointing = pointing_of(given)?;
         return Some(Job::Point(pointing));
+    }
+    page_named(name, given)
+}
+
+/// The job of a subcommand that prints a page for people.
+fn page_named<'a>(name: &str, given: &ArgMatches<'a>) -> Option<Job<'a>>
+    ensures { IfSome result (λ job. IsJob name.now (rows_of (found_of given.now)) job) }
+{
+    if name == "explain" {
+        let explaining = explaining_of(given)?;
+        return Some(Job::Explain(explaining));
+    }
+    if name == "check" {
+        let checking = checking_of(given)?;
+        return Some(Job::Check(checking));
+    }
+    if name == "show" {
+        let showing = showing_of(given)?;
+        return Some(Job::Show(showing));
     }
     None
 }
@@ -151,6 +217,51 @@ fn pointing_of<'a>(given: &ArgMatches<'a>) -> Option<Pointing<'a>>
     Some(Pointing { url, site, id })
 }
 
+fn explaining_of<'a>(given: &ArgMatches<'a>) -> Option<Explaining<'a>>
+    ensures { IfSome result
+        (λ explaining. IsExplaining (rows_of (found_of given.now)) explaining) }
+{
+    let site = text_of(given, "site")?;
+    let point = text_of(given, "point")?;
+    let connector = number_of(given, "connector")?;
+    let start = text_of(given, "start")?;
+    let duration = number_of(given, "duration")?;
+    let last_line = optional_number_of(given, "at");
+    let picture = text_of(given, "picture");
+    let json = is_given(given, "json");
+    Some(Explaining {
+        site,
+        point,
+        connector,
+        start,
+        duration,
+        last_line,
+        picture,
+        json,
+    })
+}
+
+fn checking_of<'a>(given: &ArgMatches<'a>) -> Option<Checking<'a>>
+    ensures { IfSome result (λ checking. IsChecking (rows_of (found_of given.now)) checking) }
+{
+    let site = text_of(given, "site")?;
+    let trace = is_given(given, "trace");
+    Some(Checking { site, trace })
+}
+
+fn showing_of<'a>(given: &ArgMatches<'a>) -> Option<Showing<'a>>
+    ensures { IfSome result (λ showing. IsShowing (rows_of (found_of given.now)) showing) }
+{
+    let site = text_of(given, "site")?;
+    let last_line = optional_number_of(given, "at");
+    let json = is_given(given, "json");
+    Some(Showing {
+        site,
+        last_line,
+        json,
+    })
+}
+
 /// The value of an option.
 fn text_of<'a>(given: &ArgMatches<'a>, option: &str) -> Option<&'a str>
     ensures { option_map (λ text. text.now) result
@@ -173,4 +284,18 @@ fn number_of(given: &ArgMatches<'_>, option: &str) -> Option<u64>
         (λ number. IsNumber option.now (rows_of (found_of given.now)) number) }
 {
     given.get_one(option)
+}
+
+/// The whole number that is the value of an option, where it is given.
+fn optional_number_of(given: &ArgMatches<'_>, option: &str) -> Option<u64>
+    ensures { IsOptionalNumber option.now (rows_of (found_of given.now)) result }
+{
+    given.get_one(option)
+}
+
+/// Whether an option without a value is given.
+fn is_given(given: &ArgMatches<'_>, option: &str) -> bool
+    ensures { IsFlag option.now (rows_of (found_of given.now)) result }
+{
+    given.get_flag(option)
 }

@@ -2,18 +2,25 @@
 
 ghost use Rattle.std.specs.Prelude.{◌≡◌, false, codes, IfOk};
 ghost use Rattle.clap.specs.Words.{App, app_of, rule_of};
-ghost use Rattle.central.specs.CommandLine.{needed, needed_number, option, optional, optional_numbers, central_app, replay_command, serve_command, call_command, point_command};
+ghost use Rattle.central.specs.CommandLine.{needed, numbered, option, optional, optional_numbers, flag, central_app, replay_command, serve_command, call_command, point_command, explain_command, check_command, show_command};
 
 use crate::program::help_text::{
-    ABOUT, ASK_HELP, ASK_VALUES, CALL_ABOUT, CALL_NOTES, CLEAR_HELP, ID_HELP, LISTEN_HELP,
-    OPERATOR_URL_HELP, POINT_ABOUT, POINT_NOTES, POINT_URL_HELP, REPLAY_ABOUT, REPLAY_EXAMPLE,
-    SERVE_ABOUT, SERVE_NOTES, SESSIONS_HELP, SET_PROFILE_HELP, SITE_HELP, STATUSES, VERSION,
+    ABOUT, ASK_HELP, ASK_VALUES, AT_HELP, CALL_ABOUT, CALL_NOTES, CHECK_ABOUT, CHECK_NOTES,
+    CLEAR_HELP, CONNECTOR_HELP, DURATION_HELP, EXPLAIN_ABOUT, EXPLAIN_NOTES, ID_HELP, JSON_HELP,
+    LISTEN_HELP, OPERATOR_URL_HELP, PICTURE_HELP, POINT_ABOUT, POINT_HELP, POINT_NOTES,
+    POINT_URL_HELP, REPLAY_ABOUT, REPLAY_EXAMPLE, SERVE_ABOUT, SERVE_NOTES, SESSIONS_HELP,
+    SET_PROFILE_HELP, SHOW_ABOUT, SHOW_NOTES, SITE_HELP, START_HELP, STATUSES, TRACE_HELP, VERSION,
     WORKERS_HELP,
 };
 use clap::builder::ValueParser;
 use clap::{Arg, ArgAction, Command};
+use meaning::MAX_DURATION;
+use replay::MAX_SCRIPT_BYTES;
 use server::{MAX_SESSIONS, MAX_WORKERS};
 use std::alloc::{AllocError, Global};
+
+/// The most connectors of a point.
+const MAX_CONNECTORS: u64 = 64;
 
 /// The program's commands, with what the help says of them.
 #[tactic(auto, unfolding(crate::specs::CommandLine::central_app))]
@@ -24,6 +31,9 @@ pub fn central_command<'a>(alloc: Global) -> Result<Command<'a>, AllocError>
     let serve = serve(alloc)?;
     let call = call(alloc)?;
     let point = point(alloc)?;
+    let explain = explain(alloc)?;
+    let check = check(alloc)?;
+    let show = show(alloc)?;
     Command::new(alloc, "central")
         .version(VERSION)
         .about(ABOUT)
@@ -32,7 +42,10 @@ pub fn central_command<'a>(alloc: Global) -> Result<Command<'a>, AllocError>
         .subcommand(replay)?
         .subcommand(serve)?
         .subcommand(call)?
-        .subcommand(point)
+        .subcommand(point)?
+        .subcommand(explain)?
+        .subcommand(check)?
+        .subcommand(show)
 }
 
 /// `replay --site F`.
@@ -54,8 +67,8 @@ fn serve<'a>(alloc: Global) -> Result<Command<'a>, AllocError>
         .after_help(SERVE_NOTES)
         .arg(needed(alloc, "site", "F", SITE_HELP))?
         .arg(needed(alloc, "listen", "A", LISTEN_HELP))?
-        .arg(needed_number(alloc, "workers", MAX_WORKERS as u64, "N", WORKERS_HELP))?
-        .arg(needed_number(alloc, "sessions", MAX_SESSIONS, "K", SESSIONS_HELP))
+        .arg(numbered(needed(alloc, "workers", "N", WORKERS_HELP), 1, MAX_WORKERS as u64))?
+        .arg(numbered(needed(alloc, "sessions", "K", SESSIONS_HELP), 1, MAX_SESSIONS))
 }
 
 /// `call --url U [--set-profile FILE] [--clear CRITERIA] [--ask CONNECTOR SECONDS]`.
@@ -83,6 +96,48 @@ fn point<'a>(alloc: Global) -> Result<Command<'a>, AllocError>
         .arg(needed(alloc, "id", "ID", ID_HELP))
 }
 
+/// `explain --site F --point ID --connector C --start INSTANT --duration D [--at N] [--picture FILE] [--json]`.
+fn explain<'a>(alloc: Global) -> Result<Command<'a>, AllocError>
+    ensures { IfOk result (λ command. app_of command ≡ explain_command) }
+{
+    let connector = needed(alloc, "connector", "C", CONNECTOR_HELP);
+    let duration = needed(alloc, "duration", "D", DURATION_HELP);
+    Command::new(alloc, "explain")
+        .about(EXPLAIN_ABOUT)
+        .after_help(EXPLAIN_NOTES)
+        .arg(needed(alloc, "site", "F", SITE_HELP))?
+        .arg(needed(alloc, "point", "ID", POINT_HELP))?
+        .arg(numbered(connector, 0, MAX_CONNECTORS))?
+        .arg(needed(alloc, "start", "INSTANT", START_HELP))?
+        .arg(numbered(duration, 1, u64::from(MAX_DURATION)))?
+        .arg(numbered(optional(alloc, "at", "N", AT_HELP), 0, MAX_SCRIPT_BYTES as u64))?
+        .arg(optional(alloc, "picture", "FILE", PICTURE_HELP))?
+        .arg(flag(alloc, "json", JSON_HELP))
+}
+
+/// `check --site F [--trace]`.
+fn check<'a>(alloc: Global) -> Result<Command<'a>, AllocError>
+    ensures { IfOk result (λ command. app_of command ≡ check_command) }
+{
+    Command::new(alloc, "check")
+        .about(CHECK_ABOUT)
+        .after_help(CHECK_NOTES)
+        .arg(needed(alloc, "site", "F", SITE_HELP))?
+        .arg(flag(alloc, "trace", TRACE_HELP))
+}
+
+/// `show --site F [--at N] [--json]`.
+fn show<'a>(alloc: Global) -> Result<Command<'a>, AllocError>
+    ensures { IfOk result (λ command. app_of command ≡ show_command) }
+{
+    Command::new(alloc, "show")
+        .about(SHOW_ABOUT)
+        .after_help(SHOW_NOTES)
+        .arg(needed(alloc, "site", "F", SITE_HELP))?
+        .arg(numbered(optional(alloc, "at", "N", AT_HELP), 0, MAX_SCRIPT_BYTES as u64))?
+        .arg(flag(alloc, "json", JSON_HELP))
+}
+
 /// `--ask CONNECTOR SECONDS`.
 fn ask<'a>(alloc: Global) -> Arg<'a>
     ensures rule { rule_of result ≡ optional_numbers (codes "ask") 2147483647 }
@@ -95,18 +150,12 @@ fn ask<'a>(alloc: Global) -> Arg<'a>
         .help(ASK_HELP)
 }
 
-/// An option that is needed and takes a whole number from 1 on, which the help names so.
-fn needed_number<'a>(
-    alloc: Global,
-    name: &'a str,
-    most: u64,
-    value: &'a str,
-    help: &'a str,
-) -> Arg<'a>
-    ensures rule { rule_of result ≡ needed_number name.now most }
-    ensures global { result.global ≡ false }
+/// The same option, with a whole number from one to another as its value.
+fn numbered<'a>(arg: Arg<'a>, least: u64, most: u64) -> Arg<'a>
+    ensures rule { rule_of result ≡ numbered least most (rule_of arg.entry) }
+    ensures global { result.global ≡ arg.entry.global }
 {
-    needed(alloc, name, value, help).value_parser(ValueParser::unsigned(1, most))
+    arg.value_parser(ValueParser::unsigned(least, most))
 }
 
 /// An option that is needed and takes a value, which the help names so.
@@ -123,6 +172,17 @@ fn optional<'a>(alloc: Global, name: &'a str, value: &'a str, help: &'a str) -> 
     ensures global { result.global ≡ false }
 {
     option(alloc, name).value_name(value).help(help)
+}
+
+/// An option without a value.
+fn flag<'a>(alloc: Global, name: &'a str, help: &'a str) -> Arg<'a>
+    ensures rule { rule_of result ≡ flag name.now }
+    ensures global { result.global ≡ false }
+{
+    Arg::new(alloc, name)
+        .long(name)
+        .action(ArgAction::SetTrue)
+        .help(help)
 }
 
 /// An option that takes a value.

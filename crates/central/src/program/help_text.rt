@@ -126,6 +126,73 @@ Exit statuses: 0 all was done; 1 the site file has a fault; 2 lines have one; 3 
 OCPP 1.6, the connection failed, a file or a device did, or memory ran out; 4 the command line isn't one
 of these, or the site has no such point.";
 
+/// What `explain` does.
+pub const EXPLAIN_ABOUT: &str = "Says what the limits of a connector are, and why, after a script.";
+
+/// What `--point` names.
+pub const POINT_HELP: &str = "The point's identity, one of the site's";
+
+/// What `--connector` names.
+pub const CONNECTOR_HELP: &str = "The connector, from 1 on, or 0 for the whole point";
+
+/// What `--start` names.
+pub const START_HELP: &str = "From when on, such as 2025-01-03T12:00:00Z";
+
+/// What `--duration` counts.
+pub const DURATION_HELP: &str = "For how many seconds, from 1 to 604800";
+
+/// What `--at` counts.
+pub const AT_HELP: &str = "After so many lines of the script, and not after all";
+
+/// What `--picture` names.
+pub const PICTURE_HELP: &str = "Write a picture too: FILE.svg, or a page with it: FILE.html";
+
+/// What `--json` asks for.
+pub const JSON_HELP: &str = "Print it for programs, as JSON";
+
+/// What `explain` reads and prints.
+pub const EXPLAIN_NOTES: &str =
+    "The script is standard input, as of 'central replay'; its lines are played and not printed. Then the
+limits of the connector are printed, one line for each stretch of time in which the limit and its cause
+stay the same: from, to, how long, the limit, and what sets it. Below stand the profiles of the point that
+never set it in this time, each with the reason.
+
+Example:
+  central explain --site site.json --point CP1 --connector 1 --start 2025-01-03T12:00:00Z --duration 86400 < script
+
+The exit statuses are those of 'central --help'; 4 also where the site has no such point, the point no such
+connector, or the text of INSTANT isn't one.";
+
+/// What `check` does.
+pub const CHECK_ABOUT: &str = "Says everything that is wrong with a site file and a script.";
+
+/// What `--trace` asks for.
+pub const TRACE_HELP: &str = "Show what each line of the script is answered";
+
+/// What `check` reads and prints.
+pub const CHECK_NOTES: &str =
+    "The script is standard input, as of 'central replay'; without one give it /dev/null. Each finding is a line:
+where it is, what was found, and what is wanted.
+
+Example:
+  central check --site site.json < script
+
+Exit statuses: 0 nothing was found; 1 there are faults; 2 there are warnings alone; 3 a file or a device
+failed, or memory ran out; 4 the command line isn't one of these.";
+
+/// What `show` does.
+pub const SHOW_ABOUT: &str = "Shows what each point of a site has after a script.";
+
+/// What `show` reads and prints.
+pub const SHOW_NOTES: &str =
+    "The script is standard input, as of 'central replay'; its lines are played and not printed. Then the
+profiles, transactions and waiting calls of each point are printed, and the requests that are held.
+
+Example:
+  central show --site site.json < script
+
+The exit statuses are those of 'central --help'.";
+
 /// The files of `replay`, and a call of it.
 pub const REPLAY_EXAMPLE: &str = "F is a JSON file that describes the site, for example
   {\"unit\":\"A\",\"points\":[{\"id\":\"CP1\",\"ceiling\":63.0,\"connectors\":[32.0,32.0]}]}

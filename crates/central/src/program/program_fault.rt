@@ -39,6 +39,18 @@ pub enum ProgramFault {
     /// The site has no point of the identity that the command line names.
     #[error("central: command line: no such point in the site file")]
     NoSuchPoint,
+    /// The point has no connector of the number that the command line names.
+    #[error("central: command line: the point has no such connector")]
+    NoSuchConnector,
+    /// The command line names no instant.
+    #[error("central: command line: --start is no instant, such as 2025-01-01T12:00:00Z")]
+    NoInstant,
+    /// What the command line asks for ends past the last instant.
+    #[error("central: command line: it would end past the year 9999")]
+    PastCalendar,
+    /// The name of a picture's file ends in neither form.
+    #[error("central: command line: the name of a picture's file ends in .svg or .html")]
+    NoPicture,
     /// Memory ran out.
     #[error("central: OutOfMemory")]
     OutOfMemory,
@@ -57,7 +69,8 @@ impl ProgramFault {
             ProgramFault::Serve(_) | ProgramFault::File => 3,
             ProgramFault::Client(ClientFault::Url) => 4,
             ProgramFault::Client(_) => 3,
-            ProgramFault::Words | ProgramFault::NoSuchPoint => 4,
+            ProgramFault::Words | ProgramFault::NoSuchPoint | ProgramFault::NoSuchConnector => 4,
+            ProgramFault::NoInstant | ProgramFault::PastCalendar | ProgramFault::NoPicture => 4,
         }
     }
 }

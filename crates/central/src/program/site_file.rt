@@ -17,6 +17,17 @@ pub fn read_site_file<R: Files + AllocGlobal>(rt: &R, path: &str) -> Result<Site
     ensures site { IfOk result (λ site. (bytes : List ℕ) × (site_of bytes ≡ Ok site)) }
     ensures stop { IfErr result IsSiteStop }
 {
+    let bytes = read_site_bytes(rt, path)?;
+    Ok(read_site(rt.alloc(), bytes.as_slice())?)
+}
+
+/// Reads the bytes of a site file.
+pub fn read_site_bytes<R: Files + AllocGlobal>(
+    rt: &R,
+    path: &str,
+) -> Result<Vec<u8>, ProgramFault>
+    ensures stop { IfErr result IsSiteStop }
+{
     let mut file = match fs::open(rt, path) {
         Ok(file) => file,
         Err(error) if error.kind() == ErrorKind::OutOfMemory => return Err(
@@ -24,11 +35,10 @@ pub fn read_site_file<R: Files + AllocGlobal>(rt: &R, path: &str) -> Result<Site
         ),
         Err(_) => return Err(ProgramFault::SiteFile),
     };
-    let bytes = match read_all(rt.alloc(), &mut file, MAX_SITE_BYTES) {
-        Ok(bytes) => bytes,
-        Err(InputFault::Read) => return Err(ProgramFault::SiteFile),
-        Err(InputFault::TooLong) => return Err(ProgramFault::Site(SiteFault::TooLarge)),
-        Err(InputFault::OutOfMemory) => return Err(ProgramFault::OutOfMemory),
-    };
-    Ok(read_site(rt.alloc(), bytes.as_slice())?)
+    match read_all(rt.alloc(), &mut file, MAX_SITE_BYTES) {
+        Ok(bytes) => Ok(bytes),
+        Err(InputFault::Read) => Err(ProgramFault::SiteFile),
+        Err(InputFault::TooLong) => Err(ProgramFault::Site(SiteFault::TooLarge)),
+        Err(InputFault::OutOfMemory) => Err(ProgramFault::OutOfMemory),
+    }
 }

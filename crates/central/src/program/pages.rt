@@ -1,0 +1,44 @@
+//! Pages that the program prints or writes to files.
+
+use crate::program::program_fault::ProgramFault;
+use std::fs;
+use std::io;
+use std::io::Write;
+use std::rt::Files;
+
+/// What is known of standard output.
+#[derive(Clone, Copy, Debug)]
+pub struct Screen {
+    /// Whether it is a terminal.
+    pub is_terminal: bool,
+}
+
+/// The columns of a terminal that doesn't tell how many it has.
+const COLUMNS: usize = 80;
+
+impl Screen {
+    /// How many columns a page has, where it is for a terminal.
+    pub fn columns(self) -> Option<usize> {
+        if self.is_terminal { Some(COLUMNS) } else { None }
+    }
+}
+
+/// Prints a page.
+pub fn print_page<R: Print>(rt: &R, page: &str) -> Result<(), ProgramFault> {
+    let mut writer = io::writer(rt);
+    match writer.write_all(page.as_bytes()).and_then(|()| writer.flush()) {
+        Ok(()) => Ok(()),
+        Err(_) => Err(ProgramFault::Write),
+    }
+}
+
+/// Writes a page to a file, in the place of what was there.
+pub fn write_file<R: Files>(rt: &R, path: &str, page: &str) -> Result<(), ProgramFault> {
+    let Ok(mut file) = fs::create(rt, path) else {
+        return Err(ProgramFault::Write);
+    };
+    match file.write_all(page.as_bytes()).and_then(|()| file.flush()) {
+        Ok(()) => Ok(()),
+        Err(_) => Err(ProgramFault::Write),
+    }
+}

@@ -1,0 +1,20 @@
+//! The script of standard input.
+
+use crate::program::program_fault::ProgramFault;
+use replay::{InputFault, MAX_SCRIPT_BYTES, ReplayFault, read_all};
+use std::alloc::AllocGlobal;
+
+ghost use Rattle.std.specs.Prelude.{◌≤◌, IfOk, vec_len};
+ghost use Rattle.replay.specs.Limits.{max_script_bytes};
+
+/// Reads the script of standard input.
+pub fn read_script<R: Input + AllocGlobal>(rt: &R) -> Result<Vec<u8>, ProgramFault>
+    ensures short { IfOk result (λ script. vec_len script ≤ max_script_bytes) }
+{
+    match read_all(rt.alloc(), &mut rt.reader(), MAX_SCRIPT_BYTES) {
+        Ok(script) => Ok(script),
+        Err(InputFault::Read) => Err(ProgramFault::Replay(ReplayFault::Read)),
+        Err(InputFault::TooLong) => Err(ProgramFault::Replay(ReplayFault::ScriptTooLong)),
+        Err(InputFault::OutOfMemory) => Err(ProgramFault::OutOfMemory),
+    }
+}
