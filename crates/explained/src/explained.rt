@@ -34,6 +34,8 @@ pub enum NoPart {
     NotPrevailing(WhyNot),
     /// It prevails, but another limit is as low or lower.
     NotLeast,
+    /// The whole point is asked, and no connector for which it speaks has a transaction.
+    NoActiveConnector,
 }
 
 impl Explained<'_> {

@@ -28,6 +28,7 @@ pub(crate) fn unit_name(unit: Unit) -> &'static str {
 pub(crate) fn reason_name(reason: NoPart) -> &'static str {
     match reason {
         NoPart::NotLeast => "NotLeast",
+        NoPart::NoActiveConnector => "NoActiveConnector",
         NoPart::NotPrevailing(why) => why_not_name(why),
     }
 }
@@ -51,6 +52,9 @@ fn why_not_name(why: WhyNot) -> &'static str {
 pub fn sentence(reason: NoPart) -> &'static str {
     match reason {
         NoPart::NotLeast => "It prevails, but another limit is as low or lower.",
+        NoPart::NoActiveConnector => {
+            "No connector for which it speaks has an active transaction."
+        }
         NoPart::NotPrevailing(why) => why_not_sentence(why),
     }
 }
