@@ -7,6 +7,7 @@ TOP is the repository, by default the one that this file stands in. What is comp
   that no other page for users has one of the large numbers, and no other table of refusals;
 - the actions in PROTOCOL, and those that DIFFERENCES says are there, with the names in messages/specs/ActionKind.antt;
 - the refusals in PROTOCOL with the names in ocpp_scalars/specs/Refusal.antt;
+- the crates and the files of definitions in ARCHITECTURE with crates.txt and specs/;
 - the replay cases in their README with the folders, and the version in CHANGELOG with that of the program;
 - each path in a document with the tree, each name in brackets behind a file with that file, each link with its file and
   its heading;
@@ -27,6 +28,8 @@ NO_LIMITS = {
     "version_store fold_from": "docs/ARCHITECTURE.md",
     "version_store room": "docs/DECISIONS.md",
 }
+# Files of specs/ that only name others.
+NO_SUBJECTS = {"Lib.antt", "ByCases.antt", "Theory.antt"}
 # Pages in which a large limit is a link.
 PAGES_WITHOUT_LIMITS = [
     f"docs/{page}.md" for page in ("PROTOCOL", "MEANING", "DIFFERENCES", "DECISIONS", "ARCHITECTURE", "WORKING")
@@ -223,6 +226,26 @@ def refusal_problems(top, files):
                 yield f"{page}: a row for the refusal {row[0]}, whose home is PROTOCOL"
 
 
+# ---- the map
+
+def map_problems(top, files):
+    """ARCHITECTURE has a row for each crate, and names each file of definitions that has to be believed."""
+    page = text_of(top, "docs/ARCHITECTURE.md")
+    crates = set(re.findall(r"^(\w+):", text_of(top, "crates.txt"), re.MULTILINE))
+    told = {row[0].strip("`") for row in rows_of(section_of(page, "The crates"))}
+    for name in sorted(told ^ crates):
+        yield f"ARCHITECTURE, The crates: {name} is {'no crate' if name in told else 'missing'}"
+    named, folder = set(), ""
+    for row in rows_of(section_of(page, "Where a definition stands")):
+        for word in re.findall(r"`([\w/]+\.antt)`", row[1]):
+            folder = word.rpartition("/")[0] or folder
+            named.add(f"crates/{folder}/{word.rpartition('/')[2]}")
+    for name in files:
+        if re.fullmatch(r"crates/\w+/specs/\w+\.antt", name) and name.rpartition("/")[2] not in NO_SUBJECTS:
+            if name not in named and not name.endswith("/Limits.antt"):
+                yield f"ARCHITECTURE, Where a definition stands: {name} is missing"
+
+
 # ---- cases and the version
 
 def case_problems(top, files):
@@ -314,6 +337,7 @@ TESTS = {
     "limits on one page": repeated_limit_problems,
     "actions": action_problems,
     "refusals": refusal_problems,
+    "map": map_problems,
     "cases": case_problems,
     "version": version_problems,
     "paths and links": path_problems,
