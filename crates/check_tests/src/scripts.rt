@@ -1,61 +1,206 @@
 //! Scripts and what is found in them.
 
-use checks::check_script;
-use site_rules::read_site;
+use checks::{FaultName, Finding, Place, Severity, check_script};
+use replay::replay;
+use site_rules::{Site, read_site};
+use std::alloc::{AllocError, Global};
 use std::test::Fail;
 
-const SITE: &str = r#"{"unit":"A","points":[{"id":"CP1","ceiling":63.0,"connectors":[32.0,32.0]},{"id":"cp1b","ceiling":63.0,"connectors":[32.0]}]}"#;
+const SITE: &str = r#"{"unit":"A","points":[{"id":"CP1","ceiling":63.0,"connectors":[32.0,32.0]},{"id":"garage","ceiling":40.0,"connectors":[32.0]}]}"#;
 
-const LINES: &str = r#"2025-01-01T00:00:00Z operator CP1 [2,"a","ClearChargingProfile",{"chargingProfileId":9}]
-2025-01-01T00:00:00Z operator CP1 [2,"a","ClearChargingProfile",{"id":9,"stacklevel":1}]
-2025-01-01T00:00:00Z operator CP1 [2,"a","ClearChargingProfile",{}]
-2025-01-01T00:00:00Z operator CP1 [2,"a","ClearChargingProfile",{"id":9}]
-2025-01-01T00:00:00Z operator CP1 [2,"c","GetCompositeSchedule",{"connectorId":1,"duration":60},]
-2025-01-01T00:00:00Z operator CP1 [2,'c',"GetCompositeSchedule",{"connectorId":1,"duration":60}]
-2025-01-01T00:00:00Z operator CP1 [2,“c”,"GetCompositeSchedule",{"connectorId":1,"duration":60}]
-2025-01-01T00:00:00Z operator CP1 [2,5,"GetCompositeSchedule",{"connectorId":1,"duration":60}]
-2025-01-01T00:00:00Z operator CP1 [2,"urn:uuid:00000000-0000-0000-0000-000000000000","GetCompositeSchedule",{"connectorId":1,"duration":60}]
-2025-01-01T00:00:00Z operater CP1 [2,"c","GetCompositeSchedule",{"connectorId":1,"duration":60}]
-2025-01-01T00:00:00Z  operator CP1 [2,"c","GetCompositeSchedule",{"connectorId":1,"duration":60}]
- 2025-01-01T00:00:00Z operator CP1 [2,"c","GetCompositeSchedule",{"connectorId":1,"duration":60}]
-# comment
-2025-02-30T00:00:00Z operator CP1 [2,"c","GetCompositeSchedule",{"connectorId":1,"duration":60}]
-01.02.2025 operator CP1 [2,"c","GetCompositeSchedule",{"connectorId":1,"duration":60}]
-2025-01-01 00:00:00Z operator CP1 [2,"c","GetCompositeSchedule",{"connectorId":1,"duration":60}]
-2025-01-01T00:00:00Z operator CP1  [2,"c","GetCompositeSchedule",{"connectorId":1,"duration":60}]
-2025-01-01T00:00:00Z operator CP1 [2,"c","GetCompositeSchedule",{"connectorId":7,"duration":60}]
-2025-01-01T00:00:00Z operator cp1 [2,"c","GetCompositeSchedule",{"connectorId":1,"duration":60}]
-2025-01-01T00:00:00Z point cp1 [2,"c","Heartbeat",{}]
-2025-01-01T00:00:00Z operator CP1 [2,"c","GetCompositeSchedule",{"connector":1,"duration":60}]
-2025-01-01T00:00:00Z operator CP1 [2,"c","GetCompositeSchedul",{"connectorId":1,"duration":60}]
-2025-01-01T00:00:00Z operator CP1 [2,"c","GetCompositeSchedule",{"connectorId":1,"duration":604801}]
-2025-01-01T00:00:00Z operator CP1 [2,"s","SetChargingProfile",{"connectorId":1,"csChargingProfiles":{"chargingProfileId":1,"stackLevel":1,"chargingProfilePurpose":"TxDefaultProfile","chargingProfileKind":"Absolute","chargingSchedule":{"chargingRateUnit":"A","chargingSchedulePeriod":[{"startPeriod":0,"limit":16},{"startPeriod":60,"limit":"16"}]}}}]
-2025-01-01T00:00:00Z operator CP1 [2,"s","SetChargingProfile",{"connectorId":1,"csChargingProfiles":{"chargingProfileId":1,"stackLevel":1,"chargingProfilePurpose":"TxDefaultProfile","chargingProfileKind":"Absolute","chargingSchedule":{"chargingRateUnit":"A","chargingSchedulePeriod":[{"startPeriod":60,"limit":16},{"startPeriod":0,"limit":10}]}}}]
-2025-01-01T00:00:00Z operator CP1 [2,"s","SetChargingProfile",{"connectorId":1,"csChargingProfiles":{"chargingProfileId":1,"stackLevel":1,"chargingProfilePurpose":"TXDefaultProfile","chargingProfileKind":"Absolute","chargingSchedule":{"chargingRateUnit":"A","chargingSchedulePeriod":[{"startPeriod":0,"limit":16}]}}}]
-2025-01-01T00:00:00Z operator CP1 [2,"s","SetChargingProfile",{"connectorId":1,"csChargingProfiles":{"chargingProfileId":1,"stackLevel":1,"chargingProfilePurpose":"TxDefaultProfile","chargingProfileKind":"Absolute","chargingSchedule":{"chargingRateUnit":"W","chargingSchedulePeriod":[{"startPeriod":0,"limit":16}]}}}]
-2025-01-01T00:00:00Z operator CP1 [2,"s","SetChargingProfile",{"connectorId":1,"csChargingProfiles":{"chargingProfileId":1,"stackLevel":1,"chargingProfilePurpose":"TxDefaultProfile","chargingProfileKind":"Absolute","validto":"2026-01-01T00:00:00Z","chargingSchedule":{"chargingRateUnit":"A","chargingSchedulePeriod":[{"startPeriod":0,"limit":16}]}}}]
-2025-01-01T00:00:00Z operator CP1 [2,"s","SetChargingProfile",{"connectorId":1,"csChargingProfiles":{"chargingProfileId":1,"stackLevel":1,"chargingProfilePurpose":"TxDefaultProfile","chargingProfileKind":"Absolute","validFrom":"2026-01-01T00:00:00Z","validTo":"2025-06-01T00:00:00Z","chargingSchedule":{"chargingRateUnit":"A","chargingSchedulePeriod":[{"startPeriod":0,"limit":16}]}}}]
-2025-01-01T00:00:00Z operator CP1 [2,"s","SetChargingProfile",{"connectorId":1,"csChargingProfiles":{"chargingProfileId":1,"stackLevel":1,"chargingProfilePurpose":"TxDefaultProfile","chargingProfileKind":"Absolute","validTo":"2024-06-01T00:00:00Z","chargingSchedule":{"chargingRateUnit":"A","chargingSchedulePeriod":[{"startPeriod":0,"limit":16}]}}}]
-2025-01-01T00:00:00Z operator CP1 [2,"s","SetChargingProfile",{"connectorId":1,"csChargingProfiles":{"chargingProfileId":1,"stackLevel":1,"chargingProfilePurpose":"TxProfile","chargingProfileKind":"Relative","chargingSchedule":{"chargingRateUnit":"A","chargingSchedulePeriod":[{"startPeriod":0,"limit":40}]}}}]
-2025-01-01T00:00:00Z operator CP1 [2,"s","SetChargingProfile",{"connectorId":0,"csChargingProfiles":{"chargingProfileId":1,"stackLevel":1,"chargingProfilePurpose":"TxDefaultProfile","chargingProfileKind":"Recurring","recurrencyKind":"Daily","chargingSchedule":{"duration":36000,"startSchedule":"2025-01-01T22:00:00Z","chargingRateUnit":"A","chargingSchedulePeriod":[{"startPeriod":60,"limit":16},{"startPeriod":90000,"limit":10}]}}}]
-2025-01-01T00:00:00Z hold CP1 [2,"c","GetCompositeSchedule",{"connectorId":1,"duration":60}]
-2025-01-01T00:00:00Z release 1
-2025-01-01T00:00:00Z release 2
-2025-01-01T00:00:00Z release 02
-2025-01-01T00:00:00Z release 2
-2025-01-01T00:00:00Z hold CP1 [2,"c","Heartbeat",{}]
-2025-01-01T00:00:00Z point CP1 [3,"2",{"status":"Rejected"}]
+/// On each line what an operator sends to CP1 at the beginning of 2025, and behind the mark a piece of each
+/// finding, with `; ` between them, or `-` for none.
+const OPERATOR_TEXTS: &str = r#"[2,"a","ClearChargingProfile",{"id":9}] => -
+[2,"a","ClearChargingProfile",{"chargingProfileId":9}] => warning: this clears EVERYTHING
+[2,"a","ClearChargingProfile",{"chargingProfileId":9}] => "chargingProfileId" isn't one ("id" is)
+[2,"a","ClearChargingProfile",{}] => EVERYTHING
+[2,"a","ClearChargingProfile",{"id":null}] => EVERYTHING
+[2,"a","ClearChargingProfile"] => EVERYTHING
+[2,"a","ClearChargingProfile",{"id":9,"stacklevel":1}] => "stacklevel" is no criterion
+[2,"a","ClearChargingProfile",{"id":"9"}] => TypeConstraintViolation: id: "9" is a text
+[2,"a","GetCompositeSchedule",{"connectorId":1,"duration":60}] => -
+ [2,"a","GetCompositeSchedule",{"connectorId":1,"duration":60}] => -
+[2,"a","GetCompositeSchedule",{"connectorId":1,"duration":60},] => breaks at column 97
+[2,"a","GetCompositeSchedule",{"connectorId":1,"duration":60] => breaks at column 95, where `,` or `}` is wanted, and `]` stands there
+[2,"a","GetCompositeSchedule",{"connectorId":1,"duration":60} => breaks at column 96, where `,` or `]` is wanted, and the text ends
+[2,'a',"GetCompositeSchedule",{}] => double quotes
+[2,“a”,"GetCompositeSchedule",{}] => a quote of a text program
+[2,5,"GetCompositeSchedule",{}] => dropped without a word: the second element
+[2,"urn:uuid:00000000-0000-0000-0000-000000000000","GetCompositeSchedule",{}] => at most 36 characters
+{} => a frame is a list
+[7,"a"] => none of 2 (CALL)
+[3,"a",{}] => an operator's CALLRESULT
+[2,"a","GetCompositeSchedule",7] => FormationViolation
+[2,"a","GetCompositeSchedul",{}] => NotImplemented: "GetCompositeSchedul" is no action of an operator ("GetCompositeSchedule" is one)
+[2,"a","Heartbeat",{}] => an action of the other side
+[2,"a","GetCompositeSchedule",{"connectorId":7,"duration":60}] => UnknownConnector
+[2,"a","GetCompositeSchedule",{"connectorId":1,"duration":604801}] => BadDuration
+[2,"a","GetCompositeSchedule",{"connectorId":1,"duration":0}] => BadDuration
+[2,"a","GetCompositeSchedule",{"connectorId":1,"duration":60,"chargingRateUnit":"W"}] => WrongUnit
+[2,"a","GetCompositeSchedule",{"connector":1,"duration":60}] => OccurenceConstraintViolation: connectorId: it is absent; "connector" is no field of OCPP there
 "#;
 
-#[test]
-fn prints(rt: HostRuntime) -> Result<(), Fail> {
-    let alloc = rt.alloc();
-    let Ok(site) = read_site(alloc, SITE.as_bytes()) else {
-        return Ok(());
-    };
-    for finding in &check_script(alloc, &site, LINES.as_bytes())? {
-        eprintln!(rt; "{finding}")?;
+/// On each line the chargingProfilePurpose, further fields of a profile and a schedule that are installed at
+/// connector 1 (a ChargePointMaxProfile at 0), and behind the mark pieces of the findings.
+const PROFILES: &str = r#"TxDefaultProfile | "chargingProfileKind":"Absolute" | "chargingSchedulePeriod":[{"startPeriod":0,"limit":16}] => -
+TXDefaultProfile | "chargingProfileKind":"Absolute" | "chargingSchedulePeriod":[{"startPeriod":0,"limit":16}] => csChargingProfiles.chargingProfilePurpose: "TXDefaultProfile" is a text
+TxDefaultProfile | "chargingProfileKind":"Absolute" | "chargingSchedulePeriod":[{"startPeriod":0,"limit":16},{"startPeriod":60,"limit":"16"}] => chargingSchedulePeriod[1].limit: "16" is a text
+TxDefaultProfile | "chargingProfileKind":"Absolute" | "chargingSchedulePeriod":[{"startPeriod":60,"limit":16},{"startPeriod":60,"limit":10}] => PeriodsOutOfOrder
+TxDefaultProfile | "chargingProfileKind":"Recurring" | "chargingSchedulePeriod":[{"startPeriod":0,"limit":16}] => NoRecurrency
+TxDefaultProfile | "chargingProfileKind":"Absolute","validto":"2026-01-01T00:00:00Z" | "chargingSchedulePeriod":[{"startPeriod":0,"limit":16}] => "validto" is no field of OCPP there and counts for nothing ("validTo" is one)
+TxDefaultProfile | "chargingProfileKind":"Absolute","validFrom":"2026-01-02T00:00:00Z","validTo":"2026-01-02T00:00:00Z" | "chargingSchedulePeriod":[{"startPeriod":0,"limit":16}] => never counts: its validTo isn't after its validFrom
+TxDefaultProfile | "chargingProfileKind":"Absolute","validTo":"2026-01-02T00:00:00Z" | "startSchedule":"2026-01-02T00:00:00Z","chargingSchedulePeriod":[{"startPeriod":0,"limit":16}] => never counts: its validTo isn't after its startSchedule
+TxDefaultProfile | "chargingProfileKind":"Absolute","validFrom":"2026-01-02T01:00:00Z" | "duration":3600,"startSchedule":"2026-01-02T00:00:00Z","chargingSchedulePeriod":[{"startPeriod":0,"limit":16}] => never counts: its schedule is over
+TxDefaultProfile | "chargingProfileKind":"Absolute" | "duration":0,"chargingSchedulePeriod":[{"startPeriod":0,"limit":16}] => the duration of its schedule is 0
+TxDefaultProfile | "chargingProfileKind":"Absolute" | "duration":60,"chargingSchedulePeriod":[{"startPeriod":60,"limit":16}] => first period starts when the duration is over
+TxDefaultProfile | "chargingProfileKind":"Recurring","recurrencyKind":"Daily" | "chargingSchedulePeriod":[{"startPeriod":86400,"limit":16}] => first period starts when the day or week is over
+TxDefaultProfile | "chargingProfileKind":"Recurring","recurrencyKind":"Daily" | "chargingSchedulePeriod":[{"startPeriod":0,"limit":16},{"startPeriod":86400,"limit":6}] => chargingSchedulePeriod[1] starts at 86400 s
+TxDefaultProfile | "chargingProfileKind":"Recurring","recurrencyKind":"Weekly" | "duration":604801,"chargingSchedulePeriod":[{"startPeriod":0,"limit":16}] => longer than the week of 604800 s
+TxDefaultProfile | "chargingProfileKind":"Recurring","recurrencyKind":"Daily" | "duration":36000,"chargingSchedulePeriod":[{"startPeriod":60,"limit":16}] => no limit from 36000 s to 86400 s; no limit in the first 60 s
+TxDefaultProfile | "chargingProfileKind":"Absolute" | "duration":60,"chargingSchedulePeriod":[{"startPeriod":0,"limit":16},{"startPeriod":60,"limit":6}] => chargingSchedulePeriod[1] starts at 60 s, when the duration of 60 s is over
+TxDefaultProfile | "chargingProfileKind":"Absolute","validTo":"2024-01-02T00:00:00Z" | "chargingSchedulePeriod":[{"startPeriod":0,"limit":16}] => validTo, 2024-01-02T00:00:00Z, is over
+TxDefaultProfile | "chargingProfileKind":"Absolute","transactionId":1,"recurrencyKind":"Daily" | "chargingSchedulePeriod":[{"startPeriod":0,"limit":16}] => transactionId counts for nothing; recurrencyKind counts for nothing
+TxDefaultProfile | "chargingProfileKind":"Relative" | "startSchedule":"2026-01-02T00:00:00Z","chargingSchedulePeriod":[{"startPeriod":0,"limit":16}] => startSchedule counts for nothing
+TxDefaultProfile | "chargingProfileKind":"Relative" | "chargingSchedulePeriod":[{"startPeriod":0,"limit":32.1}] => above the ceiling of the site file there, 32.0
+TxDefaultProfile | "chargingProfileKind":"Relative" | "chargingSchedulePeriod":[{"startPeriod":0,"limit":32}] => -
+ChargePointMaxProfile | "chargingProfileKind":"Absolute" | "chargingSchedulePeriod":[{"startPeriod":0,"limit":63.1}] => above the ceiling of the site file there, 63.0
+ChargePointMaxProfile | "chargingProfileKind":"Absolute" | "chargingSchedulePeriod":[{"startPeriod":0,"limit":40}] => -
+TxProfile | "chargingProfileKind":"Relative","transactionId":1 | "chargingSchedulePeriod":[{"startPeriod":0,"limit":16}] => -
+TxProfile | "chargingProfileKind":"Relative" | "chargingSchedulePeriod":[{"startPeriod":0,"limit":16}] => no transactionId
+"#;
+
+/// A script, whose faults of lines are those of a replay.
+const SCRIPT: &str = r#"2025-01-01T00:00:00Z operater CP1 [2,"c","GetCompositeSchedule",{"connectorId":1,"duration":60}]
+2025-01-01T00:00:00Z  operator CP1 [2,"c","GetCompositeSchedule",{"connectorId":1,"duration":60}]
+ 2025-01-01T00:00:00Z operator CP1 [2,"c","GetCompositeSchedule",{"connectorId":1,"duration":60}]
+
+# comment
+2025-02-30T00:00:00Z operator CP1 []
+1969-12-31T23:59:59Z operator CP1 []
+01.02.2025 operator CP1 []
+2025-01-01 00:00:00Z operator CP1 []
+2025-01-01T00:00:00Z operator cp1 [2,"c","GetCompositeSchedule",{"connectorId":1,"duration":60}]
+2025-01-01T00:00:00Z point cp1 [2,"c","Heartbeat",{}]
+2025-01-01T00:00:00Z operator CP1
+2025-01-01T00:00:00Z hold CP1 [2,"c","GetCompositeSchedule",{"connectorId":7,"duration":60}]
+2025-01-01T00:00:00Z operator CP1 [2,"c","GetCompositeSchedule",{"connectorId":1,"duration":60}]
+2025-01-01T00:00:00Z hold CP1 [2,"c","GetCompositeSchedule",{"connectorId":1,"duration":60}]
+2025-01-01T00:00:00Z hold garage [2,"c","GetCompositeSchedule",{"connectorId":0,"duration":60}]
+2025-01-01T00:00:00Z release 1
+2025-01-01T00:00:00Z release 2
+2025-01-01T00:00:00Z release 2
+2025-01-01T00:00:00Z release 02
+2025-01-01T00:00:00Z release 3
+2025-01-01T00:00:00Z hold CP1 [2,"c","Heartbeat",{}]
+2025-01-01T00:00:00Z hold CP1 [2,"c","GetCompositeSchedule",7]
+2025-01-01T00:00:00Z hold CP1 nothing
+2025-01-01T00:00:00Z point CP1 [3,"2",{"status":"Rejected"}]
+2025-01-01T00:00:00Z point CP1 [2,"s","StartTransaction",{"connectorId":3,"idTag":"ann","meterStart":0,"timestamp":"2025-01-01T00:00:00Z"}]
+> [3,"c",{}]
+"#;
+
+/// What a replay prints of the faults of lines in it, found by hand.
+const LINE_FAULTS: &str = "\
+! 1 BadLine
+! 2 BadLine
+! 3 BadLine
+! 5 BadLine
+! 6 BadInstant
+! 7 BadInstant
+! 8 BadInstant
+! 9 BadLine
+! 11 UnknownPoint
+! 12 BadLine
+! 17 UnknownRequest
+! 19 UnknownRequest
+! 20 BadLine
+! 22 NotComposite
+! 23 NotComposite
+! 24 NotComposite
+! 27 BadLine
+";
+
+fn test_site(alloc: Global) -> Result<Site, Fail> {
+    Ok(read_site(alloc, SITE.as_bytes())?)
+}
+
+/// Whether each finding has its piece of the wanted ones.
+fn has_pieces(alloc: Global, findings: &[Finding], wanted: &str) -> Result<bool, AllocError> {
+    if wanted == "-" {
+        return Ok(findings.is_empty());
     }
-    assert_eq!(rt; 1, 2);
+    let mut pieces = wanted.split("; ");
+    for finding in findings {
+        let printed = format!(in alloc; "{finding}")?;
+        match pieces.next() {
+            Some(piece) if printed.as_str().contains(piece) => {}
+            _ => return Ok(false),
+        }
+    }
+    Ok(pieces.next().is_none())
+}
+
+#[test]
+fn texts_of_operators(rt: HostRuntime) -> Result<(), Fail> {
+    let alloc = rt.alloc();
+    let site = test_site(alloc)?;
+    for row in OPERATOR_TEXTS.lines() {
+        let (frame, wanted) = row.split_once(" => ").unwrap_or((row, "no mark"));
+        let line = format!(in alloc; "2025-01-01T00:00:00Z operator CP1 {frame}")?;
+        let findings = check_script(alloc, &site, line.as_bytes())?;
+        assert!(rt; has_pieces(alloc, &findings, wanted)?, "{frame}: {findings:?}");
+    }
+    Ok(())
+}
+
+#[test]
+fn profiles(rt: HostRuntime) -> Result<(), Fail> {
+    let alloc = rt.alloc();
+    let site = test_site(alloc)?;
+    for row in PROFILES.lines() {
+        let (words, wanted) = row.split_once(" => ").unwrap_or((row, "no mark"));
+        let (purpose, words) = words.split_once(" | ").unwrap_or((words, ""));
+        let (fields, schedule) = words.split_once(" | ").unwrap_or((words, ""));
+        let connector = if purpose == "ChargePointMaxProfile" { 0 } else { 1 };
+        let line = format!(in alloc; "2025-01-01T00:00:00Z operator CP1 [2,\"s\",\"SetChargingProfile\",{{\"connectorId\":{connector},\"csChargingProfiles\":{{\"chargingProfileId\":1,\"stackLevel\":1,\"chargingProfilePurpose\":\"{purpose}\",{fields},\"chargingSchedule\":{{\"chargingRateUnit\":\"A\",{schedule}}}}}}}]")?;
+        let findings = check_script(alloc, &site, line.as_bytes())?;
+        assert!(rt; has_pieces(alloc, &findings, wanted)?, "{row}: {findings:?}");
+    }
+    Ok(())
+}
+
+/// The faults of lines that are found, as a replay prints them.
+fn line_faults(alloc: Global, findings: &[Finding]) -> Result<String, AllocError> {
+    let mut faults = String::new(alloc);
+    for finding in findings {
+        if let (Place::Line(line), Some(FaultName::Line(fault))) = (&finding.place, finding.name) {
+            let name = fault.name();
+            let printed = format!(in alloc; "! {line} {name}\n")?;
+            faults.push_str(printed.as_str())?;
+        }
+    }
+    Ok(faults)
+}
+
+#[test]
+fn faults_of_lines_are_those_of_a_replay(rt: HostRuntime) -> Result<(), Fail> {
+    let alloc = rt.alloc();
+    let site = test_site(alloc)?;
+    let findings = check_script(alloc, &site, SCRIPT.as_bytes())?;
+    assert_eq!(rt; line_faults(alloc, &findings)?.as_str(), LINE_FAULTS);
+    let mut printed: Vec<u8> = Vec::new(alloc);
+    let mut script = SCRIPT.as_bytes();
+    let Ok(_) = replay(alloc, &mut script, &mut printed, site) else {
+        return Err(Fail::from("no replay"));
+    };
+    let mut faults = String::new(alloc);
+    let printed = std::str::from_utf8(printed.as_slice())?;
+    for line in printed.lines() {
+        if line.starts_with('!') {
+            faults.push_str(line)?;
+            faults.push_str("\n")?;
+        }
+    }
+    assert_eq!(rt; faults.as_str(), LINE_FAULTS);
     Ok(())
 }

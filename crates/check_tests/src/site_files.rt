@@ -1,6 +1,6 @@
 //! Site files and what is found in them.
 
-use checks::{FaultName, Severity, check_site};
+use checks::{FaultName, Finding, Severity, check_site, exit_status};
 use site_rules::{SiteFault, read_site};
 use std::alloc::{AllocError, Global};
 use std::test::Fail;
@@ -49,6 +49,25 @@ const SITES: &str =
 {"unit":"A","points":[{"id":"CP1","ceiling":63,"connectors":[1,-1]},{"id":"CP1"}]} = BadConnectors
 "#;
 
+/// On each line a site file, and a piece of each finding, with ` + ` between them, or `-` for none.
+const FOUND: &str = r#"{"unit":"A","points":[{"id":"CP1","ceiling":63.0,"connectors":[32.0,31.0]}]} => -
+{"unit":"A","points":[{"id":"CP1","ceiling":63.0,"connectors":[32.0,32.0]}]} => points[0] (CP1): remark: the connectors' ceilings are 64.0 together
+{"unit":"A","points":[{"id":"CP1","ceiling":"63","connectors":[1]}]} => points[0] (CP1): ceiling: "63" is a text; a number from 0 to 100000000.0 with at most one decimal is wanted
+{"unit":"A","points":[{"id":"CP1","ceilng":63.0,"connectors":[1]}]} => is "ceilng" meant + line 1, column 35: warning: "ceilng" is no field
+{"unit":"A","points":[{"id":"CP1","ceiling":63.25,"connectors":[32.05,1]}]} => points[0] (CP1): ceiling: 63.25 is a number + points[0] (CP1): connectors[0]: 32.05 is a number
+{"unit":"A","points":[{"id":"CP1","ceiling":63.0,"connectors":2}]} => connectors: 2 is a number; a list of 1 to 64 ceilings
+{"unit":"A","points":{"id":"CP1"}} => points: an object stands there
+{"unit":"kW","points":[]} => unit: "kW" is a text; "A" or "W" is wanted + points: 0 entries
+{"unit":"A","points":[{"id":"CP1","ceiling":1,"connectors":[1]},{"id":"CP2","ceiling":1,"connectors":[1]},{"id":"CP1","ceiling":1,"connectors":[1]}]} => points[2] (CP1): id: points[0] has it too
+{"unit":"A","points":[{"id":"CP1","ceiling":1,"connectors":[1]},7,{"id":"C P","connectors":null}]} => points[1]: 7 is a number + points[2] (C P): id: "C P" is a text + points[2] (C P): ceiling: it is absent + points[2] (C P): connectors: null counts as absent
+{"unit":"A","points":[{"id":"CP1","ceiling":63.0,"connectors":[32.0,]}]} => line 1, column 69: a value is wanted behind the comma, and `]` stands there: the comma before it is one too many
+{"unit":"A",// amperes => line 1, column 13: a name in double quotes is wanted behind the comma, and `/` stands there: JSON has no comments
+{"unit":"A","points":[{"id":"CP1","ceiling":63.0,"connectors":[32.0]}] => line 1, column 71: `,` or `}` is wanted, and the text ends
+{"unit":"A" "points":[]} => line 1, column 13: `,` or `}` is wanted, and `"` stands there: a comma is missing before it
+{"unit":"A","points":[{"id":"CP1","ceiling":.5}]} => line 1, column 45: a value is wanted, and `.` stands there
+{"unit":"A","points":[{"id":"CP1","ceiling":1,"connectors":[1],"phases":3}],"name":"garage"} => column 64: warning: "phases" is no field that is looked at + column 77: warning: "name" is no field
+"#;
+
 /// The first fault that `check_site` finds.
 fn first_fault(alloc: Global, bytes: &[u8]) -> Result<Option<SiteFault>, AllocError> {
     for finding in &check_site(alloc, bytes)? {
@@ -84,5 +103,55 @@ fn first_faults_are_those_of_the_reading(rt: HostRuntime) -> Result<(), Fail> {
         assert_eq!(rt; found.as_str(), wanted, "{text}");
         assert_eq!(rt; read.as_str(), wanted, "{text}");
     }
+    Ok(())
+}
+
+/// Whether each finding has its piece of the wanted ones.
+fn has_pieces(alloc: Global, findings: &[Finding], wanted: &str) -> Result<bool, AllocError> {
+    if wanted == "-" {
+        return Ok(findings.is_empty());
+    }
+    let mut pieces = wanted.split(" + ");
+    for finding in findings {
+        let printed = format!(in alloc; "{finding}")?;
+        match pieces.next() {
+            Some(piece) if printed.as_str().contains(piece) => {}
+            _ => return Ok(false),
+        }
+    }
+    Ok(pieces.next().is_none())
+}
+
+#[test]
+fn all_faults_are_found(rt: HostRuntime) -> Result<(), Fail> {
+    let alloc = rt.alloc();
+    for line in FOUND.lines() {
+        let (text, wanted) = line.split_once(" => ").unwrap_or((line, "no mark"));
+        let findings = check_site(alloc, text.as_bytes())?;
+        assert!(rt; has_pieces(alloc, &findings, wanted)?, "{text}: {findings:?}");
+    }
+    Ok(())
+}
+
+#[test]
+fn files_that_are_no_text(rt: HostRuntime) -> Result<(), Fail> {
+    let alloc = rt.alloc();
+    let findings = check_site(alloc, b"{\"unit\":\"\xff\"}")?;
+    assert!(rt; has_pieces(alloc, &findings, "it isn't UTF-8 from the byte at offset 9 on")?);
+    assert_eq!(rt; exit_status(&findings), 1);
+    let marked = check_site(alloc, b"\xef\xbb\xbf{}")?;
+    assert!(rt; has_pieces(alloc, &marked, "U+FEFF stands there: a byte order mark")?);
+    let lines = check_site(alloc, b"{\"unit\":\"A\",\r\n \"points\":[}\r\n")?;
+    assert!(rt; has_pieces(alloc, &lines, "line 2, column 12: a value or `]` is wanted")?);
+    Ok(())
+}
+
+#[test]
+fn statuses(rt: HostRuntime) -> Result<(), Fail> {
+    let alloc = rt.alloc();
+    let clean = r#"{"unit":"A","points":[{"id":"CP1","ceiling":1,"connectors":[2]}]}"#;
+    let warned = r#"{"x":1,"unit":"A","points":[{"id":"CP1","ceiling":1,"connectors":[1]}]}"#;
+    assert_eq!(rt; exit_status(&check_site(alloc, clean.as_bytes())?), 0, "a remark alone");
+    assert_eq!(rt; exit_status(&check_site(alloc, warned.as_bytes())?), 2);
     Ok(())
 }

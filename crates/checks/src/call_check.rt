@@ -17,7 +17,7 @@ use meaning::Ask;
 use messages::{Action, ActionKind, CallFault, ScheduleRequest, Side, read_fields};
 use ocpp_scalars::Refusal;
 use ocppj_frame::Node;
-use profile::Criteria;
+use profile::{Criteria, Unit};
 use site_rules::{Site, SitePoint};
 use std::alloc::{AllocError, Global};
 
@@ -91,12 +91,18 @@ fn check_not_implemented(
     let action = shown(alloc, call.action)?;
     let message = match similar_name(alloc, call.action, actions)? {
         Some(meant) => {
-            format!(in alloc; "NotImplemented: \"{action}\" is no action of {sender} (\"{meant}\" is one)")?
+            format!(in alloc;
+                "NotImplemented: \"{action}\" is no action of {sender} (\"{meant}\" is one)"
+            )?
         }
         None if is_known => {
-            format!(in alloc; "NotImplemented: \"{action}\" is an action of the other side, not of {sender}")?
+            format!(in alloc;
+                "NotImplemented: \"{action}\" is an action of the other side, not of {sender}"
+            )?
         }
-        None => format!(in alloc; "NotImplemented: \"{action}\" is no action of {sender} that is known here")?,
+        None => format!(in alloc;
+            "NotImplemented: \"{action}\" is no action of {sender} that is known here"
+        )?,
     };
     report.fault(FaultName::Call(CallFault::NotImplemented), message)
 }
@@ -158,9 +164,13 @@ fn warn_unknown(
         let name = shown(alloc, field.name)?;
         let message = match similar_name(alloc, field.name, field.part.fields())? {
             Some(meant) => {
-                format!(in alloc; "\"{name}\" is no field of OCPP there and counts for nothing (\"{meant}\" is one)")?
+                format!(in alloc;
+                    "\"{name}\" is no field of OCPP there and counts for nothing (\"{meant}\" is one)"
+                )?
             }
-            None => format!(in alloc; "\"{name}\" is no field of OCPP there and counts for nothing")?,
+            None => format!(in alloc;
+                "\"{name}\" is no field of OCPP there and counts for nothing"
+            )?,
         };
         report.warn(message)?;
     }
@@ -187,7 +197,9 @@ fn check_clear(
     }
     for field in &unknown {
         let name = shown(alloc, field.name)?;
-        let message = format!(in alloc; "\"{name}\" is no criterion and counts for nothing, so more may be CLEARED than is meant: id, connectorId, chargingProfilePurpose and stackLevel are the criteria")?;
+        let message = format!(in alloc;
+            "\"{name}\" is no criterion and counts for nothing, so more may be CLEARED than is meant: id, connectorId, chargingProfilePurpose and stackLevel are the criteria"
+        )?;
         report.warn(message)?;
     }
     Ok(())
@@ -260,12 +272,62 @@ fn check_ask(
     request: &ScheduleRequest,
 ) -> Result<(), AllocError> {
     match ask_refusal(site, requests, text, request) {
-        None => requests.take(text.sender == Sender::Hold),
+        None if text.sender == Sender::Hold => requests.hold(report.line()),
+        None => {
+            requests.take();
+            Ok(())
+        }
         Some(Refusal::UnknownPoint) => {
             let message = unknown_point_message(report.alloc, site, text.point)?;
             report.fault(FaultName::Rejected(Refusal::UnknownPoint), message)
         }
-        Some(refusal) => reject(report, refusal, None),
+        Some(refusal) => {
+            let found = ask_found(report.alloc, site, text, request, refusal)?;
+            reject(report, refusal, Some(found.as_str()))
+        }
+    }
+}
+
+/// What was found where a request for a schedule is refused.
+fn ask_found(
+    alloc: Global,
+    site: &Site,
+    text: &LineText<'_>,
+    request: &ScheduleRequest,
+    refusal: Refusal,
+) -> Result<String, AllocError> {
+    let ScheduleRequest { connector, duration, .. } = request;
+    match refusal {
+        Refusal::UnknownConnector => connector_found(alloc, site, text, *connector),
+        Refusal::BadDuration | Refusal::PastCalendar => {
+            format!(in alloc; "duration is {duration}")
+        }
+        Refusal::WrongUnit => String::from_str(alloc, unit_found(site)),
+        _ => format!(in alloc; "connectorId is {connector}"),
+    }
+}
+
+/// Which connector was named, and which there are.
+pub(crate) fn connector_found(
+    alloc: Global,
+    site: &Site,
+    text: &LineText<'_>,
+    connector: u32,
+) -> Result<String, AllocError> {
+    match point_of(site, text) {
+        Some(point) => {
+            let count = point.ceilings.len();
+            format!(in alloc; "connectorId is {connector}, and {count} is the last one")
+        }
+        None => format!(in alloc; "connectorId is {connector}"),
+    }
+}
+
+/// The unit of the site.
+pub(crate) fn unit_found(site: &Site) -> &'static str {
+    match site.unit() {
+        Unit::A => "the site's is \"A\"",
+        Unit::W => "the site's is \"W\"",
     }
 }
 
@@ -323,7 +385,9 @@ fn check_start(
     if connector >= 1 && connector as usize <= count {
         return Ok(());
     }
-    let message = format!(in report.alloc; "UnknownConnector: a transaction is started at connector {connector}; the point has connectors 1 to {count}")?;
+    let message = format!(in report.alloc;
+        "UnknownConnector: a transaction is started at connector {connector}; the point has connectors 1 to {count}"
+    )?;
     let fault = CallFault::Refused(Refusal::UnknownConnector);
     report.fault(FaultName::Call(fault), message)
 }

@@ -137,9 +137,10 @@ fn is_period(entry: Node<'_, '_>) -> bool {
 /// What is wanted at a field.
 fn wanted_of(field: FieldName) -> &'static str {
     match field {
-        FieldName::ChargingProfileId | FieldName::TransactionId | FieldName::Id | FieldName::MeterStart => {
-            "a whole number from -2147483648 to 2147483647"
-        }
+        FieldName::ChargingProfileId
+        | FieldName::TransactionId
+        | FieldName::Id
+        | FieldName::MeterStart => { "a whole number from -2147483648 to 2147483647" }
         FieldName::StackLevel => "a whole number from 0 to 99",
         FieldName::ConnectorId | FieldName::NumberPhases => "a whole number from 0 on",
         FieldName::Duration | FieldName::StartPeriod => "a whole number of seconds from 0 on",

@@ -10,6 +10,7 @@ mod json_outline;
 mod line_hints;
 mod never;
 mod payload_fields;
+mod printed_check;
 mod profile_check;
 mod report;
 mod requests;
@@ -26,6 +27,7 @@ mod text_place;
 
 pub use finding::{FaultName, Finding, Place, Severity, exit_status};
 pub use never::{NeverRated, never_rated};
+pub use printed_check::check_printed;
 pub use script_check::check_script;
 pub use script_line::LineFault;
 pub use sentences::{call_sentence, line_sentence, sentence, site_sentence};

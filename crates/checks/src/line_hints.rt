@@ -11,7 +11,8 @@ use std::alloc::{AllocError, Global};
 const WORDS: [&str; 4] = ["operator", "point", "hold", "release"];
 
 /// The forms of a line.
-const FORMS: &str = "wanted is INSTANT operator ID FRAME (or point, or hold, in place of operator) or INSTANT release N";
+const FORMS: &str =
+    "wanted is INSTANT operator ID FRAME (or point, or hold, in place of operator) or INSTANT release N";
 
 /// What an instant looks like.
 const INSTANT_FORM: &str = "wanted is an instant such as 2025-01-31T18:00:00Z";
@@ -65,7 +66,9 @@ fn form_hint(alloc: Global, text: &str) -> Result<String, AllocError> {
     let found = shown(alloc, word)?;
     match similar_name(alloc, word, &WORDS)? {
         Some(meant) => {
-            format!(in alloc; "the second word is \"{found}\"; \"{meant}\" is probably meant; {FORMS}")
+            format!(in alloc;
+                "the second word is \"{found}\"; \"{meant}\" is probably meant; {FORMS}"
+            )
         }
         None => format!(in alloc; "the second word is \"{found}\"; {FORMS}"),
     }
@@ -97,7 +100,9 @@ fn plain_hint(text: &str) -> Option<&'static str> {
         return Some("two blanks stand where one is wanted");
     }
     if is_date(first) {
-        return Some("the date and the time stand apart; a T joins them, as in 2025-01-31T18:00:00Z");
+        return Some(
+            "the date and the time stand apart; a T joins them, as in 2025-01-31T18:00:00Z",
+        );
     }
     None
 }
@@ -131,7 +136,8 @@ fn words_hint(word: &str) -> &'static str {
         "release" => {
             "behind release stands the number of a held request, from 1 to 1000000000000, without zeros before it and with nothing behind it"
         }
-        _ => "behind operator, point and hold stand the identity of a point and a frame, with one blank between them",
+        _ =>
+            "behind operator, point and hold stand the identity of a point and a frame, with one blank between them",
     }
 }
 

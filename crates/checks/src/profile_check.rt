@@ -1,6 +1,6 @@
 //! What is wrong with an install, and what its profile does else than it says.
 
-use crate::call_check::{point_of, reject, unknown_point_message};
+use crate::call_check::{connector_found, point_of, reject, unit_found, unknown_point_message};
 use crate::finding::FaultName;
 use crate::never::{NeverRated, never_rated};
 use crate::report::Report;
@@ -28,7 +28,7 @@ pub(crate) fn check_install(
             let message = unknown_point_message(report.alloc, site, text.point)?;
             report.fault(FaultName::Rejected(Refusal::UnknownPoint), message)?;
         }
-        Err(refusal) => reject(report, refusal, None)?,
+        Err(refusal) => refuse_place(report, site, text, connector, refusal)?,
         Ok(()) => {
             if let Some(point) = point_of(site, text) {
                 warn_ceiling(report, point, connector, &profile)?;
@@ -39,16 +39,37 @@ pub(crate) fn check_install(
     warn_rates(report, text.moment, &profile)
 }
 
+/// The refusal of a profile that may not stand there.
+fn refuse_place(
+    report: &mut Report,
+    site: &Site,
+    text: &LineText<'_>,
+    connector: u32,
+    refusal: Refusal,
+) -> Result<(), AllocError> {
+    let alloc = report.alloc;
+    let found = match refusal {
+        Refusal::UnknownConnector => connector_found(alloc, site, text, connector)?,
+        Refusal::WrongUnit => String::from_str(alloc, unit_found(site))?,
+        _ => format!(in alloc; "connectorId is {connector}")?,
+    };
+    reject(report, refusal, Some(found.as_str()))
+}
+
 /// Fields that have no meaning beside the profile's purpose or kind.
 fn warn_dropped(report: &mut Report, parts: &ProfileParts) -> Result<(), AllocError> {
     if parts.transaction.is_some() && !matches!(parts.purpose, Purpose::TxProfile) {
         report.warn_text("transactionId counts for nothing but in a TxProfile")?;
     }
     if parts.recurrency.is_some() && parts.kind != ProfileKind::Recurring {
-        report.warn_text("recurrencyKind counts for nothing unless chargingProfileKind is Recurring")?;
+        report.warn_text(
+            "recurrencyKind counts for nothing unless chargingProfileKind is Recurring",
+        )?;
     }
     if parts.schedule.start.is_some() && parts.kind == ProfileKind::Relative {
-        report.warn_text("startSchedule counts for nothing in a Relative profile, which begins with its transaction")?;
+        report.warn_text(
+            "startSchedule counts for nothing in a Relative profile, which begins with its transaction",
+        )?;
     }
     Ok(())
 }
@@ -77,7 +98,9 @@ fn out_of_order(alloc: Global, periods: &[Period]) -> Result<String, AllocError>
         let start = period.start;
         if let Some(earlier) = before {
             if start <= earlier {
-                return format!(in alloc; "chargingSchedulePeriod[{index}] starts at {start}, and the one before it at {earlier}");
+                return format!(in alloc;
+                    "chargingSchedulePeriod[{index}] starts at {start}, and the one before it at {earlier}"
+                );
             }
         }
         before = Some(start);
@@ -88,7 +111,9 @@ fn out_of_order(alloc: Global, periods: &[Period]) -> Result<String, AllocError>
 /// A TxProfile that isn't bound to its transaction.
 fn warn_transaction(report: &mut Report, profile: &Profile) -> Result<(), AllocError> {
     if matches!(profile.purpose, Purpose::TxProfile) && profile.transaction.is_none() {
-        report.warn_text("this TxProfile has no transactionId: where its transaction ends before the call reaches the point, the point may take it for the NEXT car")?;
+        report.warn_text(
+            "this TxProfile has no transactionId: where its transaction ends before the call reaches the point, the point may take it for the NEXT car",
+        )?;
     }
     Ok(())
 }
@@ -106,7 +131,9 @@ fn warn_ceiling(
         return Ok(());
     }
     let ceiling = tenths_text(report.alloc, ceiling)?;
-    let message = format!(in report.alloc; "each limit of this profile is above the ceiling of the site file there, {ceiling}: it never lowers anything")?;
+    let message = format!(in report.alloc;
+        "each limit of this profile is above the ceiling of the site file there, {ceiling}: it never lowers anything"
+    )?;
     report.warn(message)
 }
 
@@ -140,18 +167,16 @@ fn instant_text(alloc: Global, instant: Instant) -> Result<String, AllocError> {
 }
 
 /// When a profile has no rate: never, or in stretches that probably weren't meant.
-fn warn_rates(
-    report: &mut Report,
-    moment: Instant,
-    profile: &Profile,
-) -> Result<(), AllocError> {
+fn warn_rates(report: &mut Report, moment: Instant, profile: &Profile) -> Result<(), AllocError> {
     if let Some(why) = never_rated(profile) {
         return report.warn_text(never_text(why));
     }
     if let Some(end) = profile.valid_to {
         if end <= moment {
             let end = instant_text(report.alloc, end)?;
-            let message = format!(in report.alloc; "validTo, {end}, is over when the profile is installed: no later schedule counts it")?;
+            let message = format!(in report.alloc;
+                "validTo, {end}, is over when the profile is installed: no later schedule counts it"
+            )?;
             report.warn(message)?;
         }
     }
@@ -165,12 +190,17 @@ fn warn_rates(
 /// Why a profile never has a rate.
 fn never_text(why: NeverRated) -> &'static str {
     match why {
-        NeverRated::EmptyValidity => "this profile never counts: its validTo isn't after its validFrom",
-        NeverRated::ValidBeforeStart => "this profile never counts: its validTo isn't after its startSchedule",
-        NeverRated::ValidAfterEnd => "this profile never counts: its schedule is over, by startSchedule and duration, before its validFrom",
+        NeverRated::EmptyValidity =>
+            "this profile never counts: its validTo isn't after its validFrom",
+        NeverRated::ValidBeforeStart =>
+            "this profile never counts: its validTo isn't after its startSchedule",
+        NeverRated::ValidAfterEnd =>
+            "this profile never counts: its schedule is over, by startSchedule and duration, before its validFrom",
         NeverRated::NoDuration => "this profile never counts: the duration of its schedule is 0",
-        NeverRated::PeriodsPastDuration => "this profile never counts: its first period starts when the duration is over",
-        NeverRated::PeriodsPastRecurrence => "this profile never counts: its first period starts when the day or week is over",
+        NeverRated::PeriodsPastDuration =>
+            "this profile never counts: its first period starts when the duration is over",
+        NeverRated::PeriodsPastRecurrence =>
+            "this profile never counts: its first period starts when the day or week is over",
     }
 }
 
@@ -181,7 +211,9 @@ fn warn_duration(report: &mut Report, profile: &Profile) -> Result<(), AllocErro
     };
     match first_past(profile, u64::from(duration)) {
         Some((index, start)) => {
-            let message = format!(in report.alloc; "chargingSchedulePeriod[{index}] starts at {start} s, when the duration of {duration} s is over: it never counts")?;
+            let message = format!(in report.alloc;
+                "chargingSchedulePeriod[{index}] starts at {start} s, when the duration of {duration} s is over: it never counts"
+            )?;
             report.warn(message)
         }
         None => Ok(()),
@@ -211,22 +243,30 @@ fn warn_recurrence(
         Recurrency::Weekly => "week",
     };
     if let Some((index, start)) = first_past(profile, length) {
-        let message = format!(in alloc; "chargingSchedulePeriod[{index}] starts at {start} s, when the {unit} of {length} s is over: it never counts")?;
+        let message = format!(in alloc;
+            "chargingSchedulePeriod[{index}] starts at {start} s, when the {unit} of {length} s is over: it never counts"
+        )?;
         report.warn(message)?;
     }
     if let Some(duration) = profile.schedule.duration {
         if u64::from(duration) > length {
-            let message = format!(in alloc; "the duration of {duration} s is longer than the {unit} of {length} s, which begins anew all the same")?;
+            let message = format!(in alloc;
+                "the duration of {duration} s is longer than the {unit} of {length} s, which begins anew all the same"
+            )?;
             report.warn(message)?;
         } else if u64::from(duration) < length {
-            let message = format!(in alloc; "this profile sets no limit from {duration} s to {length} s of each {unit}: the profile below it counts then, or none")?;
+            let message = format!(in alloc;
+                "this profile sets no limit from {duration} s to {length} s of each {unit}: the profile below it counts then, or none"
+            )?;
             report.warn(message)?;
         }
     }
     match profile.schedule.periods.as_slice().first() {
         Some(first) if first.start > 0 => {
             let start = first.start;
-            let message = format!(in alloc; "this profile sets no limit in the first {start} s of each {unit}: the profile below it counts then, or none")?;
+            let message = format!(in alloc;
+                "this profile sets no limit in the first {start} s of each {unit}: the profile below it counts then, or none"
+            )?;
             report.warn(message)
         }
         _ => Ok(()),

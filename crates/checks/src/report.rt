@@ -44,6 +44,18 @@ impl Report {
         Ok(())
     }
 
+    /// A remark on the line of a number.
+    pub(crate) fn remark_at(&mut self, line: u64, message: String) -> Result<(), AllocError> {
+        let place = Place::Line(line);
+        self.findings.push(Finding::remark(place, message))?;
+        Ok(())
+    }
+
+    /// The number of this line.
+    pub(crate) fn line(&self) -> u64 {
+        self.line
+    }
+
     /// A warning of this line, in words that are there.
     pub(crate) fn warn_text(&mut self, message: &str) -> Result<(), AllocError> {
         let message = String::from_str(self.alloc, message)?;

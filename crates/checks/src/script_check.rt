@@ -17,11 +17,7 @@ const MAX_SCRIPT_BYTES: usize = 16_777_216;
 /// What is wrong with a script on a site, line by line: faults of lines, texts that are refused, and warnings
 /// of texts that do something else than they say. A refusal that depends on what the point has by then
 /// (`NoTransaction`, `OtherTransaction`, `TooManyProfiles`, `OutboxFull`, `ResultTooLong`) isn't found.
-pub fn check_script(
-    alloc: Global,
-    site: &Site,
-    script: &[u8],
-) -> Result<Vec<Finding>, AllocError> {
+pub fn check_script(alloc: Global, site: &Site, script: &[u8]) -> Result<Vec<Finding>, AllocError> {
     if script.len() > MAX_SCRIPT_BYTES {
         return too_long(alloc, script.len());
     }
@@ -45,17 +41,26 @@ pub fn check_script(
             }
         }
     }
+    remark_held(&mut report, &requests)?;
     Ok(report.into_findings())
 }
 
+/// The requests that are still held when the script ends.
+fn remark_held(report: &mut Report, requests: &Requests) -> Result<(), AllocError> {
+    for held in requests.held() {
+        let number = held.number;
+        let message = format!(in report.alloc; "request {number} is still held when the script ends, and isn't answered")?;
+        report.remark_at(held.line, message)?;
+    }
+    Ok(())
+}
+
 fn too_long(alloc: Global, count: usize) -> Result<Vec<Finding>, AllocError> {
-    let message = format!(in alloc; "{count} bytes; at most {MAX_SCRIPT_BYTES} are wanted, and nothing of a longer script is played")?;
+    let message = format!(in alloc;
+        "{count} bytes; at most {MAX_SCRIPT_BYTES} are wanted, and nothing of a longer script is played"
+    )?;
     let mut findings = Vec::new(alloc);
-    findings.push(Finding::fault(
-        Place::File,
-        FaultName::ScriptTooLong,
-        message,
-    ))?;
+    findings.push(Finding::fault(Place::File, FaultName::ScriptTooLong, message))?;
     Ok(findings)
 }
 
@@ -82,6 +87,8 @@ fn check_release(
         return Ok(());
     }
     let sentence = line_sentence(LineFault::UnknownRequest);
-    let message = format!(in report.alloc; "UnknownRequest: release {number}: {sentence}; a hold line that takes one prints its number")?;
+    let message = format!(in report.alloc;
+        "UnknownRequest: release {number}: {sentence}; a hold line that takes one prints its number"
+    )?;
     report.fault(FaultName::Line(LineFault::UnknownRequest), message)
 }

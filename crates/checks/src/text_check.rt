@@ -117,7 +117,9 @@ fn check_reply(
     let alloc = report.alloc;
     let id = shown(alloc, id)?;
     let status = shown(alloc, status)?;
-    let message = format!(in alloc; "the point answers call \"{id}\" with {status}: the central system keeps what the call is of, so its schedules say more than the point does")?;
+    let message = format!(in alloc;
+        "the point answers call \"{id}\" with {status}: the central system keeps what the call is of, so its schedules say more than the point does"
+    )?;
     report.warn(message)
 }
 
@@ -128,7 +130,9 @@ pub(crate) fn not_composite(
     why: &str,
 ) -> Result<(), AllocError> {
     let frame = shown(report.alloc, text.frame)?;
-    let message = format!(in report.alloc; "NotComposite: a frame that is held has to be a CALL of GetCompositeSchedule, and {why}: {frame}")?;
+    let message = format!(in report.alloc;
+        "NotComposite: a frame that is held has to be a CALL of GetCompositeSchedule, and {why}: {frame}"
+    )?;
     report.fault(FaultName::Line(LineFault::NotComposite), message)
 }
 
@@ -154,7 +158,9 @@ fn check_dropped(
         return not_composite(report, text, why.as_str());
     }
     let frame = shown(report.alloc, text.frame)?;
-    let message = format!(in report.alloc; "the text is no message and is dropped without a word: {why}: {frame}")?;
+    let message = format!(in report.alloc;
+        "the text is no message and is dropped without a word: {why}: {frame}"
+    )?;
     report.warn(message)
 }
 
@@ -175,11 +181,7 @@ fn why_dropped(
 }
 
 /// Where the JSON of a frame breaks, by its column in the line.
-fn broken_at(
-    alloc: Global,
-    text: &LineText<'_>,
-    fault: &JsonFault,
-) -> Result<String, AllocError> {
+fn broken_at(alloc: Global, text: &LineText<'_>, fault: &JsonFault) -> Result<String, AllocError> {
     let before = character_count(text.line).saturating_sub(character_count(text.frame));
     let mut column = before.saturating_add(1);
     for (offset, _) in text.frame.char_indices() {
