@@ -24,19 +24,30 @@ pub fn check_file<R: Files + Input + Print + AllocGlobal>(
     let alloc = rt.alloc();
     let bytes = read_site_bytes(rt, checking.site)?;
     let script = read_script(rt)?;
-    let mut findings = check_site(alloc, bytes.as_slice())?;
-    let mut page = String::new(alloc);
-    push_findings(&mut page, checking.site, findings.as_slice())?;
-    if let Ok(site) = read_site(alloc, bytes.as_slice()) {
-        let more = check_script(alloc, &site, script.as_slice())?;
-        push_findings(&mut page, "script", more.as_slice())?;
-        for finding in more {
-            findings.push(finding)?;
-        }
-        push_played(alloc, &mut page, site, script.as_slice(), checking.trace)?;
-    }
+    let (page, status) = page_of(alloc, checking, bytes.as_slice(), script.as_slice())?;
     print_page(rt, page.as_str())?;
-    Ok(exit_status(findings.as_slice()))
+    Ok(status)
+}
+
+/// What is found in a site file and, where a site is read from it, in a script; and the exit status.
+fn page_of(
+    alloc: Global,
+    checking: Checking<'_>,
+    bytes: &[u8],
+    script: &[u8],
+) -> Result<(String, u8), AllocError>
+    requires { length script.now ≤ max_script_bytes }
+{
+    let mut page = String::new(alloc);
+    let mut findings = check_site(alloc, bytes)?;
+    push_findings(&mut page, checking.site, findings.as_slice())?;
+    if let Ok(site) = read_site(alloc, bytes) {
+        let mut more = check_script(alloc, &site, script)?;
+        push_findings(&mut page, "script", more.as_slice())?;
+        findings.append(&mut more)?;
+        push_played(alloc, &mut page, site, script, checking.trace)?;
+    }
+    Ok((page, exit_status(findings.as_slice())))
 }
 
 /// Appends a line for each finding, behind the name of where it was found.
