@@ -31,7 +31,12 @@ pub(crate) fn install(alloc: Global, book: &mut PointBook, lines: &str) -> Resul
 }
 
 /// A transaction begins at a connector, so many seconds after midnight.
-pub(crate) fn begin(alloc: Global, book: &mut PointBook, connector: u32, second: u64) -> Result<(), Fail> {
+pub(crate) fn begin(
+    alloc: Global,
+    book: &mut PointBook,
+    connector: u32,
+    second: u64,
+) -> Result<(), Fail> {
     if connector == 0 || connector > book.connectors() {
         return Err("no such connector")?;
     }

@@ -16,7 +16,7 @@ use Rattle.meaning.specs.declared.cause.Cause.TheVariants.{Profile, PointCeiling
 use Rattle.meaning.specs.View.{PointState, active_since, ceiling_of}
 use Rattle.meaning.specs.Prevailing.{counted, has_its_transaction}
 use Rattle.meaning.specs.Limit.{shared_limit}
-use Rattle.meaning.specs.Cause.{RowLimit, Bound, with_limit, row_limit, level_of, prevailing_row, row_or_else, profile_of, bound_of, lesser, lesser_of, own_bound, below_point, bound_by, counts_for, IsPrevailing, IsSetBy}
+use Rattle.meaning.specs.Cause.{RowLimit, Bound, with_limit, row_limit, level_of, prevailing_row, row_or_else, profile_of, bound_of, lesser, lesser_of, own_bound, below_point, bound_by, counts_for, StandsIn, IsPrevailing, IsSetBy}
 
 -- ---- what is picked out of a list has what all of it has
 
@@ -36,7 +36,7 @@ all_passing {X = X} P test (x ∷ xs) h = go (test x) h.0 (all_passing P test xs
     go true h rest = (h refl, rest)
     go false h rest = rest
 
-some_is : {X : Type 0} (P : X → Type 0) (x y : X) → P x → Some x ≡ Some y → P y
+pub some_is : {X : Type 0} (P : X → Type 0) (x y : X) → P x → Some x ≡ Some y → P y
 some_is P x y h e = let same : x ≡ y = cc in subst P same h
 
 greatest_among : {X : Type 0} (P : X → Type 0) (key : X → ℕ) (xs : List X) (x : X) → AllByRecursion P xs → greatest key xs ≡ Some x → P x
@@ -56,24 +56,18 @@ greatest_among {X = X} P key (y ∷ ys) x h e = go (greatest key ys) (λ z. grea
 
 -- ---- rows of a point
 
--- a row stands among some
-pub record Stands (rows : List Row) (row : Row) : Type 0 where
-  pub before : List Row
-  pub after : List Row
-  pub is : rows ≡ before ++ row ∷ after
-
-stands_later : (first : Row) (rows : List Row) (row : Row) → Stands rows row → Stands (first ∷ rows) row
+stands_later : (first : Row) (rows : List Row) (row : Row) → StandsIn rows row → StandsIn (first ∷ rows) row
 stands_later first rows row h = record { before = first ∷ h.before; after = h.after; is = ap (λ (rows : List Row). first ∷ rows) h.is }
 
 weaker : {X : Type 0} (P Q : X → Type 0) → ((x : X) → P x → Q x) → (xs : List X) → AllByRecursion P xs → AllByRecursion Q xs
 weaker P Q h [] k = tt
 weaker P Q h (x ∷ xs) k = (h x k.0, weaker P Q h xs k.1)
 
-all_stand : (rows : List Row) → AllByRecursion (Stands rows) rows
+all_stand : (rows : List Row) → AllByRecursion (StandsIn rows) rows
 all_stand [] = tt
-all_stand (row ∷ rows) = (record { before = []; after = rows; is = refl }, weaker (Stands rows) (Stands (row ∷ rows)) (stands_later row rows) rows (all_stand rows))
+all_stand (row ∷ rows) = (record { before = []; after = rows; is = refl }, weaker (StandsIn rows) (StandsIn (row ∷ rows)) (stands_later row rows) rows (all_stand rows))
 
-and_first : (a b : Bool) → (a && b) ≡ true → a ≡ true
+pub and_first : (a b : Bool) → (a && b) ≡ true → a ≡ true
 and_first true b h = refl
 and_first false b h = h
 
@@ -97,37 +91,46 @@ purpose_is ChargePointMaxProfile rows connector row h = max_is row.profile.purpo
 purpose_is TxDefaultProfile rows connector row h = default_is row.profile.purpose (and_first _ _ h)
 purpose_is TxProfile rows connector row h = tx_is row.profile.purpose (and_first _ _ h)
 
-pub record IsOf (purpose : Purpose) (rows : List Row) (row : Row) : Type 0 where
-  pub stands : Stands rows row
+-- a row counts for a connector among the profiles of a purpose
+pub record Counts (purpose : Purpose) (state : PointState) (connector : ℕ) (row : Row) : Type 0 where
+  pub stands : StandsIn state.rows row
   pub purpose_is : row.profile.purpose ≡ purpose
+  pub has : has_its_transaction purpose (active_since state connector) ≡ true
+  pub speaks : is_candidate purpose state.rows connector row ≡ true
 
-counted_are : (purpose : Purpose) (state : PointState) (connector : ℕ) → AllByRecursion (IsOf purpose state.rows) (counted purpose state connector)
-counted_are purpose state connector = go (has_its_transaction purpose (active_since state connector))
+counted_are : (purpose : Purpose) (state : PointState) (connector : ℕ) → AllByRecursion (Counts purpose state connector) (counted purpose state connector)
+counted_are purpose state connector = go (has_its_transaction purpose (active_since state connector)) refl
   where
-    all : AllByRecursion (IsOf purpose state.rows) (filter (is_candidate purpose state.rows connector) state.rows)
-    all = all_passing (IsOf purpose state.rows) (is_candidate purpose state.rows connector) state.rows
-        (weaker (Stands state.rows) (λ row. is_candidate purpose state.rows connector row ≡ true → IsOf purpose state.rows row)
-        (λ row h passes. record { stands = h; purpose_is = purpose_is purpose state.rows connector row passes }) state.rows (all_stand state.rows))
+    go : (b : Bool) → has_its_transaction purpose (active_since state connector) ≡ b
+        → AllByRecursion (Counts purpose state connector) (cond b (filter (is_candidate purpose state.rows connector) state.rows) [])
+    go true has =
+        all_passing (Counts purpose state connector) (is_candidate purpose state.rows connector) state.rows
+        (weaker (StandsIn state.rows) (λ row. is_candidate purpose state.rows connector row ≡ true → Counts purpose state connector row)
+        (λ row h passes. record { stands = h; purpose_is = purpose_is purpose state.rows connector row passes; has = has; speaks = passes }) state.rows (all_stand state.rows))
+    go false has = tt
 
-    go : (b : Bool) → AllByRecursion (IsOf purpose state.rows) (cond b (filter (is_candidate purpose state.rows connector) state.rows) [])
-    go true = all
-    go false = tt
+-- a row that counts, with its limit
+pub record CountsWith (purpose : Purpose) (state : PointState) (connector asked instant : ℕ) (best : RowLimit) : Type 0 where
+  pub counts : Counts purpose state connector best.row
+  pub limit : row_limit state connector asked instant best.row ≡ Some best
 
-row_given : (P : Row → Type 0) (row : Row) (limit : Option ℕ) (best : RowLimit) → option_map (with_limit row) limit ≡ Some best → P row → P best.row
-row_given P row None best h k = absurd (none_is_not h)
-  where
-    none_is_not : ◌≡◌ {A = Option RowLimit} None (Some best) → ⊥
-    none_is_not e = cc
-row_given P row (Some limit) best h k = some_is (λ (best : RowLimit). P best.row) (with_limit row limit) best k h
+given_row : (row : Row) (limit : Option ℕ) (best : RowLimit) → option_map (with_limit row) limit ≡ Some best → best.row ≡ row
+given_row row None best h = cc
+given_row row (Some limit) best h = some_is (λ (best : RowLimit). best.row ≡ row) (with_limit row limit) best refl h
 
--- the row that prevails is one of the point, of its purpose
+-- the row that prevails counts, with its limit
 pub prevailing_of : (purpose : Purpose) (state : PointState) (connector asked instant : ℕ) (best : RowLimit)
-    → prevailing_row purpose state connector asked instant ≡ Some best → IsOf purpose state.rows best.row
+    → prevailing_row purpose state connector asked instant ≡ Some best → CountsWith purpose state connector asked instant best
 prevailing_of purpose state connector asked instant best h =
-    greatest_among (λ (best : RowLimit). IsOf purpose state.rows best.row) level_of (filter_map (row_limit state connector asked instant) (counted purpose state connector)) best
-    (all_given (λ (best : RowLimit). IsOf purpose state.rows best.row) (row_limit state connector asked instant) (counted purpose state connector)
-    (weaker (IsOf purpose state.rows) (λ row. (best : RowLimit) → row_limit state connector asked instant row ≡ Some best → IsOf purpose state.rows best.row)
-    (λ row of best given. row_given (IsOf purpose state.rows) row (rate row.profile (base row (active_since state connector) asked) instant) best given of)
+    greatest_among (CountsWith purpose state connector asked instant) level_of (filter_map (row_limit state connector asked instant) (counted purpose state connector)) best
+    (all_given (CountsWith purpose state connector asked instant) (row_limit state connector asked instant) (counted purpose state connector)
+    (weaker (Counts purpose state connector) (λ row. (best : RowLimit) → row_limit state connector asked instant row ≡ Some best → CountsWith purpose state connector asked instant best)
+    (λ row counts best given.
+    let same : best.row ≡ row = given_row row (rate row.profile (base row (active_since state connector) asked) instant) best given in
+    record {
+      counts = subst (Counts purpose state connector) (sym same) counts;
+      limit = ap (row_limit state connector asked instant) same ∙ given;
+    })
     (counted purpose state connector) (counted_are purpose state connector)))
     h
 
@@ -138,11 +141,9 @@ is_prevailing purpose state connector asked instant best h =
     let of = prevailing_of purpose state (counts_for purpose connector) asked instant best h in
     record {
       row = best.row;
-      before = of.stands.before;
-      after = of.stands.after;
-      stands = of.stands.is;
+      stands = of.counts.stands;
       told = refl;
-      prevails = subst (λ (purpose : Purpose). prevailing_row purpose state (counts_for purpose connector) asked instant ≡ Some best) (sym of.purpose_is) h;
+      prevails = subst (λ (purpose : Purpose). prevailing_row purpose state (counts_for purpose connector) asked instant ≡ Some best) (sym of.counts.purpose_is) h;
     }
 
 -- ---- the least of some bounds

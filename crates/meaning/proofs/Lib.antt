@@ -5,4 +5,5 @@ pub mod GreatestLemmas
 pub mod Bounds
 pub mod Causes
 pub mod Compiling
+pub mod WhyNots
 pub mod WorkedExamples

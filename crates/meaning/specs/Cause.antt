@@ -136,13 +136,17 @@ counts_for ChargePointMaxProfile connector = 0
 counts_for TxDefaultProfile connector = connector
 counts_for TxProfile connector = connector
 
+-- a row stands among some
+pub record StandsIn (rows : List Row) (row : Row) : Type 0 where
+  pub before : List Row
+  pub after : List Row
+  pub is : rows ≡ before ++ row ∷ after
+
 -- a profile is a row of the point, which prevails and has exactly this limit
 pub record IsPrevailing (state : PointState) (connector asked instant limit : ℕ) (profile : PrevailingProfile)
     : Type 0 where
   pub row : Row
-  pub before : List Row
-  pub after : List Row
-  pub stands : state.rows ≡ before ++ row ∷ after
+  pub stands : StandsIn state.rows row
   pub told : profile ≡ profile_of row
   pub prevails :
       prevailing_row profile.purpose state (counts_for profile.purpose connector) asked instant

@@ -1,5 +1,5 @@
 -- Why a profile that a point has doesn't prevail for a connector at an instant (OCPP 1.6, 3.13).
-use Rattle.std.specs.Prelude.{ℕ, ◌==◌, nat_lt, Bool, true, false, not, ◌&&◌, ◌||◌, List, [], ◌∷◌, Option, Some, None, is_some, is_none, if◌then◌else◌}
+use Rattle.std.specs.Prelude.{◌≡◌, ℕ, ◌==◌, nat_lt, Bool, false, not, ◌&&◌, ◌||◌, List, Option, Some, None, is_some, if◌then◌else◌}
 use Rattle.profile.specs.declared.purpose.Purpose.{Purpose}
 use Rattle.profile.specs.declared.purpose.Purpose.TheVariants.{ChargePointMaxProfile, TxDefaultProfile, TxProfile}
 use Rattle.profile.specs.declared.row.Row.{Row}
@@ -11,7 +11,7 @@ use Rattle.profile.specs.Row.{base}
 use Rattle.meaning.specs.declared.cause.WhyNot.{WhyNot}
 use Rattle.meaning.specs.declared.cause.WhyNot.TheVariants.{OtherConnector, NoTransaction, Hidden, NotYetValid, NoLongerValid, BeforeAnchor, PastDuration, BeforeFirstPeriod, BelowHigherLevel, BehindTxProfile}
 use Rattle.meaning.specs.View.{PointState, active_since}
-use Rattle.meaning.specs.Cause.{RowLimit, level_of, prevailing_row, counts_for}
+use Rattle.meaning.specs.Cause.{RowLimit, with_limit, level_of, prevailing_row, counts_for, StandsIn}
 
 abbrev pub first_of : Option WhyNot → Option WhyNot → Option WhyNot
 first_of None later = later
@@ -82,3 +82,21 @@ why_not_for state connector asked instant row =
 abbrev pub why_not : PointState → ℕ → ℕ → ℕ → Row → Option WhyNot
 why_not state connector asked instant row =
     why_not_for state (counts_for row.profile.purpose connector) asked instant row
+
+-- A row prevails for a connector at an instant: of its purpose it is the row that prevails, and if it is a
+-- TxDefaultProfile, no TxProfile does.
+pub record Prevails (state : PointState) (connector asked instant : ℕ) (row : Row) : Type 0 where
+  pub limit : ℕ
+  pub of_purpose :
+      prevailing_row row.profile.purpose state (counts_for row.profile.purpose connector) asked instant
+      ≡ Some (with_limit row limit)
+  pub no_transaction :
+      row.profile.purpose ≡ TxDefaultProfile
+      → prevailing_row TxProfile state connector asked instant ≡ None
+
+-- no two rows have one connector, purpose and stack level, as those of a book never have
+pub record HaveOwnKeys (rows : List Row) : Type 0 where
+  pub same :
+      (one other : Row) → StandsIn rows one → StandsIn rows other
+      → one.connector ≡ other.connector → one.profile.purpose ≡ other.profile.purpose
+      → one.profile.stack_level ≡ other.profile.stack_level → one ≡ other

@@ -17,6 +17,7 @@ mod reason_laws;
 mod schedule_laws;
 mod shares;
 mod view;
+mod why_not_laws;
 
 pub use ask::{Ask, MAX_DURATION};
 pub use ask_laws::asks;
@@ -31,3 +32,4 @@ pub use reason_laws::reasons;
 pub use schedule_laws::{exact_schedule_exists, exact_schedules, one_schedule};
 pub use shares::Shares;
 pub use view::View;
+pub use why_not_laws::why_nots;

@@ -95,7 +95,11 @@ impl View<'_> {
             }
         }
         let is_default = matches!(purpose, Purpose::TxDefaultProfile);
-        if is_default && self.prevailing_profile(Purpose::TxProfile, connector, asked, instant).is_some() {
+        if is_default
+            && self
+                .prevailing_profile(Purpose::TxProfile, connector, asked, instant)
+                .is_some()
+        {
             return Some(WhyNot::BehindTxProfile);
         }
         None
@@ -121,7 +125,10 @@ fn why_no_limit_in(row: &Row, offset: Option<u64>) -> Option<WhyNot>
         return Some(WhyNot::BeforeAnchor);
     };
     let schedule = &row.profile.schedule;
-    if schedule.duration.is_some_and(|duration| u64::from(duration) <= offset) {
+    if schedule
+        .duration
+        .is_some_and(|duration| u64::from(duration) <= offset)
+    {
         return Some(WhyNot::PastDuration);
     }
     if schedule.periods.limit_in_force(offset).is_none() {

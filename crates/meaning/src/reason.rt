@@ -137,12 +137,7 @@ impl View<'_> {
     }
 
     /// What each active connector has in the sum.
-    fn shares(
-        &self,
-        alloc: Global,
-        asked: Instant,
-        instant: Instant,
-    ) -> Result<Shares, AllocError>
+    fn shares(&self, alloc: Global, asked: Instant, instant: Instant) -> Result<Shares, AllocError>
         requires numbered { length self.now.ceilings.now < 2 ^ 32 }
         ensures { IfOk result (λ shares. shares ≡ shares_by Sum (point_state self.now) asked instant) }
     {

@@ -112,9 +112,9 @@ loop-next-preserved-then-not-same c =
     let same_limit : c.go_on.new.self.limit ≡ of = c.in-Some.ensures.same_limit ∙ kept.limit in
     let found : c.in_ok-found.found ≡ value next = rw (same_limit, here) at c.in_ok-found.ensures.reason in
     let unlike : c.loop-next.reason ≢ c.in_ok-found.found = λ e.
-        let yes : c.same.result ≡ true = c.same.ensures.1 (sym e) in
-        let no : c.same.result ≡ false = c.if-not-same.true in
-        cc in
+    let yes : c.same.result ≡ true = c.same.ensures.1 (sym e) in
+    let no : c.same.result ≡ false = c.if-not-same.true in
+    cc in
     let new : Stretch = record { start = c.loop-next.start; end = next; reason = c.loop-next.reason } in
     let items : c.push-then-not-same.new.self.items ≡ stretches ++ new ∷ [] = c.in_ok-push-2.ensures.items in
     let turn = c.in_ok-found.ensures.turn in

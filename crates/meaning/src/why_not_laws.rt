@@ -1,0 +1,16 @@
+//! The law of why a profile doesn't prevail, on a function that does nothing.
+
+ghost use Rattle.std.specs.Prelude.{◌≡◌, ◌↔◌, ℕ, None};
+ghost use Rattle.profile.specs.declared.row.Row.{Row};
+ghost use Rattle.meaning.specs.View.{PointState};
+ghost use Rattle.meaning.specs.Cause.{StandsIn};
+ghost use Rattle.meaning.specs.WhyNot.{why_not, Prevails, HaveOwnKeys};
+
+/// The law that a row of a point has no reason not to prevail exactly where it prevails, as long as no two
+/// rows have one connector, purpose and stack level.
+pub fn why_nots()
+    ensures { (state : PointState) (connector asked instant : ℕ) (row : Row)
+        → HaveOwnKeys state.rows → StandsIn state.rows row
+        → (why_not state connector asked instant row ≡ None)
+        ↔ Prevails state connector asked instant row }
+{}
