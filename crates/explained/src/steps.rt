@@ -67,6 +67,22 @@ pub(crate) fn profile_steps(
     })
 }
 
+/// The first instant of an ask at which a profile has a limit, counted from a base, or its start where it has
+/// none in it.
+pub(crate) fn first_limit(profile: &Profile, base: Instant, ask: &Ask) -> Instant {
+    let mut instant = ask.start;
+    for _ in 0..MAX_STEPS {
+        if rate_at(profile, base, instant).is_some() {
+            return instant;
+        }
+        match next_change(profile, base, instant) {
+            Some(next) if second_of(ask, next) < ask.duration => instant = next,
+            _ => return ask.start,
+        }
+    }
+    ask.start
+}
+
 /// The second of an ask at which an instant is, at most its duration.
 fn second_of(ask: &Ask, instant: Instant) -> u32 {
     let second = instant.seconds().saturating_sub(ask.start.seconds());
