@@ -1,5 +1,8 @@
 //! Limits through time, step by step.
 
+ghost use Rattle.std.specs.Prelude.{◌≤◌, IfOk, length};
+ghost use Rattle.explained.specs.Limits.{max_steps};
+
 use crate::explained::Explained;
 use meaning::Ask;
 use ocpp_scalars::Instant;
@@ -43,7 +46,9 @@ pub(crate) fn profile_steps(
     profile: &Profile,
     base: Instant,
     ask: &Ask,
-) -> Result<Steps, AllocError> {
+) -> Result<Steps, AllocError>
+    ensures bounded { IfOk result (λ steps. length steps.items.items ≤ max_steps) }
+{
     let mut items = Vec::new(alloc);
     let mut instant = ask.start;
     for _ in 0..MAX_STEPS {

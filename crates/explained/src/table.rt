@@ -340,7 +340,7 @@ fn bar_of(limit: u32, largest: u32, room: usize) -> usize
         return 0;
     }
     let most = room.min(BAR.1) as u64;
-    let share = u64::from(limit) * most / u64::from(largest.max(1));
+    let share = u64::from(limit).saturating_mul(most) / u64::from(largest.max(1));
     share.max(1).min(most) as usize
 }
 
