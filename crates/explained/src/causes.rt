@@ -31,8 +31,12 @@ pub(crate) fn push_causes(
     )?;
     let mut is_odd = false;
     for stretch in explained.stretches.iter().take(MAX_STRETCHES) {
-        push_field(alloc, out, explained, Field::of(scale, stretch, is_odd))?;
-        push_name(alloc, out, Field::of(scale, stretch, is_odd), entries)?;
+        let field = Field::of(scale, stretch, is_odd);
+        // Without breadth nobody sees it.
+        if field.breadth > 0 {
+            push_field(alloc, out, explained, field)?;
+            push_name(alloc, out, field, entries)?;
+        }
         is_odd = !is_odd;
     }
     Ok(())

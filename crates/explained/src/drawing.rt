@@ -141,7 +141,7 @@ pub(crate) fn push_time_axis(
     explained: &Explained<'_>,
     scale: Scale,
 ) -> Result<(), AllocError> {
-    let step = u64::from(time_step(scale.duration).max(1));
+    let step = u64::from(time_step(explained.ask.duration).max(1));
     let start = explained.moment(0);
     let first = start.div_ceil(step).saturating_mul(step);
     for count in 0..=u64::from(MOST_TIMES) {

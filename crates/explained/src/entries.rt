@@ -1,8 +1,8 @@
 //! What a picture shows beside the limit: the profiles that have one in its time, and the ceilings.
 
 use crate::explained::Explained;
-use crate::steps::{MAX_STRETCHES, Steps, profile_steps};
-use meaning::{Cause, PrevailingProfile, has_its_transaction};
+use crate::steps::{MAX_STRETCHES, Steps, first_limit, profile_steps};
+use meaning::{Ask, Cause, PrevailingProfile, View, has_its_transaction};
 use ocpp_scalars::Instant;
 use profile::{Purpose, Row};
 use std::alloc::{AllocError, Global};
@@ -60,7 +60,7 @@ fn profile_entry(
     explained: &Explained<'_>,
     row: &Row,
 ) -> Result<Option<Entry>, AllocError> {
-    let started = started_for(explained, row);
+    let started = started_for(&explained.view, &explained.ask, row);
     if !applies(explained, row) || !has_its_transaction(row.profile.purpose, started) {
         return Ok(None);
     }
@@ -75,8 +75,8 @@ fn profile_entry(
     }))
 }
 
-/// What a row is told by.
-fn told_by(row: &Row) -> PrevailingProfile {
+/// What the profile of a row is told by.
+pub fn told_by(row: &Row) -> PrevailingProfile {
     PrevailingProfile {
         id: row.profile.id,
         purpose: row.profile.purpose,
@@ -93,15 +93,22 @@ fn applies(explained: &Explained<'_>, row: &Row) -> bool {
 
 /// The start of the transaction from which a row counts: that at the connector of the ask; for the whole
 /// point that at the connector of the row, or the first one.
-fn started_for(explained: &Explained<'_>, row: &Row) -> Option<Instant> {
-    let view = &explained.view;
-    if explained.ask.connector > 0 {
-        return view.active_since(explained.ask.connector as usize);
+fn started_for(view: &View<'_>, ask: &Ask, row: &Row) -> Option<Instant> {
+    if ask.connector > 0 {
+        return view.active_since(ask.connector as usize);
     }
     if row.connector > 0 || row.profile.purpose == Purpose::ChargePointMaxProfile {
         return view.active_since(row.connector as usize);
     }
     view.starts.iter().find_map(|start| *start)
+}
+
+/// The instant of an ask at which the reason why a profile never sets the limit says most: the first at which
+/// its schedule has a limit, or the start where it has none. (Before it the reason would only be that the
+/// profile is yet to come.)
+pub fn telling_instant(view: &View<'_>, ask: &Ask, row: &Row) -> Instant {
+    let base = row.base(started_for(view, ask, row), ask.start);
+    first_limit(&row.profile, base, ask)
 }
 
 fn push_ceilings(entries: &mut Vec<Entry>, explained: &Explained<'_>) -> Result<(), AllocError> {

@@ -1,5 +1,7 @@
 //! What is explained.
 
+ghost use Rattle.std.specs.Prelude.{◌≡◌, ◌+◌, ◌<◌, ◌^◌};
+
 use meaning::{Ask, Cause, PrevailingProfile, View, WhyNot};
 use profile::Unit;
 use sweep_compiler::Stretch;
@@ -39,13 +41,19 @@ pub enum NoPart {
 }
 
 impl Explained<'_> {
-    /// The seconds from 1970 to the end of the ask, its last second behind.
-    pub(crate) fn end(&self) -> u64 {
+    /// The second behind the last one of the ask, in seconds since 1970.
+    pub(crate) fn end(&self) -> u64
+        ensures value { result ≡ self.now.ask.start + self.now.ask.duration }
+        ensures small { result < 2 ^ 40 }
+    {
         self.ask.start.seconds() + u64::from(self.ask.duration)
     }
 
-    /// The seconds from 1970 to a second of the ask.
-    pub(crate) fn moment(&self, second: u32) -> u64 {
+    /// A second of the ask, in seconds since 1970.
+    pub(crate) fn moment(&self, second: u32) -> u64
+        ensures value { result ≡ self.now.ask.start + second }
+        ensures small { result < 2 ^ 40 }
+    {
         self.ask.start.seconds() + u64::from(second)
     }
 }

@@ -11,9 +11,6 @@ const APART: (u64, u64) = (20, 13);
 /// How often a letter is moved to the side before it is left out.
 const TRIES: usize = 12;
 
-/// Where letters stand.
-type Spots = Vec<(u64, u64)>;
-
 /// Appends the letter of each entry above the beginning of its line.
 pub(crate) fn push_letters(
     alloc: Global,
@@ -24,7 +21,7 @@ pub(crate) fn push_letters(
     let mut spots = Vec::new(alloc);
     for (place, entry) in entries.iter().enumerate() {
         if let Some(spot) = beginning(scale, &entry.line) {
-            if let Some(spot) = free_spot(&spots, spot) {
+            if let Some(spot) = free_spot(spots.as_slice(), spot) {
                 spots.push(spot)?;
                 let (x, y) = spot;
                 write!(out, "<text class=\"letter\" x=\"{x}\" y=\"{y}\">")?;
@@ -59,7 +56,7 @@ fn above(scale: Scale, limit: u32) -> u64 {
 }
 
 /// The first free spot beside a spot: to its right, or to its left in the right half.
-fn free_spot(spots: &Spots, spot: (u64, u64)) -> Option<(u64, u64)> {
+fn free_spot(spots: &[(u64, u64)], spot: (u64, u64)) -> Option<(u64, u64)> {
     let (mut x, y) = spot;
     let goes_left = x > (LEFT + RIGHT) / 2;
     for _ in 0..TRIES {

@@ -24,6 +24,7 @@ mod ticks;
 mod words;
 mod wrapping;
 
+pub use entries::{telling_instant, told_by};
 pub use explained::{Explained, NoPart, NotCounted, is_named};
 pub use json_text::write_json;
 pub use length::{Length, length_of};

@@ -60,8 +60,17 @@ fn push_table(
         push_clock(out, explained.moment(stretch.end), cells.to.as_str())?;
         push_cells(out, &cells)?;
     }
-    out.push_str("</tbody>\n</table>\n</div>\n<p>")?;
-    push_more(out, explained.stretches.len(), MAX_STRETCHES)?;
+    out.push_str("</tbody>\n</table>\n</div>\n")?;
+    push_note(out, explained.stretches.len())
+}
+
+/// Appends how many stretches the table leaves out, where it does.
+fn push_note(out: &mut String, count: usize) -> Result<(), AllocError> {
+    if count <= MAX_STRETCHES {
+        return Ok(());
+    }
+    out.push_str("<p>")?;
+    push_more(out, count, MAX_STRETCHES)?;
     out.push_str("</p>\n")
 }
 

@@ -79,14 +79,14 @@ fn push_told(alloc: Global, out: &mut String, explained: &Explained<'_>) -> Resu
     out.push_str("</desc>\n")
 }
 
-/// Appends how many stretches come behind those that are told.
+/// Appends how many stretches come after those that are told.
 pub(crate) fn push_more(out: &mut String, count: usize, told: usize) -> Result<(), AllocError> {
     if count <= told {
         return Ok(());
     }
-    out.push_str(" There are ")?;
+    out.push_str(" Further stretches: ")?;
     push_integer(out, count - told)?;
-    out.push_str(" more stretches.")
+    out.push('.')
 }
 
 /// Appends what is shown, above the field.

@@ -50,7 +50,7 @@ impl Scale {
         let step = limit_step(largest);
         Scale {
             duration: explained.ask.duration,
-            top: u64::from(largest.div_ceil(step.max(1))) * u64::from(step),
+            top: u64::from(largest.div_ceil(step.max(1))).saturating_mul(u64::from(step)),
             step,
         }
     }

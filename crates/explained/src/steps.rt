@@ -1,5 +1,8 @@
 //! Limits through time, step by step.
 
+ghost use Rattle.std.specs.Prelude.{◌≤◌, IfOk, length};
+ghost use Rattle.explained.specs.Limits.{max_steps};
+
 use crate::explained::Explained;
 use meaning::Ask;
 use ocpp_scalars::Instant;
@@ -43,7 +46,9 @@ pub(crate) fn profile_steps(
     profile: &Profile,
     base: Instant,
     ask: &Ask,
-) -> Result<Steps, AllocError> {
+) -> Result<Steps, AllocError>
+    ensures bounded { IfOk result (λ steps. length steps.items.items ≤ max_steps) }
+{
     let mut items = Vec::new(alloc);
     let mut instant = ask.start;
     for _ in 0..MAX_STEPS {
@@ -65,6 +70,22 @@ pub(crate) fn profile_steps(
         items,
         end: second_of(ask, instant),
     })
+}
+
+/// The first instant of an ask at which a profile has a limit, counted from a base, or its start where it has
+/// none in it.
+pub(crate) fn first_limit(profile: &Profile, base: Instant, ask: &Ask) -> Instant {
+    let mut instant = ask.start;
+    for _ in 0..MAX_STEPS {
+        if rate_at(profile, base, instant).is_some() {
+            return instant;
+        }
+        match next_change(profile, base, instant) {
+            Some(next) if second_of(ask, next) < ask.duration => instant = next,
+            _ => return ask.start,
+        }
+    }
+    ask.start
 }
 
 /// The second of an ask at which an instant is, at most its duration.

@@ -37,8 +37,8 @@ pub(crate) const PAGE: &str = r#"<style>
 body{margin:0 auto;max-width:62rem;padding:1rem;background:var(--paper);color:var(--ink);font:16px/1.45 system-ui,-apple-system,"Segoe UI",Roboto,sans-serif}
 h1{font-size:1.4rem;margin:.5rem 0}
 h2{font-size:1.1rem;margin:1.5rem 0 .5rem}
-figure{margin:1rem 0}
-figure svg{display:block;width:100%;height:auto}
+figure{margin:1rem 0;overflow-x:auto}
+figure svg{display:block;width:100%;min-width:40rem;height:auto}
 .wide{overflow-x:auto}
 table{border-collapse:collapse;width:100%}
 caption{text-align:left;color:var(--soft);padding:.3rem 0}

@@ -1,5 +1,7 @@
 //! The table for people.
 
+ghost use Rattle.std.specs.Prelude.{◌≤◌};
+
 use crate::cells::{Cells, all_cells};
 use crate::clock::{ClockTime, needs_seconds, push_date, push_time};
 use crate::explained::{Explained, NotCounted};
@@ -331,13 +333,15 @@ fn push_ended(out: &mut String, before: &str, text: &str) -> Result<(), AllocErr
 
 /// The length of the bar of a limit, in columns: the room for the largest limit, and at least one column
 /// for any above 0.
-fn bar_of(limit: u32, largest: u32, room: usize) -> usize {
+fn bar_of(limit: u32, largest: u32, room: usize) -> usize
+    ensures fits { result ≤ room }
+{
     if limit == 0 {
         return 0;
     }
-    let room = room.min(BAR.1);
-    let share = u64::from(limit) * room as u64 / u64::from(largest.max(1));
-    (share as usize).clamp(1, room.max(1))
+    let most = room.min(BAR.1) as u64;
+    let share = u64::from(limit).saturating_mul(most) / u64::from(largest.max(1));
+    share.max(1).min(most) as usize
 }
 
 /// Appends the profiles that never set the limit.

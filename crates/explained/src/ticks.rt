@@ -1,5 +1,7 @@
 //! How far apart the ticks of an axis are.
 
+ghost use Rattle.std.specs.Prelude.{◌*◌, ◌≤◌, IfSome};
+
 /// Seconds from one tick of the time axis to the next.
 const TIME_STEPS: [u32; 18] = [
     1, 2, 5, 10, 15, 30, 60, 120, 300, 600, 900, 1800, 3600, 7200, 10_800, 14_400, 21_600, 43_200,
@@ -44,17 +46,24 @@ pub(crate) const MOST_TIMES: u32 = 12;
 pub(crate) const MOST_LIMITS: u32 = 6;
 
 /// The seconds between the ticks of a time: the fewest that make at most 12 spaces, or a day.
-pub(crate) fn time_step(duration: u32) -> u32 {
+pub(crate) fn time_step(duration: u32) -> u32
+    requires week { duration ≤ 604800 }
+    ensures spans { duration ≤ result * 12 }
+{
     first_that_spans(&TIME_STEPS, duration, MOST_TIMES).unwrap_or(86_400)
 }
 
 /// The tenths between the ticks of limits up to the largest: the fewest that make at most 6 spaces.
-pub(crate) fn limit_step(largest: u32) -> u32 {
+pub(crate) fn limit_step(largest: u32) -> u32
+    ensures spans { largest ≤ result * 6 }
+{
     first_that_spans(&LIMIT_STEPS, largest, MOST_LIMITS).unwrap_or(2_000_000_000)
 }
 
 /// The first of some steps of which so many reach as far as wanted.
-fn first_that_spans(steps: &[u32], wanted: u32, count: u32) -> Option<u32> {
+fn first_that_spans(steps: &[u32], wanted: u32, count: u32) -> Option<u32>
+    ensures spans { IfSome result (λ step. wanted ≤ step * count) }
+{
     steps
         .iter()
         .copied()

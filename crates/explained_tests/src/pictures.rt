@@ -1,9 +1,10 @@
 //! Pictures and pages, by the parts that can be found by hand.
 
 use crate::samples::{Point, ask, by, profile, stretch};
+use book_tests::instant_at;
 use explained::{
-    Explained, NoPart, NotCounted, is_named, sentence, write_json, write_page, write_picture,
-    write_table,
+    Explained, NoPart, NotCounted, is_named, sentence, telling_instant, told_by, write_json,
+    write_page, write_picture, write_table,
 };
 use meaning::{Cause, WhyNot};
 use profile::{Purpose, Unit};
@@ -59,6 +60,29 @@ const ROWS: &str = r#"<h1>&lt;a&amp;b&gt;, connector 1</h1>
 <tr><th scope="row"><time datetime="2025-01-01T00:00:00Z">2025-01-01 00:00</time></th><td><time datetime="2025-01-01T12:00:00Z">12:00</time></td><td>12 h</td><td class="number">16.0 A</td><td>TxDefaultProfile 1, stack level 0, at connector 0</td></tr>
 <tr><th scope="row"><time datetime="2025-01-01T12:00:00Z">12:00</time></th><td><time datetime="2025-01-02T00:00:00Z">2025-01-02 00:00</time></td><td>12 h</td><td class="number">32.0 A</td><td>the connector&#39;s ceiling</td></tr>"#;
 
+/// Each row with the seconds after midnight at which its reason says most, in a day.
+const TELLING: &str = "\
+start=3600 periods=600:160 = 4200
+start=3600 periods=0:160 from=7200 = 7200
+start=86400 periods=0:160 = 0
+kind=Relative periods=30:160 to=30 = 0
+kind=Recurring recurrency=Daily start=0 duration=60 periods=0:160 = 0";
+
+#[test]
+fn reasons_are_told_where_they_say_most(rt: HostRuntime) -> Result<(), Fail> {
+    let alloc = rt.alloc();
+    for line in TELLING.lines() {
+        let (words, second) = line.split_once(" = ").ok_or("no second")?;
+        let point = Point::with_rows(alloc, words)?;
+        let view = point.view();
+        let row = view.rows.first().ok_or("no row")?;
+        let instant = telling_instant(&view, &ask(1, 0, 86_400)?, row);
+        assert_eq!(rt; instant, instant_at(second.parse::<u64>()?)?, "{line}");
+        assert_eq!(rt; told_by(row), profile(1, Purpose::TxDefaultProfile, 0));
+    }
+    Ok(())
+}
+
 /// 100 profiles of 200 periods each day, in a week: no line has more than 2,000 steps, so none is cut.
 #[test]
 fn a_hundred_profiles(rt: HostRuntime) -> Result<(), Fail> {
@@ -106,7 +130,7 @@ fn too_many_stretches(rt: HostRuntime) -> Result<(), Fail> {
     expect(
         &rt,
         page.as_str(),
-        "the limit, drawn up to 2025-01-01 05:33:20 alone\n<p> There are 1 more stretches.</p>",
+        "the limit, drawn up to 2025-01-01 05:33:20 alone\n<p> Further stretches: 1.</p>",
     );
     Ok(())
 }
