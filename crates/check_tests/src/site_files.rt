@@ -50,7 +50,8 @@ const SITES: &str =
 "#;
 
 /// On each line a site file, and a piece of each finding, with ` + ` between them, or `-` for none.
-const FOUND: &str = r#"{"unit":"A","points":[{"id":"CP1","ceiling":63.0,"connectors":[32.0,31.0]}]} => -
+const FOUND: &str =
+    r#"{"unit":"A","points":[{"id":"CP1","ceiling":63.0,"connectors":[32.0,31.0]}]} => -
 {"unit":"A","points":[{"id":"CP1","ceiling":63.0,"connectors":[32.0,32.0]}]} => points[0] (CP1): remark: the connectors' ceilings are 64.0 together
 {"unit":"A","points":[{"id":"CP1","ceiling":"63","connectors":[1]}]} => points[0] (CP1): ceiling: "63" is a text; a number from 0 to 100000000.0 with at most one decimal is wanted
 {"unit":"A","points":[{"id":"CP1","ceilng":63.0,"connectors":[1]}]} => is "ceilng" meant + line 1, column 35: warning: "ceilng" is no field
@@ -128,7 +129,10 @@ fn all_faults_are_found(rt: HostRuntime) -> Result<(), Fail> {
     for line in FOUND.lines() {
         let (text, wanted) = line.split_once(" => ").unwrap_or((line, "no mark"));
         let findings = check_site(alloc, text.as_bytes())?;
-        assert!(rt; has_pieces(alloc, &findings, wanted)?, "{text}: {findings:?}");
+        assert!(rt;
+            has_pieces(alloc, &findings, wanted)?,
+            "{text}: {findings:?}"
+        );
     }
     Ok(())
 }
@@ -137,7 +141,13 @@ fn all_faults_are_found(rt: HostRuntime) -> Result<(), Fail> {
 fn files_that_are_no_text(rt: HostRuntime) -> Result<(), Fail> {
     let alloc = rt.alloc();
     let findings = check_site(alloc, b"{\"unit\":\"\xff\"}")?;
-    assert!(rt; has_pieces(alloc, &findings, "it isn't UTF-8 from the byte at offset 9 on")?);
+    assert!(rt;
+        has_pieces(
+            alloc,
+            &findings,
+            "it isn't UTF-8 from the byte at offset 9 on"
+        )?
+    );
     assert_eq!(rt; exit_status(&findings), 1);
     let marked = check_site(alloc, b"\xef\xbb\xbf{}")?;
     assert!(rt; has_pieces(alloc, &marked, "U+FEFF stands there: a byte order mark")?);
@@ -151,7 +161,11 @@ fn statuses(rt: HostRuntime) -> Result<(), Fail> {
     let alloc = rt.alloc();
     let clean = r#"{"unit":"A","points":[{"id":"CP1","ceiling":1,"connectors":[2]}]}"#;
     let warned = r#"{"x":1,"unit":"A","points":[{"id":"CP1","ceiling":1,"connectors":[1]}]}"#;
-    assert_eq!(rt; exit_status(&check_site(alloc, clean.as_bytes())?), 0, "a remark alone");
+    assert_eq!(rt;
+        exit_status(&check_site(alloc, clean.as_bytes())?),
+        0,
+        "a remark alone"
+    );
     assert_eq!(rt; exit_status(&check_site(alloc, warned.as_bytes())?), 2);
     Ok(())
 }

@@ -90,10 +90,10 @@ fn check_frame(
     }
 }
 
-/// The status of a reply, where it isn't accepted.
+/// The status of a reply, where it is neither accepted nor, of a clear, that nothing matched.
 fn reply_status<'memory>(payload: Node<'_, 'memory>) -> Option<&'memory str> {
     match text_field(payload, "status") {
-        Field::Value("Accepted") => None,
+        Field::Value("Accepted" | "Unknown") => None,
         Field::Value(status) => Some(status),
         _ => None,
     }
