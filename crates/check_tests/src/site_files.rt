@@ -169,3 +169,53 @@ fn statuses(rt: HostRuntime) -> Result<(), Fail> {
     assert_eq!(rt; exit_status(&check_site(alloc, warned.as_bytes())?), 2);
     Ok(())
 }
+
+/// A site file with so many points, each with so many connectors.
+fn large_site(alloc: Global, points: u32, connectors: u32) -> Result<String, AllocError> {
+    let mut text = String::from_str(alloc, r#"{"unit":"A","points":["#)?;
+    for number in 0..points {
+        let comma = if number == 0 { "" } else { "," };
+        let head = format!(in alloc;
+            "{comma}{{\"id\":\"CP{number}\",\"ceiling\":64,\"connectors\":[1"
+        )?;
+        text.push_str(head.as_str())?;
+        for _ in 1..connectors {
+            text.push_str(",1")?;
+        }
+        text.push_str("]}")?;
+    }
+    text.push_str("]}")?;
+    Ok(text)
+}
+
+#[test]
+fn large_files(rt: HostRuntime) -> Result<(), Fail> {
+    let alloc = rt.alloc();
+    for (points, connectors, wanted) in [
+        (1_000, 1, "-"),
+        (1_001, 1, "points: 1001 entries; 1 to 1000 are wanted"),
+        (1, 64, "-"),
+        (1, 65, "connectors: 65 entries; 1 to 64 are wanted + remark"),
+    ] {
+        let text = large_site(alloc, points, connectors)?;
+        let findings = check_site(alloc, text.as_bytes())?;
+        assert!(rt;
+            has_pieces(alloc, &findings, wanted)?,
+            "{points} points: {findings:?}"
+        );
+        assert_eq!(rt;
+            first_fault(alloc, text.as_bytes())?,
+            read_fault(alloc, text.as_bytes())
+        );
+    }
+    let spaces = vec![in alloc; b' '; 16_777_217]?;
+    let findings = check_site(alloc, &spaces)?;
+    assert!(rt;
+        has_pieces(
+            alloc,
+            &findings,
+            "16777217 bytes; at most 16777216 are wanted"
+        )?
+    );
+    Ok(())
+}

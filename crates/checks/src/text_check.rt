@@ -51,7 +51,7 @@ fn check_message(
 ) -> Result<Reading, AllocError> {
     match read_frame(memory, text.frame) {
         Ok(frame) => check_frame(report, site, requests, text, frame)?,
-        Err(FrameFault::Formation { .. }) => check_malformed(report, text)?,
+        Err(FrameFault::Formation { id: _id }) => check_malformed(report, text)?,
         Err(FrameFault::Dropped) => return Ok(Reading::Dropped),
         Err(FrameFault::OutOfMemory) => return Err(AllocError),
     }
