@@ -1,6 +1,6 @@
 //! Scripts and what is found in them.
 
-use checks::{FaultName, Finding, Place, check_printed, check_script};
+use checks::{FaultName, Finding, Place, check_printed, check_script, sort_by_line};
 use replay::replay;
 use site_rules::{Site, read_site};
 use std::alloc::{AllocError, Global};
@@ -252,12 +252,13 @@ fn requests_that_stay_held(rt: HostRuntime) -> Result<(), Fail> {
     let site = test_site(alloc)?;
     let script =
         "\n2025-01-01T00:00:00Z hold CP1 [2,\"c\",\"GetCompositeSchedule\",{\"connectorId\":1,\"duration\":60}]\r\nx";
-    let findings = check_script(alloc, &site, script.as_bytes())?;
+    let mut findings = check_script(alloc, &site, script.as_bytes())?;
+    sort_by_line(&mut findings)?;
     assert!(rt;
         has_pieces(
             alloc,
             &findings,
-            "line 3: BadLine: there is one word alone; line 2: remark: request 1 is still held"
+            "line 2: remark: request 1 is still held; line 3: BadLine: there is one word alone"
         )?,
         "{findings:?}"
     );

@@ -210,7 +210,7 @@ fn check_clear(
     let alloc = report.alloc;
     if site.place_of(call.text.point).is_none() {
         let fault = CallFault::Refused(Refusal::UnknownPoint);
-        let message = unknown_point_message(alloc, site, call.text.point)?;
+        let message = unknown_point_message(report, site, call.text.point)?;
         report.fault(FaultName::Call(fault), message)?;
     }
     let unknown = unknown_fields(alloc, call, ActionKind::ClearChargingProfile)?;
@@ -272,11 +272,12 @@ fn criterion_meant(alloc: Global, name: &str) -> Result<Option<&'static str>, Al
 
 /// That the site lacks a point, as an answer has it.
 pub(crate) fn unknown_point_message(
-    alloc: Global,
+    report: &mut Report,
     site: &Site,
     id: &str,
 ) -> Result<String, AllocError> {
-    let hint = point_hint(alloc, site, id)?;
+    let alloc = report.alloc;
+    let hint = point_hint(report, site, id)?;
     let id = shown(alloc, id)?;
     format!(in alloc; "UnknownPoint: the site has no point \"{id}\"{hint}")
 }
@@ -301,7 +302,7 @@ fn check_ask(
             Ok(())
         }
         Some(Refusal::UnknownPoint) => {
-            let message = unknown_point_message(report.alloc, site, text.point)?;
+            let message = unknown_point_message(report, site, text.point)?;
             report.fault(FaultName::Rejected(Refusal::UnknownPoint), message)
         }
         Some(refusal) => {

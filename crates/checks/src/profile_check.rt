@@ -25,7 +25,7 @@ pub(crate) fn check_install(
     };
     match admit(site, text.point, connector, &profile) {
         Err(Refusal::UnknownPoint) => {
-            let message = unknown_point_message(report.alloc, site, text.point)?;
+            let message = unknown_point_message(report, site, text.point)?;
             report.fault(FaultName::Rejected(Refusal::UnknownPoint), message)?;
         }
         Err(refusal) => refuse_place(report, site, text, connector, refusal)?,

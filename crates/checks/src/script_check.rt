@@ -36,7 +36,7 @@ pub fn check_script(alloc: Global, site: &Site, script: &[u8]) -> Result<Vec<Fin
             }
             Ok(ScriptLine::Release(number)) => check_release(&mut report, &mut requests, number)?,
             Err(mistake) => {
-                let message = mistake_message(alloc, site, mistake)?;
+                let message = mistake_message(&mut report, site, mistake)?;
                 report.fault(FaultName::Line(mistake.fault()), message)?;
             }
         }
