@@ -1,12 +1,13 @@
 //! Scripts and what is found in them.
 
-use checks::{FaultName, Finding, Place, Severity, check_script};
+use checks::{FaultName, Finding, Place, check_printed, check_script, sort_by_line};
 use replay::replay;
 use site_rules::{Site, read_site};
 use std::alloc::{AllocError, Global};
 use std::test::Fail;
 
-const SITE: &str = r#"{"unit":"A","points":[{"id":"CP1","ceiling":63.0,"connectors":[32.0,32.0]},{"id":"garage","ceiling":40.0,"connectors":[32.0]}]}"#;
+const SITE: &str =
+    r#"{"unit":"A","points":[{"id":"CP1","ceiling":63.0,"connectors":[32.0,32.0]},{"id":"garage","ceiling":40.0,"connectors":[32.0]}]}"#;
 
 /// On each line what an operator sends to CP1 at the beginning of 2025, and behind the mark a piece of each
 /// finding, with `; ` between them, or `-` for none.
@@ -32,6 +33,7 @@ const OPERATOR_TEXTS: &str = r#"[2,"a","ClearChargingProfile",{"id":9}] => -
 [3,"a",{}] => an operator's CALLRESULT
 [2,"a","GetCompositeSchedule",7] => FormationViolation
 [2,"a","GetCompositeSchedul",{}] => NotImplemented: "GetCompositeSchedul" is no action of an operator ("GetCompositeSchedule" is one)
+[2,"a","GetCompositeSchedule",{"connectorId":1,"duration":60,"connectorId":2}] => "connectorId" stands twice
 [2,"a","Heartbeat",{}] => an action of the other side
 [2,"a","GetCompositeSchedule",{"connectorId":7,"duration":60}] => UnknownConnector
 [2,"a","GetCompositeSchedule",{"connectorId":1,"duration":604801}] => BadDuration
@@ -42,7 +44,8 @@ const OPERATOR_TEXTS: &str = r#"[2,"a","ClearChargingProfile",{"id":9}] => -
 
 /// On each line the chargingProfilePurpose, further fields of a profile and a schedule that are installed at
 /// connector 1 (a ChargePointMaxProfile at 0), and behind the mark pieces of the findings.
-const PROFILES: &str = r#"TxDefaultProfile | "chargingProfileKind":"Absolute" | "chargingSchedulePeriod":[{"startPeriod":0,"limit":16}] => -
+const PROFILES: &str =
+    r#"TxDefaultProfile | "chargingProfileKind":"Absolute" | "chargingSchedulePeriod":[{"startPeriod":0,"limit":16}] => -
 TXDefaultProfile | "chargingProfileKind":"Absolute" | "chargingSchedulePeriod":[{"startPeriod":0,"limit":16}] => csChargingProfiles.chargingProfilePurpose: "TXDefaultProfile" is a text
 TxDefaultProfile | "chargingProfileKind":"Absolute" | "chargingSchedulePeriod":[{"startPeriod":0,"limit":16},{"startPeriod":60,"limit":"16"}] => chargingSchedulePeriod[1].limit: "16" is a text
 TxDefaultProfile | "chargingProfileKind":"Absolute" | "chargingSchedulePeriod":[{"startPeriod":60,"limit":16},{"startPeriod":60,"limit":10}] => PeriodsOutOfOrder
@@ -70,7 +73,8 @@ TxProfile | "chargingProfileKind":"Relative" | "chargingSchedulePeriod":[{"start
 "#;
 
 /// A script, whose faults of lines are those of a replay.
-const SCRIPT: &str = r#"2025-01-01T00:00:00Z operater CP1 [2,"c","GetCompositeSchedule",{"connectorId":1,"duration":60}]
+const SCRIPT: &str =
+    r#"2025-01-01T00:00:00Z operater CP1 [2,"c","GetCompositeSchedule",{"connectorId":1,"duration":60}]
 2025-01-01T00:00:00Z  operator CP1 [2,"c","GetCompositeSchedule",{"connectorId":1,"duration":60}]
  2025-01-01T00:00:00Z operator CP1 [2,"c","GetCompositeSchedule",{"connectorId":1,"duration":60}]
 
@@ -148,7 +152,10 @@ fn texts_of_operators(rt: HostRuntime) -> Result<(), Fail> {
         let (frame, wanted) = row.split_once(" => ").unwrap_or((row, "no mark"));
         let line = format!(in alloc; "2025-01-01T00:00:00Z operator CP1 {frame}")?;
         let findings = check_script(alloc, &site, line.as_bytes())?;
-        assert!(rt; has_pieces(alloc, &findings, wanted)?, "{frame}: {findings:?}");
+        assert!(rt;
+            has_pieces(alloc, &findings, wanted)?,
+            "{frame}: {findings:?}"
+        );
     }
     Ok(())
 }
@@ -161,10 +168,19 @@ fn profiles(rt: HostRuntime) -> Result<(), Fail> {
         let (words, wanted) = row.split_once(" => ").unwrap_or((row, "no mark"));
         let (purpose, words) = words.split_once(" | ").unwrap_or((words, ""));
         let (fields, schedule) = words.split_once(" | ").unwrap_or((words, ""));
-        let connector = if purpose == "ChargePointMaxProfile" { 0 } else { 1 };
-        let line = format!(in alloc; "2025-01-01T00:00:00Z operator CP1 [2,\"s\",\"SetChargingProfile\",{{\"connectorId\":{connector},\"csChargingProfiles\":{{\"chargingProfileId\":1,\"stackLevel\":1,\"chargingProfilePurpose\":\"{purpose}\",{fields},\"chargingSchedule\":{{\"chargingRateUnit\":\"A\",{schedule}}}}}}}]")?;
+        let connector = if purpose == "ChargePointMaxProfile" {
+            0
+        } else {
+            1
+        };
+        let line = format!(in alloc;
+            "2025-01-01T00:00:00Z operator CP1 [2,\"s\",\"SetChargingProfile\",{{\"connectorId\":{connector},\"csChargingProfiles\":{{\"chargingProfileId\":1,\"stackLevel\":1,\"chargingProfilePurpose\":\"{purpose}\",{fields},\"chargingSchedule\":{{\"chargingRateUnit\":\"A\",{schedule}}}}}}}]"
+        )?;
         let findings = check_script(alloc, &site, line.as_bytes())?;
-        assert!(rt; has_pieces(alloc, &findings, wanted)?, "{row}: {findings:?}");
+        assert!(rt;
+            has_pieces(alloc, &findings, wanted)?,
+            "{row}: {findings:?}"
+        );
     }
     Ok(())
 }
@@ -202,5 +218,72 @@ fn faults_of_lines_are_those_of_a_replay(rt: HostRuntime) -> Result<(), Fail> {
         }
     }
     assert_eq!(rt; faults.as_str(), LINE_FAULTS);
+    Ok(())
+}
+
+/// On each line what a replay prints, and what is found in it.
+const PRINTED: &str = r#"> [3,"a",{"status":"Accepted"}] => -
+> [3,"a",{"status":"Rejected","reason":"WrongUnit"}] => -
+> [3,"a",{"status":"Rejected","reason":"NoTransaction"}] => line 7: NoTransaction: a TxProfile needs an active transaction
+> [4,"a","InternalError","OutboxFull",{}] => line 7: OutboxFull: 256 calls wait
+> [3,"a",{"status":"Unknown"}] => line 7: warning: this clears nothing
+* CP1 [2,"0","ClearChargingProfile",{}] => -
+held 1 => -
+! 7 BadLine => -
+"#;
+
+#[test]
+fn printed_lines(rt: HostRuntime) -> Result<(), Fail> {
+    let alloc = rt.alloc();
+    for row in PRINTED.lines() {
+        let (printed, wanted) = row.split_once(" => ").unwrap_or((row, "no mark"));
+        let findings = check_printed(alloc, 7, printed)?;
+        assert!(rt;
+            has_pieces(alloc, &findings, wanted)?,
+            "{printed}: {findings:?}"
+        );
+    }
+    Ok(())
+}
+
+#[test]
+fn requests_that_stay_held(rt: HostRuntime) -> Result<(), Fail> {
+    let alloc = rt.alloc();
+    let site = test_site(alloc)?;
+    let script =
+        "\n2025-01-01T00:00:00Z hold CP1 [2,\"c\",\"GetCompositeSchedule\",{\"connectorId\":1,\"duration\":60}]\r\nx";
+    let mut findings = check_script(alloc, &site, script.as_bytes())?;
+    sort_by_line(&mut findings)?;
+    assert!(rt;
+        has_pieces(
+            alloc,
+            &findings,
+            "line 2: remark: request 1 is still held; line 3: BadLine: there is one word alone"
+        )?,
+        "{findings:?}"
+    );
+    Ok(())
+}
+
+#[test]
+fn tabs(rt: HostRuntime) -> Result<(), Fail> {
+    let alloc = rt.alloc();
+    let site = test_site(alloc)?;
+    let findings = check_script(alloc, &site, b"2025-01-01T00:00:00Z\toperator CP1 []")?;
+    assert!(rt;
+        has_pieces(
+            alloc,
+            &findings,
+            "line 1: BadLine: a tab stands where one blank is wanted"
+        )?
+    );
+    let broken = check_script(alloc, &site, b"\n2025-01-01T00:00:00Z operator CP\xff")?;
+    assert!(rt;
+        has_pieces(
+            alloc,
+            &broken,
+            "line 2: BadText: it isn't UTF-8 from its byte at offset 32 on"
+        )?
+    );
     Ok(())
 }

@@ -50,7 +50,8 @@ const SITES: &str =
 "#;
 
 /// On each line a site file, and a piece of each finding, with ` + ` between them, or `-` for none.
-const FOUND: &str = r#"{"unit":"A","points":[{"id":"CP1","ceiling":63.0,"connectors":[32.0,31.0]}]} => -
+const FOUND: &str =
+    r#"{"unit":"A","points":[{"id":"CP1","ceiling":63.0,"connectors":[32.0,31.0]}]} => -
 {"unit":"A","points":[{"id":"CP1","ceiling":63.0,"connectors":[32.0,32.0]}]} => points[0] (CP1): remark: the connectors' ceilings are 64.0 together
 {"unit":"A","points":[{"id":"CP1","ceiling":"63","connectors":[1]}]} => points[0] (CP1): ceiling: "63" is a text; a number from 0 to 100000000.0 with at most one decimal is wanted
 {"unit":"A","points":[{"id":"CP1","ceilng":63.0,"connectors":[1]}]} => is "ceilng" meant + line 1, column 35: warning: "ceilng" is no field
@@ -128,7 +129,10 @@ fn all_faults_are_found(rt: HostRuntime) -> Result<(), Fail> {
     for line in FOUND.lines() {
         let (text, wanted) = line.split_once(" => ").unwrap_or((line, "no mark"));
         let findings = check_site(alloc, text.as_bytes())?;
-        assert!(rt; has_pieces(alloc, &findings, wanted)?, "{text}: {findings:?}");
+        assert!(rt;
+            has_pieces(alloc, &findings, wanted)?,
+            "{text}: {findings:?}"
+        );
     }
     Ok(())
 }
@@ -137,7 +141,13 @@ fn all_faults_are_found(rt: HostRuntime) -> Result<(), Fail> {
 fn files_that_are_no_text(rt: HostRuntime) -> Result<(), Fail> {
     let alloc = rt.alloc();
     let findings = check_site(alloc, b"{\"unit\":\"\xff\"}")?;
-    assert!(rt; has_pieces(alloc, &findings, "it isn't UTF-8 from the byte at offset 9 on")?);
+    assert!(rt;
+        has_pieces(
+            alloc,
+            &findings,
+            "it isn't UTF-8 from the byte at offset 9 on"
+        )?
+    );
     assert_eq!(rt; exit_status(&findings), 1);
     let marked = check_site(alloc, b"\xef\xbb\xbf{}")?;
     assert!(rt; has_pieces(alloc, &marked, "U+FEFF stands there: a byte order mark")?);
@@ -151,7 +161,61 @@ fn statuses(rt: HostRuntime) -> Result<(), Fail> {
     let alloc = rt.alloc();
     let clean = r#"{"unit":"A","points":[{"id":"CP1","ceiling":1,"connectors":[2]}]}"#;
     let warned = r#"{"x":1,"unit":"A","points":[{"id":"CP1","ceiling":1,"connectors":[1]}]}"#;
-    assert_eq!(rt; exit_status(&check_site(alloc, clean.as_bytes())?), 0, "a remark alone");
+    assert_eq!(rt;
+        exit_status(&check_site(alloc, clean.as_bytes())?),
+        0,
+        "a remark alone"
+    );
     assert_eq!(rt; exit_status(&check_site(alloc, warned.as_bytes())?), 2);
+    Ok(())
+}
+
+/// A site file with so many points, each with so many connectors.
+fn large_site(alloc: Global, points: u32, connectors: u32) -> Result<String, AllocError> {
+    let mut text = String::from_str(alloc, r#"{"unit":"A","points":["#)?;
+    for number in 0..points {
+        let comma = if number == 0 { "" } else { "," };
+        let head = format!(in alloc;
+            "{comma}{{\"id\":\"CP{number}\",\"ceiling\":64,\"connectors\":[1"
+        )?;
+        text.push_str(head.as_str())?;
+        for _ in 1..connectors {
+            text.push_str(",1")?;
+        }
+        text.push_str("]}")?;
+    }
+    text.push_str("]}")?;
+    Ok(text)
+}
+
+#[test]
+fn large_files(rt: HostRuntime) -> Result<(), Fail> {
+    let alloc = rt.alloc();
+    for (points, connectors, wanted) in [
+        (1_000, 1, "-"),
+        (1_001, 1, "points: 1001 entries; 1 to 1000 are wanted"),
+        (1, 64, "-"),
+        (1, 65, "connectors: 65 entries; 1 to 64 are wanted + remark"),
+    ] {
+        let text = large_site(alloc, points, connectors)?;
+        let findings = check_site(alloc, text.as_bytes())?;
+        assert!(rt;
+            has_pieces(alloc, &findings, wanted)?,
+            "{points} points: {findings:?}"
+        );
+        assert_eq!(rt;
+            first_fault(alloc, text.as_bytes())?,
+            read_fault(alloc, text.as_bytes())
+        );
+    }
+    let spaces = vec![in alloc; b' '; 16_777_217]?;
+    let findings = check_site(alloc, &spaces)?;
+    assert!(rt;
+        has_pieces(
+            alloc,
+            &findings,
+            "16777217 bytes; at most 16777216 are wanted"
+        )?
+    );
     Ok(())
 }

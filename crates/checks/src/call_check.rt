@@ -4,7 +4,9 @@ use crate::field_fault::field_fault_message;
 use crate::finding::FaultName;
 use crate::json_outline::outline_of;
 use crate::line_hints::point_hint;
-use crate::payload_fields::{PayloadPart, UnknownField, unknown_payload_fields};
+use crate::payload_fields::{
+    PayloadPart, UnknownField, repeated_payload_fields, unknown_payload_fields,
+};
 use crate::profile_check::check_install;
 use crate::report::Report;
 use crate::requests::Requests;
@@ -116,6 +118,9 @@ fn check_action(
     kind: ActionKind,
 ) -> Result<(), AllocError> {
     let alloc = report.alloc;
+    if matches!(kind.side(), Side::Operator) {
+        warn_repeated(report, call, kind)?;
+    }
     match read_fields(alloc, kind, call.payload) {
         Ok(Action::SetChargingProfile { connector, profile }) => {
             warn_unknown(report, call, kind)?;
@@ -140,6 +145,24 @@ fn check_action(
             Ok(())
         }
     }
+}
+
+/// Warns of fields that stand twice in their object.
+fn warn_repeated(
+    report: &mut Report,
+    call: &Call<'_, '_, '_>,
+    kind: ActionKind,
+) -> Result<(), AllocError> {
+    let alloc = report.alloc;
+    let frame = call.text.frame;
+    let outline = outline_of(alloc, frame)?;
+    for name in &repeated_payload_fields(alloc, frame, &outline, kind)? {
+        let message = format!(in alloc;
+            "\"{name}\" stands twice in its object, and the later one counts"
+        )?;
+        report.warn(message)?;
+    }
+    Ok(())
 }
 
 /// The fields of an operator's CALL that nothing looks at.
@@ -187,7 +210,7 @@ fn check_clear(
     let alloc = report.alloc;
     if site.place_of(call.text.point).is_none() {
         let fault = CallFault::Refused(Refusal::UnknownPoint);
-        let message = unknown_point_message(alloc, site, call.text.point)?;
+        let message = unknown_point_message(report, site, call.text.point)?;
         report.fault(FaultName::Call(fault), message)?;
     }
     let unknown = unknown_fields(alloc, call, ActionKind::ClearChargingProfile)?;
@@ -249,11 +272,12 @@ fn criterion_meant(alloc: Global, name: &str) -> Result<Option<&'static str>, Al
 
 /// That the site lacks a point, as an answer has it.
 pub(crate) fn unknown_point_message(
-    alloc: Global,
+    report: &mut Report,
     site: &Site,
     id: &str,
 ) -> Result<String, AllocError> {
-    let hint = point_hint(alloc, site, id)?;
+    let alloc = report.alloc;
+    let hint = point_hint(report, site, id)?;
     let id = shown(alloc, id)?;
     format!(in alloc; "UnknownPoint: the site has no point \"{id}\"{hint}")
 }
@@ -278,7 +302,7 @@ fn check_ask(
             Ok(())
         }
         Some(Refusal::UnknownPoint) => {
-            let message = unknown_point_message(report.alloc, site, text.point)?;
+            let message = unknown_point_message(report, site, text.point)?;
             report.fault(FaultName::Rejected(Refusal::UnknownPoint), message)
         }
         Some(refusal) => {
@@ -296,7 +320,11 @@ fn ask_found(
     request: &ScheduleRequest,
     refusal: Refusal,
 ) -> Result<String, AllocError> {
-    let ScheduleRequest { connector, duration, .. } = request;
+    let ScheduleRequest {
+        connector,
+        duration,
+        ..
+    } = request;
     match refusal {
         Refusal::UnknownConnector => connector_found(alloc, site, text, *connector),
         Refusal::BadDuration | Refusal::PastCalendar => {

@@ -4,6 +4,7 @@ use crate::script_line::LineFault;
 use messages::CallFault;
 use ocpp_scalars::Refusal;
 use site_rules::SiteFault;
+use std::alloc::AllocError;
 use std::fmt;
 
 /// How much a finding matters.
@@ -122,6 +123,20 @@ impl fmt::Display for Finding {
             Severity::Fault => write!(f, "{place}: {message}"),
             severity => write!(f, "{place}: {severity}: {message}"),
         }
+    }
+}
+
+/// Puts the findings in a script, from different passes over it, in the order of its lines. Those of one line
+/// stay in their order, and what belongs to no line stands first.
+pub fn sort_by_line(findings: &mut Vec<Finding>) -> Result<(), AllocError> {
+    findings.sort_by_key(|finding| line_of(&finding.place))
+}
+
+/// The line of the script, or 0.
+fn line_of(place: &Place) -> u64 {
+    match place {
+        Place::Line(number) => *number,
+        Place::File | Place::Character { .. } | Place::Point { .. } => 0,
     }
 }
 

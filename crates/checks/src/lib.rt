@@ -25,7 +25,7 @@ mod site_point;
 mod text_check;
 mod text_place;
 
-pub use finding::{FaultName, Finding, Place, Severity, exit_status};
+pub use finding::{FaultName, Finding, Place, Severity, exit_status, sort_by_line};
 pub use never::{NeverRated, never_rated};
 pub use printed_check::check_printed;
 pub use script_check::check_script;

@@ -1,5 +1,6 @@
 //! What is wrong with a line of a script that can't be read, and what was probably meant.
 
+use crate::report::Report;
 use crate::script_line::{LineMistake, split_word};
 use crate::shown::shown;
 use crate::similar::{is_similar, similar_name};
@@ -19,10 +20,11 @@ const INSTANT_FORM: &str = "wanted is an instant such as 2025-01-31T18:00:00Z";
 
 /// What is wrong with a line, with the line as it stands.
 pub(crate) fn mistake_message(
-    alloc: Global,
+    report: &mut Report,
     site: &Site,
     mistake: LineMistake<'_>,
 ) -> Result<String, AllocError> {
+    let alloc = report.alloc;
     let name = mistake.fault().name();
     match mistake {
         LineMistake::TooLong(count) => {
@@ -42,7 +44,7 @@ pub(crate) fn mistake_message(
             format!(in alloc; "{name}: \"{word}\" {hint}; {INSTANT_FORM}")
         }
         LineMistake::UnknownPoint(id) => {
-            let hint = point_hint(alloc, site, id)?;
+            let hint = point_hint(report, site, id)?;
             let id = shown(alloc, id)?;
             format!(in alloc; "{name}: the site has no point \"{id}\"{hint}")
         }
@@ -161,8 +163,16 @@ fn instant_hint(word: &str, fault: InstantFault) -> &'static str {
     "is no instant"
 }
 
-/// The identity of the site that is probably meant.
-pub(crate) fn point_hint(alloc: Global, site: &Site, id: &str) -> Result<String, AllocError> {
+/// The identity of the site that is probably meant, for the first thousand that aren't known.
+pub(crate) fn point_hint(
+    report: &mut Report,
+    site: &Site,
+    id: &str,
+) -> Result<String, AllocError> {
+    let alloc = report.alloc;
+    if !report.takes_hint() {
+        return Ok(String::new(alloc));
+    }
     for place in 0..site.len() {
         if let Some(point) = site.point(place) {
             if is_similar(alloc, id, point.id)? {

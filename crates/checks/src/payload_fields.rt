@@ -1,12 +1,12 @@
-//! Fields of an operator's payload that nothing looks at.
+//! Fields of an operator's payload that nothing looks at, and those that stand there twice.
 
 use crate::json_outline::{Label, Outline, Part};
 use crate::site_fields::text_of;
 use messages::ActionKind;
 use std::alloc::{AllocError, Global};
 
-/// The most unknown fields of a text that are told.
-const MAX_UNKNOWN: usize = 20;
+/// The most fields of a text that are told.
+const MAX_TOLD: usize = 20;
 
 /// An object of a payload, or a list of objects.
 #[derive(Clone, Copy, Debug, PartialEq, Eq)]
@@ -81,31 +81,93 @@ pub(crate) fn unknown_payload_fields<'text>(
     outline: &Outline,
     kind: ActionKind,
 ) -> Result<Vec<UnknownField<'text>>, AllocError> {
-    let mut known: Vec<Option<PayloadPart>> = Vec::new(alloc);
+    let known = known_parts(alloc, text, outline, kind)?;
     let mut unknown = Vec::new(alloc);
     for part in &outline.parts {
-        let owner = owner_of(&known, part);
-        known.push(part_of(text, outline, kind, part, owner))?;
-        if let (Some(owner), Label::Member(span)) = (owner, part.label) {
-            match text_of(text, span) {
-                Some(name) if is_unknown(owner, name) && unknown.len() < MAX_UNKNOWN => {
-                    unknown.push(UnknownField { part: owner, name })?;
+        match (owner_of(&known, part), name_of(text, part)) {
+            (Some(owner), Some(name)) if !owner.fields().contains(&name) => {
+                if unknown.len() >= MAX_TOLD {
+                    break;
                 }
-                _ => {}
+                unknown.push(UnknownField { part: owner, name })?;
             }
+            _ => {}
         }
     }
     Ok(unknown)
 }
 
+/// The fields of an operator's CALL that stand in their object a second time, twenty at the most.
+pub(crate) fn repeated_payload_fields<'text>(
+    alloc: Global,
+    text: &'text str,
+    outline: &Outline,
+    kind: ActionKind,
+) -> Result<Vec<&'text str>, AllocError> {
+    let known = known_parts(alloc, text, outline, kind)?;
+    let mut repeated = Vec::new(alloc);
+    for (index, part) in outline.parts.iter().enumerate() {
+        match (owner_of(&known, part), name_of(text, part)) {
+            (Some(owner), Some(name)) if owner.fields().contains(&name) => {
+                if repeated.len() >= MAX_TOLD {
+                    break;
+                }
+                if stands_before(text, outline, index, part, name) {
+                    repeated.push(name)?;
+                }
+            }
+            _ => {}
+        }
+    }
+    Ok(repeated)
+}
+
+/// Whether a member of this name stands before this part in the same object.
+fn stands_before(text: &str, outline: &Outline, index: usize, part: &Part, name: &str) -> bool {
+    let Some(parent) = part.parent else {
+        return false;
+    };
+    let Some(before) = outline.parts.get(parent..index) else {
+        return false;
+    };
+    for other in before {
+        if other.parent == Some(parent) && name_of(text, other) == Some(name) {
+            return true;
+        }
+    }
+    false
+}
+
+/// The name of a part that is a member. An escape in a name is rare, and such a name isn't judged.
+fn name_of<'text>(text: &'text str, part: &Part) -> Option<&'text str> {
+    let Label::Member(span) = part.label else {
+        return None;
+    };
+    let name = text_of(text, span)?;
+    if name.contains('\\') {
+        return None;
+    }
+    Some(name)
+}
+
+/// What each part of a frame is, where it is a part of the payload.
+fn known_parts(
+    alloc: Global,
+    text: &str,
+    outline: &Outline,
+    kind: ActionKind,
+) -> Result<Vec<Option<PayloadPart>>, AllocError> {
+    let mut known: Vec<Option<PayloadPart>> = Vec::new(alloc);
+    for part in &outline.parts {
+        let owner = owner_of(&known, part);
+        known.push(part_of(text, outline, kind, part, owner))?;
+    }
+    Ok(known)
+}
+
 /// What the object or list is that a part stands in.
 fn owner_of(known: &Vec<Option<PayloadPart>>, part: &Part) -> Option<PayloadPart> {
     *known.get(part.parent?)?
-}
-
-/// An escape in a name is rare, and such a name isn't judged.
-fn is_unknown(owner: PayloadPart, name: &str) -> bool {
-    !name.contains('\\') && !owner.fields().contains(&name)
 }
 
 /// What a part is, by what it stands in.
@@ -117,7 +179,7 @@ fn part_of(
     owner: Option<PayloadPart>,
 ) -> Option<PayloadPart> {
     match (part.label, owner) {
-        (Label::Member(span), Some(owner)) => owner.member(text_of(text, span)?),
+        (Label::Member(_), Some(owner)) => owner.member(name_of(text, part)?),
         (Label::Entry(_), Some(PayloadPart::PeriodList)) => Some(PayloadPart::Period),
         (Label::Entry(3), None) if is_root(outline, part) => Some(PayloadPart::Payload(kind)),
         _ => None,

@@ -21,11 +21,7 @@ const REFUSALS_OF_STATE: [Refusal; 7] = [
 /// What is wrong by what a replay prints at the line of this number, beside what `check_script` finds in the
 /// line itself: the refusals that depend on the point's state, and clears that match nothing. `printed` has
 /// whole lines of a replay's output.
-pub fn check_printed(
-    alloc: Global,
-    line: u64,
-    printed: &str,
-) -> Result<Vec<Finding>, AllocError> {
+pub fn check_printed(alloc: Global, line: u64, printed: &str) -> Result<Vec<Finding>, AllocError> {
     let mut findings = Vec::new(alloc);
     let mut memory = ReadingMemory::new(alloc);
     for output in printed.lines() {

@@ -25,7 +25,7 @@ pub(crate) fn check_install(
     };
     match admit(site, text.point, connector, &profile) {
         Err(Refusal::UnknownPoint) => {
-            let message = unknown_point_message(report.alloc, site, text.point)?;
+            let message = unknown_point_message(report, site, text.point)?;
             report.fault(FaultName::Rejected(Refusal::UnknownPoint), message)?;
         }
         Err(refusal) => refuse_place(report, site, text, connector, refusal)?,
@@ -242,7 +242,9 @@ fn warn_recurrence(
         Recurrency::Daily => "day",
         Recurrency::Weekly => "week",
     };
-    if let Some((index, start)) = first_past(profile, length) {
+    let end = profile.schedule.duration.map_or(length, u64::from);
+    // What starts past a shorter duration was told of there.
+    if let (true, Some((index, start))) = (end >= length, first_past(profile, length)) {
         let message = format!(in alloc;
             "chargingSchedulePeriod[{index}] starts at {start} s, when the {unit} of {length} s is over: it never counts"
         )?;

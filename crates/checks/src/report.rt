@@ -3,6 +3,9 @@
 use crate::finding::{FaultName, Finding, Place};
 use std::alloc::{AllocError, Global};
 
+/// How often an identity is compared with all those of the site.
+const MAX_HINTS: u32 = 1_000;
+
 /// The findings so far, and the line that is looked at.
 #[derive(Drop)]
 pub(crate) struct Report {
@@ -10,6 +13,8 @@ pub(crate) struct Report {
     findings: Vec<Finding>,
     /// Counted from 1; 0 before the first.
     line: u64,
+    /// How many identities of points may still be compared with all that the site has.
+    hints: u32,
 }
 
 impl Report {
@@ -18,6 +23,7 @@ impl Report {
             alloc,
             findings: Vec::new(alloc),
             line: 0,
+            hints: MAX_HINTS,
         }
     }
 
@@ -28,6 +34,15 @@ impl Report {
     /// Goes on to the next line.
     pub(crate) fn next_line(&mut self) {
         self.line = self.line.saturating_add(1);
+    }
+
+    /// Whether an identity may be compared with all those of the site once more.
+    pub(crate) fn takes_hint(&mut self) -> bool {
+        if self.hints == 0 {
+            return false;
+        }
+        self.hints -= 1;
+        true
     }
 
     /// A fault in this line.

@@ -36,7 +36,7 @@ pub fn check_script(alloc: Global, site: &Site, script: &[u8]) -> Result<Vec<Fin
             }
             Ok(ScriptLine::Release(number)) => check_release(&mut report, &mut requests, number)?,
             Err(mistake) => {
-                let message = mistake_message(alloc, site, mistake)?;
+                let message = mistake_message(&mut report, site, mistake)?;
                 report.fault(FaultName::Line(mistake.fault()), message)?;
             }
         }
@@ -49,7 +49,9 @@ pub fn check_script(alloc: Global, site: &Site, script: &[u8]) -> Result<Vec<Fin
 fn remark_held(report: &mut Report, requests: &Requests) -> Result<(), AllocError> {
     for held in requests.held() {
         let number = held.number;
-        let message = format!(in report.alloc; "request {number} is still held when the script ends, and isn't answered")?;
+        let message = format!(in report.alloc;
+            "request {number} is still held when the script ends, and isn't answered"
+        )?;
         report.remark_at(held.line, message)?;
     }
     Ok(())

@@ -29,7 +29,12 @@ pub(crate) fn is_similar(alloc: Global, found: &str, name: &str) -> Result<bool,
     if found.eq_ignore_ascii_case(name) {
         return Ok(true);
     }
-    let distance = osa_distance(alloc, found, name)?;
     let shorter = found.len().min(name.len());
+    let longer = found.len().max(name.len());
+    // Each edit of a letter outside ASCII changes up to four bytes.
+    if longer - shorter > 8 {
+        return Ok(false);
+    }
+    let distance = osa_distance(alloc, found, name)?;
     Ok(distance <= 2 && distance <= shorter / 4 + usize::from(shorter >= 3) && distance < shorter)
 }

@@ -51,7 +51,7 @@ fn check_message(
 ) -> Result<Reading, AllocError> {
     match read_frame(memory, text.frame) {
         Ok(frame) => check_frame(report, site, requests, text, frame)?,
-        Err(FrameFault::Formation { .. }) => check_malformed(report, text)?,
+        Err(FrameFault::Formation { id: _id }) => check_malformed(report, text)?,
         Err(FrameFault::Dropped) => return Ok(Reading::Dropped),
         Err(FrameFault::OutOfMemory) => return Err(AllocError),
     }
@@ -90,10 +90,10 @@ fn check_frame(
     }
 }
 
-/// The status of a reply, where it isn't accepted.
+/// The status of a reply, where it is neither accepted nor, of a clear, that nothing matched.
 fn reply_status<'memory>(payload: Node<'_, 'memory>) -> Option<&'memory str> {
     match text_field(payload, "status") {
-        Field::Value("Accepted") => None,
+        Field::Value("Accepted" | "Unknown") => None,
         Field::Value(status) => Some(status),
         _ => None,
     }
