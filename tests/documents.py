@@ -298,10 +298,22 @@ def path_problems(top, files):
                 yield f"{page}:{number}: no {word} in the tree"
     for page in documents_of(files):
         for number, line in enumerate(without_blocks(text_of(top, page)), 1):
+            yield from folder_problems(files, page, number, line)
             yield from name_problems(top, files, page, number, line)
             for link in re.findall(r"\]\(([^)\s]+)\)", line):
                 if not re.match(r"\w+:", link):
                     yield from link_problems(top, names, page, number, link)
+
+
+def folder_problems(files, page, number, line):
+    """In a row of a table, a file without a folder stands in the folder of the path before it in its cell."""
+    for cell in line.strip().strip("|").split("|") if line.lstrip().startswith("|") else []:
+        folder = ""
+        for path in re.findall(r"`([\w./-]+\.(?:rt|antt))`", cell):
+            folder = path.rpartition("/")[0] or folder
+            whole = f"/{folder}/{path.rpartition('/')[2]}"
+            if folder and not any(("/" + name).endswith(whole) for name in files):
+                yield f"{page}:{number}: no {whole[1:]} in the tree"
 
 
 def name_problems(top, files, page, number, line):
