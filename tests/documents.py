@@ -52,12 +52,16 @@ def text_of(top, path):
 
 
 def files_of(top):
-    """The files of the tree that git knows or would know, without what is built."""
-    listed = subprocess.run(
-        ["git", "-C", top, "ls-files", "--cached", "--others", "--exclude-standard"],
-        capture_output=True, text=True, check=True,
-    ).stdout.split("\n")
-    return [name for name in listed if name and os.path.exists(os.path.join(top, name))]
+    """The files of the tree that git knows or would know; where it isn't git's, all but what is built."""
+    command = ["git", "-C", top, "ls-files", "--cached", "--others", "--exclude-standard"]
+    listed = subprocess.run(command, capture_output=True, text=True, check=False)
+    if listed.returncode == 0:
+        return [name for name in listed.stdout.split("\n") if name and os.path.exists(os.path.join(top, name))]
+    names = []
+    for folder, folders, files in os.walk(top):
+        folders[:] = [name for name in folders if name not in (".git", "out", "target", "__pycache__")]
+        names += [os.path.relpath(os.path.join(folder, name), top) for name in files]
+    return names
 
 
 def documents_of(files):
