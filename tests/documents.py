@@ -52,12 +52,16 @@ def text_of(top, path):
 
 
 def files_of(top):
-    """The files of the tree that git knows or would know, without what is built."""
-    listed = subprocess.run(
-        ["git", "-C", top, "ls-files", "--cached", "--others", "--exclude-standard"],
-        capture_output=True, text=True, check=True,
-    ).stdout.split("\n")
-    return [name for name in listed if name and os.path.exists(os.path.join(top, name))]
+    """The files of the tree that git knows or would know; where it isn't git's, all but what is built."""
+    command = ["git", "-C", top, "ls-files", "--cached", "--others", "--exclude-standard"]
+    listed = subprocess.run(command, capture_output=True, text=True, check=False)
+    if listed.returncode == 0:
+        return [name for name in listed.stdout.split("\n") if name and os.path.exists(os.path.join(top, name))]
+    names = []
+    for folder, folders, files in os.walk(top):
+        folders[:] = [name for name in folders if name not in (".git", "out", "target", "__pycache__")]
+        names += [os.path.relpath(os.path.join(folder, name), top) for name in files]
+    return names
 
 
 def documents_of(files):
@@ -298,10 +302,22 @@ def path_problems(top, files):
                 yield f"{page}:{number}: no {word} in the tree"
     for page in documents_of(files):
         for number, line in enumerate(without_blocks(text_of(top, page)), 1):
+            yield from folder_problems(files, page, number, line)
             yield from name_problems(top, files, page, number, line)
             for link in re.findall(r"\]\(([^)\s]+)\)", line):
                 if not re.match(r"\w+:", link):
                     yield from link_problems(top, names, page, number, link)
+
+
+def folder_problems(files, page, number, line):
+    """In a row of a table, a file without a folder stands in the folder of the path before it in its cell."""
+    for cell in line.strip().strip("|").split("|") if line.lstrip().startswith("|") else []:
+        folder = ""
+        for path in re.findall(r"`([\w./-]+\.(?:rt|antt))`", cell):
+            folder = path.rpartition("/")[0] or folder
+            whole = f"/{folder}/{path.rpartition('/')[2]}"
+            if folder and not any(("/" + name).endswith(whole) for name in files):
+                yield f"{page}:{number}: no {whole[1:]} in the tree"
 
 
 def name_problems(top, files, page, number, line):
