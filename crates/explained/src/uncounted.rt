@@ -2,15 +2,16 @@
 
 ghost use Rattle.std.specs.Prelude.{◌<◌, length};
 
+use crate::entries::{telling_instant, told_by};
 use crate::explained::{NoPart, NotCounted, is_named};
-use meaning::{Ask, PrevailingProfile, View, why_not};
+use meaning::{Ask, View, why_not};
 use ocpp_scalars::Instant;
 use profile::{Purpose, Row};
 use std::alloc::{AllocError, Global};
 use sweep_compiler::Stretch;
 
 /// The profiles that never set the limit in the stretches of an ask, each with its reason: that it prevails
-/// somewhere and yet isn't the least, or else why it doesn't prevail where the ask begins.
+/// where one of them begins and yet isn't the least, or else why it doesn't prevail where that says most.
 pub fn not_counted(
     alloc: Global,
     view: &View<'_>,
@@ -28,24 +29,8 @@ pub fn not_counted(
     Ok(rest)
 }
 
-/// What a row is told by.
-fn told_by(row: &Row) -> PrevailingProfile {
-    PrevailingProfile {
-        id: row.profile.id,
-        purpose: row.profile.purpose,
-        stack_level: row.profile.stack_level,
-        connector: row.connector,
-    }
-}
-
 /// Why a row, at this place among those of a view, never sets the limit in some stretches.
-fn reason_of(
-    view: &View<'_>,
-    ask: &Ask,
-    stretches: &[Stretch],
-    place: usize,
-    row: &Row,
-) -> NoPart
+fn reason_of(view: &View<'_>, ask: &Ask, stretches: &[Stretch], place: usize, row: &Row) -> NoPart
     requires within { place < length view.now.rows.now }
 {
     let Some(connector) = connector_of(view, ask.connector, row) else {
@@ -59,7 +44,8 @@ fn reason_of(
             }
         }
     }
-    match why_not(view, connector, ask.start, ask.start, place) {
+    let instant = telling_instant(view, ask, row);
+    match why_not(view, connector, ask.start, instant, place) {
         Some(why) => NoPart::NotPrevailing(why),
         None => NoPart::NotLeast,
     }
