@@ -9,4 +9,5 @@ pub mod ScriptLemmas
 pub mod StepRunLemmas
 pub mod ScriptRunLemmas
 pub mod PrintedLemmas
+pub mod QuietLemmas
 pub mod WriteLemmas

@@ -34,8 +34,6 @@ pub fn call_in_flight(alloc: Global, outbox: &Outbox) -> Result<Option<(u64, Cal
         return Ok(None);
     }
     let number = outbox.first_number();
-    for body in outbox.bodies(alloc)? {
-        return Ok(Some((number, body)));
-    }
-    Ok(None)
+    let first = outbox.bodies(alloc)?.into_iter().next();
+    Ok(first.map(|body| (number, body)))
 }

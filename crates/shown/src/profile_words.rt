@@ -1,6 +1,6 @@
 //! What a table says of a profile.
 
-use crate::words::{instant_or_dash, seconds_text, tenths_text, text};
+use crate::words::{instant_text, seconds_text, tenths_text, text};
 use ocpp_scalars::Instant;
 use profile::{Kind, Profile, Purpose, Recurrency, Row, Unit};
 use std::alloc::{AllocError, Global};
@@ -52,45 +52,54 @@ pub fn kind_text(alloc: Global, kind: Kind) -> Result<String, AllocError> {
     }
 }
 
-/// From when on a row counts: the later of validFrom and the start of its schedule, where that is known without a
-/// transaction.
-pub fn from_text(alloc: Global, row: &Row) -> Result<String, AllocError> {
-    match (start_of(row), row.profile.valid_from) {
-        (Some(start), Some(from)) => instant_or_dash(alloc, Some(start.max(from))),
-        (Some(start), None) => instant_or_dash(alloc, Some(start)),
+/// From when on a row counts: the later of validFrom and the start of its schedule. `started` is the start of the active
+/// transaction at the row's connector.
+pub fn from_text(
+    alloc: Global,
+    row: &Row,
+    started: Option<Instant>,
+) -> Result<String, AllocError> {
+    match (start_of(row, started), row.profile.valid_from) {
+        (Some(start), Some(from)) => instant_text(alloc, start.max(from)),
+        (Some(start), None) => instant_text(alloc, start),
         (None, Some(from)) => {
-            let from = instant_or_dash(alloc, Some(from))?;
+            let from = instant_text(alloc, from)?;
             format!(in alloc; "a transaction's start, {from} at the earliest")
         }
         (None, None) => text(alloc, "a transaction's start"),
     }
 }
 
-/// Where a row's schedule starts, where no transaction decides it.
-fn start_of(row: &Row) -> Option<Instant> {
-    match row.profile.schedule.start {
-        Some(start) => Some(start),
-        None if row.profile.purpose == Purpose::ChargePointMaxProfile => Some(row.moment),
-        None => None,
+/// Where a row's schedule starts: at its startSchedule, or where it has none, a ChargePointMaxProfile at its install and
+/// any other at the start of a transaction.
+fn start_of(row: &Row, started: Option<Instant>) -> Option<Instant> {
+    match (row.profile.schedule.start, row.profile.purpose) {
+        (Some(start), _) => Some(start),
+        (None, Purpose::ChargePointMaxProfile) => Some(row.moment),
+        (None, Purpose::TxDefaultProfile | Purpose::TxProfile) => started,
     }
 }
 
 /// Until when a row counts: validTo, or the end of a schedule that doesn't recur, whichever comes first.
-pub fn until_text(alloc: Global, row: &Row) -> Result<String, AllocError> {
-    let end = match (end_of(row), row.profile.valid_to) {
-        (Some(end), Some(to)) => Some(end.min(to)),
-        (Some(end), None) => Some(end),
-        (None, to) => to,
-    };
-    instant_or_dash(alloc, end)
+pub fn until_text(
+    alloc: Global,
+    row: &Row,
+    started: Option<Instant>,
+) -> Result<String, AllocError> {
+    match (end_of(row, started), row.profile.valid_to) {
+        (Some(end), Some(to)) => instant_text(alloc, end.min(to)),
+        (Some(end), None) => instant_text(alloc, end),
+        (None, Some(to)) => instant_text(alloc, to),
+        (None, None) => text(alloc, "-"),
+    }
 }
 
-/// The end of a row's schedule, where it has one that no transaction decides and that lies in the calendar.
-fn end_of(row: &Row) -> Option<Instant> {
+/// The end of a row's schedule, where it has one and that lies in the calendar.
+fn end_of(row: &Row, started: Option<Instant>) -> Option<Instant> {
     if recurrency_name(row.profile.kind).is_some() {
         return None;
     }
-    let start = start_of(row)?;
+    let start = start_of(row, started)?;
     let duration = row.profile.schedule.duration?;
     Instant::try_new(start.seconds() + u64::from(duration))
 }

@@ -88,14 +88,15 @@ fn push_profiles(alloc: Global, out: &mut String, book: &PointBook) -> Result<()
     )?;
     for row in rows {
         let profile = &row.profile;
+        let started = book.view().active_since(row.connector as usize);
         table.push([
             profile.id.to_string(alloc)?,
             row.connector.to_string(alloc)?,
             text(alloc, purpose_name(profile.purpose))?,
             profile.stack_level.to_string(alloc)?,
             kind_text(alloc, profile.kind)?,
-            from_text(alloc, row)?,
-            until_text(alloc, row)?,
+            from_text(alloc, row, started)?,
+            until_text(alloc, row, started)?,
             periods_text(alloc, profile)?,
         ])?;
     }

@@ -83,13 +83,13 @@ impl PointCalls {
             self.confirm(alloc, memory, line, reply)?;
         }
         let count = confirmed.saturating_add(outbox.len() as u64);
-        while self.count < count {
+        for number in self.count..count {
             self.waiting.push(AddedCall {
-                number: self.count,
+                number,
                 line: Some(line),
             })?;
-            self.count += 1;
         }
+        self.count = count;
         if self.in_flight.is_none() {
             self.sent(alloc, outbox, line)?;
         }

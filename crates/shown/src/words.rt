@@ -8,14 +8,6 @@ pub fn text(alloc: Global, text: &str) -> Result<String, AllocError> {
     String::from_str(alloc, text)
 }
 
-/// An instant, or a dash where there is none.
-pub fn instant_or_dash(alloc: Global, instant: Option<Instant>) -> Result<String, AllocError> {
-    match instant {
-        Some(instant) => instant_text(alloc, instant),
-        None => text(alloc, "-"),
-    }
-}
-
 /// An instant.
 pub fn instant_text(alloc: Global, instant: Instant) -> Result<String, AllocError> {
     let mut out = String::new(alloc);

@@ -1,12 +1,13 @@
 //! What stands, what was printed and what was left undone, each compared with a text made by hand.
 
+mod left_undone;
 mod ordinary_day;
+mod two_points;
 
 use replay::play_quietly;
 use shown::{ending_text, standing_json, standing_text, trace_script, trace_text};
 use site_rules::read_site;
 use std::alloc::{AllocError, Global};
-use std::process::Abort;
 use std::test::Fail;
 
 /// What stands after the lines of a script up to one, as a table.

@@ -54,7 +54,6 @@ impl<'a> Model for Playing<'a> {
 }
 
 impl<'a> Playing<'a> {
-    ghost use Rattle.std.specs.Prelude.{◌&&◌, not, ◌==◌};
     ghost use Rattle.replay.specs.Playing.{before_first_line};
     ghost use Rattle.replay.specs.Quiet.{IsNext, is_up_to};
 
@@ -91,12 +90,14 @@ impl<'a> Playing<'a> {
         }))
     }
 
-    /// Whether a line is left, and no later one than the last that is wanted.
-    fn has_line_up_to(&self, last_line: Option<u64>) -> bool
-        ensures { result
-            ≡ (not (length self.now.rest == 0) && is_up_to last_line self.now.number) }
+    /// Whether the next line is no later one than the last that is wanted.
+    fn is_up_to(&self, last_line: Option<u64>) -> bool
+        ensures { result ≡ is_up_to last_line self.now.number }
     {
-        !self.rest.is_empty() && last_line.is_none_or(|last| self.number <= last)
+        match last_line {
+            Some(last) => self.number <= last,
+            None => true,
+        }
     }
 
     /// What the central system knows now.
@@ -145,8 +146,10 @@ pub fn play_quietly(
         (λ playing. playing.number ≡ (played_up_to site script.entry.now last_line).number) }
 {
     let mut playing = Playing::new(alloc, script, site)?;
-    while playing.has_line_up_to(last_line) {
-        let _ = playing.play_next()?;
+    while playing.is_up_to(last_line) {
+        let Some(_) = playing.play_next()? else {
+            return Ok(playing);
+        };
     }
     Ok(playing)
 }
