@@ -2,7 +2,6 @@
 use Rattle.std.proofs.Common.{◌≡◌, ℕ, Bool, true, false, List, [], ◌∷◌, ◌++◌, filter, map, Option, Some, None, option_map, cond, nat_lt, refl, ap, ◌∙◌}
 use Rattle.std.proofs.lemmas.List.{append-nil, map-append}
 use Rattle.std.proofs.lemmas.List.Elements.{filter-append}
-use Rattle.meaning.specs.declared.bound.ProfileLimit.{ProfileLimit}
 use Rattle.meaning.specs.declared.cause.Share.{Share}
 use Rattle.meaning.specs.Cause.{RowLimit, Bound, level_of, lesser_of}
 use Rattle.meaning.specs.ByCases.Cause.{told, level_told, lesser_told}

@@ -1,7 +1,6 @@
 -- A cause is what it says, and the row that it names is one of the point.
-use Rattle.std.proofs.Common.{◌≡◌, ℕ, ◌<◌, ◌==◌, zero, suc, Bool, true, false, ◌&&◌, List, [], ◌∷◌, ◌++◌, filter, cond, Option, Some, None, nat_lt, option_map, refl, ap, sym, subst, ◌∙◌, arith}
+use Rattle.std.proofs.Common.{◌≡◌, ℕ, ◌<◌, ◌==◌, Bool, true, false, ◌&&◌, List, [], ◌∷◌, filter, cond, Option, Some, None, nat_lt, option_map, refl, ap, sym, subst, ◌∙◌, arith}
 use Rattle.std.specs.List.{AllByRecursion, filter_map, cons_option}
-use Rattle.std.proofs.lemmas.Bool.{cases_eq}
 use Rattle.std.proofs.lemmas.Bool.Decides.{nat_tests}
 use Rattle.profile.specs.declared.purpose.Purpose.{Purpose}
 use Rattle.profile.specs.declared.purpose.Purpose.TheVariants.{ChargePointMaxProfile, TxDefaultProfile, TxProfile}
@@ -11,7 +10,6 @@ use Rattle.profile.specs.ChargingProfile.{rate}
 use Rattle.profile.specs.Greatest.{greater, greatest}
 use Rattle.profile.specs.Purpose.{is_charge_point_max, is_tx, is_tx_default}
 use Rattle.profile.specs.Row.{base}
-use Rattle.meaning.specs.declared.cause.Cause.{Cause}
 use Rattle.meaning.specs.declared.cause.Cause.TheVariants.{Profile, PointCeiling, ConnectorCeiling, Sum}
 use Rattle.meaning.specs.View.{PointState, active_since, ceiling_of}
 use Rattle.meaning.specs.Prevailing.{counted, has_its_transaction}

@@ -1,23 +1,23 @@
 -- There is no reason why a row doesn't prevail exactly where it prevails.
-use Rattle.std.proofs.Common.{◌≡◌, ◌↔◌, ℕ, ◌<◌, ◌≤◌, ◌==◌, Bool, true, false, not, ◌&&◌, ◌||◌, List, [], ◌∷◌, ◌++◌, filter, cond, Option, Some, None, is_some, nat_lt, option_map, option_and_then, refl, ap, sym, subst, ◌∙◌, ◌⊎◌, inl, inr, arith}
+use Rattle.std.proofs.Common.{◌≡◌, ◌↔◌, ℕ, ◌≤◌, ◌==◌, Bool, true, false, not, ◌&&◌, ◌||◌, List, [], ◌∷◌, ◌++◌, filter, cond, Option, Some, None, is_some, nat_lt, option_map, option_and_then, refl, ap, sym, subst, ◌∙◌, ◌⊎◌, inl, inr, arith}
 use Rattle.std.specs.List.{filter_map, cons_option, list_any}
 use Rattle.std.proofs.lemmas.Bool.Decides.{nat_tests}
 use Rattle.profile.specs.declared.purpose.Purpose.{Purpose}
 use Rattle.profile.specs.declared.purpose.Purpose.TheVariants.{ChargePointMaxProfile, TxDefaultProfile, TxProfile}
 use Rattle.profile.specs.declared.row.Row.{Row}
 use Rattle.profile.specs.Candidates.{is_candidate, is_replaced_at}
-use Rattle.profile.specs.ChargingProfile.{offset, rate, rate_within, is_before, is_from, is_valid_at}
+use Rattle.profile.specs.ChargingProfile.{offset, rate, rate_within, is_before, is_from}
 use Rattle.profile.specs.Greatest.{greater, greatest}
 use Rattle.profile.specs.Periods.{limit_in}
 use Rattle.profile.specs.Purpose.{is_charge_point_max, is_tx, is_tx_default}
 use Rattle.profile.specs.Row.{base}
 use Rattle.meaning.specs.declared.cause.WhyNot.{WhyNot}
-use Rattle.meaning.specs.declared.cause.WhyNot.TheVariants.{OtherConnector, NoTransaction, Hidden, NotYetValid, NoLongerValid, BeforeAnchor, PastDuration, BeforeFirstPeriod, BelowHigherLevel, BehindTxProfile}
+use Rattle.meaning.specs.declared.cause.WhyNot.TheVariants.{OtherConnector, NoTransaction, Hidden, NotYetValid, NoLongerValid, PastDuration, BeforeFirstPeriod, BelowHigherLevel, BehindTxProfile}
 use Rattle.meaning.specs.View.{PointState, active_since}
 use Rattle.meaning.specs.Prevailing.{counted, has_its_transaction}
 use Rattle.meaning.specs.Cause.{RowLimit, with_limit, row_limit, level_of, prevailing_row, counts_for, StandsIn}
-use Rattle.meaning.specs.WhyNot.{first_of, where_so, is_elsewhere, lacks_transaction, is_hidden, why_not_counted, why_no_limit_in, why_no_limit, is_above, why_behind, why_not, why_not_for, Prevails, HaveOwnKeys}
-use Rattle.meaning.proofs.Causes.{Counts, CountsWith, prevailing_of, some_is, and_first}
+use Rattle.meaning.specs.WhyNot.{first_of, where_so, is_elsewhere, lacks_transaction, is_hidden, why_not_counted, why_no_limit_in, why_no_limit, is_above, why_behind, why_not, Prevails, HaveOwnKeys}
+use Rattle.meaning.proofs.Causes.{Counts, prevailing_of, some_is, and_first}
 
 -- ---- reasons, and that there is none
 

@@ -16,8 +16,16 @@ use Rattle.profile.specs.declared.unit.Unit.TheVariants.{A}
 use Rattle.profile.specs.Purpose.{transaction_of}
 use Rattle.profile.specs.Kind.{start_of}
 use Rattle.meaning.specs.declared.composite.CompositePeriod.{CompositePeriod}
+use Rattle.meaning.specs.declared.cause.Cause.{Cause}
+use Rattle.meaning.specs.declared.cause.Cause.TheVariants.{Profile, ConnectorCeiling, Sum}
+use Rattle.meaning.specs.declared.cause.Reason.{Reason}
+use Rattle.meaning.specs.declared.cause.Share.{Share}
+use Rattle.meaning.specs.declared.cause.WhyNot.{WhyNot}
+use Rattle.meaning.specs.declared.cause.WhyNot.TheVariants.{Hidden, PastDuration, BehindTxProfile}
 use Rattle.meaning.specs.View.{PointState}
 use Rattle.meaning.specs.Limit.{limit}
+use Rattle.meaning.specs.Cause.{reason}
+use Rattle.meaning.specs.WhyNot.{why_not}
 use Rattle.meaning.specs.ByCases.Exact.{exact_periods}
 
 -- 2025-01-01T00:00:00Z
@@ -194,3 +202,70 @@ base_of_the_second = refl
 
 pub base_of_the_point : schedule from_the_transaction 0 30 60 ≡ span 0 100 ∷ (span 30 320 ∷ [])
 base_of_the_point = refl
+
+-- ---- what sets a limit
+
+abbrev profile_at : Purpose → ℕ → ℕ → Cause
+profile_at purpose level connector = Profile (record { id = pos 1; purpose = purpose; stack_level = level; connector = connector })
+
+abbrev because : ℕ → Cause → List Share → Reason
+because limit cause shares = record { limit = limit; cause = cause; shares = shares }
+
+-- in a schedule of a connector, asked so many seconds after midnight, at a second after that
+abbrev why : PointState → ℕ → ℕ → ℕ → Reason
+why b connector asked second = reason b connector (midnight + asked) (midnight + asked + second)
+
+pub why_at_night : why night 1 194398 1 ≡ because 60 (profile_at TxDefaultProfile 1 0) []
+why_at_night = refl
+
+pub why_in_the_morning : why night 1 194398 2 ≡ because 200 (profile_at TxDefaultProfile 0 0) []
+why_in_the_morning = refl
+
+pub why_no_profile : why (point idle []) 1 0 0 ≡ because 320 ConnectorCeiling []
+why_no_profile = refl
+
+pub why_no_transaction : why (point idle []) 0 0 0 ≡ because 0 Sum []
+why_no_transaction = refl
+
+pub why_transaction : why (point on_first (transaction_row ∷ (default_row ∷ []))) 1 30 59 ≡ because 160 (profile_at TxProfile 0 1) []
+why_transaction = refl
+
+pub why_default_again : why (point on_first (transaction_row ∷ (default_row ∷ []))) 1 30 90 ≡ because 100 (profile_at TxDefaultProfile 0 0) []
+why_default_again = refl
+
+-- the point's default of level 1 is hidden, the connector's own has run out
+pub why_level_0 : why own_default 1 3600 0 ≡ because 80 (profile_at TxDefaultProfile 0 0) []
+why_level_0 = refl
+
+abbrev share_of : ℕ → ℕ → Cause → Share
+share_of connector limit cause = record { connector = connector; limit = limit; cause = cause }
+
+pub why_shared : why (shared 500) 0 10 0
+    ≡ because 400 Sum (share_of 1 200 (profile_at TxDefaultProfile 0 0) ∷ (share_of 2 200 (profile_at TxDefaultProfile 0 0) ∷ []))
+why_shared = refl
+
+pub why_above_the_point : why (shared 320) 0 10 0 ≡ because 320 (profile_at ChargePointMaxProfile 0 0) []
+why_above_the_point = refl
+
+-- as much as the sum: the ChargePointMaxProfile comes first
+pub why_the_first_of_equals : why (shared 400) 0 10 0 ≡ because 400 (profile_at ChargePointMaxProfile 0 0) []
+why_the_first_of_equals = refl
+
+-- why a row doesn't prevail, in a schedule asked so many seconds after midnight, at its start
+abbrev why_none : PointState → ℕ → ℕ → Row → Option WhyNot
+why_none b connector asked row = why_not b connector (midnight + asked) (midnight + asked) row
+
+abbrev level_1_default : Row
+level_1_default = row_at 0 TxDefaultProfile 1 low1 Absolute (at_start 0) refl None (period 0 100 ∷ [])
+
+pub hidden_why : why_none own_default 1 3600 level_1_default ≡ Some Hidden
+hidden_why = refl
+
+pub hidden_for_one_alone : why_none own_default 2 3600 level_1_default ≡ None
+hidden_for_one_alone = refl
+
+pub behind_why : why_none (point on_first (transaction_row ∷ (default_row ∷ []))) 1 30 default_row ≡ Some BehindTxProfile
+behind_why = refl
+
+pub run_out_why : why_none (point on_first (transaction_row ∷ (default_row ∷ []))) 1 120 transaction_row ≡ Some PastDuration
+run_out_why = refl

@@ -1,5 +1,5 @@
 -- While no row that counts changes its limit, what sets the limit stays as it is.
-use Rattle.std.proofs.Common.{◌≡◌, ◌≢◌, ℕ, ◌+◌, ◌<◌, ◌≤◌, ◌==◌, Bool, true, false, not, ◌||◌, List, [], ◌∷◌, map, length, take, get_or, cond, nat_lt, Option, Some, None, option_map, refl, ap, sym, subst, ◌∙◌, arith}
+use Rattle.std.proofs.Common.{◌≡◌, ℕ, ◌+◌, ◌<◌, ◌==◌, Bool, true, false, not, ◌||◌, List, [], ◌∷◌, map, length, take, get_or, cond, nat_lt, Option, Some, None, option_map, refl, ap, sym, subst, ◌∙◌, arith}
 use Rattle.std.specs.List.{list_any, filter_map, cons_option, sum_by}
 use Rattle.std.specs.Ordering.{nat_cmp}
 use Rattle.std.proofs.lemmas.Bool.{eq-eqb}
@@ -8,15 +8,13 @@ use Rattle.std.proofs.lemmas.List.Sums.{sum_by-cons}
 use Rattle.profile.specs.declared.purpose.Purpose.{Purpose}
 use Rattle.profile.specs.declared.purpose.Purpose.TheVariants.{ChargePointMaxProfile, TxDefaultProfile, TxProfile}
 use Rattle.profile.specs.declared.row.Row.{Row}
-use Rattle.profile.specs.ChargingProfile.{rate}
 use Rattle.profile.specs.Greatest.{greatest}
-use Rattle.profile.specs.Row.{base}
 use Rattle.recurrence.specs.ByCases.Sooner.{sooner}
 use Rattle.meaning.specs.declared.cause.Cause.{Cause}
 use Rattle.meaning.specs.declared.cause.Cause.TheVariants.{Profile, ConnectorCeiling, PointCeiling, Sum}
 use Rattle.meaning.specs.declared.cause.Share.{Share}
 use Rattle.meaning.specs.declared.cause.Reason.{Reason}
-use Rattle.meaning.specs.View.{PointState, active_since, ceiling_of}
+use Rattle.meaning.specs.View.{PointState, ceiling_of}
 use Rattle.meaning.specs.Prevailing.{counted}
 use Rattle.meaning.specs.Limit.{own_limit, active_connectors, shared_limit}
 use Rattle.meaning.specs.Cause.{RowLimit, Bound, with_limit, row_limit, level_of, prevailing_row, row_or_else, bound_of, lesser, lesser_of, own_bound, below_point, bound_by, share, shares_by, reason}

@@ -75,9 +75,9 @@ impl<'a> Looked<'a> {
         ensures same { self.new ≡ self.old }
         ensures next { IsNextOfEachLooked self.old instant result }
     {
-        let own = next_of_each(self.own.as_mut_slice(), instant);
-        let default = next_of_each(self.default.as_mut_slice(), instant);
-        sooner(own, default)
+        let of_own = next_of_each(self.own.as_mut_slice(), instant);
+        let of_default = next_of_each(self.default.as_mut_slice(), instant);
+        sooner(of_own, of_default)
     }
 }
 

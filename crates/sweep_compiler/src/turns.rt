@@ -40,6 +40,13 @@ impl Turns {
         self.count
     }
 
+    fn count_one(&mut self)
+        requires room { self.old + 1 < 2 ^ 64 }
+        ensures { self.new ≡ self.old + 1 }
+    {
+        self.count += 1;
+    }
+
     /// The limit that is asked, at an instant and in tenths, which is one turn.
     // The counter evaluates by itself, so that whoever evaluates by it can't forget to count.
     pub(crate) fn limit_at(&mut self, asked: &AskedLimit<'_>, instant: Instant) -> u32
@@ -47,7 +54,7 @@ impl Turns {
         ensures limit { result ≡ limit asked.now.state asked.now.connector asked.now.asked instant }
         ensures turn { self.new ≡ self.old + 1 }
     {
-        self.count += 1;
+        self.count_one();
         asked.at(instant)
     }
 
@@ -65,7 +72,7 @@ impl Turns {
             found ≡ reason asked.now.state asked.now.connector asked.now.asked instant) }
         ensures turn { self.new ≡ self.old + 1 }
     {
-        self.count += 1;
+        self.count_one();
         asked.reason_at(alloc, instant)
     }
 }

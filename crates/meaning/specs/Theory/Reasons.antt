@@ -13,7 +13,7 @@ use Rattle.meaning.specs.declared.cause.Cause.TheVariants.{PointCeiling, Connect
 use Rattle.meaning.specs.View.{PointState, active_since, ceiling_of}
 use Rattle.meaning.specs.Prevailing.{counted, level_and_limit, prevailing}
 use Rattle.meaning.specs.Limit.{or_else, at_most, own_limit, point_limit, shared_limit, limit, limit_by}
-use Rattle.meaning.specs.Cause.{RowLimit, Bound, with_limit, row_limit, level_of, prevailing_row, row_or_else, transaction_row, bound_of, lesser, lesser_of, own_bound, below_point, bound_by, bound, reason}
+use Rattle.meaning.specs.Cause.{RowLimit, Bound, with_limit, row_limit, level_of, prevailing_row, row_or_else, bound_of, lesser, lesser_of, own_bound, below_point, bound_by, reason}
 
 abbrev limit_of : RowLimit → ℕ
 limit_of best = best.limit

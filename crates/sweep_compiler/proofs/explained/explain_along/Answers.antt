@@ -1,15 +1,13 @@
 -- That the stretches up to the next place, or to the end, are what the loop keeps.
-use Rattle.std.proofs.Common.{◌≡◌, ◌≢◌, ℕ, ◌+◌, ◌<◌, ◌≤◌, ◌∙◌, true, false, Bool, [], ◌∷◌, ◌++◌, length, Some, None, refl, ap, sym, arith}
-use Rattle.std.specs.List.{AllByRecursion}
+use Rattle.std.proofs.Common.{◌≡◌, ◌≢◌, ◌<◌, ◌∙◌, true, false, [], ◌∷◌, ◌++◌, length, Some, None, refl, ap, sym, arith}
 use Rattle.std.proofs.lemmas.List.{length-append}
 use Rattle.meaning.specs.declared.ask.Ask.{Ask}
-use Rattle.meaning.specs.declared.cause.Reason.{Reason}
 use Rattle.meaning.specs.Cause.{reason_asked}
 use Rattle.sweep_compiler.specs.declared.stretch.Stretch.{Stretch}
-use Rattle.sweep_compiler.specs.Explained.{Adjoin, Differ, IsStretchOf}
+use Rattle.sweep_compiler.specs.Explained.{IsStretchOf}
 use Rattle.sweep_compiler.specs.Places.{is_second_asked}
 use Rattle.sweep_compiler.specs.ByCases.Curve.{LeadsOn}
-use Rattle.sweep_compiler.proofs.Explaining.{with_reason, adjoin_more, all_more, differ_as, differ_more, stretch_of, stays_upto, at_one, upto_next, spent_at, spent_next, spent_end, spent_few}
+use Rattle.sweep_compiler.proofs.Explaining.{with_reason, adjoin_more, all_more, differ_as, differ_more, stretch_of, stays_upto, at_one, upto_next, spent_next, spent_end, spent_few}
 use Rattle.sweep_compiler.proofs.explained.explain_along.Goals as goal
 
 pub returns-in_err-push-clause-bound : goal.returns-in_err-push-clause-bound

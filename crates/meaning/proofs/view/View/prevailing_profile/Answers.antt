@@ -1,5 +1,5 @@
 -- That one row more makes the best of the rows so far that of one more.
-use Rattle.std.proofs.Common.{ℕ, ◌∙◌, sym, ap, cond, Bool, Option, filter, take, option_map}
+use Rattle.std.proofs.Common.{◌∙◌, sym, ap, cond, Bool, Option, filter, take, option_map}
 use Rattle.std.specs.List.{filter_map}
 use Rattle.profile.specs.Greatest.{greatest}
 use Rattle.profile.specs.Candidates.{is_candidate}

@@ -1,5 +1,5 @@
 -- That one connector more adds its share where it is active.
-use Rattle.std.proofs.Common.{◌≡◌, ℕ, ◌+◌, [], ◌∷◌, ◌++◌, ◌∙◌, sym, ap, filter, map, is_some, List, arith, rules}
+use Rattle.std.proofs.Common.{◌≡◌, ℕ, ◌+◌, [], ◌∷◌, ◌++◌, ◌∙◌, sym, ap, is_some, List, arith, rules}
 use Rattle.std.specs.List.{range_with_len}
 use Rattle.meaning.specs.declared.cause.Share.{Share}
 use Rattle.meaning.specs.View.{point_state, active_since}
