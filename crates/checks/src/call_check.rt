@@ -8,7 +8,7 @@ use crate::payload_fields::{
     PayloadPart, UnknownField, repeated_payload_fields, unknown_payload_fields,
 };
 use crate::profile_check::check_install;
-use crate::report::Report;
+use crate::report::{CheckedScript, Report};
 use crate::requests::Requests;
 use crate::script_line::{LineText, Sender};
 use crate::sentences::sentence;
@@ -54,19 +54,16 @@ const POINT_ACTIONS: [&str; 10] = [
 
 /// Checks a CALL.
 pub(crate) fn check_call(
-    report: &mut Report,
-    site: &Site,
-    requests: &mut Requests,
+    checked: &mut CheckedScript<'_>,
     call: &Call<'_, '_, '_>,
 ) -> Result<(), AllocError> {
+    let report = &mut checked.report;
     let kind = ActionKind::named(call.action);
     if call.text.sender == Sender::Hold && kind != Some(ActionKind::GetCompositeSchedule) {
         return not_composite(report, call.text, "it is a CALL of another action");
     }
     match kind {
-        Some(kind) if is_of_sender(kind, call.text.sender) => {
-            check_action(report, site, requests, call, kind)
-        }
+        Some(kind) if is_of_sender(kind, call.text.sender) => { check_action(checked, call, kind) }
         _ => check_not_implemented(report, call, kind.is_some()),
     }
 }
@@ -111,12 +108,12 @@ fn check_not_implemented(
 
 /// Checks the fields of an action, and what it asks for.
 fn check_action(
-    report: &mut Report,
-    site: &Site,
-    requests: &mut Requests,
+    checked: &mut CheckedScript<'_>,
     call: &Call<'_, '_, '_>,
     kind: ActionKind,
 ) -> Result<(), AllocError> {
+    let site = checked.site;
+    let report = &mut checked.report;
     let alloc = report.alloc;
     if matches!(kind.side(), Side::Operator) {
         warn_repeated(report, call, kind)?;
@@ -124,12 +121,12 @@ fn check_action(
     match read_fields(alloc, kind, call.payload) {
         Ok(Action::SetChargingProfile { connector, profile }) => {
             warn_unknown(report, call, kind)?;
-            check_install(report, site, call.text, connector, profile)
+            check_install(checked, call.text, connector, profile)
         }
         Ok(Action::ClearChargingProfile(criteria)) => check_clear(report, site, call, &criteria),
         Ok(Action::GetCompositeSchedule(request)) => {
             warn_unknown(report, call, kind)?;
-            check_ask(report, site, requests, call.text, &request)
+            check_ask(checked, call.text, &request)
         }
         Ok(Action::StartTransaction(start)) => {
             check_start(report, site, call.text, start.connector)
@@ -289,48 +286,46 @@ pub(crate) fn point_of<'a>(site: &'a Site, text: &LineText<'_>) -> Option<SitePo
 
 /// A GetCompositeSchedule, as far as the point's book has no part in it.
 fn check_ask(
-    report: &mut Report,
-    site: &Site,
-    requests: &mut Requests,
+    checked: &mut CheckedScript<'_>,
     text: &LineText<'_>,
     request: &ScheduleRequest,
 ) -> Result<(), AllocError> {
-    match ask_refusal(site, requests, text, request) {
-        None if text.sender == Sender::Hold => requests.hold(report.line()),
+    let site = checked.site;
+    match ask_refusal(site, &checked.requests, text, request) {
+        None if text.sender == Sender::Hold => checked.requests.hold(checked.report.line()),
         None => {
-            requests.take();
+            checked.requests.take();
             Ok(())
         }
         Some(Refusal::UnknownPoint) => {
-            let message = unknown_point_message(report, site, text.point)?;
-            report.fault(FaultName::Rejected(Refusal::UnknownPoint), message)
+            let message = unknown_point_message(&mut checked.report, site, text.point)?;
+            checked
+                .report
+                .fault(FaultName::Rejected(Refusal::UnknownPoint), message)
         }
         Some(refusal) => {
-            let found = ask_found(report.alloc, site, text, request, refusal)?;
-            reject(report, refusal, Some(found.as_str()))
+            let found = ask_found(checked, text, request, refusal)?;
+            reject(&mut checked.report, refusal, Some(found.as_str()))
         }
     }
 }
 
 /// What was found where a request for a schedule is refused.
 fn ask_found(
-    alloc: Global,
-    site: &Site,
+    checked: &CheckedScript<'_>,
     text: &LineText<'_>,
     request: &ScheduleRequest,
     refusal: Refusal,
 ) -> Result<String, AllocError> {
-    let ScheduleRequest {
-        connector,
-        duration,
-        ..
-    } = request;
+    let alloc = checked.report.alloc;
+    let connector = request.connector;
+    let duration = request.duration;
     match refusal {
-        Refusal::UnknownConnector => connector_found(alloc, site, text, *connector),
+        Refusal::UnknownConnector => connector_found(alloc, checked.site, text, connector),
         Refusal::BadDuration | Refusal::PastCalendar => {
             format!(in alloc; "duration is {duration}")
         }
-        Refusal::WrongUnit => String::from_str(alloc, unit_found(site)),
+        Refusal::WrongUnit => String::from_str(alloc, unit_found(checked.site)),
         _ => format!(in alloc; "connectorId is {connector}"),
     }
 }

@@ -164,11 +164,7 @@ fn instant_hint(word: &str, fault: InstantFault) -> &'static str {
 }
 
 /// The identity of the site that is probably meant, for the first thousand that aren't known.
-pub(crate) fn point_hint(
-    report: &mut Report,
-    site: &Site,
-    id: &str,
-) -> Result<String, AllocError> {
+pub(crate) fn point_hint(report: &mut Report, site: &Site, id: &str) -> Result<String, AllocError> {
     let alloc = report.alloc;
     if !report.takes_hint() {
         return Ok(String::new(alloc));

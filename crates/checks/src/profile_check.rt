@@ -3,7 +3,7 @@
 use crate::call_check::{connector_found, point_of, reject, unit_found, unknown_point_message};
 use crate::finding::FaultName;
 use crate::never::{NeverRated, never_rated};
-use crate::report::Report;
+use crate::report::{CheckedScript, Report};
 use crate::script_line::LineText;
 use ocpp_scalars::{Instant, Refusal, write_instant, write_tenths};
 use profile::{Kind, Period, Profile, ProfileKind, ProfileParts, Purpose, Recurrency};
@@ -12,12 +12,13 @@ use std::alloc::{AllocError, Global};
 
 /// Checks a SetChargingProfile whose fields are right.
 pub(crate) fn check_install(
-    report: &mut Report,
-    site: &Site,
+    checked: &mut CheckedScript<'_>,
     text: &LineText<'_>,
     connector: u32,
     parts: ProfileParts,
 ) -> Result<(), AllocError> {
+    let site = checked.site;
+    let report = &mut checked.report;
     warn_dropped(report, &parts)?;
     let profile = match Profile::try_new(parts) {
         Ok(profile) => profile,
@@ -28,7 +29,10 @@ pub(crate) fn check_install(
             let message = unknown_point_message(report, site, text.point)?;
             report.fault(FaultName::Rejected(Refusal::UnknownPoint), message)?;
         }
-        Err(refusal) => refuse_place(report, site, text, connector, refusal)?,
+        Err(refusal) => {
+            let found = place_found(report.alloc, site, text, connector, refusal)?;
+            reject(report, refusal, Some(found.as_str()))?;
+        },
         Ok(()) => {
             if let Some(point) = point_of(site, text) {
                 warn_ceiling(report, point, connector, &profile)?;
@@ -39,21 +43,19 @@ pub(crate) fn check_install(
     warn_rates(report, text.moment, &profile)
 }
 
-/// The refusal of a profile that may not stand there.
-fn refuse_place(
-    report: &mut Report,
+/// What was found where a profile may not stand.
+fn place_found(
+    alloc: Global,
     site: &Site,
     text: &LineText<'_>,
     connector: u32,
     refusal: Refusal,
-) -> Result<(), AllocError> {
-    let alloc = report.alloc;
-    let found = match refusal {
-        Refusal::UnknownConnector => connector_found(alloc, site, text, connector)?,
-        Refusal::WrongUnit => String::from_str(alloc, unit_found(site))?,
-        _ => format!(in alloc; "connectorId is {connector}")?,
-    };
-    reject(report, refusal, Some(found.as_str()))
+) -> Result<String, AllocError> {
+    match refusal {
+        Refusal::UnknownConnector => connector_found(alloc, site, text, connector),
+        Refusal::WrongUnit => String::from_str(alloc, unit_found(site)),
+        _ => format!(in alloc; "connectorId is {connector}"),
+    }
 }
 
 /// Fields that have no meaning beside the profile's purpose or kind.

@@ -1,10 +1,20 @@
 //! The findings in a script, gathered line by line.
 
 use crate::finding::{FaultName, Finding, Place};
+use crate::requests::Requests;
+use site_rules::Site;
 use std::alloc::{AllocError, Global};
 
 /// How often an identity is compared with all those of the site.
 const MAX_HINTS: u32 = 1_000;
+
+/// A script that is checked on a site, up to the line that is looked at.
+#[derive(Drop)]
+pub(crate) struct CheckedScript<'a> {
+    pub site: &'a Site,
+    pub report: Report,
+    pub requests: Requests,
+}
 
 /// The findings so far, and the line that is looked at.
 #[derive(Drop)]

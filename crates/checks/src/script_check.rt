@@ -2,7 +2,7 @@
 
 use crate::finding::{FaultName, Finding, Place};
 use crate::line_hints::mistake_message;
-use crate::report::Report;
+use crate::report::{CheckedScript, Report};
 use crate::requests::Requests;
 use crate::script_line::{LineFault, ScriptLine, read_script_line};
 use crate::sentences::line_sentence;
@@ -21,38 +21,49 @@ pub fn check_script(alloc: Global, site: &Site, script: &[u8]) -> Result<Vec<Fin
     if script.len() > MAX_SCRIPT_BYTES {
         return too_long(alloc, script.len());
     }
-    let mut report = Report::new(alloc);
+    let mut checked = CheckedScript {
+        site,
+        report: Report::new(alloc),
+        requests: Requests::new(alloc),
+    };
     let mut memory = ReadingMemory::new(alloc);
-    let mut requests = Requests::new(alloc);
     for piece in script.split_inclusive(|byte| *byte == b'\n') {
-        report.next_line();
+        checked.report.next_line();
         let line = without_ending(piece);
-        if line.is_empty() {
-            continue;
-        }
-        match read_script_line(line, site) {
-            Ok(ScriptLine::Text(text)) => {
-                check_text(&mut report, site, &mut memory, &mut requests, &text)?;
-            }
-            Ok(ScriptLine::Release(number)) => check_release(&mut report, &mut requests, number)?,
-            Err(mistake) => {
-                let message = mistake_message(&mut report, site, mistake)?;
-                report.fault(FaultName::Line(mistake.fault()), message)?;
-            }
+        if !line.is_empty() {
+            check_line(&mut checked, &mut memory, line)?;
         }
     }
-    remark_held(&mut report, &requests)?;
-    Ok(report.into_findings())
+    remark_held(&mut checked)?;
+    Ok(checked.report.into_findings())
+}
+
+/// Checks a line that isn't empty.
+fn check_line(
+    checked: &mut CheckedScript<'_>,
+    memory: &mut ReadingMemory,
+    line: &[u8],
+) -> Result<(), AllocError> {
+    match read_script_line(line, checked.site) {
+        Ok(ScriptLine::Text(text)) => check_text(checked, memory, &text),
+        Ok(ScriptLine::Release(number)) => check_release(checked, number),
+        Err(mistake) => {
+            let message = mistake_message(&mut checked.report, checked.site, mistake)?;
+            checked
+                .report
+                .fault(FaultName::Line(mistake.fault()), message)
+        }
+    }
 }
 
 /// The requests that are still held when the script ends.
-fn remark_held(report: &mut Report, requests: &Requests) -> Result<(), AllocError> {
-    for held in requests.held() {
+fn remark_held(checked: &mut CheckedScript<'_>) -> Result<(), AllocError> {
+    for held in checked.requests.held() {
         let number = held.number;
-        let message = format!(in report.alloc;
+        let message = format!(in checked.report.alloc;
             "request {number} is still held when the script ends, and isn't answered"
         )?;
-        report.remark_at(held.line, message)?;
+        checked.report.remark_at(held.line, message)?;
     }
     Ok(())
 }
@@ -80,17 +91,15 @@ fn without_ending(piece: &[u8]) -> &[u8] {
     }
 }
 
-fn check_release(
-    report: &mut Report,
-    requests: &mut Requests,
-    number: u64,
-) -> Result<(), AllocError> {
-    if requests.release(number) {
+fn check_release(checked: &mut CheckedScript<'_>, number: u64) -> Result<(), AllocError> {
+    if checked.requests.release(number) {
         return Ok(());
     }
     let sentence = line_sentence(LineFault::UnknownRequest);
-    let message = format!(in report.alloc;
+    let message = format!(in checked.report.alloc;
         "UnknownRequest: release {number}: {sentence}; a hold line that takes one prints its number"
     )?;
-    report.fault(FaultName::Line(LineFault::UnknownRequest), message)
+    checked
+        .report
+        .fault(FaultName::Line(LineFault::UnknownRequest), message)
 }

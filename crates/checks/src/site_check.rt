@@ -4,8 +4,8 @@ use crate::finding::{FaultName, Finding, Place};
 use crate::found::{Wish, field_message, message_of, what_stands};
 use crate::json_fault::json_fault_text;
 use crate::json_outline::{Outline, outline_of};
-use crate::site_fields::{SiteNames, unknown_site_fields};
-use crate::site_point::{KnownIds, check_point};
+use crate::site_fields::unknown_site_fields;
+use crate::site_point::{CheckedSite, KnownIds, check_point};
 use crate::text_place::place_in_text;
 use ocppj_frame::{
     Entries, Field, FrameFault, Node, ReadingMemory, list_field, read_tree, text_field,
@@ -20,15 +20,19 @@ const MAX_POINTS: usize = 1_000;
 /// All faults of a site file in the order in which they are checked, and then the warnings and remarks. The
 /// first fault is the one that `site_rules::read_site` names, and there is none where it reads a site.
 pub fn check_site(alloc: Global, bytes: &[u8]) -> Result<Vec<Finding>, AllocError> {
-    let mut findings = Vec::new(alloc);
     if bytes.len() > MAX_SITE_BYTES {
-        findings.push(too_large(alloc, bytes.len())?)?;
-        return Ok(findings);
+        return alone(alloc, too_large(alloc, bytes.len())?);
     }
     match std::str::from_utf8(bytes) {
-        Ok(text) => check_site_text(alloc, text, &mut findings)?,
-        Err(error) => findings.push(not_utf8(alloc, error.valid_up_to())?)?,
+        Ok(text) => check_site_text(alloc, text),
+        Err(error) => alone(alloc, not_utf8(alloc, error.valid_up_to())?),
     }
+}
+
+/// One finding and no other.
+fn alone(alloc: Global, finding: Finding) -> Result<Vec<Finding>, AllocError> {
+    let mut findings = Vec::new(alloc);
+    findings.push(finding)?;
     Ok(findings)
 }
 
@@ -47,24 +51,24 @@ fn site_fault(place: Place, fault: SiteFault, message: String) -> Finding {
 }
 
 /// Checks a site file that is UTF-8.
-fn check_site_text(
-    alloc: Global,
-    text: &str,
-    findings: &mut Vec<Finding>,
-) -> Result<(), AllocError> {
+fn check_site_text(alloc: Global, text: &str) -> Result<Vec<Finding>, AllocError> {
     let outline = outline_of(alloc, text)?;
     let mut memory = ReadingMemory::new(alloc);
     match read_tree(&mut memory, text) {
         Ok(tree) => {
             let names = unknown_site_fields(alloc, text, &outline)?;
-            check_root(alloc, tree.root(), &names, findings)?;
-            names.warn(alloc, text, findings)
+            let mut checked = CheckedSite {
+                alloc,
+                names: &names,
+                known: KnownIds::new(alloc),
+                findings: Vec::new(alloc),
+            };
+            check_root(&mut checked, tree.root())?;
+            names.warn(alloc, text, &mut checked.findings)?;
+            Ok(checked.findings)
         }
         Err(FrameFault::OutOfMemory) => Err(AllocError),
-        Err(_) => {
-            findings.push(not_json(alloc, text, &outline)?)?;
-            Ok(())
-        }
+        Err(_) => alone(alloc, not_json(alloc, text, &outline)?),
     }
 }
 
@@ -83,92 +87,85 @@ fn not_json(alloc: Global, text: &str, outline: &Outline) -> Result<Finding, All
 }
 
 /// Checks the whole tree of a site file.
-fn check_root(
-    alloc: Global,
-    root: Node<'_, '_>,
-    names: &SiteNames<'_>,
-    findings: &mut Vec<Finding>,
-) -> Result<(), AllocError> {
+fn check_root(checked: &mut CheckedSite<'_>, root: Node<'_, '_>) -> Result<(), AllocError> {
     if !root.is_object() {
-        let found = what_stands(alloc, Some(root))?;
-        let message = format!(in alloc;
-            "{found}; an object such as {{\"unit\":\"A\",\"points\":[..]}} is wanted"
+        let found = what_stands(checked.alloc, Some(root))?;
+        let message = message_of(
+            checked.alloc,
+            &found,
+            "an object such as {\"unit\":\"A\",\"points\":[..]}",
         )?;
-        findings.push(site_fault(Place::File, SiteFault::NotAnObject, message))?;
-        return Ok(());
+        return checked.fault(SiteFault::NotAnObject, message);
     }
-    check_unit(alloc, root, names, findings)?;
-    check_points(alloc, root, names, findings)
+    check_unit(checked, root)?;
+    check_points(checked, root)
 }
 
-fn check_unit(
-    alloc: Global,
-    root: Node<'_, '_>,
-    names: &SiteNames<'_>,
-    findings: &mut Vec<Finding>,
-) -> Result<(), AllocError> {
+fn check_unit(checked: &mut CheckedSite<'_>, root: Node<'_, '_>) -> Result<(), AllocError> {
     if let Field::Value(text) = text_field(root, "unit") {
         if Unit::named(text).is_some() {
             return Ok(());
         }
     }
-    let hint = names.hint(None, "unit");
-    let message = field_message(
-        alloc,
-        root.field("unit"),
-        &Wish {
-            field: "unit",
-            wanted: "\"A\" or \"W\"",
-            hint,
-        },
-    )?;
-    findings.push(site_fault(Place::File, SiteFault::BadUnit, message))?;
-    Ok(())
+    let wish = Wish {
+        field: "unit",
+        wanted: "\"A\" or \"W\"",
+        hint: checked.names.hint(None, "unit"),
+    };
+    let message = field_message(checked.alloc, root.field("unit"), &wish)?;
+    checked.fault(SiteFault::BadUnit, message)
 }
 
-fn check_points(
-    alloc: Global,
-    root: Node<'_, '_>,
-    names: &SiteNames<'_>,
-    findings: &mut Vec<Finding>,
-) -> Result<(), AllocError> {
+fn check_points(checked: &mut CheckedSite<'_>, root: Node<'_, '_>) -> Result<(), AllocError> {
     let Field::Value(entries) = list_field(root, "points") else {
         let wish = Wish {
             field: "points",
             wanted: "a list of 1 to 1000 objects",
-            hint: names.hint(None, "points"),
+            hint: checked.names.hint(None, "points"),
         };
-        let message = field_message(alloc, root.field("points"), &wish)?;
-        findings.push(site_fault(Place::File, SiteFault::BadPoints, message))?;
-        return Ok(());
+        let message = field_message(checked.alloc, root.field("points"), &wish)?;
+        return checked.fault(SiteFault::BadPoints, message);
     };
     let count = entries.len();
     if count == 0 || count > MAX_POINTS {
-        let message = format!(in alloc; "points: {count} entries; 1 to {MAX_POINTS} are wanted")?;
-        findings.push(site_fault(Place::File, SiteFault::BadPoints, message))?;
+        let message = format!(in checked.alloc;
+            "points: {count} entries; 1 to {MAX_POINTS} are wanted"
+        )?;
+        checked.fault(SiteFault::BadPoints, message)?;
     }
-    check_entries(alloc, entries, names, findings)
+    check_entries(checked, entries)
 }
 
 /// Checks each point.
 fn check_entries(
-    alloc: Global,
+    checked: &mut CheckedSite<'_>,
     entries: Entries<'_, '_>,
-    names: &SiteNames<'_>,
-    findings: &mut Vec<Finding>,
 ) -> Result<(), AllocError> {
-    let mut known = KnownIds::new(alloc);
     let mut index: usize = 0;
     for entry in entries.iter() {
-        if entry.is_object() {
-            check_point(alloc, index, entry, names, &mut known, findings)?;
-        } else {
-            let found = what_stands(alloc, Some(entry))?;
-            let message = message_of(alloc, &found, "an object with id, ceiling and connectors")?;
-            let place = Place::Point { index, id: None };
-            findings.push(site_fault(place, SiteFault::BadPoints, message))?;
-        }
+        check_entry(checked, index, entry)?;
         index = index.saturating_add(1);
     }
+    Ok(())
+}
+
+fn check_entry(
+    checked: &mut CheckedSite<'_>,
+    index: usize,
+    entry: Node<'_, '_>,
+) -> Result<(), AllocError> {
+    if entry.is_object() {
+        return check_point(checked, index, entry);
+    }
+    let found = what_stands(checked.alloc, Some(entry))?;
+    let message = message_of(
+        checked.alloc,
+        &found,
+        "an object with id, ceiling and connectors",
+    )?;
+    let place = Place::Point { index, id: None };
+    checked
+        .findings
+        .push(site_fault(place, SiteFault::BadPoints, message))?;
     Ok(())
 }

@@ -47,6 +47,36 @@ impl KnownIds {
     }
 }
 
+/// A site file that is checked.
+#[derive(Drop)]
+pub(crate) struct CheckedSite<'a> {
+    pub alloc: Global,
+    pub names: &'a SiteNames<'a>,
+    pub known: KnownIds,
+    pub findings: Vec<Finding>,
+}
+
+impl CheckedSite<'_> {
+    /// A fault of the file that is no point's.
+    pub(crate) fn fault(&mut self, fault: SiteFault, message: String) -> Result<(), AllocError> {
+        self.findings.push(Finding::fault(Place::File, FaultName::Site(fault), message))?;
+        Ok(())
+    }
+
+    /// A fault of a point.
+    fn point_fault(
+        &mut self,
+        point: PointFields<'_, '_>,
+        fault: SiteFault,
+        message: String,
+    ) -> Result<(), AllocError> {
+        let place = point.place(self.alloc)?;
+        self.findings
+            .push(Finding::fault(place, FaultName::Site(fault), message))?;
+        Ok(())
+    }
+}
+
 /// A point whose fields are checked.
 #[derive(Clone, Copy)]
 struct PointFields<'node, 'memory> {
@@ -66,53 +96,35 @@ impl PointFields<'_, '_> {
             id,
         })
     }
-
-    fn fault(
-        self,
-        alloc: Global,
-        fault: SiteFault,
-        message: String,
-    ) -> Result<Finding, AllocError> {
-        let place = self.place(alloc)?;
-        Ok(Finding::fault(place, FaultName::Site(fault), message))
-    }
 }
 
 /// Checks a point, which is an object, and adds its faults to the findings.
 pub(crate) fn check_point(
-    alloc: Global,
+    checked: &mut CheckedSite<'_>,
     index: usize,
     fields: Node<'_, '_>,
-    names: &SiteNames<'_>,
-    known: &mut KnownIds,
-    findings: &mut Vec<Finding>,
 ) -> Result<(), AllocError> {
     let point = PointFields { index, fields };
-    check_id(alloc, point, names, known, findings)?;
-    let ceiling = check_ceiling(alloc, point, names, findings)?;
-    let together = check_connectors(alloc, point, names, findings)?;
+    check_id(checked, point)?;
+    let ceiling = check_ceiling(checked, point)?;
+    let together = check_connectors(checked, point)?;
     if let (Some(ceiling), Some(together)) = (ceiling, together) {
         if together > u64::from(ceiling) {
-            findings.push(remark_together(alloc, point, ceiling, together)?)?;
+            let remark = remark_together(checked.alloc, point, ceiling, together)?;
+            checked.findings.push(remark)?;
         }
     }
     Ok(())
 }
 
-fn check_id(
-    alloc: Global,
-    point: PointFields<'_, '_>,
-    names: &SiteNames<'_>,
-    known: &mut KnownIds,
-    findings: &mut Vec<Finding>,
-) -> Result<(), AllocError> {
+fn check_id(checked: &mut CheckedSite<'_>, point: PointFields<'_, '_>) -> Result<(), AllocError> {
     if let Field::Value(id) = text_field(point.fields, "id") {
         if is_point_id(id) {
-            if let Some(earlier) = known.earlier(alloc, id, point.index)? {
-                let message = format!(in alloc;
+            if let Some(earlier) = checked.known.earlier(checked.alloc, id, point.index)? {
+                let message = format!(in checked.alloc;
                     "id: points[{earlier}] has it too; each point has its own"
                 )?;
-                findings.push(point.fault(alloc, SiteFault::SameId, message)?)?;
+                checked.point_fault(point, SiteFault::SameId, message)?;
             }
             return Ok(());
         }
@@ -120,10 +132,10 @@ fn check_id(
     let wish = Wish {
         field: "id",
         wanted: "a text of 1 to 48 of the characters A-Z, a-z, 0-9, `.`, `_`, `-` and `~`",
-        hint: names.hint(Some(point.index), "id"),
+        hint: checked.names.hint(Some(point.index), "id"),
     };
-    let message = field_message(alloc, point.fields.field("id"), &wish)?;
-    findings.push(point.fault(alloc, SiteFault::BadId, message)?)?;
+    let message = field_message(checked.alloc, point.fields.field("id"), &wish)?;
+    checked.point_fault(point, SiteFault::BadId, message)?;
     Ok(())
 }
 
@@ -137,10 +149,8 @@ fn is_id_byte(byte: u8) -> bool {
 
 /// Returns the ceiling, in tenths, where it is one.
 fn check_ceiling(
-    alloc: Global,
+    checked: &mut CheckedSite<'_>,
     point: PointFields<'_, '_>,
-    names: &SiteNames<'_>,
-    findings: &mut Vec<Finding>,
 ) -> Result<Option<u32>, AllocError> {
     if let Field::Value(ceiling) = tenths_field(point.fields, "ceiling") {
         return Ok(Some(ceiling));
@@ -148,45 +158,42 @@ fn check_ceiling(
     let wish = Wish {
         field: "ceiling",
         wanted: LIMIT,
-        hint: names.hint(Some(point.index), "ceiling"),
+        hint: checked.names.hint(Some(point.index), "ceiling"),
     };
-    let message = field_message(alloc, point.fields.field("ceiling"), &wish)?;
-    findings.push(point.fault(alloc, SiteFault::BadCeiling, message)?)?;
+    let message = field_message(checked.alloc, point.fields.field("ceiling"), &wish)?;
+    checked.point_fault(point, SiteFault::BadCeiling, message)?;
     Ok(None)
 }
 
 /// Returns the sum of the connectors' ceilings, in tenths, where they are ceilings.
 fn check_connectors(
-    alloc: Global,
+    checked: &mut CheckedSite<'_>,
     point: PointFields<'_, '_>,
-    names: &SiteNames<'_>,
-    findings: &mut Vec<Finding>,
 ) -> Result<Option<u64>, AllocError> {
     let Field::Value(entries) = list_field(point.fields, "connectors") else {
         let wish = Wish {
             field: "connectors",
             wanted: "a list of 1 to 64 ceilings, of connectors 1, 2, .., such as [32.0,32.0]",
-            hint: names.hint(Some(point.index), "connectors"),
+            hint: checked.names.hint(Some(point.index), "connectors"),
         };
-        let message = field_message(alloc, point.fields.field("connectors"), &wish)?;
-        findings.push(point.fault(alloc, SiteFault::BadConnectors, message)?)?;
+        let message = field_message(checked.alloc, point.fields.field("connectors"), &wish)?;
+        checked.point_fault(point, SiteFault::BadConnectors, message)?;
         return Ok(None);
     };
     let count = entries.len();
     if count == 0 || count > MAX_CONNECTORS {
-        let message = format!(in alloc;
+        let message = format!(in checked.alloc;
             "connectors: {count} entries; 1 to {MAX_CONNECTORS} are wanted"
         )?;
-        findings.push(point.fault(alloc, SiteFault::BadConnectors, message)?)?;
+        checked.point_fault(point, SiteFault::BadConnectors, message)?;
     }
-    check_ceilings(alloc, point, entries, findings)
+    check_ceilings(checked, point, entries)
 }
 
 fn check_ceilings(
-    alloc: Global,
+    checked: &mut CheckedSite<'_>,
     point: PointFields<'_, '_>,
     entries: Entries<'_, '_>,
-    findings: &mut Vec<Finding>,
 ) -> Result<Option<u64>, AllocError> {
     let mut together = Some(0u64);
     let mut place: usize = 0;
@@ -197,10 +204,10 @@ fn check_ceilings(
             }
             None => {
                 together = None;
-                let found = what_stands(alloc, Some(entry))?;
-                let found = format!(in alloc; "connectors[{place}]: {found}")?;
-                let message = message_of(alloc, &found, LIMIT)?;
-                findings.push(point.fault(alloc, SiteFault::BadConnectors, message)?)?;
+                let found = what_stands(checked.alloc, Some(entry))?;
+                let found = format!(in checked.alloc; "connectors[{place}]: {found}")?;
+                let message = message_of(checked.alloc, &found, LIMIT)?;
+                checked.point_fault(point, SiteFault::BadConnectors, message)?;
             }
         }
         place = place.saturating_add(1);

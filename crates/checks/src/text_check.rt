@@ -4,8 +4,7 @@ use crate::call_check::{Call, check_call};
 use crate::finding::FaultName;
 use crate::json_fault::{JsonFault, json_fault_text};
 use crate::json_outline::outline_of;
-use crate::report::Report;
-use crate::requests::Requests;
+use crate::report::{CheckedScript, Report};
 use crate::script_line::{LineFault, LineText, Sender};
 use crate::sentences::call_sentence;
 use crate::shown::shown;
@@ -15,7 +14,6 @@ use ocppj_frame::{
     Field, Frame, FrameFault, MAX_ID_CHARACTERS, Node, ReadingMemory, read_frame, read_tree,
     text_field,
 };
-use site_rules::Site;
 use std::alloc::{AllocError, Global};
 
 /// What became of a text.
@@ -29,29 +27,25 @@ enum Reading {
 
 /// Checks the text of a line.
 pub(crate) fn check_text(
-    report: &mut Report,
-    site: &Site,
+    checked: &mut CheckedScript<'_>,
     memory: &mut ReadingMemory,
-    requests: &mut Requests,
     text: &LineText<'_>,
 ) -> Result<(), AllocError> {
-    match check_message(report, site, memory, requests, text)? {
+    match check_message(checked, memory, text)? {
         Reading::Checked => Ok(()),
-        Reading::Dropped => check_dropped(report, memory, text),
+        Reading::Dropped => check_dropped(&mut checked.report, memory, text),
     }
 }
 
 /// Checks a text as a message, if it is one.
 fn check_message(
-    report: &mut Report,
-    site: &Site,
+    checked: &mut CheckedScript<'_>,
     memory: &mut ReadingMemory,
-    requests: &mut Requests,
     text: &LineText<'_>,
 ) -> Result<Reading, AllocError> {
     match read_frame(memory, text.frame) {
-        Ok(frame) => check_frame(report, site, requests, text, frame)?,
-        Err(FrameFault::Formation { id: _id }) => check_malformed(report, text)?,
+        Ok(frame) => check_frame(checked, text, frame)?,
+        Err(FrameFault::Formation { id: _id }) => check_malformed(&mut checked.report, text)?,
         Err(FrameFault::Dropped) => return Ok(Reading::Dropped),
         Err(FrameFault::OutOfMemory) => return Err(AllocError),
     }
@@ -60,12 +54,11 @@ fn check_message(
 
 /// Checks a message.
 fn check_frame(
-    report: &mut Report,
-    site: &Site,
-    requests: &mut Requests,
+    checked: &mut CheckedScript<'_>,
     text: &LineText<'_>,
     frame: Frame<'_>,
 ) -> Result<(), AllocError> {
+    let report = &mut checked.report;
     match frame {
         Frame::Call {
             action,
@@ -77,7 +70,7 @@ fn check_frame(
                 action: action.as_str(),
                 payload: payload.root(),
             };
-            check_call(report, site, requests, &call)
+            check_call(checked, &call)
         }
         _ if text.sender == Sender::Hold => not_composite(report, text, "it is no CALL"),
         Frame::Reply { id, payload } => {
