@@ -1,6 +1,6 @@
 //! The strip below a picture's field that names what sets the limit of each stretch.
 
-use crate::drawing::push_letter;
+use crate::drawing::{Sketch, push_letter};
 use crate::entries::{Entry, place_of};
 use crate::explained::Explained;
 use crate::markup::push_escaped;
@@ -20,9 +20,7 @@ pub(crate) const LOWER: u64 = UPPER + 26;
 pub(crate) fn push_causes(
     alloc: Global,
     out: &mut String,
-    explained: &Explained<'_>,
-    scale: Scale,
-    entries: &[Entry],
+    sketch: Sketch<'_>,
 ) -> Result<(), AllocError> {
     let (x, base) = (LEFT - 10, UPPER + 17);
     write!(
@@ -30,12 +28,12 @@ pub(crate) fn push_causes(
         "<text class=\"end soft\" x=\"{x}\" y=\"{base}\">set by</text>\n"
     )?;
     let mut is_odd = false;
-    for stretch in explained.stretches.iter().take(MAX_STRETCHES) {
-        let field = Field::of(scale, stretch, is_odd);
+    for stretch in sketch.explained.stretches.iter().take(MAX_STRETCHES) {
+        let field = Field::of(sketch.scale, stretch, is_odd);
         // Without breadth nobody sees it.
         if field.breadth > 0 {
-            push_field(alloc, out, explained, field)?;
-            push_name(alloc, out, field, entries)?;
+            push_field(alloc, out, sketch.explained, field)?;
+            push_name(alloc, out, field, sketch.entries)?;
         }
         is_odd = !is_odd;
     }

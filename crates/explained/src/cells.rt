@@ -15,6 +15,8 @@ pub(crate) struct Cells {
     pub(crate) to: String,
     pub(crate) length: String,
     pub(crate) limit: String,
+    /// The limit in tenths.
+    pub(crate) tenths: u32,
     pub(crate) why: String,
 }
 
@@ -53,6 +55,7 @@ impl<'a> CellMaker<'a> {
             to: self.time(alloc, to, dates.1)?,
             length,
             limit,
+            tenths: stretch.reason.limit,
             why,
         })
     }

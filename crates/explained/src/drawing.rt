@@ -12,6 +12,16 @@ use ocpp_scalars::{push_integer, push_tenths};
 use profile::Unit;
 use std::alloc::{AllocError, Global};
 
+/// What a picture is drawn of.
+#[derive(Clone, Copy)]
+pub(crate) struct Sketch<'a> {
+    pub(crate) explained: &'a Explained<'a>,
+    pub(crate) scale: Scale,
+    pub(crate) entries: &'a [Entry],
+    /// The limits of the stretches.
+    pub(crate) limit: &'a Steps,
+}
+
 /// Appends the data of a path along steps.
 pub(crate) fn push_path(out: &mut String, scale: Scale, steps: &Steps) -> Result<(), AllocError> {
     let mut is_down = false;
@@ -147,7 +157,8 @@ pub(crate) fn push_time_axis(
     for count in 0..=u64::from(MOST_TIMES) {
         let moment = first.saturating_add(step.saturating_mul(count));
         if moment <= explained.end() {
-            push_time_tick(out, explained, scale, moment, step)?;
+            let x = scale.x(second_at(explained, moment));
+            push_time_tick(out, x, moment, step)?;
         }
     }
     push_dates(alloc, out, explained, scale)
@@ -159,14 +170,7 @@ fn second_at(explained: &Explained<'_>, moment: u64) -> u32 {
     second.min(u64::from(explained.ask.duration)) as u32
 }
 
-fn push_time_tick(
-    out: &mut String,
-    explained: &Explained<'_>,
-    scale: Scale,
-    moment: u64,
-    step: u64,
-) -> Result<(), AllocError> {
-    let x = scale.x(second_at(explained, moment));
+fn push_time_tick(out: &mut String, x: u64, moment: u64, step: u64) -> Result<(), AllocError> {
     let (foot, base) = (BOTTOM + 5, BOTTOM + 20);
     write!(out, "<path class=\"grid\" d=\"M{x} {TOP}V{foot}\"/>")?;
     write!(out, "<text class=\"middle soft\" x=\"{x}\" y=\"{base}\">")?;

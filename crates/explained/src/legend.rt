@@ -1,7 +1,7 @@
 //! What the lines of a picture are.
 
 use crate::causes::LOWER;
-use crate::drawing::{ceiling_class, push_letter, push_style};
+use crate::drawing::{Sketch, ceiling_class, push_letter, push_style};
 use crate::entries::{Entry, Line};
 use crate::explained::Explained;
 use crate::markup::push_escaped;
@@ -27,25 +27,26 @@ pub(crate) fn lower_edge(entries: usize) -> u64 {
 pub(crate) fn push_legend(
     alloc: Global,
     out: &mut String,
-    explained: &Explained<'_>,
-    scale: Scale,
-    entries: &[Entry],
-    limit: &Steps,
+    sketch: Sketch<'_>,
 ) -> Result<(), AllocError> {
     let mut text = String::from_str(alloc, "the limit")?;
-    push_cut(alloc, &mut text, explained, limit)?;
+    push_cut(alloc, &mut text, sketch.explained, sketch.limit)?;
     push_sample(out, "limit", FIRST)?;
     push_text(out, text.as_str(), FIRST)?;
-    for (place, entry) in entries.iter().enumerate() {
-        let middle = (place as u64)
-            .saturating_add(1)
-            .saturating_mul(LINE)
-            .saturating_add(FIRST);
+    for (place, entry) in sketch.entries.iter().enumerate() {
+        let middle = middle_of(place);
         push_entry(out, place, entry, middle)?;
-        let text = entry_text(alloc, explained, scale, entry)?;
+        let text = entry_text(alloc, sketch.explained, sketch.scale, entry)?;
         push_text(out, text.as_str(), middle)?;
     }
     Ok(())
+}
+
+/// The middle of an entry's line, by its place.
+fn middle_of(place: usize) -> u64 {
+    (place as u64)
+        .saturating_mul(LINE)
+        .saturating_add(FIRST + LINE)
 }
 
 /// Appends the letter of an entry and a piece of its line.

@@ -2,14 +2,14 @@
 
 use crate::causes::push_causes;
 use crate::cells::CellMaker;
-use crate::drawing::{push_entry_line, push_limit_axis, push_limit_line, push_time_axis};
-use crate::entries::{Entry, entries_of};
+use crate::drawing::{Sketch, push_entry_line, push_limit_axis, push_limit_line, push_time_axis};
+use crate::entries::entries_of;
 use crate::explained::Explained;
 use crate::legend::{lower_edge, push_legend};
 use crate::letters::push_letters;
 use crate::markup::{push_element, push_escaped};
 use crate::scale::{BREADTH, LEFT, Scale};
-use crate::steps::{Steps, stretch_steps};
+use crate::steps::stretch_steps;
 use crate::styles::PICTURE;
 use crate::table::{heading, place, push_moment};
 use crate::words::{push_length, unit_name};
@@ -46,7 +46,13 @@ pub(crate) fn push_picture(
         "<rect class=\"paper\" width=\"{BREADTH}\" height=\"{height}\"/>\n"
     )?;
     push_head(alloc, out, explained)?;
-    push_drawing(alloc, out, explained, entries.as_slice(), &limit)?;
+    let sketch = Sketch {
+        explained,
+        scale: Scale::of(explained, entries.as_slice()),
+        entries: entries.as_slice(),
+        limit: &limit,
+    };
+    push_drawing(alloc, out, sketch)?;
     out.push_str("</svg>\n")
 }
 
@@ -110,21 +116,15 @@ fn push_head(alloc: Global, out: &mut String, explained: &Explained<'_>) -> Resu
 }
 
 /// Appends axes, lines, letters, causes and legend.
-fn push_drawing(
-    alloc: Global,
-    out: &mut String,
-    explained: &Explained<'_>,
-    entries: &[Entry],
-    limit: &Steps,
-) -> Result<(), AllocError> {
-    let scale = Scale::of(explained, entries);
-    push_limit_axis(out, scale, explained.unit)?;
-    push_time_axis(alloc, out, explained, scale)?;
-    for (place, entry) in entries.iter().enumerate() {
+fn push_drawing(alloc: Global, out: &mut String, sketch: Sketch<'_>) -> Result<(), AllocError> {
+    let scale = sketch.scale;
+    push_limit_axis(out, scale, sketch.explained.unit)?;
+    push_time_axis(alloc, out, sketch.explained, scale)?;
+    for (place, entry) in sketch.entries.iter().enumerate() {
         push_entry_line(out, scale, place, entry)?;
     }
-    push_limit_line(out, scale, limit)?;
-    push_letters(alloc, out, scale, entries)?;
-    push_causes(alloc, out, explained, scale, entries)?;
-    push_legend(alloc, out, explained, scale, entries, limit)
+    push_limit_line(out, scale, sketch.limit)?;
+    push_letters(alloc, out, scale, sketch.entries)?;
+    push_causes(alloc, out, sketch)?;
+    push_legend(alloc, out, sketch)
 }

@@ -203,8 +203,8 @@ fn push_stretches(
         largest: largest_limit(explained),
     };
     sheet.push_head(out)?;
-    for (cells, stretch) in sheet.all.iter().zip(explained.stretches) {
-        sheet.push(alloc, out, cells, stretch.reason.limit)?;
+    for cells in sheet.all {
+        sheet.push(alloc, out, cells)?;
     }
     Ok(())
 }
@@ -241,13 +241,7 @@ impl Sheet<'_> {
     }
 
     /// Appends a stretch.
-    fn push(
-        &self,
-        alloc: Global,
-        out: &mut String,
-        cells: &Cells,
-        limit: u32,
-    ) -> Result<(), AllocError> {
+    fn push(&self, alloc: Global, out: &mut String, cells: &Cells) -> Result<(), AllocError> {
         match self.layout {
             Layout::Plain => {
                 self.push_numbers(out, cells)?;
@@ -255,17 +249,17 @@ impl Sheet<'_> {
             }
             Layout::OneLine(room) => {
                 self.push_numbers(out, cells)?;
-                let bar = self.push_bar(out, limit, room)?;
+                let bar = self.push_bar(out, cells, room)?;
                 push_times(out, ' ', room.saturating_sub(bar))?;
                 push_ended(out, "  ", cells.why.as_str())
             }
             Layout::TwoLines(room) => {
                 self.push_numbers(out, cells)?;
-                self.push_bar(out, limit, room)?;
+                self.push_bar(out, cells, room)?;
                 out.push('\n')?;
                 self.push_why(out, cells, 4)
             }
-            Layout::Paragraphs(room) => self.push_paragraph(alloc, out, cells, limit, room),
+            Layout::Paragraphs(room) => self.push_paragraph(alloc, out, cells, room),
         }
     }
 
@@ -274,7 +268,6 @@ impl Sheet<'_> {
         alloc: Global,
         out: &mut String,
         cells: &Cells,
-        limit: u32,
         room: usize,
     ) -> Result<(), AllocError> {
         let mut line = String::from_str(alloc, cells.from.as_str())?;
@@ -289,7 +282,7 @@ impl Sheet<'_> {
         push_right(out, cells.limit.as_str(), self.widths.limit)?;
         out.push_str("  ")?;
         push_right(out, cells.length.as_str(), self.widths.length)?;
-        self.push_bar(out, limit, room)?;
+        self.push_bar(out, cells, room)?;
         out.push('\n')?;
         self.push_why(out, cells, 2)
     }
@@ -313,8 +306,8 @@ impl Sheet<'_> {
     }
 
     /// Appends the bar of a limit with two blanks before it, and says how long it is.
-    fn push_bar(&self, out: &mut String, limit: u32, room: usize) -> Result<usize, AllocError> {
-        let bar = bar_of(limit, self.largest, room);
+    fn push_bar(&self, out: &mut String, cells: &Cells, room: usize) -> Result<usize, AllocError> {
+        let bar = bar_of(cells.tenths, self.largest, room);
         if bar > 0 {
             out.push_str("  ")?;
             push_times(out, '#', bar)?;
