@@ -55,21 +55,30 @@ fn check_site_text(alloc: Global, text: &str) -> Result<Vec<Finding>, AllocError
     let outline = outline_of(alloc, text)?;
     let mut memory = ReadingMemory::new(alloc);
     match read_tree(&mut memory, text) {
-        Ok(tree) => {
-            let names = unknown_site_fields(alloc, text, &outline)?;
-            let mut checked = CheckedSite {
-                alloc,
-                names: &names,
-                known: KnownIds::new(alloc),
-                findings: Vec::new(alloc),
-            };
-            check_root(&mut checked, tree.root())?;
-            names.warn(alloc, text, &mut checked.findings)?;
-            Ok(checked.findings)
-        }
+        Ok(tree) => check_tree(alloc, text, &outline, tree.root()),
         Err(FrameFault::OutOfMemory) => Err(AllocError),
         Err(_) => alone(alloc, not_json(alloc, text, &outline)?),
     }
+}
+
+/// Checks the tree of a site file.
+fn check_tree(
+    alloc: Global,
+    text: &str,
+    outline: &Outline,
+    root: Node<'_, '_>,
+) -> Result<Vec<Finding>, AllocError> {
+    let names = unknown_site_fields(alloc, text, outline)?;
+    let mut checked = CheckedSite {
+        alloc,
+        names: &names,
+        known: KnownIds::new(alloc),
+        findings: Vec::new(alloc),
+    };
+    check_root(&mut checked, root)?;
+    let CheckedSite { mut findings, .. } = checked;
+    names.warn(alloc, text, &mut findings)?;
+    Ok(findings)
 }
 
 /// Where the text breaks.
@@ -86,8 +95,8 @@ fn not_json(alloc: Global, text: &str, outline: &Outline) -> Result<Finding, All
     }
 }
 
-/// Checks the whole tree of a site file.
-fn check_root(checked: &mut CheckedSite<'_>, root: Node<'_, '_>) -> Result<(), AllocError> {
+/// Checks the object of a site file.
+fn check_root(checked: &mut CheckedSite<'_, '_>, root: Node<'_, '_>) -> Result<(), AllocError> {
     if !root.is_object() {
         let found = what_stands(checked.alloc, Some(root))?;
         let message = message_of(
@@ -101,7 +110,7 @@ fn check_root(checked: &mut CheckedSite<'_>, root: Node<'_, '_>) -> Result<(), A
     check_points(checked, root)
 }
 
-fn check_unit(checked: &mut CheckedSite<'_>, root: Node<'_, '_>) -> Result<(), AllocError> {
+fn check_unit(checked: &mut CheckedSite<'_, '_>, root: Node<'_, '_>) -> Result<(), AllocError> {
     if let Field::Value(text) = text_field(root, "unit") {
         if Unit::named(text).is_some() {
             return Ok(());
@@ -116,7 +125,7 @@ fn check_unit(checked: &mut CheckedSite<'_>, root: Node<'_, '_>) -> Result<(), A
     checked.fault(SiteFault::BadUnit, message)
 }
 
-fn check_points(checked: &mut CheckedSite<'_>, root: Node<'_, '_>) -> Result<(), AllocError> {
+fn check_points(checked: &mut CheckedSite<'_, '_>, root: Node<'_, '_>) -> Result<(), AllocError> {
     let Field::Value(entries) = list_field(root, "points") else {
         let wish = Wish {
             field: "points",
@@ -138,7 +147,7 @@ fn check_points(checked: &mut CheckedSite<'_>, root: Node<'_, '_>) -> Result<(),
 
 /// Checks each point.
 fn check_entries(
-    checked: &mut CheckedSite<'_>,
+    checked: &mut CheckedSite<'_, '_>,
     entries: Entries<'_, '_>,
 ) -> Result<(), AllocError> {
     let mut index: usize = 0;
@@ -150,7 +159,7 @@ fn check_entries(
 }
 
 fn check_entry(
-    checked: &mut CheckedSite<'_>,
+    checked: &mut CheckedSite<'_, '_>,
     index: usize,
     entry: Node<'_, '_>,
 ) -> Result<(), AllocError> {

@@ -49,14 +49,14 @@ impl KnownIds {
 
 /// A site file that is checked.
 #[derive(Drop)]
-pub(crate) struct CheckedSite<'a> {
+pub(crate) struct CheckedSite<'names, 'text> {
     pub alloc: Global,
-    pub names: &'a SiteNames<'a>,
+    pub names: &'names SiteNames<'text>,
     pub known: KnownIds,
     pub findings: Vec<Finding>,
 }
 
-impl CheckedSite<'_> {
+impl CheckedSite<'_, '_> {
     /// A fault of the file that is no point's.
     pub(crate) fn fault(&mut self, fault: SiteFault, message: String) -> Result<(), AllocError> {
         self.findings.push(Finding::fault(Place::File, FaultName::Site(fault), message))?;
@@ -100,7 +100,7 @@ impl PointFields<'_, '_> {
 
 /// Checks a point, which is an object, and adds its faults to the findings.
 pub(crate) fn check_point(
-    checked: &mut CheckedSite<'_>,
+    checked: &mut CheckedSite<'_, '_>,
     index: usize,
     fields: Node<'_, '_>,
 ) -> Result<(), AllocError> {
@@ -117,7 +117,10 @@ pub(crate) fn check_point(
     Ok(())
 }
 
-fn check_id(checked: &mut CheckedSite<'_>, point: PointFields<'_, '_>) -> Result<(), AllocError> {
+fn check_id(
+    checked: &mut CheckedSite<'_, '_>,
+    point: PointFields<'_, '_>,
+) -> Result<(), AllocError> {
     if let Field::Value(id) = text_field(point.fields, "id") {
         if is_point_id(id) {
             if let Some(earlier) = checked.known.earlier(checked.alloc, id, point.index)? {
@@ -149,7 +152,7 @@ fn is_id_byte(byte: u8) -> bool {
 
 /// Returns the ceiling, in tenths, where it is one.
 fn check_ceiling(
-    checked: &mut CheckedSite<'_>,
+    checked: &mut CheckedSite<'_, '_>,
     point: PointFields<'_, '_>,
 ) -> Result<Option<u32>, AllocError> {
     if let Field::Value(ceiling) = tenths_field(point.fields, "ceiling") {
@@ -167,7 +170,7 @@ fn check_ceiling(
 
 /// Returns the sum of the connectors' ceilings, in tenths, where they are ceilings.
 fn check_connectors(
-    checked: &mut CheckedSite<'_>,
+    checked: &mut CheckedSite<'_, '_>,
     point: PointFields<'_, '_>,
 ) -> Result<Option<u64>, AllocError> {
     let Field::Value(entries) = list_field(point.fields, "connectors") else {
@@ -191,7 +194,7 @@ fn check_connectors(
 }
 
 fn check_ceilings(
-    checked: &mut CheckedSite<'_>,
+    checked: &mut CheckedSite<'_, '_>,
     point: PointFields<'_, '_>,
     entries: Entries<'_, '_>,
 ) -> Result<Option<u64>, AllocError> {
