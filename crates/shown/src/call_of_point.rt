@@ -29,7 +29,10 @@ pub fn waiting_calls(alloc: Global, outbox: &Outbox) -> Result<Vec<WaitingCall>,
 }
 
 /// The call in flight, if one is.
-pub fn call_in_flight(alloc: Global, outbox: &Outbox) -> Result<Option<(u64, CallBody)>, AllocError> {
+pub fn call_in_flight(
+    alloc: Global,
+    outbox: &Outbox,
+) -> Result<Option<(u64, CallBody)>, AllocError> {
     if !outbox.is_in_flight() {
         return Ok(None);
     }

@@ -54,11 +54,7 @@ pub fn kind_text(alloc: Global, kind: Kind) -> Result<String, AllocError> {
 
 /// From when on a row counts: the later of validFrom and the start of its schedule. `started` is the start of the active
 /// transaction at the row's connector.
-pub fn from_text(
-    alloc: Global,
-    row: &Row,
-    started: Option<Instant>,
-) -> Result<String, AllocError> {
+pub fn from_text(alloc: Global, row: &Row, started: Option<Instant>) -> Result<String, AllocError> {
     match (start_of(row, started), row.profile.valid_from) {
         (Some(start), Some(from)) => instant_text(alloc, start.max(from)),
         (Some(start), None) => instant_text(alloc, start),

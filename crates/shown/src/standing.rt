@@ -84,7 +84,16 @@ fn push_profiles(alloc: Global, out: &mut String, book: &PointBook) -> Result<()
     }
     let mut table = Table::new(
         alloc,
-        &["id", "connector", "purpose", "level", "kind", "from", "until", "periods"],
+        &[
+            "id",
+            "connector",
+            "purpose",
+            "level",
+            "kind",
+            "from",
+            "until",
+            "periods",
+        ],
     )?;
     for row in rows {
         let profile = &row.profile;
@@ -132,7 +141,9 @@ fn calls_text(alloc: Global, outbox: &Outbox, calls: usize) -> Result<String, Al
         Some(_) => "",
         None => ", no link",
     };
-    format!(in alloc; "calls: {confirmed} confirmed, {in_flight} in flight, {waiting} waiting{link}")
+    format!(in alloc;
+        "calls: {confirmed} confirmed, {in_flight} in flight, {waiting} waiting{link}"
+    )
 }
 
 /// The calls that aren't confirmed.

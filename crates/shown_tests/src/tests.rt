@@ -32,7 +32,10 @@ fn table_of(
 fn nothing_stands(rt: HostRuntime) -> Result<(), Fail> {
     let site = r#"{"unit":"W","points":[{"id":"A","ceiling":63.0,"connectors":[32.0]}]}"#;
     let table = table_of(rt.alloc(), site, "", None)?;
-    assert_eq!(rt; table.as_str(), "A: no profile, no transaction; calls: 0 confirmed, 0 in flight, 1 waiting, no link (call 0, ClearChargingProfile, waiting)\n");
+    assert_eq!(rt;
+        table.as_str(),
+        "A: no profile, no transaction; calls: 0 confirmed, 0 in flight, 1 waiting, no link (call 0, ClearChargingProfile, waiting)\n"
+    );
     Ok(())
 }
 

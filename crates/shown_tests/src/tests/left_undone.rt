@@ -5,7 +5,8 @@ use std::test::Fail;
 
 const SITE: &str = r#"{"unit":"A","points":[{"id":"CP1","ceiling":63.0,"connectors":[32.0]}]}"#;
 
-const SCRIPT: &str = r#"2025-01-01T00:00:00Z operator CP1 [2,"n","SetChargingProfile",{"connectorId":1,"csChargingProfiles":{"chargingProfileId":1,"stackLevel":2,"chargingProfilePurpose":"TxDefaultProfile","chargingProfileKind":"Recurring","recurrencyKind":"Daily","validTo":"2025-03-01T00:00:00Z","chargingSchedule":{"duration":28800,"startSchedule":"2025-01-01T22:00:00Z","chargingRateUnit":"A","chargingSchedulePeriod":[{"startPeriod":0,"limit":10.5}]}}}]
+const SCRIPT: &str =
+    r#"2025-01-01T00:00:00Z operator CP1 [2,"n","SetChargingProfile",{"connectorId":1,"csChargingProfiles":{"chargingProfileId":1,"stackLevel":2,"chargingProfilePurpose":"TxDefaultProfile","chargingProfileKind":"Recurring","recurrencyKind":"Daily","validTo":"2025-03-01T00:00:00Z","chargingSchedule":{"duration":28800,"startSchedule":"2025-01-01T22:00:00Z","chargingRateUnit":"A","chargingSchedulePeriod":[{"startPeriod":0,"limit":10.5}]}}}]
 2025-01-01T00:00:01Z point CP1 [2,"b","Heartbeat",{}]
 2025-01-01T00:00:02Z point CP1 [3,"0",{"status":"Accepted"}]
 2025-01-01T00:00:03Z point CP1 [3,"1",{"status":"Rejected"}]
@@ -24,13 +25,15 @@ const NIGHT: &str = "CP1
     1       SetChargingProfile  TxDefaultProfile 1 at connector 1  in flight
 ";
 
-const END: &str = "CP1: no profile, no transaction; calls: 2 confirmed, 0 in flight, 1 waiting (call 2, ClearChargingProfile, waiting)
+const END: &str =
+    "CP1: no profile, no transaction; calls: 2 confirmed, 0 in flight, 1 waiting (call 2, ClearChargingProfile, waiting)
 held requests
   number  id  point  connector  start                 seconds
   1       h   CP1    1          2025-01-01T00:00:04Z  60
 ";
 
-const TRACE: &str = r#"line  point  text                                                                     answer
+const TRACE: &str =
+    r#"line  point  text                                                                     answer
 1     CP1    operator [2,"n","SetChargingProfile",{"connectorId":1,"csChargingProf..  > [3,"n",{"status":"Accepted"}]
 2     CP1    point [2,"b","Heartbeat",{}]                                             > [3,"b",{"currentTime":"2025-01-01T00:00:01Z"}]
                                                                                       * CP1 [2,"0","ClearChargingProfile",{}]
@@ -45,7 +48,8 @@ CP1: call 1 (SetChargingProfile, TxDefaultProfile 1 at connector 1), which went 
 CP1: 1 call never went out, waiting since line 6: a call goes out after a text of the point
 ";
 
-const JSON: &str = r#"{"lines":7,"faults":1,"points":[{"id":"CP1","profiles":[],"transactions":[],"linked":true,"confirmed":2,"calls":[{"number":2,"state":"waiting","action":"ClearChargingProfile","id":1}]}],"held":[{"number":1,"messageId":"h","point":"CP1","connectorId":1,"start":"2025-01-01T00:00:04Z","duration":60}]}"#;
+const JSON: &str =
+    r#"{"lines":7,"faults":1,"points":[{"id":"CP1","profiles":[],"transactions":[],"linked":true,"confirmed":2,"calls":[{"number":2,"state":"waiting","action":"ClearChargingProfile","id":1}]}],"held":[{"number":1,"messageId":"h","point":"CP1","connectorId":1,"start":"2025-01-01T00:00:04Z","duration":60}]}"#;
 
 #[test]
 fn stands(rt: HostRuntime) -> Result<(), Fail> {

@@ -3,9 +3,11 @@
 use super::{table_of, trace_of};
 use std::test::Fail;
 
-const SITE: &str = r#"{"unit":"A","points":[{"id":"garage","ceiling":63.0,"connectors":[32.0,32.0]},{"id":"street","ceiling":32.0,"connectors":[32.0]}]}"#;
+const SITE: &str =
+    r#"{"unit":"A","points":[{"id":"garage","ceiling":63.0,"connectors":[32.0,32.0]},{"id":"street","ceiling":32.0,"connectors":[32.0]}]}"#;
 
-const SCRIPT: &str = r#"2025-06-02T08:00:00Z operator garage [2,"tariff","SetChargingProfile",{"connectorId":0,"csChargingProfiles":{"chargingProfileId":10,"stackLevel":0,"chargingProfilePurpose":"TxDefaultProfile","chargingProfileKind":"Absolute","chargingSchedule":{"duration":21600,"startSchedule":"2025-06-02T16:00:00Z","chargingRateUnit":"A","chargingSchedulePeriod":[{"startPeriod":0,"limit":16},{"startPeriod":7200,"limit":10},{"startPeriod":14400,"limit":20}]}}}]
+const SCRIPT: &str =
+    r#"2025-06-02T08:00:00Z operator garage [2,"tariff","SetChargingProfile",{"connectorId":0,"csChargingProfiles":{"chargingProfileId":10,"stackLevel":0,"chargingProfilePurpose":"TxDefaultProfile","chargingProfileKind":"Absolute","chargingSchedule":{"duration":21600,"startSchedule":"2025-06-02T16:00:00Z","chargingRateUnit":"A","chargingSchedulePeriod":[{"startPeriod":0,"limit":16},{"startPeriod":7200,"limit":10},{"startPeriod":14400,"limit":20}]}}}]
 2025-06-02T15:00:00Z operator garage [2,"evening","GetCompositeSchedule",{"connectorId":1,"duration":28800}]
 2025-06-02T15:01:00Z operator garage [2,"fuse","SetChargingProfile",{"connectorId":0,"csChargingProfiles":{"chargingProfileId":20,"stackLevel":0,"chargingProfilePurpose":"ChargePointMaxProfile","chargingProfileKind":"Absolute","chargingSchedule":{"startSchedule":"2025-06-02T00:00:00Z","chargingRateUnit":"A","chargingSchedulePeriod":[{"startPeriod":0,"limit":25}]}}}]
 2025-06-02T15:02:00Z operator garage [2,"evening-again","GetCompositeSchedule",{"connectorId":1,"duration":28800}]
