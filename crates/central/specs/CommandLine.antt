@@ -3,6 +3,7 @@ use Rattle.std.specs.Prelude.{◌≡◌, ◌≤◌, Bool, true, false, ℕ, List
 use Rattle.std.specs.Str.Parse.{IsNumeral, digits_value, without_leading_plus}
 use Rattle.meaning.specs.Limits.{max_duration}
 use Rattle.site_rules.specs.Limits.{max_connectors}
+use Rattle.replay.specs.Limits.{max_script_bytes}
 use Rattle.clap.specs.Words.{App, Kinds, Row, Rule, Text, all_of, fault_of, first_of, new_app, new_rule, one_of, subcommand_of, with_rule, with_subcommand}
 use Rattle.clap.specs.declared.builder.action.ArgAction.TheVariants.{Set, SetTrue}
 use Rattle.clap.specs.declared.builder.value_parser.ValueParser.TheVariants.{Unsigned}
@@ -22,10 +23,6 @@ max_workers = 8
 
 abbrev pub max_sessions : ℕ
 max_sessions = 64
-
--- at most so many lines of a script: it has no more bytes
-abbrev pub max_lines : ℕ
-max_lines = 16_777_216
 
 -- ---- the commands
 
@@ -87,6 +84,7 @@ point_command =
     (needed (codes "site")))
     (needed (codes "id"))
 
+-- A script has no more lines than bytes.
 -- `explain --site F --point ID --connector C --start INSTANT --duration D [--at N] [--picture FILE] [--json]`
 abbrev pub explain_command : App
 explain_command =
@@ -96,7 +94,7 @@ explain_command =
     (numbered 0 max_connectors (needed (codes "connector"))))
     (needed (codes "start")))
     (numbered 1 max_duration (needed (codes "duration"))))
-    (numbered 0 max_lines (optional (codes "at"))))
+    (numbered 0 max_script_bytes (optional (codes "at"))))
     (optional (codes "picture")))
     (flag (codes "json"))
 
@@ -112,7 +110,7 @@ abbrev pub show_command : App
 show_command =
     with_rule (with_rule (with_rule (new_app (codes "show"))
     (needed (codes "site")))
-    (numbered 0 max_lines (optional (codes "at"))))
+    (numbered 0 max_script_bytes (optional (codes "at"))))
     (flag (codes "json"))
 
 -- a command that prints its version, and needs one of its subcommands
