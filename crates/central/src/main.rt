@@ -18,6 +18,7 @@ use crate::program::serving::serve_file;
 use crate::program::showing::show_file;
 use clap::error::ErrorKind;
 use std::alloc::AllocGlobal;
+use std::io::IsTerminal;
 use std::marker::Sync;
 use std::net::{Net, TcpListener, TcpStream};
 use std::process::ExitCode;
@@ -26,7 +27,6 @@ use std::rt::{Env, Runtime};
 use std::sync::Wait;
 use std::thread::Threads;
 use std::{env, io};
-use std::io::IsTerminal;
 
 fn main(rt: HostRuntime) -> ExitCode {
     let screen = Screen {

@@ -8,9 +8,9 @@ use crate::program::pages::print_page;
 use crate::program::program_fault::ProgramFault;
 use crate::program::script_input::read_script;
 use crate::program::site_file::read_site_bytes;
-use checks::{Finding, check_script, check_site, exit_status};
-use shown::{ending_text, trace_script, trace_text};
-use site_rules::{Site, read_site};
+use checks::{Finding, Place, check_printed, check_script, check_site, exit_status};
+use shown::{Trace, ending_text, trace_script, trace_text};
+use site_rules::read_site;
 use std::alloc::{AllocError, AllocGlobal, Global};
 use std::fmt::Write;
 use std::rt::Files;
@@ -43,11 +43,38 @@ fn page_of(
     push_findings(&mut page, checking.site, findings.as_slice())?;
     if let Ok(site) = read_site(alloc, bytes) {
         let mut more = check_script(alloc, &site, script)?;
+        let trace = trace_script(alloc, script, site, None)?;
+        find_in_answers(alloc, &trace, &mut more)?;
         push_findings(&mut page, "script", more.as_slice())?;
         findings.append(&mut more)?;
-        push_played(alloc, &mut page, site, script, checking.trace)?;
+        if checking.trace {
+            page.push_str(trace_text(alloc, &trace)?.as_str())?;
+        }
+        page.push_str(ending_text(alloc, &trace)?.as_str())?;
     }
     Ok((page, exit_status(findings.as_slice())))
+}
+
+/// Adds what is found in the answers of a script's lines, and sorts all by lines.
+fn find_in_answers(
+    alloc: Global,
+    trace: &Trace<'_>,
+    findings: &mut Vec<Finding>,
+) -> Result<(), AllocError> {
+    for line in trace.lines() {
+        let mut more = check_printed(alloc, line.number, line.printed.as_str())?;
+        findings.append(&mut more)?;
+    }
+    findings.sort_by_key(|finding| line_of(&finding.place))?;
+    Ok(())
+}
+
+/// The line of the script where a finding stands; what stands at none comes first.
+fn line_of(place: &Place) -> u64 {
+    match place {
+        Place::Line(number) => *number,
+        Place::File | Place::Character { .. } | Place::Point { .. } => 0,
+    }
 }
 
 /// Appends a line for each finding, behind the name of where it was found.
@@ -57,23 +84,5 @@ fn push_findings(page: &mut String, name: &str, findings: &[Finding]) -> Result<
             return Err(AllocError);
         }
     }
-    Ok(())
-}
-
-/// Appends what each line of a script was answered, where that is wanted, and what is left undone at its end.
-fn push_played(
-    alloc: Global,
-    page: &mut String,
-    site: Site,
-    script: &[u8],
-    with_trace: bool,
-) -> Result<(), AllocError>
-    requires { length script.now ≤ max_script_bytes }
-{
-    let trace = trace_script(alloc, script, site, None)?;
-    if with_trace {
-        page.push_str(trace_text(alloc, &trace)?.as_str())?;
-    }
-    page.push_str(ending_text(alloc, &trace)?.as_str())?;
     Ok(())
 }

@@ -67,8 +67,16 @@ fn serve<'a>(alloc: Global) -> Result<Command<'a>, AllocError>
         .after_help(SERVE_NOTES)
         .arg(needed(alloc, "site", "F", SITE_HELP))?
         .arg(needed(alloc, "listen", "A", LISTEN_HELP))?
-        .arg(numbered(needed(alloc, "workers", "N", WORKERS_HELP), 1, MAX_WORKERS as u64))?
-        .arg(numbered(needed(alloc, "sessions", "K", SESSIONS_HELP), 1, MAX_SESSIONS))
+        .arg(numbered(
+            needed(alloc, "workers", "N", WORKERS_HELP),
+            1,
+            MAX_WORKERS as u64,
+        ))?
+        .arg(numbered(
+            needed(alloc, "sessions", "K", SESSIONS_HELP),
+            1,
+            MAX_SESSIONS,
+        ))
 }
 
 /// `call --url U [--set-profile FILE] [--clear CRITERIA] [--ask CONNECTOR SECONDS]`.
@@ -110,7 +118,11 @@ fn explain<'a>(alloc: Global) -> Result<Command<'a>, AllocError>
         .arg(numbered(connector, 0, MAX_CONNECTORS))?
         .arg(needed(alloc, "start", "INSTANT", START_HELP))?
         .arg(numbered(duration, 1, u64::from(MAX_DURATION)))?
-        .arg(numbered(optional(alloc, "at", "N", AT_HELP), 0, MAX_SCRIPT_BYTES as u64))?
+        .arg(numbered(
+            optional(alloc, "at", "N", AT_HELP),
+            0,
+            MAX_SCRIPT_BYTES as u64,
+        ))?
         .arg(optional(alloc, "picture", "FILE", PICTURE_HELP))?
         .arg(flag(alloc, "json", JSON_HELP))
 }
@@ -134,7 +146,11 @@ fn show<'a>(alloc: Global) -> Result<Command<'a>, AllocError>
         .about(SHOW_ABOUT)
         .after_help(SHOW_NOTES)
         .arg(needed(alloc, "site", "F", SITE_HELP))?
-        .arg(numbered(optional(alloc, "at", "N", AT_HELP), 0, MAX_SCRIPT_BYTES as u64))?
+        .arg(numbered(
+            optional(alloc, "at", "N", AT_HELP),
+            0,
+            MAX_SCRIPT_BYTES as u64,
+        ))?
         .arg(flag(alloc, "json", JSON_HELP))
 }
 

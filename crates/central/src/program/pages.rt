@@ -1,10 +1,9 @@
 //! Pages that the program prints or writes to files.
 
 use crate::program::program_fault::ProgramFault;
-use std::fs;
-use std::io;
 use std::io::Write;
 use std::rt::Files;
+use std::{fs, io};
 
 /// What is known of standard output.
 #[derive(Clone, Copy, Debug)]
@@ -19,14 +18,21 @@ const COLUMNS: usize = 80;
 impl Screen {
     /// How many columns a page has, where it is for a terminal.
     pub fn columns(self) -> Option<usize> {
-        if self.is_terminal { Some(COLUMNS) } else { None }
+        if self.is_terminal {
+            Some(COLUMNS)
+        } else {
+            None
+        }
     }
 }
 
 /// Prints a page.
 pub fn print_page<R: Print>(rt: &R, page: &str) -> Result<(), ProgramFault> {
     let mut writer = io::writer(rt);
-    match writer.write_all(page.as_bytes()).and_then(|()| writer.flush()) {
+    match writer
+        .write_all(page.as_bytes())
+        .and_then(|()| writer.flush())
+    {
         Ok(()) => Ok(()),
         Err(_) => Err(ProgramFault::Write),
     }

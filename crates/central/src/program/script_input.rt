@@ -1,11 +1,11 @@
 //! The script of standard input.
 
+ghost use Rattle.std.specs.Prelude.{◌≤◌, IfOk, vec_len};
+ghost use Rattle.replay.specs.Limits.{max_script_bytes};
+
 use crate::program::program_fault::ProgramFault;
 use replay::{InputFault, MAX_SCRIPT_BYTES, ReplayFault, read_all};
 use std::alloc::AllocGlobal;
-
-ghost use Rattle.std.specs.Prelude.{◌≤◌, IfOk, vec_len};
-ghost use Rattle.replay.specs.Limits.{max_script_bytes};
 
 /// Reads the script of standard input.
 pub fn read_script<R: Input + AllocGlobal>(rt: &R) -> Result<Vec<u8>, ProgramFault>

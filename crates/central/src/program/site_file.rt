@@ -22,10 +22,7 @@ pub fn read_site_file<R: Files + AllocGlobal>(rt: &R, path: &str) -> Result<Site
 }
 
 /// Reads the bytes of a site file.
-pub fn read_site_bytes<R: Files + AllocGlobal>(
-    rt: &R,
-    path: &str,
-) -> Result<Vec<u8>, ProgramFault>
+pub fn read_site_bytes<R: Files + AllocGlobal>(rt: &R, path: &str) -> Result<Vec<u8>, ProgramFault>
     ensures stop { IfErr result IsSiteStop }
 {
     let mut file = match fs::open(rt, path) {
