@@ -202,7 +202,7 @@ fn push_dates(
 }
 
 fn push_day(alloc: Global, out: &mut String, day: u64, x: u64) -> Result<(), AllocError> {
-    let (upper, lower, text) = (BOTTOM + 27, BOTTOM + 42, x + 5);
+    let (upper, lower, text) = (BOTTOM + 27, BOTTOM + 42, x.saturating_add(5));
     write!(out, "<path class=\"day\" d=\"M{x} {upper}V{lower}\"/>")?;
     write!(out, "<text class=\"soft\" x=\"{text}\" y=\"{lower}\">")?;
     out.push_str(weekday(day))?;

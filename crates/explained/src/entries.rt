@@ -60,19 +60,36 @@ fn profile_entry(
     explained: &Explained<'_>,
     row: &Row,
 ) -> Result<Option<Entry>, AllocError> {
+    let mut steps = None;
+    if may_count(explained, row) {
+        steps = Some(steps_of(alloc, explained, row)?);
+    }
+    Ok(steps.and_then(|steps| stepped_entry(row, steps)))
+}
+
+/// Whether a row may set a limit of the ask: it stands for its connector, and has the transaction that it needs.
+fn may_count(explained: &Explained<'_>, row: &Row) -> bool {
     let started = started_for(&explained.view, &explained.ask, row);
-    if !applies(explained, row) || !has_its_transaction(row.profile.purpose, started) {
-        return Ok(None);
+    applies(explained, row) && has_its_transaction(row.profile.purpose, started)
+}
+
+/// The steps of a row in the time of the ask.
+fn steps_of(alloc: Global, explained: &Explained<'_>, row: &Row) -> Result<Steps, AllocError> {
+    let ask = &explained.ask;
+    let base = row.base(started_for(&explained.view, ask, row), ask.start);
+    profile_steps(alloc, &row.profile, base, ask)
+}
+
+/// The entry of a row with its steps, where one of them has a limit.
+fn stepped_entry(row: &Row, steps: Steps) -> Option<Entry> {
+    if steps.has_limit() {
+        Some(Entry {
+            cause: Cause::Profile(told_by(row)),
+            line: Line::Steps(steps),
+        })
+    } else {
+        None
     }
-    let base = row.base(started, explained.ask.start);
-    let steps = profile_steps(alloc, &row.profile, base, &explained.ask)?;
-    if !steps.has_limit() {
-        return Ok(None);
-    }
-    Ok(Some(Entry {
-        cause: Cause::Profile(told_by(row)),
-        line: Line::Steps(steps),
-    }))
 }
 
 /// What the profile of a row is told by.
