@@ -5,6 +5,7 @@ It replays each folder of examples/ and tests/replay/ (site.json, script, stdout
 standard output, standard error and the exit status; a folder without a site.json has that of tests/replay. Then it
 tries command lines, site files, devices that fail, how memory grows and memory that is refused.
 """
+import json
 import os
 import re
 import signal
@@ -308,6 +309,79 @@ def memory_problems(program, folder):
         yield ending_problems(library, [built_tests(program, "pool_tests"), test], step)
 
 
+NIGHT = os.path.join("examples", "night-profile")
+DAY = ["--point", "CP1", "--connector", "1", "--start", "2025-01-03T12:00:00Z", "--duration", "86400"]
+NIGHT_TABLE = b"""\
+CP1, connector 1, from 2025-01-03 12:00 to 2025-01-04 12:00 (1 d). The limit in A, times in UTC.
+
+from              to                length   limit  why
+2025-01-03 12:00             22:00  10 h    10.0 A  TxDefaultProfile 1, stack level 0, at connector 0
+           22:00  2025-01-04 06:00  8 h     32.0 A  TxDefaultProfile 2, stack level 1, at connector 0
+2025-01-04 06:00             12:00  6 h     10.0 A  TxDefaultProfile 1, stack level 0, at connector 0
+"""
+
+
+def explain_problems(program, folder):
+    """`explain` on the night profile: the table, up to a line, as JSON, a picture; and what isn't there."""
+    site, script = (os.path.join(TOP, NIGHT, name) for name in ("site.json", "script"))
+
+    def explain(*more, day=DAY):
+        return run(program, ["explain", "--site", site, *day, *more], bytes_of(script))
+
+    yield "explain", list(differences(explain(), NIGHT_TABLE, b"", 0))
+    first = explain("--at", "1").stdout
+    ok = first.count(b"TxDefaultProfile 1,") == 1 and b"1 d      10.0 A" in first and b"TxDefaultProfile 2" not in first
+    yield "explain after a line", [] if ok else [repr(first)]
+    told = json.loads(explain("--json").stdout)
+    limits = [(part["start"], part["limit"], part["cause"]["chargingProfileId"]) for part in told["stretches"]]
+    wanted = [("2025-01-03T12:00:00Z", 10, 1), ("2025-01-03T22:00:00Z", 32, 2), ("2025-01-04T06:00:00Z", 10, 1)]
+    yield "explain for programs", [] if limits == wanted else [f"{limits}, wanted {wanted}"]
+    for name, first_bytes in (("picture.svg", b"<svg "), ("page.html", b"<!DOCTYPE html>")):
+        path = os.path.join(folder, name)
+        done = explain("--picture", path)
+        content = bytes_of(path) if os.path.isfile(path) else b""
+        ok = not list(differences(done, NIGHT_TABLE, b"", 0)) and content.startswith(first_bytes) and b"TxDefaultProfile 2" in content
+        yield f"explain with a {name}", [] if ok else [f"{done}, {content[:100]!r}"]
+    words = b"central: command line: "
+    for name, day, more, error in (
+        ("no such point", ["--point", "CP9", *DAY[2:]], [], words + b"no such point in the site file\n"),
+        ("no such connector", ["--point", "CP1", "--connector", "3", *DAY[4:]], [], words + b"the point has no such connector\n"),
+        ("no instant", [*DAY[:4], "--start", "noon", *DAY[6:]], [], words + b"--start is no instant, such as 2025-01-01T12:00:00Z\n"),
+        ("past the calendar", [*DAY[:4], "--start", "9999-12-31T23:59:59Z", *DAY[6:]], [], words + b"it would end past the year 9999\n"),
+        ("a picture of another kind", DAY, ["--picture", "p.png"], words + b"the name of a picture's file ends in .svg or .html\n"),
+    ):
+        yield f"explain: {name}", list(differences(explain(*more, day=day), b"", error, 4))
+    done = explain("--picture", os.path.join(folder, "none", "p.svg"))
+    yield "explain: a picture that can't be written", list(differences(done, b"", b"central: device: write\n", 3))
+
+
+CLEAR = b'2025-01-01T00:00:00Z operator CP1 [2,"a","ClearChargingProfile",{"chargingProfileId":9}]\n'
+
+
+def check_and_show_problems(program, folder):
+    """`check` by its statuses and by what it names, and `show` by what stands."""
+    good, bad = (os.path.join(folder, name) for name in ("good", "blank"))
+    heartbeat = b'2025-01-01T00:00:00Z point CP1 [2,"1","Heartbeat",{}]\n'
+    for name, site, script, status, wanted in (
+        ("nothing to find", good, b"", 0, ()),
+        ("a clear of everything", good, CLEAR, 2, (b"script: line 1: warning: ", b"clears EVERYTHING", b'"chargingProfileId"')),
+        ("a line that says nothing", good, b"\n" + b"x\n", 1, (b"script: line 2: BadLine: ",)),
+        ("an unknown point", good, heartbeat.replace(b"CP1", b"CP2"), 1, (b"line 1: UnknownPoint", b"CP1")),
+        ("a site file with a fault", bad, CLEAR, 1, (b"NotAnObject",)),
+    ):
+        done = run(program, ["check", "--site", site], script)
+        ok = done.returncode == status and not done.stderr and all(text in done.stdout for text in wanted)
+        yield f"check: {name}", [] if ok else [f"{done}"]
+    traced = run(program, ["check", "--site", good, "--trace"], heartbeat).stdout
+    ok = b"1     CP1    point [2," in traced and b"* CP1 [2," in traced
+    yield "check with a trace", [] if ok else [repr(traced)]
+    shown = run(program, ["show", "--site", good], heartbeat)
+    ok = shown.returncode == 0 and b"CP1" in shown.stdout and b"1 in flight" in shown.stdout
+    yield "show", [] if ok else [f"{shown}"]
+    told = json.loads(run(program, ["show", "--site", good, "--at", "0", "--json"], heartbeat).stdout)
+    yield "show for programs", [] if "CP1" in json.dumps(told) else [f"{told}"]
+
+
 def built_tests(program, crate):
     return os.path.join(os.path.dirname(program), "..", "..", crate, "out", f"{crate}_tests")
 
@@ -406,6 +480,8 @@ def main():
         results.extend(command_line_problems(program))
         results.extend(help_example_problems(program, folder))
         results.extend(device_problems(program, folder))
+        results.extend(explain_problems(program, folder))
+        results.extend(check_and_show_problems(program, folder))
         results.extend(growth_problems(program, folder))
         results.extend(memory_problems(program, folder))
     for name, problems in results:

@@ -4,7 +4,7 @@ use Rattle.std.proofs.lemmas.Bool.{lt-ltb}
 use Rattle.site_rules.specs.Limits.{max_site_bytes}
 use Rattle.site_rules.specs.ByCases.SiteReading.{site_of}
 use Rattle.site_rules.specs.declared.fault.SiteFault.TheVariants.{TooLarge}
-use Rattle.central.proofs.program.site_file.read_site_file.Goals as goal
+use Rattle.central.proofs.program.site_file.read_site_bytes.Goals as goal
 
 site_of-too_large : (bytes : List ℕ) → max_site_bytes < length bytes → site_of bytes ≡ Err TooLarge
 unfolding site_of
