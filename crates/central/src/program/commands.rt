@@ -117,7 +117,7 @@ fn explain<'a>(alloc: Global) -> Result<Command<'a>, AllocError>
         .arg(needed(alloc, "point", "ID", POINT_HELP))?
         .arg(numbered(connector, 0, MAX_CONNECTORS))?
         .arg(needed(alloc, "start", "INSTANT", START_HELP))?
-        .arg(numbered(duration, 1, u64::from(MAX_DURATION)))?
+        .arg(numbered(duration, 1, MAX_DURATION as u64))?
         .arg(numbered(
             optional(alloc, "at", "N", AT_HELP),
             0,

@@ -10,7 +10,7 @@ site_of-too_large : (bytes : List ℕ) → max_site_bytes < length bytes → sit
 unfolding site_of
 site_of-too_large bytes long = rw (lt-ltb max_site_bytes (length bytes) long) refl
 
-pub returns-in-Err-TooLong-clause-stop : goal.returns-in-Err-TooLong-clause-stop
-returns-in-Err-TooLong-clause-stop g c =
+pub returns-in-Err-TooLong : goal.returns-in-Err-TooLong
+returns-in-Err-TooLong g c =
     let many = c.in-Err-TooLong.ensures.long (rw c.in-Err-TooLong.field-0-is refl) in
     (many.0, site_of-too_large many.0 many.2)
