@@ -13,4 +13,4 @@ site_of-too_large bytes long = rw (lt-ltb max_site_bytes (length bytes) long) re
 pub returns-in-Err-TooLong : goal.returns-in-Err-TooLong
 returns-in-Err-TooLong g c =
     let many = c.in-Err-TooLong.ensures.long (rw c.in-Err-TooLong.field-0-is refl) in
-    (many.0, site_of-too_large many.0 many.2)
+    record { stop = (many.0, site_of-too_large many.0 many.2) }
