@@ -152,7 +152,11 @@ fn a_sum_has_its_shares(rt: HostRuntime) -> Result<(), Fail> {
         sum(alloc, 0, 15, 420, &shares)?,
         sum(alloc, 15, 45, 0, &[])?,
     ];
-    let mut explained = Explained {
+    let never = [NotCounted {
+        profile: profile(-5, Purpose::ChargePointMaxProfile, 0),
+        reason: NoPart::NotLeast,
+    }];
+    let explained = Explained {
         point: "a\"\\é",
         unit: Unit::W,
         ask: ask(0, 0, 45)?,
@@ -161,12 +165,11 @@ fn a_sum_has_its_shares(rt: HostRuntime) -> Result<(), Fail> {
         not_counted: &[],
     };
     assert_eq!(rt; write_table(alloc, &explained, None)?.as_str(), SUM_TABLE);
-    let never = [NotCounted {
-        profile: profile(-5, Purpose::ChargePointMaxProfile, 0),
-        reason: NoPart::NotLeast,
-    }];
-    explained.not_counted = &never;
-    assert_eq!(rt; write_json(alloc, &explained)?.as_str(), SUM_JSON);
+    let with_never = Explained {
+        not_counted: &never,
+        ..explained
+    };
+    assert_eq!(rt; write_json(alloc, &with_never)?.as_str(), SUM_JSON);
     Ok(())
 }
 
