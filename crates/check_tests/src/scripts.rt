@@ -160,6 +160,32 @@ fn texts_of_operators(rt: HostRuntime) -> Result<(), Fail> {
     Ok(())
 }
 
+/// The line of an operator who installs a profile of a purpose, with further fields of it and of its schedule.
+fn install_line(
+    alloc: Global,
+    purpose: &str,
+    fields: &str,
+    schedule: &str,
+) -> Result<String, AllocError> {
+    let connector = if purpose == "ChargePointMaxProfile" {
+        "0"
+    } else {
+        "1"
+    };
+    let mut line = String::from_str(alloc, "2025-01-01T00:00:00Z operator CP1 ")?;
+    line.push_str(r#"[2,"s","SetChargingProfile",{"connectorId":"#)?;
+    line.push_str(connector)?;
+    line.push_str(r#","csChargingProfiles":{"chargingProfileId":1,"#)?;
+    line.push_str(r#""stackLevel":1,"chargingProfilePurpose":""#)?;
+    line.push_str(purpose)?;
+    line.push_str("\",")?;
+    line.push_str(fields)?;
+    line.push_str(r#","chargingSchedule":{"chargingRateUnit":"A","#)?;
+    line.push_str(schedule)?;
+    line.push_str("}}}]")?;
+    Ok(line)
+}
+
 #[test]
 fn profiles(rt: HostRuntime) -> Result<(), Fail> {
     let alloc = rt.alloc();
@@ -168,14 +194,7 @@ fn profiles(rt: HostRuntime) -> Result<(), Fail> {
         let (words, wanted) = row.split_once(" => ").unwrap_or((row, "no mark"));
         let (purpose, words) = words.split_once(" | ").unwrap_or((words, ""));
         let (fields, schedule) = words.split_once(" | ").unwrap_or((words, ""));
-        let connector = if purpose == "ChargePointMaxProfile" {
-            0
-        } else {
-            1
-        };
-        let line = format!(in alloc;
-            "2025-01-01T00:00:00Z operator CP1 [2,\"s\",\"SetChargingProfile\",{{\"connectorId\":{connector},\"csChargingProfiles\":{{\"chargingProfileId\":1,\"stackLevel\":1,\"chargingProfilePurpose\":\"{purpose}\",{fields},\"chargingSchedule\":{{\"chargingRateUnit\":\"A\",{schedule}}}}}}}]"
-        )?;
+        let line = install_line(alloc, purpose, fields, schedule)?;
         let findings = check_script(alloc, &site, line.as_bytes())?;
         assert!(rt;
             has_pieces(alloc, &findings, wanted)?,
