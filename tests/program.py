@@ -355,6 +355,18 @@ def explain_problems(program, folder):
     yield "explain: a picture that can't be written", list(differences(done, b"", b"central: device: write\n", 3))
 
 
+def drawn_problems(program, folder):
+    """The pictures in docs/pictures are those that the program draws of the examples today."""
+    drawn = os.path.join(folder, "drawn")
+    os.mkdir(drawn)
+    subprocess.run([os.path.join(TOP, "tests", "pictures", "draw"), program, drawn], check=True)
+    kept = os.path.join(TOP, "docs", "pictures")
+    names = sorted(os.listdir(kept))
+    ok = names == sorted(os.listdir(drawn)) and names
+    differ = [name for name in names if bytes_of(os.path.join(kept, name)) != bytes_of(os.path.join(drawn, name))] if ok else names
+    yield "pictures of the examples", [f"to be drawn anew: {differ}"] if differ or not ok else []
+
+
 CLEAR = b'2025-01-01T00:00:00Z operator CP1 [2,"a","ClearChargingProfile",{"chargingProfileId":9}]\n'
 
 
@@ -482,6 +494,7 @@ def main():
         results.extend(device_problems(program, folder))
         results.extend(explain_problems(program, folder))
         results.extend(check_and_show_problems(program, folder))
+        results.extend(drawn_problems(program, folder))
         results.extend(growth_problems(program, folder))
         results.extend(memory_problems(program, folder))
     for name, problems in results:
