@@ -1,8 +1,10 @@
 //! The server and its clients over loopback, on threads of one process.
 
 use http::{HeaderName, HeaderValue};
-use ocpp_scalars::{Instant, Moments};
+use ocpp_scalars::{IdTag, Instant, Moments};
+use profile::Unit;
 use server::{ServeFault, serve};
+use sim_point::{Ended, SimPoint, SimStep, run_client};
 use site_rules::read_site;
 use std::alloc::Global;
 use std::net::{Ipv4Addr, SocketAddr, TcpListener, TcpStream};
@@ -84,6 +86,15 @@ const INSTALL: &str =
 
 const ASK: &str = r#"[2,"b","GetCompositeSchedule",{"connectorId":0,"duration":60}]"#;
 
+/// The answer where a transaction is active at one connector.
+const SCHEDULE: &str =
+    r#"[3,"b",{"status":"Accepted","connectorId":0,"scheduleStart":"2025-01-01T00:00:10Z","chargingSchedule":{"duration":60,"chargingRateUnit":"A","chargingSchedulePeriod":[{"startPeriod":0,"limit":16.0}]}}]"#;
+
+const TOTALS: Result<Totals, ServeFault> = Ok(Totals {
+    changes: 4,
+    answers: 1,
+});
+
 #[test]
 fn a_start_of_one_session_is_in_the_schedule_of_another(rt: HostRuntime) -> Result<(), Fail> {
     let alloc = rt.alloc();
@@ -122,16 +133,50 @@ fn a_start_of_one_session_is_in_the_schedule_of_another(rt: HostRuntime) -> Resu
         r#"[3,"2",{"idTagInfo":{"status":"Accepted"},"transactionId":2}]"#
     );
     point.close()?;
-    let schedule = operator.ask(ASK)?;
-    assert_eq!(&rt;
-        schedule.as_str(),
-        r#"[3,"b",{"status":"Accepted","connectorId":0,"scheduleStart":"2025-01-01T00:00:10Z","chargingSchedule":{"duration":60,"chargingRateUnit":"A","chargingSchedulePeriod":[{"startPeriod":0,"limit":16.0}]}}]"#
-    );
+    assert_eq!(&rt; operator.ask(ASK)?.as_str(), SCHEDULE);
     operator.close()?;
-    let wanted: Result<Totals, ServeFault> = Ok(Totals {
-        changes: 4,
-        answers: 1,
-    });
-    assert_eq!(&rt; server.join(&rt), wanted);
+    assert_eq!(&rt; server.join(&rt), TOTALS);
+    Ok(())
+}
+
+/// A simulated point that charges at connector 1, stops, and charges at connector 2.
+fn simulated_point(alloc: Global) -> Result<SimPoint, Fail> {
+    let mut steps = Vec::new(alloc);
+    for connector in [1, 2] {
+        let tag = IdTag::try_copy(alloc, "T")?.ok_or("too long a tag")?;
+        steps.push(SimStep::Start {
+            connector,
+            tag,
+            meter: 0,
+        })?;
+        if connector == 1 {
+            steps.push(SimStep::Stop { connector })?;
+        }
+    }
+    let connectors = Vec::from_slice(alloc, &[320, 320])?;
+    Ok(SimPoint::try_new(alloc, Unit::A, 630, connectors, steps)?)
+}
+
+#[test]
+fn a_simulated_point_is_served_beside_an_operator(rt: HostRuntime) -> Result<(), Fail> {
+    let alloc = rt.alloc();
+    let site = read_site(alloc, SITE.as_bytes())?;
+    let listener = TcpListener::bind(&rt, SocketAddr::from((Ipv4Addr::LOCALHOST, 0)))?;
+    let address = listener.local_addr()?;
+    let server = thread::spawn(&rt, move || {
+        serve(&rt, alloc, site, &listener, 2, 2, &TenPastMidnight)
+    })?;
+    let mut operator = connected(&rt, alloc, address, "/operator/CP1")?;
+    assert_eq!(&rt;
+        operator.ask(INSTALL)?.as_str(),
+        r#"[3,"a",{"status":"Accepted"}]"#
+    );
+    let point = connected(&rt, alloc, address, "/ocpp/CP1")?;
+    let steps = simulated_point(alloc)?;
+    let ended = run_client(&rt, alloc, point.socket, steps, &TenPastMidnight);
+    assert_eq!(&rt; ended, Ended::Closed);
+    assert_eq!(&rt; operator.ask(ASK)?.as_str(), SCHEDULE);
+    operator.close()?;
+    assert_eq!(&rt; server.join(&rt), TOTALS);
     Ok(())
 }
