@@ -9,6 +9,8 @@ TOP is the repository, by default the one that this file stands in. What is comp
 - the refusals in PROTOCOL with the names in ocpp_scalars/specs/Refusal.antt;
 - the crates and the files of definitions in ARCHITECTURE with crates.txt and specs/;
 - the replay cases in their README with the folders, and the version in CHANGELOG with that of the program;
+- the kit's name and logic in README and WORKING with what the program prints;
+- the code on the pages of libraries with the callers in the crates of tests, which are proved and run;
 - each path in a document with the tree, each name in brackets behind a file with that file, each link with its file and
   its heading;
 - that no document names a paper, a request or a row by a number.
@@ -269,6 +271,37 @@ def version_problems(top, files):
         yield f"CHANGELOG's newest version {changelog[:1]} isn't the program's {program and program.group(1)}"
 
 
+# ---- the kit, and callers of libraries
+
+def kit_problems(top, files):
+    """The kit stands in what the program prints; README and WORKING name it as that does."""
+    source = text_of(top, "crates/central/src/program/help_text.rt")
+    found = re.search(r"proved in the logic (\w+) of ([\w-]+)\"", source)
+    if found is None:
+        yield "help_text.rt names no logic and no kit"
+        return
+    for page in ("README.md", "docs/WORKING.md"):
+        if f"`{found.group(2)}` with the logic `{found.group(1)}`" not in text_of(top, page):
+            yield f"{page}: it doesn't name {found.group(2)} with the logic {found.group(1)}, as the program does"
+
+
+def library_problems(top, files):
+    """Each page of a library has one test of a callers.rt, and all of its code stands there."""
+    callers = [text_of(top, name) for name in files if re.fullmatch(r"crates/\w+_tests/src/callers\.rt", name)]
+    tests = {name for text in callers for name in re.findall(r"#\[test\]\nfn (\w+)", text)}
+    told = []
+    for page in [name for name in files if re.fullmatch(r"docs/libraries/\w+\.md", name)]:
+        text = text_of(top, page)
+        if f"crates/{os.path.basename(page)[:-3]}/src/lib.rt" not in files:
+            yield f"{page}: no library has this name"
+        for block in re.findall(r"^```rust\n(.*?)^```$", text, re.MULTILINE | re.DOTALL):
+            if not any(block in caller for caller in callers):
+                yield f"{page}: the code '{block[:60].strip()}..' stands in no callers.rt"
+        told.append(re.findall(r"#\[test\]\nfn (\w+)", text))
+    if any(len(names) != 1 for names in told) or sorted(sum(told, [])) != sorted(tests):
+        yield f"the pages of libraries have the callers {told}, and callers.rt {sorted(tests)}"
+
+
 # ---- paths and links
 
 def suffixes_of(files):
@@ -356,6 +389,8 @@ TESTS = {
     "map": map_problems,
     "cases": case_problems,
     "version": version_problems,
+    "kit": kit_problems,
+    "libraries": library_problems,
     "paths and links": path_problems,
     "numbers of papers": number_problems,
 }
