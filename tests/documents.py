@@ -286,20 +286,21 @@ def kit_problems(top, files):
 
 
 def library_problems(top, files):
-    """Each page of a library has one test of a callers.rt, and all of its code stands there."""
-    callers = [text_of(top, name) for name in files if re.fullmatch(r"crates/\w+_tests/src/callers\.rt", name)]
-    tests = {name for text in callers for name in re.findall(r"#\[test\]\nfn (\w+)", text)}
+    """The code on the page of a library is that of the file of callers/ to which the page links; each file has a page."""
+    callers = [name for name in files if re.fullmatch(r"crates/\w+_tests/src/callers/\w+\.rt", name)]
     told = []
     for page in [name for name in files if re.fullmatch(r"docs/libraries/\w+\.md", name)]:
         text = text_of(top, page)
         if f"crates/{os.path.basename(page)[:-3]}/src/lib.rt" not in files:
             yield f"{page}: no library has this name"
-        for block in re.findall(r"^```rust\n(.*?)^```$", text, re.MULTILINE | re.DOTALL):
-            if not any(block in caller for caller in callers):
-                yield f"{page}: the code '{block[:60].strip()}..' stands in no callers.rt"
-        told.append(re.findall(r"#\[test\]\nfn (\w+)", text))
-    if any(len(names) != 1 for names in told) or sorted(sum(told, [])) != sorted(tests):
-        yield f"the pages of libraries have the callers {told}, and callers.rt {sorted(tests)}"
+        named = re.findall(r"\]\(\.\./\.\./(crates/\w+_tests/src/callers/\w+\.rt)\)", text)
+        blocks = re.findall(r"^```rust\n(.*?)^```$", text, re.MULTILINE | re.DOTALL)
+        code = [text_of(top, name).partition("\n\n")[2] for name in named if name in callers]
+        if len(code) != 1 or blocks != code:
+            yield f"{page}: its code isn't that of one file of callers/: {named}"
+        told += named
+    if sorted(told) != sorted(callers):
+        yield f"the pages of libraries have {sorted(told)}, and there are {sorted(callers)}"
 
 
 # ---- paths and links
