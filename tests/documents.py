@@ -9,6 +9,8 @@ TOP is the repository, by default the one that this file stands in. What is comp
 - the refusals in PROTOCOL with the names in ocpp_scalars/specs/Refusal.antt;
 - the crates and the files of definitions in ARCHITECTURE with crates.txt and specs/;
 - the replay cases in their README with the folders, and the version in CHANGELOG with that of the program;
+- the kit's name and logic in README and WORKING with what the program prints;
+- the code on the pages of libraries with the callers in the crates of tests, which are proved and run;
 - each path in a document with the tree, each name in brackets behind a file with that file, each link with its file and
   its heading;
 - that no document names a paper, a request or a row by a number.
@@ -269,6 +271,38 @@ def version_problems(top, files):
         yield f"CHANGELOG's newest version {changelog[:1]} isn't the program's {program and program.group(1)}"
 
 
+# ---- the kit, and callers of libraries
+
+def kit_problems(top, files):
+    """The kit stands in what the program prints; README and WORKING name it as that does."""
+    source = text_of(top, "crates/central/src/program/help_text.rt")
+    found = re.search(r"proved in the logic (\w+) of ([\w-]+)\"", source)
+    if found is None:
+        yield "help_text.rt names no logic and no kit"
+        return
+    for page in ("README.md", "docs/WORKING.md"):
+        if f"`{found.group(2)}` with the logic `{found.group(1)}`" not in text_of(top, page):
+            yield f"{page}: it doesn't name {found.group(2)} with the logic {found.group(1)}, as the program does"
+
+
+def library_problems(top, files):
+    """The code on the page of a library is that of the file of callers/ to which the page links; each file has a page."""
+    callers = [name for name in files if re.fullmatch(r"crates/\w+_tests/src/callers/\w+\.rt", name)]
+    told = []
+    for page in [name for name in files if re.fullmatch(r"docs/libraries/\w+\.md", name)]:
+        text = text_of(top, page)
+        if f"crates/{os.path.basename(page)[:-3]}/src/lib.rt" not in files:
+            yield f"{page}: no library has this name"
+        named = re.findall(r"\]\(\.\./\.\./(crates/\w+_tests/src/callers/\w+\.rt)\)", text)
+        blocks = re.findall(r"^```rust\n(.*?)^```$", text, re.MULTILINE | re.DOTALL)
+        code = [text_of(top, name).partition("\n\n")[2] for name in named if name in callers]
+        if len(code) != 1 or blocks != code:
+            yield f"{page}: its code isn't that of one file of callers/: {named}"
+        told += named
+    if sorted(told) != sorted(callers):
+        yield f"the pages of libraries have {sorted(told)}, and there are {sorted(callers)}"
+
+
 # ---- paths and links
 
 def suffixes_of(files):
@@ -356,6 +390,8 @@ TESTS = {
     "map": map_problems,
     "cases": case_problems,
     "version": version_problems,
+    "kit": kit_problems,
+    "libraries": library_problems,
     "paths and links": path_problems,
     "numbers of papers": number_problems,
 }

@@ -191,7 +191,7 @@ def command_line_problems(program):
         (["help"], (b"Usage", b"Exit statuses:")),
         (["replay", "--help"], replay),
         (["help", "replay"], replay),
-        (["--version"], (b"central 0.1.0\nproved with rattle-kit-13b logic dac8208d650f15bf\n",)),
+        (["--version"], (b"central 0.1.0\nproved in the logic dac8208d650f15bf of rattle-kit-13\n",)),
     ):
         done = run(program, arguments, b"")
         missing = [text for text in wanted if text not in done.stdout]

@@ -12,6 +12,8 @@ pub use fixtures::{
 #[cfg(test)]
 mod books_in_words;
 #[cfg(test)]
+mod callers;
+#[cfg(test)]
 mod explained_limits;
 #[cfg(test)]
 mod limits_of_a_profile;

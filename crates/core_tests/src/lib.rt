@@ -5,6 +5,8 @@
 #![tactic(auto)]
 
 #[cfg(test)]
+mod callers;
+#[cfg(test)]
 mod calls_beside_steps;
 #[cfg(test)]
 mod largest_sizes;

@@ -5,6 +5,8 @@
 #[cfg(test)]
 mod call_texts;
 #[cfg(test)]
+mod callers;
+#[cfg(test)]
 mod frame_texts;
 #[cfg(test)]
 mod message_texts;

@@ -1,7 +1,7 @@
 //! What the help says.
 
 /// What `central --version` prints behind the name: the version, and the kit that proves it.
-pub const VERSION: &str = "0.1.0\nproved with rattle-kit-13b logic dac8208d650f15bf";
+pub const VERSION: &str = "0.1.0\nproved in the logic dac8208d650f15bf of rattle-kit-13";
 
 /// What the program does.
 pub const ABOUT: &str =

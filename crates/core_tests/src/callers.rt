@@ -1,0 +1,3 @@
+//! Callers of libraries, one for each: their pages in docs/libraries/ show them.
+
+mod machines;

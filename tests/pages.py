@@ -1,0 +1,125 @@
+#!/usr/bin/env python3
+"""pages.py PROGRAM [write]: runs the commands of the pages on the built program, and prints 'N passed, M failed'.
+
+A command is a code block that calls `dist/out/central`; a block of `text` that follows it is what it has to print, but for
+moments, which are those of the clock. `serve` and `point` run beside the commands behind them, up to the end of the page,
+and have to print a line. With `write` the blocks of text are written anew, to be read before they are kept.
+"""
+import os
+import re
+import shlex
+import signal
+import socket
+import subprocess
+import sys
+import textwrap
+
+TOP = os.path.dirname(os.path.dirname(os.path.realpath(__file__)))
+PAGES = ("README.md", "examples/README.md", "docs/OPERATING.md")
+PROGRAM = re.compile(r"\bdist/out/central (?=\w)")
+BESIDE = re.compile(r"\bdist/out/central (serve|point) ")
+MOMENTS = re.compile(r'"(scheduleStart|currentTime|timestamp)":"[^"]*"')
+FENCE = re.compile(r"^( *)```(\w*)$")
+PATIENCE = 60
+
+
+def blocks_of(lines):
+    """The code blocks of a page: the number of the first line, the language, and the lines as they are indented."""
+    first = None
+    for number, line in enumerate(lines):
+        found = FENCE.match(line)
+        if found and first is None:
+            first, language = number + 1, found.group(2)
+        elif found:
+            yield first, language, lines[first:number]
+            first = None
+
+
+def commands_of(lines):
+    """Each command of a page with its line, and the place of the block of text behind it, if one follows at once."""
+    blocks = list(blocks_of(lines))
+    for (first, language, block), follower in zip(blocks, [*blocks[1:], None]):
+        if language in ("sh", "") and any(PROGRAM.search(line) for line in block):
+            behind = first + len(block) + 1
+            follows = follower and follower[1] == "text" and not any(line.strip() for line in lines[behind:follower[0] - 1])
+            yield first, "\n".join(block), (follower[0], follower[0] + len(follower[2])) if follows else None
+
+
+def without_moments(text):
+    return MOMENTS.sub(r'"\1":"NOW"', text)
+
+
+def free_port():
+    with socket.socket() as probe:
+        probe.bind(("127.0.0.1", 0))
+        return probe.getsockname()[1]
+
+
+def start(command):
+    """A command in a process group of its own, so that all of it can be ended."""
+    return subprocess.Popen(
+        ["bash", "-c", command], cwd=TOP, stdin=subprocess.DEVNULL, stdout=subprocess.PIPE, stderr=subprocess.STDOUT,
+        text=True, start_new_session=True,
+    )
+
+
+def end(process):
+    try:
+        os.killpg(process.pid, signal.SIGKILL)
+    except ProcessLookupError:
+        pass
+    process.communicate()
+
+
+def run_page(page, program, is_written):
+    """The problems of each command of a page."""
+    path = os.path.join(TOP, page)
+    with open(path, encoding="utf-8") as file:
+        lines = file.read().split("\n")
+    port, beside, changes = str(free_port()), [], []
+    try:
+        for first, command, place in commands_of(lines):
+            name = f"{page}:{first + 1}"
+            run = start(PROGRAM.sub(lambda _: shlex.quote(program) + " ", command).replace(":9000", f":{port}"))
+            if BESIDE.search(command):
+                beside.append(run)
+                yield name, [] if run.stdout.readline() else ["it prints nothing"]
+                continue
+            try:
+                printed = run.communicate(timeout=PATIENCE)[0].rstrip("\n")
+            except subprocess.TimeoutExpired:
+                end(run)
+                yield name, [f"it doesn't end within {PATIENCE} seconds"]
+                continue
+            wanted = textwrap.dedent("\n".join(lines[slice(*place)])) if place else None
+            differs = place is not None and without_moments(printed) != without_moments(wanted)
+            if differs and is_written:
+                indent = FENCE.match(lines[place[0] - 1]).group(1)
+                changes.append((place, [(indent + line).rstrip() for line in printed.split("\n")]))
+            fault = [f"status {run.returncode}"] if run.returncode not in (0, 1, 2) else []
+            yield name, [*fault, *([f"it prints\n{printed}"] if differs and not is_written else [])]
+    finally:
+        for process in beside:
+            end(process)
+    if changes:
+        for (begin, behind), text in reversed(changes):
+            lines[begin:behind] = text
+        with open(path, "w", encoding="utf-8") as file:
+            file.write("\n".join(lines))
+
+
+def main():
+    if len(sys.argv) not in (2, 3) or sys.argv[2:] not in ([], ["write"]):
+        sys.exit(__doc__)
+    passed = failed = 0
+    for page in PAGES:
+        results = list(run_page(page, os.path.abspath(sys.argv[1]), len(sys.argv) == 3))
+        for name, problems in results or [(page, ["it has no command"])]:
+            for problem in problems:
+                print(f"{name}: {problem}")
+            passed, failed = passed + (not problems), failed + bool(problems)
+    print(f"{passed} passed, {failed} failed")
+    sys.exit(1 if failed else 0)
+
+
+main()
