@@ -197,6 +197,9 @@ def command_line_problems(program):
         missing = [text for text in wanted if text not in done.stdout]
         ok = done.returncode == 0 and not missing and not done.stderr
         yield f"central {' '.join(arguments)}", [] if ok else [f"status {done.returncode}, without {missing}, {done.stderr[:200]!r}"]
+    # The builder writes the logic that a program is proved in into its file (`readelf -p .comment`).
+    logics = re.findall(rb"\0rattle logic=([0-9a-f]{16})", bytes_of(program))
+    yield "the logic that --version names", [] if logics == [b"dac8208d650f15bf"] else [f"the program's file names {logics}"]
     for arguments in ([], ["replay"], ["replay", "--site"], ["replay", "--site", "a", "--site", "b"], ["play"], ["replay", "x"]):
         done = run(program, arguments, b"")
         ok = done.returncode == 4 and not done.stdout and done.stderr

@@ -164,6 +164,17 @@ def example(program):
     expect("what it prints", out.replace(f":{port}\n".encode(), b":PORT\n"), wanted)
 
 
+def back_office(program):
+    """The example of a back office and a point of one's own, by this machine's Python with `websockets`."""
+    folder = os.path.join(TOP, "examples", "back-office")
+    with open(os.path.join(folder, "stdout"), "rb") as file:
+        wanted = file.read()
+    with Serving(program, SITE, 2) as serving:
+        done = run(os.path.join(folder, "back_office.py"), [f"ws://127.0.0.1:{serving.port}", "P1"])
+        expect("what it prints", done, (0, wanted, b""))
+        expect("the totals", serving.totals(), (2, 1))
+
+
 def tests():
     yield "the options of call", options_of_call
     yield "the lines of call", lines_of_call
@@ -173,3 +184,4 @@ def tests():
     yield "a point's pause", pause_of_a_point
     yield "the faults of a point", faults_of_a_point
     yield "the example", example
+    yield "the example of a back office", back_office
