@@ -18,6 +18,8 @@ mod explained_limits;
 #[cfg(test)]
 mod limits_of_a_profile;
 #[cfg(test)]
+mod places_and_levels;
+#[cfg(test)]
 mod point_books;
 #[cfg(test)]
 mod rows_of_a_point;

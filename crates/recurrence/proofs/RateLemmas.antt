@@ -142,7 +142,7 @@ rate_until profile base n end from quiet =
     let e : n + (end - n) ≡ end = omega arith in
     ap (rate profile base) (sym e) ∙ rate_stays profile base n (end - n) (λ k later early. quiet k later (omega arith))
 
-fails : (test : Bool) → ¬ (test ≡ true) → test ≡ false
+pub fails : (test : Bool) → ¬ (test ≡ true) → test ≡ false
 fails true not = absurd (not refl)
 fails false not = refl
 

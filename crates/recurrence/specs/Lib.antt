@@ -1,3 +1,4 @@
 pub mod NextChange
+pub mod Places
 pub mod ByCases
 pub mod Theory

@@ -4,8 +4,10 @@
 #![tactic(auto)]
 
 mod next;
+mod place;
 mod places;
 mod turns;
 
 pub use next::sooner;
+pub use place::{Place, Places};
 pub use places::{next_change, rate_at};

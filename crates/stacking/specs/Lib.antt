@@ -1,4 +1,5 @@
 pub mod Limits
 pub mod Rows
 pub mod Candidates
+pub mod InForce
 pub mod ByCases

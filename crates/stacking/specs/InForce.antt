@@ -1,0 +1,25 @@
+-- The rates that stack levels have at one time, and which of them prevails.
+use Rattle.std.specs.Prelude.{◌≡◌, ℕ, ◌<◌, ◌==◌, List, Option, Some, None, if◌then◌else◌}
+use Rattle.std.specs.Map.{lookup}
+use Rattle.std.specs.Ordering.{nat_cmp}
+use Rattle.std.specs.BTreeMap.{is_at}
+
+-- the rate of a level, among levels each with its rate
+abbrev pub rate_of : List (ℕ × ℕ) → ℕ → Option ℕ
+rate_of rates level = lookup (is_at (nat_cmp level)) rates
+
+-- one level has this rate, or none, and each other level what it had
+abbrev pub IsSet : List (ℕ × ℕ) → ℕ → Option ℕ → List (ℕ × ℕ) → Type 0
+IsSet old level rate new =
+    (other : ℕ) → rate_of new other ≡ (if other == level then rate else rate_of old other)
+
+-- a level has this rate, and no higher one has any
+pub record IsHighest (rates : List (ℕ × ℕ)) (rate : ℕ) : Type 0 where
+  pub level : ℕ
+  pub has : rate_of rates level ≡ Some rate
+  pub none_above : (higher : ℕ) → level < higher → rate_of rates higher ≡ None
+
+-- The rate of the highest level that has one prevails (OCPP 1.6, 3.13), and none where no level has one.
+abbrev pub IsTop : List (ℕ × ℕ) → Option ℕ → Type 0
+IsTop rates None = (level : ℕ) → rate_of rates level ≡ None
+IsTop rates (Some rate) = IsHighest rates rate
