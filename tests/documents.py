@@ -8,7 +8,8 @@ TOP is the repository, by default the one that this file stands in. What is comp
 - the actions in PROTOCOL, and those that DIFFERENCES says are there, with the names in messages/specs/ActionKind.antt;
 - the refusals in PROTOCOL with the names in ocpp_scalars/specs/Refusal.antt;
 - the crates and the files of definitions in ARCHITECTURE with crates.txt and specs/;
-- the replay cases in their README with the folders, and the version in CHANGELOG with that of the program;
+- the sentences in OPERATING with those of the code, both ways;
+- the replay cases and the situations in their READMEs with the folders, and the version in CHANGELOG with that of the program;
 - the kit's name and logic in README and WORKING with what the program prints;
 - the code on the pages of libraries with the callers in the crates of tests, which are proved and run;
 - each path in a document with the tree, each name in brackets behind a file with that file, each link with its file and
@@ -232,6 +233,39 @@ def refusal_problems(top, files):
                 yield f"{page}: a row for the refusal {row[0]}, whose home is PROTOCOL"
 
 
+# ---- sentences
+
+# The functions with the tables of sentences, each with the heading of its table in OPERATING.
+SENTENCES = {
+    "Refusals": ("crates/checks/src/sentences.rt", "sentence"),
+    "Faults of a site file": ("crates/checks/src/sentences.rt", "site_sentence"),
+    "Faults of a line": ("crates/checks/src/sentences.rt", "line_sentence"),
+    "Errors of a CALL": ("crates/checks/src/sentences.rt", "call_sentence"),
+    "Profiles that never count": ("crates/checks/src/profile_check.rt", "never_text"),
+    "Profiles that never set the limit": ("crates/explained/src/words.rt", "sentence"),
+    "Profiles that don't prevail": ("crates/explained/src/words.rt", "why_not_sentence"),
+}
+
+
+def sentences_of(text, function):
+    """The arms of a function of sentences: each name to its sentence."""
+    body = re.search(rf"^(?:pub )?fn {function}\(.*?^\}}", text, re.MULTILINE | re.DOTALL).group(0)
+    arms = re.findall(r'\w+::(\w+)(?:\(_\)| \{ \.\. \})? =>\s*(?:\{\s*)?"((?:[^"\\]|\\.)*)"', body)
+    return {name: re.sub(r"\\(.)", r"\1", sentence) for name, sentence in arms}
+
+
+def sentence_problems(top, files):
+    page = text_of(top, "docs/OPERATING.md")
+    for heading, (path, function) in SENTENCES.items():
+        known = sentences_of(text_of(top, path), function)
+        told = {row[0].strip("`"): row[1] for row in rows_of(section_of(page, heading))}
+        for name in sorted(known.keys() | told.keys()):
+            if known.get(name) != told.get(name):
+                yield f"OPERATING, {heading}: {name} is {told.get(name)!r}, by {path} {known.get(name)!r}"
+        if not known:
+            yield f"{path}: no sentences in {function}"
+
+
 # ---- the map
 
 def map_problems(top, files):
@@ -255,10 +289,11 @@ def map_problems(top, files):
 # ---- cases and the version
 
 def case_problems(top, files):
-    folders = {name.split("/")[2] for name in files if re.fullmatch(r"tests/replay/[^/]+/script", name)}
-    told = [row[0].strip("`") for row in rows_of(text_of(top, "tests/replay/README.md"))]
-    for name in sorted(set(told) ^ folders):
-        yield f"tests/replay/README.md: {name} is {'no case' if name in told else 'missing'}"
+    for place in ("tests/replay", "tests/situations"):
+        folders = {name.split("/")[2] for name in files if re.fullmatch(rf"{place}/[^/]+/script", name)}
+        told = [row[0].strip("`") for row in rows_of(text_of(top, f"{place}/README.md"))]
+        for name in sorted(set(told) ^ folders):
+            yield f"{place}/README.md: {name} is {'no case' if name in told else 'missing'}"
     examples = {name.split("/")[1] for name in files if re.fullmatch(r"examples/[^/]+/.+", name)}
     for name in sorted(examples - set(re.findall(r"\]\(([\w-]+)\)", text_of(top, "examples/README.md")))):
         yield f"examples/README.md: {name} is missing"
@@ -387,6 +422,7 @@ TESTS = {
     "limits on one page": repeated_limit_problems,
     "actions": action_problems,
     "refusals": refusal_problems,
+    "sentences": sentence_problems,
     "map": map_problems,
     "cases": case_problems,
     "version": version_problems,

@@ -2,8 +2,9 @@
 """program.py PROGRAM: runs the built program `central` on what no contract says, and prints 'N passed, M failed'.
 
 It replays each folder of examples/ and tests/replay/ (site.json, script, stdout, status) and compares the bytes of
-standard output, standard error and the exit status; a folder without a site.json has that of tests/replay. Then it
-tries command lines, site files, devices that fail, how memory grows and memory that is refused.
+standard output, standard error and the exit status; a folder without a site.json has that of tests/replay. The folders of
+tests/situations/ have a file `command` besides, for `explain`, `check` and `show`. Then it tries command lines, site
+files, devices that fail, how memory grows and memory that is refused.
 """
 import json
 import os
@@ -50,6 +51,24 @@ def replay_cases():
                 b"",
                 status_of(case),
             )
+
+
+def situation_words(case):
+    """The words of a situation's command, which runs in its folder."""
+    command, *more = bytes_of(os.path.join(case, "command")).decode().split()
+    site = "site.json" if os.path.isfile(os.path.join(case, "site.json")) else os.path.join("..", "site.json")
+    return [command, "--site", site, *more]
+
+
+def situation_problems(program):
+    """Each folder of tests/situations: what its command prints of its script."""
+    top = os.path.join(TOP, "tests", "situations")
+    for name in sorted(os.listdir(top)):
+        case = os.path.join(top, name)
+        if os.path.isdir(case):
+            script, stdout = (bytes_of(os.path.join(case, file)) for file in ("script", "stdout"))
+            done = run(program, situation_words(case), script, folder=case)
+            yield f"tests/situations/{name}", list(differences(done, stdout, b"", status_of(case)))
 
 
 def fault_cases(folder):
@@ -147,8 +166,8 @@ def limit_cases(good):
     yield "a script of frames of the limit", good, frames, answer + call + answer * 15, b"", 0
 
 
-def run(program, arguments, given, stdout=subprocess.PIPE):
-    return subprocess.run([program, *arguments], input=given, stdout=stdout, stderr=subprocess.PIPE, timeout=120)
+def run(program, arguments, given, stdout=subprocess.PIPE, folder=None):
+    return subprocess.run([program, *arguments], input=given, stdout=stdout, stderr=subprocess.PIPE, timeout=120, cwd=folder)
 
 
 def run_on(program, arguments, given, is_full):
@@ -267,18 +286,27 @@ def memory_problems(program, folder):
     library = os.path.join(folder, "refuse_allocation.so")
     source = os.path.join(TOP, "tests", "refuse_allocation.c")
     subprocess.run(["cc", "-O2", "-shared", "-fPIC", "-o", library, source, "-ldl"], check=True)
-    for case, least in (
-        ("examples/first-schedule", 20),
-        ("examples/point-messages", 60),
-        ("examples/ordinary-day", 150),
-        ("examples/calls-to-a-point", 80),
-        ("tests/replay/holds-released-in-another-order", 100),
+    picture, page = (os.path.join(folder, name) for name in ("refused.svg", "refused.html"))
+    for case, more, least in (
+        ("examples/first-schedule", [], 20),
+        ("examples/point-messages", [], 60),
+        ("examples/ordinary-day", [], 150),
+        ("examples/calls-to-a-point", [], 80),
+        ("tests/replay/holds-released-in-another-order", [], 100),
+        ("tests/situations/two-cars", [], 60),
+        ("tests/situations/two-cars", ["--picture", picture], 60),
+        ("tests/situations/hour-that-lifts-a-limit", ["--picture", page], 60),
+        ("tests/situations/two-cars-for-programs", [], 60),
+        ("tests/situations/misspelled-ceiling", [], 20),
+        ("tests/situations/what-is-installed", [], 60),
+        ("tests/situations/installed-for-programs", [], 60),
     ):
-        name = os.path.basename(case)
-        refused, problems = refusals(program, library, os.path.join(TOP, case))
+        path = os.path.join(TOP, case)
+        words = situation_words(path) if os.path.isfile(os.path.join(path, "command")) else ["replay", "--site", site_of(path)]
+        refused, problems = refusals(program, library, path, [*words, *more])
         if refused < least:
             problems.append(f"only {refused} allocations were refused")
-        yield f"{name}: each of {refused} allocations refused", problems
+        yield f"{os.path.basename(case)}: each of {refused} allocations refused", problems
     for crate, test, in_a_row, least in (
         ("core_tests", "runs::a_step_is_made_again_where_memory_was_refused", 1, 20),
         ("core_tests", "runs::a_run_goes_on_where_memory_was_refused", 1, 2),
@@ -464,15 +492,15 @@ def ending_problems(library, test, step):
     return f"{test[1]}: it ends with each of {refused} allocations refused", problems
 
 
-def refusals(program, library, case):
+def refusals(program, library, case, words):
     """How many allocations the run of this folder makes, and where a refused one ends it otherwise than it should."""
-    arguments = [program, "replay", "--site", site_of(case)]
+    arguments = [program, *words]
     script, whole = (bytes_of(os.path.join(case, name)) for name in ("script", "stdout"))
     unrefused = (status_of(case), whole, b"")
     refused, without_effect, problems = 0, 0, []
     for number in range(10_000):  # the run of number 0 refuses nothing
         environment = {**os.environ, "LD_PRELOAD": library, "REFUSED_ALLOCATION": str(number)}
-        done = subprocess.run(arguments, input=script, capture_output=True, timeout=120, env=environment)
+        done = subprocess.run(arguments, input=script, capture_output=True, timeout=120, env=environment, cwd=case)
         if (done.returncode, done.stdout, done.stderr) == unrefused:
             without_effect += number > 0
         else:
@@ -492,6 +520,7 @@ def main():
     with tempfile.TemporaryDirectory() as folder:
         for name, arguments, given, *want in [*replay_cases(), *fault_cases(folder)]:
             results.append((name, list(differences(run(program, arguments, given), *want))))
+        results.extend(situation_problems(program))
         results.extend(command_line_problems(program))
         results.extend(help_example_problems(program, folder))
         results.extend(device_problems(program, folder))

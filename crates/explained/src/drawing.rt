@@ -6,9 +6,9 @@ use crate::explained::Explained;
 use crate::scale::{BOTTOM, LEFT, RIGHT, Scale, TOP};
 use crate::steps::Steps;
 use crate::ticks::{MOST_LIMITS, MOST_TIMES, time_step};
-use crate::words::unit_name;
 use meaning::Cause;
 use ocpp_scalars::{push_integer, push_tenths};
+use page_parts::unit_name;
 use profile::Unit;
 use std::alloc::{AllocError, Global};
 

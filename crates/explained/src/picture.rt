@@ -12,8 +12,9 @@ use crate::scale::{BREADTH, LEFT, Scale};
 use crate::steps::stretch_steps;
 use crate::styles::PICTURE;
 use crate::table::{heading, place, push_moment};
-use crate::words::{push_length, unit_name};
+use crate::words::push_length;
 use ocpp_scalars::push_integer;
+use page_parts::unit_name;
 use std::alloc::{AllocError, Global};
 
 /// So many stretches are told in a picture's description.

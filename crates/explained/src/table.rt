@@ -5,9 +5,10 @@ ghost use Rattle.std.specs.Prelude.{◌≤◌};
 use crate::cells::{Cells, all_cells};
 use crate::clock::{ClockTime, needs_seconds, push_date, push_time};
 use crate::explained::{Explained, NotCounted};
-use crate::words::{push_length, push_profile, sentence, unit_name};
+use crate::words::{push_length, push_profile, sentence};
 use crate::wrapping::{Margins, push_left, push_lines, push_right, push_times};
 use ocpp_scalars::push_integer;
+use page_parts::unit_name;
 use std::alloc::{AllocError, Global};
 
 /// The fewest columns of a bar, and the most.

@@ -4,25 +4,9 @@ use crate::explained::NoPart;
 use crate::length::length_of;
 use meaning::{Cause, PrevailingProfile, Reason, Share, WhyNot};
 use ocpp_scalars::{push_integer, push_tenths};
-use profile::{Purpose, Unit};
+use page_parts::{purpose_name, unit_name};
+use profile::Unit;
 use std::alloc::AllocError;
-
-/// The name of a purpose (chapter 7, ChargingProfilePurposeType).
-pub(crate) fn purpose_name(purpose: Purpose) -> &'static str {
-    match purpose {
-        Purpose::ChargePointMaxProfile => "ChargePointMaxProfile",
-        Purpose::TxDefaultProfile => "TxDefaultProfile",
-        Purpose::TxProfile => "TxProfile",
-    }
-}
-
-/// The name of a unit (chapter 7, ChargingRateUnitType).
-pub(crate) fn unit_name(unit: Unit) -> &'static str {
-    match unit {
-        Unit::A => "A",
-        Unit::W => "W",
-    }
-}
 
 /// The name of a reason, as programs read it.
 pub(crate) fn reason_name(reason: NoPart) -> &'static str {

@@ -1,5 +1,5 @@
 -- That one row more makes the best of the rows so far that of one more.
-use Rattle.std.proofs.Common.{◌∙◌, sym, ap, cond, Bool, Option, filter, take, option_map}
+use Rattle.std.proofs.Common.{◌≡◌, ◌∙◌, sym, ap, cond, Bool, Option, filter, take, option_map, rules}
 use Rattle.std.specs.List.{filter_map}
 use Rattle.profile.specs.Greatest.{greatest}
 use Rattle.profile.specs.Candidates.{is_candidate}
@@ -20,7 +20,7 @@ loop-row-preserved c =
     let rows = c.args.self.now.rows.now in
     let before : Option RowLimit = greatest level_of (filter_map give (filter test (take c.loop-row.row-index rows))) in
     let more = passing_more level_of give test rows c.loop-row.row-index c.row-item.result c.loop-row-test.true c.row-item.is in
-    let counted = sym c.is_candidate.ensures in
+    let counted : is_candidate c.args.purpose rows c.args.connector c.row-item.result ≡ c.is_candidate.result = search rules in
     elim c.if-is_candidate.branch [
       | then-is_candidate w ↦
           let here = ap (λ (b : Bool). cond b (greatest_of level_of before (give c.row-item.result)) before) (counted ∙ w.if-is_candidate.true) in

@@ -3,7 +3,7 @@ use Rattle.std.proofs.Common.{◌≡◌, ℕ, ◌+◌, [], ◌∷◌, ◌++◌, 
 use Rattle.std.specs.List.{range_with_len}
 use Rattle.meaning.specs.declared.cause.Share.{Share}
 use Rattle.meaning.specs.View.{point_state, active_since}
-use Rattle.meaning.specs.Cause.{Bound, share}
+use Rattle.meaning.specs.Cause.{own_bound, share}
 use Rattle.meaning.specs.Theory.Ranges.{range_more}
 use Rattle.meaning.proofs.Bounds.{share_by, passed_more, passed_skip}
 use Rattle.meaning.proofs.view.View.shares.Goals as goal
@@ -21,10 +21,10 @@ loop-index-preserved c =
     let active : is_some (active_since state connector) ≡ c.is_some.result = search rules in
     elim c.if-is_some.branch [
       | then-is_some+in_ok-push w ↦
+          let pushed : w.push.new.self.items ≡ c.loop-index.shares.items ++ share_by connector (own_bound state connector c.args.asked c.args.instant) ∷ [] = search rules in
           ap (λ v. v.items) w.shares-is
-          ∙ (w.in_ok-push.ensures.items
-          ∙ (ap (λ (b : Bound). c.loop-index.shares.items ++ share_by connector b ∷ []) (w.own.view_is ∙ w.own_bound-own.ensures)
-          ∙ (ap (λ (shares : List Share). shares ++ give connector ∷ []) c.loop-index.invariant ∙ sym (passed_more give test before after connector more (active ∙ w.if-is_some.true)))))
+          ∙ (pushed
+          ∙ (ap (λ (shares : List Share). shares ++ give connector ∷ []) c.loop-index.invariant ∙ sym (passed_more give test before after connector more (active ∙ w.if-is_some.true))))
       | else-is_some w ↦
           ap (λ v. v.items) w.shares-is ∙ (c.loop-index.invariant ∙ sym (passed_skip give test before after connector more (active ∙ w.if-is_some.false)))
     ]
