@@ -241,7 +241,7 @@ SENTENCES = {
     "Faults of a site file": ("crates/checks/src/sentences.rt", "site_sentence"),
     "Faults of a line": ("crates/checks/src/sentences.rt", "line_sentence"),
     "Errors of a CALL": ("crates/checks/src/sentences.rt", "call_sentence"),
-    "Profiles that never count": ("crates/checks/src/profile_check.rt", "never_text"),
+    "Profiles that never count": ("crates/checks/src/sentences.rt", "never_sentence"),
     "Profiles that never set the limit": ("crates/explained/src/words.rt", "sentence"),
     "Profiles that don't prevail": ("crates/explained/src/words.rt", "why_not_sentence"),
 }

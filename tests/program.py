@@ -298,6 +298,9 @@ def memory_problems(program, folder):
         ("tests/situations/hour-that-lifts-a-limit", ["--picture", page], 60),
         ("tests/situations/two-cars-for-programs", [], 60),
         ("tests/situations/misspelled-ceiling", [], 20),
+        ("tests/situations/night-above-the-fuse", [], 60),
+        ("tests/situations/wrong-words", [], 60),
+        ("tests/situations/whose-answer", [], 60),
         ("tests/situations/what-is-installed", [], 60),
         ("tests/situations/installed-for-programs", [], 60),
     ):

@@ -5,3 +5,5 @@
 mod scripts;
 #[cfg(test)]
 mod site_files;
+#[cfg(test)]
+mod standing;

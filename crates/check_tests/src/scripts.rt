@@ -124,12 +124,17 @@ const LINE_FAULTS: &str = "\
 ! 27 BadLine
 ";
 
-fn test_site(alloc: Global) -> Result<Site, Fail> {
+/// The site of the tests.
+pub(crate) fn test_site(alloc: Global) -> Result<Site, Fail> {
     Ok(read_site(alloc, SITE.as_bytes())?)
 }
 
 /// Whether each finding has its piece of the wanted ones.
-fn has_pieces(alloc: Global, findings: &[Finding], wanted: &str) -> Result<bool, AllocError> {
+pub(crate) fn has_pieces(
+    alloc: Global,
+    findings: &[Finding],
+    wanted: &str,
+) -> Result<bool, AllocError> {
     if wanted == "-" {
         return Ok(findings.is_empty());
     }

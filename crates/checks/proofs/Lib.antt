@@ -1,1 +1,2 @@
+pub mod ConnectorLemmas
 pub mod PeriodLemmas

@@ -4,13 +4,13 @@ use crate::field_fault::field_fault_message;
 use crate::finding::FaultName;
 use crate::json_outline::outline_of;
 use crate::line_hints::point_hint;
+use crate::line_text::{LineText, Sender};
 use crate::payload_fields::{
     PayloadPart, UnknownField, repeated_payload_fields, unknown_payload_fields,
 };
 use crate::profile_check::check_install;
 use crate::report::{CheckedScript, Report};
 use crate::requests::Requests;
-use crate::script_line::{LineText, Sender};
 use crate::sentences::sentence;
 use crate::shown::shown;
 use crate::similar::similar_name;

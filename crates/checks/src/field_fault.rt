@@ -1,6 +1,6 @@
 //! The field at which a CALL is at fault: where it stands, what stands there and what is wanted.
 
-use crate::found::{Wish, field_message};
+use crate::found::{LIMIT, Wish, field_message};
 use crate::payload_fields::PayloadPart;
 use messages::{ActionKind, CallFault, FieldName};
 use ocppj_frame::{Field, Node, list_field, object_field, tenths_field, whole_field};
@@ -144,9 +144,7 @@ fn wanted_of(field: FieldName) -> &'static str {
         FieldName::StackLevel => "a whole number from 0 to 99",
         FieldName::ConnectorId | FieldName::NumberPhases => "a whole number from 0 on",
         FieldName::Duration | FieldName::StartPeriod => "a whole number of seconds from 0 on",
-        FieldName::Limit | FieldName::MinChargingRate => {
-            "a number from 0 to 100000000.0 with at most one decimal"
-        }
+        FieldName::Limit | FieldName::MinChargingRate => LIMIT,
         FieldName::ChargingProfileKind => "\"Absolute\", \"Recurring\" or \"Relative\"",
         FieldName::ChargingProfilePurpose => {
             "\"ChargePointMaxProfile\", \"TxDefaultProfile\" or \"TxProfile\""

@@ -1,8 +1,8 @@
 //! What is found wrong with a site file or a script.
 
-use crate::script_line::LineFault;
 use messages::CallFault;
 use ocpp_scalars::Refusal;
+use replay::LineFault;
 use site_rules::SiteFault;
 use std::alloc::AllocError;
 use std::fmt;
@@ -29,6 +29,8 @@ pub enum Place {
     Point { index: usize, id: Option<String> },
     /// A line of the script, counted from 1.
     Line(u64),
+    /// What the point of this identity has when the script ends.
+    End(String),
 }
 
 /// What names a fault elsewhere: in the output of a replay, in an answer, or as the program stops.
@@ -110,6 +112,7 @@ impl fmt::Display for Place {
                 }
             }
             Place::Line(number) => write!(f, "line {number}"),
+            Place::End(point) => write!(f, "{point}, at the end"),
         }
     }
 }
@@ -127,16 +130,17 @@ impl fmt::Display for Finding {
 }
 
 /// Puts the findings in a script, from different passes over it, in the order of its lines. Those of one line
-/// stay in their order, and what belongs to no line stands first.
+/// stay in their order. What belongs to no line stands first, and what points have at the end stands last.
 pub fn sort_by_line(findings: &mut Vec<Finding>) -> Result<(), AllocError> {
     findings.sort_by_key(|finding| line_of(&finding.place))
 }
 
-/// The line of the script, or 0.
+/// The line of the script, or what sorts a finding before or behind all lines.
 fn line_of(place: &Place) -> u64 {
     match place {
         Place::Line(number) => *number,
         Place::File | Place::Character { .. } | Place::Point { .. } => 0,
+        Place::End(_) => u64::MAX,
     }
 }
 

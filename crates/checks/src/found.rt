@@ -4,6 +4,9 @@ use crate::shown::shown;
 use ocppj_frame::Node;
 use std::alloc::{AllocError, Global};
 
+/// What a limit is.
+pub(crate) const LIMIT: &str = "a number from 0 to 100000000.0 with at most one decimal";
+
 /// What is wanted at a field.
 #[derive(Clone, Copy)]
 pub(crate) struct Wish<'a> {

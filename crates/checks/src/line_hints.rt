@@ -1,78 +1,92 @@
 //! What is wrong with a line of a script that can't be read, and what was probably meant.
 
+use crate::line_text::utf8_of;
 use crate::report::Report;
-use crate::script_line::{LineMistake, split_word};
+use crate::sentences::line_sentence;
 use crate::shown::shown;
 use crate::similar::{is_similar, similar_name};
-use ocpp_scalars::InstantFault;
+use ocpp_scalars::{InstantFault, read_instant};
+use replay::LineFault;
 use site_rules::Site;
 use std::alloc::{AllocError, Global};
 
 /// The words that may stand behind the instant.
 const WORDS: [&str; 4] = ["operator", "point", "hold", "release"];
 
-/// The forms of a line.
-const FORMS: &str =
-    "wanted is INSTANT operator ID FRAME (or point, or hold, in place of operator) or INSTANT release N";
-
-/// What an instant looks like.
-const INSTANT_FORM: &str = "wanted is an instant such as 2025-01-31T18:00:00Z";
-
-/// What is wrong with a line, with the line as it stands.
+/// What is wrong with a line that has a fault, with the line as it stands.
 pub(crate) fn mistake_message(
     report: &mut Report,
     site: &Site,
-    mistake: LineMistake<'_>,
+    line: &[u8],
+    fault: LineFault,
 ) -> Result<String, AllocError> {
     let alloc = report.alloc;
-    let name = mistake.fault().name();
-    match mistake {
-        LineMistake::TooLong(count) => {
-            format!(in alloc; "{name}: {count} bytes; at most 1048576 are wanted")
+    let (text, valid) = utf8_of(line);
+    match fault {
+        LineFault::TooLong => {
+            let count = line.len();
+            format!(in alloc; "{fault}: {count} bytes; at most 1048576 are wanted")
         }
-        LineMistake::BadText(offset) => {
-            format!(in alloc; "{name}: it isn't UTF-8 from its byte at offset {offset} on")
+        LineFault::BadText => {
+            format!(in alloc; "{fault}: it isn't UTF-8 from its byte at offset {valid} on")
         }
-        LineMistake::BadLine(text) => {
+        LineFault::BadLine => {
             let hint = form_hint(alloc, text)?;
+            let rule = line_sentence(fault);
             let text = shown(alloc, text)?;
-            format!(in alloc; "{name}: {hint}: {text}")
+            format!(in alloc; "{fault}: {hint}; {rule}: {text}")
         }
-        LineMistake::BadInstant(word, fault) => {
-            let hint = instant_hint(word, fault);
-            let word = shown(alloc, word)?;
-            format!(in alloc; "{name}: \"{word}\" {hint}; {INSTANT_FORM}")
-        }
-        LineMistake::UnknownPoint(id) => {
+        LineFault::BadInstant => bad_instant(alloc, word_at(text, 0)),
+        LineFault::UnknownPoint => {
+            let id = word_at(text, 2);
             let hint = point_hint(report, site, id)?;
             let id = shown(alloc, id)?;
-            format!(in alloc; "{name}: the site has no point \"{id}\"{hint}")
+            format!(in alloc; "{fault}: the site has no point \"{id}\"{hint}")
+        }
+        LineFault::NotComposite | LineFault::UnknownRequest => {
+            let why = line_sentence(fault);
+            format!(in alloc; "{fault}: {why}")
         }
     }
+}
+
+/// The word at a place in a line, counted from 0, or nothing.
+fn word_at(line: &str, place: usize) -> &str {
+    line.split(' ').nth(place).unwrap_or("")
+}
+
+/// What is wrong with a first word that is no instant.
+fn bad_instant(alloc: Global, word: &str) -> Result<String, AllocError> {
+    let hint = match read_instant(word) {
+        Ok(_) => "",
+        Err(fault) => instant_hint(word, fault),
+    };
+    let fault = LineFault::BadInstant;
+    let rule = line_sentence(fault);
+    let word = shown(alloc, word)?;
+    format!(in alloc; "{fault}: \"{word}\" {hint}; {rule}")
 }
 
 /// Which mistake a line of no form makes.
 fn form_hint(alloc: Global, text: &str) -> Result<String, AllocError> {
     if let Some(hint) = plain_hint(text) {
-        return format!(in alloc; "{hint}; {FORMS}");
+        return String::from_str(alloc, hint);
     }
-    let Some((_, rest)) = split_word(text) else {
-        return format!(in alloc; "there is one word alone; {FORMS}");
+    let Some((_, rest)) = text.split_once(' ') else {
+        return String::from_str(alloc, "there is one word alone");
     };
-    let Some((word, _)) = split_word(rest) else {
-        return format!(in alloc; "too few words stand there, or two blanks in a row; {FORMS}");
+    let Some((word, _)) = rest.split_once(' ') else {
+        return String::from_str(alloc, "too few words stand there, or two blanks in a row");
     };
     if WORDS.contains(&word) {
-        return format!(in alloc; "{}", words_hint(word));
+        return String::from_str(alloc, words_hint(word));
     }
     let found = shown(alloc, word)?;
     match similar_name(alloc, word, &WORDS)? {
         Some(meant) => {
-            format!(in alloc;
-                "the second word is \"{found}\"; \"{meant}\" is probably meant; {FORMS}"
-            )
+            format!(in alloc; "the second word is \"{found}\"; \"{meant}\" is probably meant")
         }
-        None => format!(in alloc; "the second word is \"{found}\"; {FORMS}"),
+        None => format!(in alloc; "the second word is \"{found}\""),
     }
 }
 

@@ -2,10 +2,12 @@
 
 use crate::call_check::{connector_found, point_of, reject, unit_found, unknown_point_message};
 use crate::finding::FaultName;
-use crate::never::{NeverRated, never_rated};
+use crate::line_text::LineText;
+use crate::never::never_rated;
 use crate::report::{CheckedScript, Report};
-use crate::script_line::LineText;
-use ocpp_scalars::{Instant, Refusal, write_instant, write_tenths};
+use crate::sentences::never_sentence;
+use ocpp_scalars::{Instant, Refusal};
+use page_parts::{instant_text, tenths_text};
 use profile::{Kind, Period, Profile, ProfileKind, ProfileParts, Purpose, Recurrency};
 use site_rules::{Site, SitePoint, admit};
 use std::alloc::{AllocError, Global};
@@ -154,24 +156,10 @@ fn highest_ceiling(point: SitePoint<'_>, connector: u32, purpose: Purpose) -> u3
     highest.min(point.ceiling)
 }
 
-fn tenths_text(alloc: Global, tenths: u32) -> Result<String, AllocError> {
-    match write_tenths(alloc, tenths) {
-        Ok(text) => Ok(text),
-        Err(_) => Err(AllocError),
-    }
-}
-
-fn instant_text(alloc: Global, instant: Instant) -> Result<String, AllocError> {
-    match write_instant(alloc, instant) {
-        Ok(text) => Ok(text),
-        Err(_) => Err(AllocError),
-    }
-}
-
 /// When a profile has no rate: never, or in stretches that probably weren't meant.
 fn warn_rates(report: &mut Report, moment: Instant, profile: &Profile) -> Result<(), AllocError> {
     if let Some(why) = never_rated(profile) {
-        return report.warn_text(never_text(why));
+        return report.warn_text(never_sentence(why));
     }
     if let Some(end) = profile.valid_to {
         if end <= moment {
@@ -186,23 +174,6 @@ fn warn_rates(report: &mut Report, moment: Instant, profile: &Profile) -> Result
     match profile.kind {
         Kind::Recurring(recurrency) => warn_recurrence(report, profile, recurrency),
         Kind::Absolute | Kind::Relative => Ok(()),
-    }
-}
-
-/// Why a profile never has a rate.
-fn never_text(why: NeverRated) -> &'static str {
-    match why {
-        NeverRated::EmptyValidity =>
-            "this profile never counts: its validTo isn't after its validFrom",
-        NeverRated::ValidBeforeStart =>
-            "this profile never counts: its validTo isn't after its startSchedule",
-        NeverRated::ValidAfterEnd =>
-            "this profile never counts: its schedule is over, by startSchedule and duration, before its validFrom",
-        NeverRated::NoDuration => "this profile never counts: the duration of its schedule is 0",
-        NeverRated::PeriodsPastDuration =>
-            "this profile never counts: its first period starts when the duration is over",
-        NeverRated::PeriodsPastRecurrence =>
-            "this profile never counts: its first period starts when the day or week is over",
     }
 }
 

@@ -2,17 +2,15 @@
 
 use crate::finding::{FaultName, Finding, Place};
 use crate::line_hints::mistake_message;
+use crate::line_text::LineText;
 use crate::report::{CheckedScript, Report};
 use crate::requests::Requests;
-use crate::script_line::{LineFault, ScriptLine, read_script_line};
 use crate::sentences::line_sentence;
 use crate::text_check::check_text;
 use ocppj_frame::ReadingMemory;
+use replay::{LineFault, MAX_SCRIPT_BYTES, ScriptLine, read_line, split_line};
 use site_rules::Site;
 use std::alloc::{AllocError, Global};
-
-/// The longest script, in bytes.
-const MAX_SCRIPT_BYTES: usize = 16_777_216;
 
 /// What is wrong with a script on a site, line by line: faults of lines, texts that are refused, and warnings
 /// of texts that do something else than they say. A refusal that depends on what the point has by then
@@ -27,9 +25,15 @@ pub fn check_script(alloc: Global, site: &Site, script: &[u8]) -> Result<Vec<Fin
         requests: Requests::new(alloc),
     };
     let mut memory = ReadingMemory::new(alloc);
-    for piece in script.split_inclusive(|byte| *byte == b'\n') {
+    let mut rest = script;
+    // Each line has a byte at least.
+    for _ in 0..script.len() {
+        if rest.is_empty() {
+            break;
+        }
+        let (line, others) = split_line(rest);
+        rest = others;
         checked.report.next_line();
-        let line = without_ending(piece);
         if !line.is_empty() {
             check_line(&mut checked, &mut memory, line)?;
         }
@@ -44,14 +48,17 @@ fn check_line(
     memory: &mut ReadingMemory,
     line: &[u8],
 ) -> Result<(), AllocError> {
-    match read_script_line(line, checked.site) {
-        Ok(ScriptLine::Text(text)) => check_text(checked, memory, &text),
+    match read_line(line, checked.site) {
+        Ok(ScriptLine::Text(sent)) => {
+            check_text(checked, memory, &LineText::new(line, &sent, false))
+        }
+        Ok(ScriptLine::Hold(sent)) => {
+            check_text(checked, memory, &LineText::new(line, &sent, true))
+        }
         Ok(ScriptLine::Release(number)) => check_release(checked, number),
-        Err(mistake) => {
-            let message = mistake_message(&mut checked.report, checked.site, mistake)?;
-            checked
-                .report
-                .fault(FaultName::Line(mistake.fault()), message)
+        Err(fault) => {
+            let message = mistake_message(&mut checked.report, checked.site, line, fault)?;
+            checked.report.fault(FaultName::Line(fault), message)
         }
     }
 }
@@ -77,20 +84,7 @@ fn too_long(alloc: Global, count: usize) -> Result<Vec<Finding>, AllocError> {
     Ok(findings)
 }
 
-/// A line without its line feed and the carriage return before that.
-fn without_ending(piece: &[u8]) -> &[u8] {
-    let Some((last, line)) = piece.split_last() else {
-        return piece;
-    };
-    if *last != b'\n' {
-        return piece;
-    }
-    match line.split_last() {
-        Some((b'\r', shorter)) => shorter,
-        _ => line,
-    }
-}
-
+/// The answer of a request that a line held.
 fn check_release(checked: &mut CheckedScript<'_>, number: u64) -> Result<(), AllocError> {
     if checked.requests.release(number) {
         return Ok(());

@@ -1,8 +1,10 @@
-//! Why something is refused, in one sentence each: the one table that all that prints for people reads.
+//! Why something is refused or counts for nothing, in one sentence each: the tables that all which prints for
+//! people reads. The page of sentences in OPERATING is compared with them by a test.
 
-use crate::script_line::LineFault;
+use crate::never::NeverRated;
 use messages::CallFault;
 use ocpp_scalars::Refusal;
+use replay::LineFault;
 use site_rules::SiteFault;
 
 /// Why a step is refused.
@@ -96,5 +98,22 @@ pub fn call_sentence(fault: CallFault) -> &'static str {
             "the field is of another kind of JSON than it has to be",
         CallFault::PropertyConstraintViolation(_) => "the field's value isn't one that it may have",
         CallFault::Refused(refusal) => sentence(refusal),
+    }
+}
+
+/// Why a profile never counts.
+pub fn never_sentence(why: NeverRated) -> &'static str {
+    match why {
+        NeverRated::EmptyValidity =>
+            "this profile never counts: its validTo isn't after its validFrom",
+        NeverRated::ValidBeforeStart =>
+            "this profile never counts: its validTo isn't after its startSchedule",
+        NeverRated::ValidAfterEnd =>
+            "this profile never counts: its schedule is over, by startSchedule and duration, before its validFrom",
+        NeverRated::NoDuration => "this profile never counts: the duration of its schedule is 0",
+        NeverRated::PeriodsPastDuration =>
+            "this profile never counts: its first period starts when the duration is over",
+        NeverRated::PeriodsPastRecurrence =>
+            "this profile never counts: its first period starts when the day or week is over",
     }
 }

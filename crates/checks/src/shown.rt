@@ -1,4 +1,4 @@
-//! Texts that are shown in a finding.
+//! Texts and sums that are shown in a finding.
 
 use std::alloc::{AllocError, Global};
 
@@ -19,4 +19,11 @@ pub(crate) fn shown(alloc: Global, text: &str) -> Result<String, AllocError> {
         out.push_str("..")?;
     }
     Ok(out)
+}
+
+/// A sum of limits in tenths, as `64.0`. It may be larger than a limit.
+pub(crate) fn sum_text(alloc: Global, tenths: u64) -> Result<String, AllocError> {
+    let whole = tenths / 10;
+    let tenth = tenths % 10;
+    format!(in alloc; "{whole}.{tenth}")
 }

@@ -1,12 +1,13 @@
 //! What is wrong with a point of a site file.
 
 use crate::finding::{FaultName, Finding, Place};
-use crate::found::{Wish, field_message, message_of, what_stands};
-use crate::shown::shown;
+use crate::found::{LIMIT, Wish, field_message, message_of, what_stands};
+use crate::shown::{shown, sum_text};
 use crate::site_fields::SiteNames;
 use indexmap::IndexMap;
-use ocpp_scalars::{read_tenths, write_tenths};
+use ocpp_scalars::read_tenths;
 use ocppj_frame::{Entries, Field, Node, list_field, tenths_field, text_field};
+use page_parts::tenths_text;
 use site_rules::SiteFault;
 use std::alloc::{AllocError, Global};
 
@@ -15,9 +16,6 @@ const MAX_CONNECTORS: usize = 64;
 
 /// The most characters of a point's identity.
 const MAX_ID_CHARACTERS: usize = 48;
-
-/// What a limit is.
-const LIMIT: &str = "a number from 0 to 100000000.0 with at most one decimal";
 
 /// The identities of the points so far, and the index of the first point that has each.
 #[derive(Drop)]
@@ -232,19 +230,11 @@ fn remark_together(
     ceiling: u32,
     together: u64,
 ) -> Result<Finding, AllocError> {
-    let whole = together / 10;
-    let tenth = together % 10;
     let place = point.place(alloc)?;
-    let ceiling = tenths_shown(alloc, ceiling)?;
+    let together = sum_text(alloc, together)?;
+    let ceiling = tenths_text(alloc, ceiling)?;
     let message = format!(in alloc;
-        "the connectors' ceilings are {whole}.{tenth} together, more than the point's {ceiling}; each connector alone is bounded by the point's"
+        "the connectors' ceilings are {together} together, more than the point's {ceiling}; each connector alone is bounded by the point's"
     )?;
     Ok(Finding::remark(place, message))
-}
-
-fn tenths_shown(alloc: Global, tenths: u32) -> Result<String, AllocError> {
-    match write_tenths(alloc, tenths) {
-        Ok(text) => Ok(text),
-        Err(_) => Err(AllocError),
-    }
 }

@@ -4,9 +4,9 @@ use crate::call_check::{Call, check_call};
 use crate::finding::FaultName;
 use crate::json_fault::{JsonFault, json_fault_text};
 use crate::json_outline::outline_of;
+use crate::line_text::{LineText, Sender};
 use crate::report::{CheckedScript, Report};
-use crate::script_line::{LineFault, LineText, Sender};
-use crate::sentences::call_sentence;
+use crate::sentences::{call_sentence, line_sentence};
 use crate::shown::shown;
 use messages::CallFault;
 use ocpp_scalars::character_count;
@@ -14,6 +14,7 @@ use ocppj_frame::{
     Field, Frame, FrameFault, MAX_ID_CHARACTERS, Node, ReadingMemory, read_frame, read_tree,
     text_field,
 };
+use replay::LineFault;
 use std::alloc::{AllocError, Global};
 
 /// What became of a text.
@@ -122,11 +123,11 @@ pub(crate) fn not_composite(
     text: &LineText<'_>,
     why: &str,
 ) -> Result<(), AllocError> {
+    let fault = LineFault::NotComposite;
+    let rule = line_sentence(fault);
     let frame = shown(report.alloc, text.frame)?;
-    let message = format!(in report.alloc;
-        "NotComposite: a frame that is held has to be a CALL of GetCompositeSchedule, and {why}: {frame}"
-    )?;
-    report.fault(FaultName::Line(LineFault::NotComposite), message)
+    let message = format!(in report.alloc; "{fault}: {rule}, and {why}: {frame}")?;
+    report.fault(FaultName::Line(fault), message)
 }
 
 /// A CALL whose action is no text or whose payload is no object.

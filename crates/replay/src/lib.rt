@@ -12,6 +12,7 @@ mod tests;
 pub use player::held::Held;
 pub use script::input::{InputFault, read_all};
 pub use script::line::{LineFault, ScriptLine, read_line};
+pub use script::lines::split_line;
 pub use script::play::Printed;
 pub use script::quiet::{PlayedLine, Playing, play_quietly};
 pub use script::run::{MAX_SCRIPT_BYTES, ReplayFault, Summary, replay};

@@ -1,8 +1,8 @@
 //! What a table says of a call to a charge point.
 
-use crate::profile_words::purpose_name;
 use crate::words::text;
 use messages::CallBody;
+use page_parts::purpose_name;
 use profile::Criteria;
 use std::alloc::{AllocError, Global};
 

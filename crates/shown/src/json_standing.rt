@@ -2,10 +2,9 @@
 
 use crate::call_of_point::{WaitingCall, waiting_calls};
 use crate::call_words::action_name;
-use crate::json::JsonWriter;
-use crate::profile_words::{kind_name, purpose_name, recurrency_name, unit_name};
 use crate::standing::state_name;
 use messages::CallBody;
+use page_parts::{JsonWriter, kind_name, purpose_name, recurrency_name, unit_name};
 use point_book::PointBook;
 use profile::{Criteria, Profile, Row, Schedule};
 use replay::Playing;

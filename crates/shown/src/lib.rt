@@ -5,7 +5,6 @@
 mod call_of_point;
 mod call_words;
 mod ending;
-mod json;
 mod json_standing;
 mod profile_words;
 mod reply;

@@ -1,47 +1,13 @@
 //! What a table says of a profile.
 
-use crate::words::{instant_text, seconds_text, tenths_text, text};
+use crate::words::{seconds_text, text};
 use ocpp_scalars::Instant;
-use profile::{Kind, Profile, Purpose, Recurrency, Row, Unit};
+use page_parts::{instant_text, kind_name, recurrency_name, tenths_text, unit_name};
+use profile::{Kind, Profile, Purpose, Row};
 use std::alloc::{AllocError, Global};
 
 /// How many periods a table shows of a schedule.
 const SHOWN_PERIODS: usize = 6;
-
-/// chargingProfilePurpose, as payloads write it.
-pub fn purpose_name(purpose: Purpose) -> &'static str {
-    match purpose {
-        Purpose::ChargePointMaxProfile => "ChargePointMaxProfile",
-        Purpose::TxDefaultProfile => "TxDefaultProfile",
-        Purpose::TxProfile => "TxProfile",
-    }
-}
-
-/// chargingProfileKind, as payloads write it.
-pub fn kind_name(kind: Kind) -> &'static str {
-    match kind {
-        Kind::Absolute => "Absolute",
-        Kind::Recurring(_) => "Recurring",
-        Kind::Relative => "Relative",
-    }
-}
-
-/// recurrencyKind, as payloads write it.
-pub fn recurrency_name(kind: Kind) -> Option<&'static str> {
-    match kind {
-        Kind::Recurring(Recurrency::Daily) => Some("Daily"),
-        Kind::Recurring(Recurrency::Weekly) => Some("Weekly"),
-        Kind::Absolute | Kind::Relative => None,
-    }
-}
-
-/// chargingRateUnit, as payloads write it.
-pub fn unit_name(unit: Unit) -> &'static str {
-    match unit {
-        Unit::A => "A",
-        Unit::W => "W",
-    }
-}
 
 /// The kind in two words at the most, as `Recurring Daily`.
 pub fn kind_text(alloc: Global, kind: Kind) -> Result<String, AllocError> {

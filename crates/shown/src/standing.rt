@@ -2,9 +2,10 @@
 
 use crate::call_of_point::{WaitingCall, waiting_calls};
 use crate::call_words::{action_name, profiles_text};
-use crate::profile_words::{from_text, kind_text, periods_text, purpose_name, until_text};
+use crate::profile_words::{from_text, kind_text, periods_text, until_text};
 use crate::table::Table;
-use crate::words::{instant_text, text};
+use crate::words::text;
+use page_parts::{instant_text, purpose_name};
 use point_book::PointBook;
 use replay::Playing;
 use site_core::{Machine, Outbox};

@@ -1,25 +1,10 @@
-//! Small texts: numbers, instants, limits and cut texts.
+//! Small texts: numbers, lengths of time and cut texts.
 
-use ocpp_scalars::{Instant, push_instant, push_tenths};
 use std::alloc::{AllocError, Global};
 
 /// A copy of a text.
 pub fn text(alloc: Global, text: &str) -> Result<String, AllocError> {
     String::from_str(alloc, text)
-}
-
-/// An instant.
-pub fn instant_text(alloc: Global, instant: Instant) -> Result<String, AllocError> {
-    let mut out = String::new(alloc);
-    push_instant(&mut out, instant)?;
-    Ok(out)
-}
-
-/// So many tenths, as `16.0`.
-pub fn tenths_text(alloc: Global, tenths: u32) -> Result<String, AllocError> {
-    let mut out = String::new(alloc);
-    push_tenths(&mut out, tenths)?;
-    Ok(out)
 }
 
 /// So many seconds in the largest unit that says them exactly, as `8 h`.

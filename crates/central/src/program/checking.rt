@@ -8,9 +8,11 @@ use crate::program::pages::print_page;
 use crate::program::program_fault::ProgramFault;
 use crate::program::script_input::read_script;
 use crate::program::site_file::read_site_bytes;
-use checks::{Finding, Place, check_printed, check_script, check_site, exit_status};
+use checks::{
+    Finding, check_printed, check_script, check_site, check_standing, exit_status, sort_by_line,
+};
 use shown::{Trace, ending_text, trace_script, trace_text};
-use site_rules::read_site;
+use site_rules::{Site, SiteFault, read_site};
 use std::alloc::{AllocError, AllocGlobal, Global};
 use std::fmt::Write;
 use std::rt::Files;
@@ -41,21 +43,42 @@ fn page_of(
     let mut page = String::new(alloc);
     let mut findings = check_site(alloc, bytes)?;
     push_findings(&mut page, checking.site, findings.as_slice())?;
-    if let Ok(site) = read_site(alloc, bytes) {
-        let mut more = check_script(alloc, &site, script)?;
-        let trace = trace_script(alloc, script, site, None)?;
-        find_in_answers(alloc, &trace, &mut more)?;
-        push_findings(&mut page, "script", more.as_slice())?;
-        findings.append(&mut more)?;
-        if checking.trace {
-            page.push_str(trace_text(alloc, &trace)?.as_str())?;
+    match read_site(alloc, bytes) {
+        Ok(site) => {
+            let mut more = push_played(&mut page, site, script, checking.trace)?;
+            findings.append(&mut more)?;
         }
-        page.push_str(ending_text(alloc, &trace)?.as_str())?;
+        Err(SiteFault::OutOfMemory) => return Err(AllocError),
+        // What is found in the file says it.
+        Err(_) => {}
     }
     Ok((page, exit_status(findings.as_slice())))
 }
 
-/// Adds what is found in the answers of a script's lines, and sorts all by lines.
+/// Appends what is found in a script that is played on a site, and what it leaves undone. Returns what is found.
+fn push_played(
+    page: &mut String,
+    site: Site,
+    script: &[u8],
+    with_trace: bool,
+) -> Result<Vec<Finding>, AllocError>
+    requires { length script.now ≤ max_script_bytes }
+{
+    let alloc = *page.allocator();
+    let mut findings = check_script(alloc, &site, script)?;
+    let trace = trace_script(alloc, script, site, None)?;
+    find_in_answers(alloc, &trace, &mut findings)?;
+    find_at_the_end(alloc, &trace, &mut findings)?;
+    sort_by_line(&mut findings)?;
+    push_findings(page, "script", findings.as_slice())?;
+    if with_trace {
+        page.push_str(trace_text(alloc, &trace)?.as_str())?;
+    }
+    page.push_str(ending_text(alloc, &trace)?.as_str())?;
+    Ok(findings)
+}
+
+/// Adds what is found in the answers of a script's lines.
 fn find_in_answers(
     alloc: Global,
     trace: &Trace<'_>,
@@ -65,16 +88,27 @@ fn find_in_answers(
         let mut more = check_printed(alloc, line.number, line.printed.as_str())?;
         findings.append(&mut more)?;
     }
-    findings.sort_by_key(|finding| line_of(&finding.place))?;
     Ok(())
 }
 
-/// The line of the script where a finding stands; what stands at none comes first.
-fn line_of(place: &Place) -> u64 {
-    match place {
-        Place::Line(number) => *number,
-        Place::File | Place::Character { .. } | Place::Point { .. } => 0,
+/// Adds what is found in what the points have when the script ends.
+fn find_at_the_end(
+    alloc: Global,
+    trace: &Trace<'_>,
+    findings: &mut Vec<Finding>,
+) -> Result<(), AllocError> {
+    let machine = trace.playing().machine();
+    let site = machine.site();
+    for place in 0..site.len() {
+        if let Some(point) = site.point(place) {
+            if let Some(book) = machine.book_of(point.id) {
+                let view = book.view();
+                let mut more = check_standing(alloc, site.unit(), point.id, &view)?;
+                findings.append(&mut more)?;
+            }
+        }
     }
+    Ok(())
 }
 
 /// Appends a line for each finding, behind the name of where it was found.

@@ -1,0 +1,78 @@
+//! What is amiss with what a point has when a script ends, though each line by itself is right.
+
+use crate::finding::{Finding, Place, Severity};
+use crate::hidden::is_hidden_everywhere;
+use crate::shown::sum_text;
+use crate::together::{Excess, first_excess};
+use meaning::View;
+use page_parts::{instant_text, tenths_text, unit_name};
+use profile::{Row, Unit};
+use std::alloc::{AllocError, Global};
+
+/// What is amiss with what the point of an identity has: TxDefaultProfiles for all connectors that each connector's
+/// own one hides, and schedules of connectors that together go beyond the ChargePointMaxProfile. Where no profile of
+/// a connector prevails, so that the ceilings of the site file alone go beyond it, that is a remark.
+pub fn check_standing(
+    alloc: Global,
+    unit: Unit,
+    point: &str,
+    view: &View<'_>,
+) -> Result<Vec<Finding>, AllocError> {
+    let mut findings = Vec::new(alloc);
+    for row in view.rows {
+        if is_hidden_everywhere(view, row) {
+            let message = hidden_message(alloc, row)?;
+            findings.push(finding_at_end(alloc, Severity::Warning, point, message)?)?;
+        }
+    }
+    if let Some(excess) = first_excess(view) {
+        let severity = if excess.is_scheduled {
+            Severity::Warning
+        } else {
+            Severity::Remark
+        };
+        let message = excess_message(alloc, unit, &excess)?;
+        findings.push(finding_at_end(alloc, severity, point, message)?)?;
+    }
+    Ok(findings)
+}
+
+fn finding_at_end(
+    alloc: Global,
+    severity: Severity,
+    point: &str,
+    message: String,
+) -> Result<Finding, AllocError> {
+    Ok(Finding {
+        severity,
+        place: Place::End(String::from_str(alloc, point)?),
+        name: None,
+        message,
+    })
+}
+
+/// That a profile counts nowhere.
+fn hidden_message(alloc: Global, row: &Row) -> Result<String, AllocError> {
+    let id = row.profile.id;
+    let level = row.profile.stack_level;
+    format!(in alloc;
+        "TxDefaultProfile {id} at connector 0 never counts: each connector has a TxDefaultProfile of its own at stack level {level}, which hides it also while that one has no limit"
+    )
+}
+
+/// That the connectors may draw more together than their point.
+fn excess_message(alloc: Global, unit: Unit, excess: &Excess<'_>) -> Result<String, AllocError> {
+    let what = if excess.is_scheduled {
+        "schedules"
+    } else {
+        "ceilings"
+    };
+    let unit = unit_name(unit);
+    let together = sum_text(alloc, excess.together)?;
+    let since = instant_text(alloc, excess.instant)?;
+    let limit = tenths_text(alloc, excess.limit)?;
+    let id = excess.most.profile.id;
+    format!(in alloc;
+        "if all connectors charge, their {what} let them draw {together} {unit} together from {since} on, more than the {limit} {unit} of ChargePointMaxProfile {id}: nothing here divides that among them"
+    )
+}
