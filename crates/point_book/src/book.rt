@@ -3,8 +3,11 @@
 ghost use Rattle.std.specs.Prelude.{◌≡◌, ◌↔◌, ◌+◌, ◌<◌, ◌≤◌, None, IsTrue, IfErr, IfOk, OnOk, length};
 ghost use Rattle.std.specs.List.{list_any};
 ghost use Rattle.std.specs.Option.{option_copied};
+ghost use Rattle.profile.specs.Candidates.{candidates};
 ghost use Rattle.profile.specs.Changes.{matches};
 ghost use Rattle.meaning.specs.View.{point_state};
+ghost use Rattle.stacking.specs.Candidates.{AreByFallingLevel};
+ghost use Rattle.stacking.specs.ByCases.Candidates.{candidates_left};
 ghost use Rattle.stacking.specs.Rows.{AreRows};
 ghost use Rattle.transactions.specs.ActiveTable.{active_at, began, connector_of};
 ghost use Rattle.point_book.specs.Book.{IsBook, empty_book, state_of};
@@ -13,8 +16,8 @@ ghost use Rattle.point_book.specs.Changes.{install_refusal, IsRefused, book_inst
 use crate::refusal::transaction_refusal;
 use meaning::View;
 use ocpp_scalars::Refusal;
-use profile::{Criteria, Row};
-use stacking::Rows;
+use profile::{Criteria, Purpose, Row};
+use stacking::{Candidates, Rows};
 use std::alloc::{AllocError, Global};
 use std::marker::Model;
 use transactions::{ActiveTable, Began, Begin, Transaction};
@@ -81,6 +84,16 @@ impl PointBook {
             starts: self.transactions.starts(),
             rows: self.rows.as_slice(),
         }
+    }
+
+    /// The rows of a purpose that speak for a connector (chapter 3.13), by strictly falling stack
+    /// level, each once.
+    pub fn candidates(&self, purpose: Purpose, connector: u32) -> Candidates<'_>
+        ensures { AreByFallingLevel
+            (candidates purpose self.now.rows connector)
+            (candidates_left result) }
+    {
+        self.rows.candidates(purpose, connector)
     }
 
     /// How many connectors the point has: they are numbered from 1.

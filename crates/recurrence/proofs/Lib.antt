@@ -1,4 +1,3 @@
 pub mod NextLemmas
 pub mod StartLemmas
-pub mod RateLemmas
 pub mod PlaceLemmas

@@ -6,7 +6,7 @@ use Rattle.profile.specs.declared.charging_profile.Profile.{Profile}
 use Rattle.profile.specs.Places.{is_place}
 use Rattle.recurrence.specs.NextChange.{IsNextPlace}
 use Rattle.recurrence.specs.Places.{place_at, places_after}
-use Rattle.recurrence.proofs.RateLemmas.{fails}
+use Rattle.recurrence.specs.Theory.Rates.{fails}
 
 none_of : (test : ℕ → Bool) (a n : ℕ) → ((k : ℕ) → a ≤ k → k < a + n → test k ≡ false) → filter test (range_with_len a n) ≡ []
 none_of test a zero none = refl

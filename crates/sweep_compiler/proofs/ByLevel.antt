@@ -44,14 +44,14 @@ falling_inserted top new (x ∷ rows) h f = go (nat_lt (level_seen x) (level_see
     go false not_less later = let below : level_seen new ≤ level_seen x = grind (arith, nat_tests) in (f.0, later below)
 
 -- a row's level and its limit, and the same of the first that has one
-abbrev give : ℕ → SeenRow → Option (ℕ × ℕ)
+abbrev pub give : ℕ → SeenRow → Option (ℕ × ℕ)
 give instant x = option_map (λ (limit : ℕ). (level_seen x, limit)) (limit_seen instant x)
 
-abbrev first_with : ℕ → List SeenRow → Option (ℕ × ℕ)
+abbrev pub first_with : ℕ → List SeenRow → Option (ℕ × ℕ)
 first_with instant [] = None
 first_with instant (x ∷ rows) = option_or (give instant x) (first_with instant rows)
 
-first_is : (instant : ℕ) (rows : List SeenRow) → option_map (λ (best : ℕ × ℕ). best.1) (first_with instant rows) ≡ first_limit instant rows
+pub first_is : (instant : ℕ) (rows : List SeenRow) → option_map (λ (best : ℕ × ℕ). best.1) (first_with instant rows) ≡ first_limit instant rows
 first_is instant [] = refl
 first_is instant (x ∷ rows) = go (limit_seen instant x) (first_is instant rows)
   where
@@ -76,7 +76,7 @@ first_below instant top (x ∷ rows) best f h = go (limit_seen instant x) h (fir
     go None h later = let below = later h in let at = f.0 in omega (arith, below, at)
     go (Some limit) h later = let at = f.0 in let same : level_or (Some (level_seen x, limit)) ≡ level_or (Some best) = ap level_or h in omega (arith, at, same)
 
-abbrev level : ℕ × ℕ → ℕ
+abbrev pub level : ℕ × ℕ → ℕ
 level best = best.0
 
 behind_none : (best : Option (ℕ × ℕ)) → best ≡ greatest_of level best None
@@ -142,7 +142,7 @@ one_first (Some next) best bests e = some best ∙ ap (λ (best : Option (ℕ ×
     some None = refl
     some (Some best) = refl
 
-first_more_of : (instant : ℕ) (x : SeenRow) (rows : List SeenRow)
+pub first_more_of : (instant : ℕ) (x : SeenRow) (rows : List SeenRow)
     → greatest_of level (give instant x) (greatest level (filter_map (give instant) rows)) ≡ greatest level (filter_map (give instant) (x ∷ rows))
 first_more_of instant x rows = go (give instant x)
   where

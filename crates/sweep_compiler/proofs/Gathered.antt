@@ -39,15 +39,15 @@ falling_more rows x = fold-append (λ (sorted : List SeenRow) (new : SeenRow). i
 
 -- ---- what is made of each
 
-map_any : {X Y : Type 0} (test : Y → Bool) (make : X → Y) (xs : List X) → list_any test (map make xs) ≡ list_any (λ x. test (make x)) xs
+pub map_any : {X Y : Type 0} (test : Y → Bool) (make : X → Y) (xs : List X) → list_any test (map make xs) ≡ list_any (λ x. test (make x)) xs
 map_any test make [] = refl
 map_any test make (x ∷ xs) = ap (λ b. test (make x) || b) (map_any test make xs)
 
-same_any : {X : Type 0} (test other : X → Bool) → ((x : X) → test x ≡ other x) → (xs : List X) → list_any test xs ≡ list_any other xs
+pub same_any : {X : Type 0} (test other : X → Bool) → ((x : X) → test x ≡ other x) → (xs : List X) → list_any test xs ≡ list_any other xs
 same_any test other same [] = refl
 same_any test other same (x ∷ xs) = ap (λ b. b || list_any test xs) (same x) ∙ ap (λ b. other x || b) (same_any test other same xs)
 
-map_given : {X Y Z : Type 0} (give : Y → Option Z) (make : X → Y) (xs : List X) → filter_map give (map make xs) ≡ filter_map (λ x. give (make x)) xs
+pub map_given : {X Y Z : Type 0} (give : Y → Option Z) (make : X → Y) (xs : List X) → filter_map give (map make xs) ≡ filter_map (λ x. give (make x)) xs
 map_given give make [] = refl
 map_given give make (x ∷ xs) = ap (cons_option (give (make x))) (map_given give make xs)
 
@@ -84,7 +84,7 @@ place_looked state asked instant connector =
 
 -- ---- the whole
 
-limit_seen_by : (whole : Bool) (state : PointState) (connector asked instant : ℕ)
+pub limit_seen_by : (whole : Bool) (state : PointState) (connector asked instant : ℕ)
     → min (at_most state.ceiling (prevailing ChargePointMaxProfile state 0 asked instant)) (sum_by (λ looked. own_limit state looked asked instant) (cond whole (active_connectors state) (connector ∷ [])))
     ≡ limit_by whole state connector asked instant
 limit_seen_by true state connector asked instant = refl

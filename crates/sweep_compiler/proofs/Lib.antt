@@ -5,3 +5,15 @@ pub mod ByLevel
 pub mod Gathered
 pub mod Unchanged
 pub mod WorkedExamples
+pub mod RatesInForce
+pub mod Running
+pub mod Queueing
+pub mod Prevailing
+pub mod LimitNow
+pub mod Passing
+pub mod PassedRows
+pub mod TakenRows
+pub mod LeadingOn
+pub mod GatheredRuns
+pub mod Starting
+pub mod AtStart

@@ -28,11 +28,11 @@ change_as place place' value value' instant (Some next) p v h = record {
   stays = λ k from below. sym (v k) ∙ (h.stays k from below ∙ v instant);
 }
 
-or-first : (a b : Bool) → a ≡ true → (a || b) ≡ true
+pub or-first : (a b : Bool) → a ≡ true → (a || b) ≡ true
 or-first true b h = refl
 or-first false b h = cc
 
-or-second : (a b : Bool) → b ≡ true → (a || b) ≡ true
+pub or-second : (a b : Bool) → b ≡ true → (a || b) ≡ true
 or-second true b h = refl
 or-second false b h = h
 
@@ -83,7 +83,7 @@ pub any_push : {X : Type 0} (test : X → Bool) (xs : List X) (x : X) → (list_
 any_push test xs x = sym (list_any-append test xs (x ∷ []) ∙ ap (λ b. list_any test xs || b) (or-false (test x)))
 
 -- the first of rows that has a limit is that of some of them, or else of the others
-first_append : (instant : ℕ) (rows others : List SeenRow) → first_limit instant (rows ++ others) ≡ or_else (first_limit instant rows) (first_limit instant others)
+pub first_append : (instant : ℕ) (rows others : List SeenRow) → first_limit instant (rows ++ others) ≡ or_else (first_limit instant rows) (first_limit instant others)
 first_append instant [] others = refl
 first_append instant (x ∷ rows) others = go (limit_seen instant x) (first_append instant rows others)
   where

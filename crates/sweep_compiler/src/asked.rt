@@ -8,9 +8,9 @@ ghost use Rattle.meaning.specs.Cause.{reason};
 ghost use Rattle.sweep_compiler.specs.ByCases.Seen.{largest_limit, own_limit_seen};
 ghost use Rattle.sweep_compiler.specs.ByCases.NextPlace.{IsNextAsked, IsNextOfAll, IsNextOfAllRows, IsNextReason};
 
-use crate::falling::{first_limit, next_after, next_of_each};
+use crate::falling::next_of_each;
 use crate::gatherer::Gatherer;
-use crate::looked::{Looked, at_most};
+use crate::looked::Looked;
 use crate::seen::Seen;
 use meaning::{Reason, View, reason_at};
 use ocpp_scalars::Instant;
@@ -71,26 +71,6 @@ impl<'a> AskedLimit<'a> {
         })
     }
 
-    /// The limit at an instant, in tenths.
-    pub(crate) fn at(&self, instant: Instant) -> u32
-        ensures { result ≡ limit self.now.state self.now.connector self.now.asked instant }
-    {
-        let most = at_most(
-            self.view.ceiling,
-            first_limit(self.most.as_slice(), instant),
-        );
-        most.min(sum_of(self.looked.as_slice(), instant))
-    }
-
-    /// Its next place after an instant.
-    pub(crate) fn next_after(&mut self, instant: Instant) -> Option<Instant>
-        ensures same { self.new ≡ self.old }
-        ensures next { IsNextAsked self.old instant result }
-    {
-        let most = next_after(self.most.as_mut_slice(), instant);
-        sooner(most, next_of_all(self.looked.as_mut_slice(), instant))
-    }
-
     /// The limit at an instant with what sets it.
     pub(crate) fn reason_at(&self, alloc: Global, instant: Instant) -> Result<Reason, AllocError>
         requires has_connector { self.now.connector ≤ length self.now.state.ceilings }
@@ -109,29 +89,6 @@ impl<'a> AskedLimit<'a> {
         let most = next_of_each(self.most.as_mut_slice(), instant);
         sooner(most, next_of_all_rows(self.looked.as_mut_slice(), instant))
     }
-}
-
-/// What connectors may draw together at an instant, or the most that there is where that is less.
-fn sum_of(looked: &[Looked<'_>], instant: Instant) -> u32
-    ensures { result ≡ min (sum_by (own_limit_seen instant) looked.now) largest_limit }
-{
-    let mut sum: u32 = 0;
-    for connector in looked {
-        sum = sum.saturating_add(connector.limit(instant));
-    }
-    sum
-}
-
-/// The next place of any of some connectors after an instant.
-fn next_of_all(looked: &mut [Looked<'_>], instant: Instant) -> Option<Instant>
-    ensures same { looked.new ≡ looked.old }
-    ensures next { IsNextOfAll looked.old instant result }
-{
-    let mut soonest = None;
-    for place in 0..looked.len() {
-        soonest = sooner(soonest, looked[place].next_after(instant));
-    }
-    soonest
 }
 
 /// The next place of any row of some connectors after an instant.

@@ -4,9 +4,7 @@ ghost use Rattle.std.specs.Prelude.{◌≡◌, ℕ, ◌+◌, ◌<◌, ◌≤◌,
 ghost use Rattle.sweep_compiler.specs.Places.{places};
 ghost use Rattle.sweep_compiler.specs.Right.{IsCompiledFor};
 
-use crate::asked::AskedLimit;
-use crate::gatherer::Gatherer;
-use crate::limit_curve::LimitCurve;
+use crate::gathering::Gathering;
 use crate::sweep::sweep_along;
 use crate::turns::Turns;
 use meaning::{Ask, Composite};
@@ -32,16 +30,13 @@ pub fn compile(
     ensures counted { turns.old ≤ turns.new }
     ensures each { IfOk result (λ schedule. turns.old + length schedule.periods ≤ turns.new) }
 {
-    let gatherer = Gatherer {
+    let gathering = Gathering {
         alloc,
+        book,
         view: book.view(),
         asked: ask.start,
+        last: ask.start.plus(u64::from(ask.duration) - 1),
     };
-    let limit = AskedLimit::gathered(&gatherer, ask.connector)?;
-    let mut curve = LimitCurve {
-        limit,
-        ask: *ask,
-        second: 0,
-    };
+    let mut curve = gathering.curve(ask.connector)?;
     sweep_along(alloc, &mut curve, ask.duration, turns)
 }

@@ -9,35 +9,6 @@ use ocpp_scalars::Instant;
 use recurrence::sooner;
 use std::alloc::AllocError;
 
-/// The limit of the first of the rows that has one at an instant.
-pub(crate) fn first_limit(rows: &[Seen<'_>], instant: Instant) -> Option<u32>
-    ensures { result ≡ first_limit instant rows.now }
-{
-    for seen in rows {
-        let limit = seen.limit(instant);
-        if limit.is_some() {
-            return limit;
-        }
-    }
-    None
-}
-
-/// The next place of the rows down to the first that has a limit at an instant: up to there no
-/// lower one prevails.
-pub(crate) fn next_after(rows: &mut [Seen<'_>], instant: Instant) -> Option<Instant>
-    ensures same { rows.new ≡ rows.old }
-    ensures next { IsNextOfFirst rows.old instant result }
-{
-    let mut soonest = None;
-    for place in 0..rows.len() {
-        soonest = sooner(soonest, rows[place].next_after(instant));
-        if rows[place].limit(instant).is_some() {
-            return soonest;
-        }
-    }
-    soonest
-}
-
 /// The next place of any of the rows after an instant: up to there each keeps the limit that it has.
 pub(crate) fn next_of_each(rows: &mut [Seen<'_>], instant: Instant) -> Option<Instant>
     ensures same { rows.new ≡ rows.old }

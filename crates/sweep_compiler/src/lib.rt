@@ -4,6 +4,7 @@
 #![tactic(auto)]
 
 mod asked;
+mod bounded;
 mod compiled;
 mod compiler;
 mod curve;
@@ -12,9 +13,12 @@ mod explanation;
 mod explanation_laws;
 mod falling;
 mod gatherer;
+mod gathering;
 mod limit_curve;
 mod looked;
+mod queue;
 mod reason_curve;
+mod run;
 mod seen;
 mod stretch;
 mod sweep;

@@ -1,57 +1,146 @@
 //! The limit of a connector along the seconds of an ask.
 
-ghost use Rattle.std.specs.Prelude.{◌≡◌, ℕ, ◌+◌, ◌<◌};
-ghost use Rattle.meaning.specs.Limit.{limit_asked};
+ghost use Rattle.std.specs.Prelude.{◌≡◌, ℕ, ◌+◌, ◌-◌, ◌<◌, ◌≤◌, ◌^◌, length, IfErr, IfOk};
+ghost use Rattle.ocpp_scalars.specs.declared.refusal.Refusal.TheVariants.{OutOfMemory};
+ghost use Rattle.std.specs.List.{AllByRecursion};
+ghost use Rattle.meaning.specs.View.{point_state};
+ghost use Rattle.meaning.specs.Limit.{limit, limit_asked};
 ghost use Rattle.sweep_compiler.specs.Places.{is_second_asked};
+ghost use Rattle.sweep_compiler.specs.ByCases.Running.{RunningBound};
+ghost use Rattle.sweep_compiler.specs.ByCases.Queue.{IsSoonestOf};
+ghost use Rattle.sweep_compiler.specs.ByCases.Swept.{IsSweptCurve, IsReadyCurve, IsOfOneAsk, waiting_at, row_count, passed_in, due_in, shared_now};
 
-use crate::asked::AskedLimit;
+use crate::bounded::Bounded;
 use crate::curve::Curve;
+use crate::queue::{Due, Queue};
 use crate::turns::Turns;
-use meaning::Ask;
-use ocpp_scalars::Instant;
+use meaning::View;
+use ocpp_scalars::{Instant, Refusal};
 
-/// The limit that is asked, and the second at which a sweep along it stands.
+/// The limit that is asked, on its way from place to place.
 #[derive(Drop)]
 pub(crate) struct LimitCurve<'a> {
-    pub limit: AskedLimit<'a>,
-    pub ask: Ask,
-    pub second: u32,
-    pub ghost asked: { limit.asked ≡ ask.start },
-    pub ghost within: { second < ask.duration },
+    pub view: View<'a>,
+    pub connector: u32,
+    pub asked: Instant,
+    /// The last instant that is asked.
+    pub last: Instant,
+    /// The instant at which the sweep stands: each place up to it was passed.
+    pub at: Instant,
+    /// What bounds the whole point, and behind it what bounds each connector that is looked at.
+    pub bounds: Vec<Bounded<'a>>,
+    /// What the connectors may draw together here.
+    pub sum: u64,
+    /// The next place of each row that has one left.
+    pub queue: Queue,
 }
 
 impl LimitCurve<'_> {
-    /// The instant at which the sweep stands.
-    fn instant(&self) -> Instant
-        ensures { result ≡ self.now.ask.start + self.now.second }
+    /// The limit here, in tenths.
+    pub(crate) fn limit_here(&self) -> u32
+        requires ready { IsReadyCurve self.now }
+        requires within { self.now.at ≤ self.now.last }
+        ensures { result ≡ limit (point_state self.now.view) self.now.connector self.now.asked self.now.at }
     {
-        self.ask.start.plus(u64::from(self.second))
+        let point = self.bounds[0].limit();
+        u64::from(point).min(self.sum) as u32
     }
+
+    /// Goes to the next place: each row that is due there passes it.
+    fn go_to(&mut self, next: Instant) -> Result<(), Refusal>
+        requires ready { IsReadyCurve self.old }
+        requires soonest { IsSoonestOf self.old.queue next }
+        ensures ready { IfOk result (λ _. IsReadyCurve self.new) }
+        ensures at { IfOk result (λ _. self.new.at ≡ next) }
+        ensures same { IfOk result (λ _. IsOfOneAsk self.old self.new) }
+        ensures cause { IfErr result (λ refusal. refusal ≡ OutOfMemory) }
+    {
+        self.at = next;
+        while self.queue.soonest() == Some(next) {
+            self.pass_soonest()?;
+        }
+        Ok(())
+    }
+
+    /// Lets the row that is due here the soonest pass its place.
+    fn pass_soonest(&mut self) -> Result<(), Refusal>
+        requires swept { IsSweptCurve self.old }
+        requires here { IsSoonestOf self.old.queue self.old.at }
+        ensures swept { IfOk result (λ _. IsSweptCurve self.new) }
+        ensures fewer { IfOk result (λ _. waiting_at self.new.at self.new.queue
+            < waiting_at self.old.at self.old.queue) }
+        ensures same { IfOk result (λ _. IsOfOneAsk self.old self.new) }
+        ensures at { IfOk result (λ _. self.new.at ≡ self.old.at) }
+        ensures cause { IfErr result (λ refusal. refusal ≡ OutOfMemory) }
+    {
+        let Some(due) = self.queue.pop() else {
+            return Ok(());
+        };
+        if self.bounds[due.bound].due(due.row) != Some(due.instant) {
+            return Ok(());
+        }
+        let next = pass_row(&mut self.bounds, &mut self.sum, due.bound, due.row)?;
+        if let Some(instant) = next {
+            self.queue.push(Due {
+                instant,
+                bound: due.bound,
+                row: due.row,
+            })?;
+        }
+        Ok(())
+    }
+}
+
+/// Lets a row of a bound pass its next place, keeps the sum of what the connectors may draw, and returns
+/// the instant at which the row is due again.
+fn pass_row(
+    bounds: &mut Vec<Bounded<'_>>,
+    sum: &mut u64,
+    bound: usize,
+    row: usize,
+) -> Result<Option<Instant>, Refusal>
+    requires has_bound { bound < length bounds.old.items }
+    requires has_row { row < row_count bounds.old.items bound }
+    requires small { AllByRecursion (λ (one : RunningBound). one.ceiling < 2 ^ 32) bounds.old.items }
+    requires few { length bounds.old.items ≤ 2 ^ 32 }
+    requires sum { sum.old ≡ shared_now bounds.old.items }
+    ensures passed { IfOk result (λ _. bounds.new.items ≡ passed_in bound row bounds.old.items) }
+    ensures sum { IfOk result (λ _. sum.new ≡ shared_now bounds.new.items) }
+    ensures next { IfOk result (λ next. next ≡ due_in bounds.new.items bound row) }
+    ensures cause { IfErr result (λ refusal. refusal ≡ OutOfMemory) }
+{
+    let before = bounds[bound].limit();
+    bounds[bound].pass(row)?;
+    let after = bounds[bound].limit();
+    if bound > 0 {
+        *sum = *sum - u64::from(before) + u64::from(after);
+    }
+    Ok(bounds[bound].due(row))
 }
 
 impl Curve for LimitCurve<'_> {
     ghost limits = { λ curve.
-        limit_asked curve.limit.state curve.limit.connector curve.limit.asked };
+        limit_asked (point_state curve.view) curve.connector curve.asked };
 
     ghost is_place = { λ curve.
-        is_second_asked curve.limit.state curve.limit.connector curve.limit.asked };
+        is_second_asked (point_state curve.view) curve.connector curve.asked };
 
-    ghost end = { λ curve. curve.ask.duration };
+    ghost end = { λ curve. curve.last + 1 - curve.asked };
 
-    ghost here = { λ curve. curve.second };
+    ghost here = { λ curve. curve.at - curve.asked };
+
+    ghost IsReady = { λ curve. IsReadyCurve curve };
 
     fn limit(&self, turns: &mut Turns) -> u32 {
-        turns.limit_at(&self.limit, self.instant())
+        turns.limit_of(self)
     }
 
-    fn go_on(&mut self) -> Option<u32> {
-        let here = self.instant();
-        let next = self.limit.next_after(here)?;
-        let second = next.seconds() - self.ask.start.seconds();
-        if second >= u64::from(self.ask.duration) {
-            return None;
-        }
-        self.second = second as u32;
-        Some(self.second)
+    fn go_on(&mut self) -> Result<Option<u32>, Refusal> {
+        let Some(next) = self.queue.soonest() else {
+            return Ok(None);
+        };
+        self.go_to(next)?;
+        let second = self.at.seconds() - self.asked.seconds();
+        Ok(Some(second as u32))
     }
 }

@@ -5,7 +5,7 @@ ghost use Rattle.meaning.specs.Limit.{at_most};
 ghost use Rattle.sweep_compiler.specs.ByCases.Seen.{own_limit_seen};
 ghost use Rattle.sweep_compiler.specs.ByCases.NextPlace.{IsNextLooked, IsNextOfEachLooked};
 
-use crate::falling::{first_limit, next_after, next_of_each};
+use crate::falling::next_of_each;
 use crate::seen::Seen;
 use ocpp_scalars::Instant;
 use recurrence::sooner;
@@ -47,27 +47,6 @@ impl<'a> Looked<'a> {
             own,
             default,
         }
-    }
-
-    /// Its own limit at an instant.
-    pub(crate) fn limit(&self, instant: Instant) -> u32
-        ensures { result ≡ own_limit_seen instant self.now }
-    {
-        let limit = match first_limit(self.own.as_slice(), instant) {
-            Some(limit) => Some(limit),
-            None => first_limit(self.default.as_slice(), instant),
-        };
-        at_most(self.ceiling, limit)
-    }
-
-    /// The next place of its own limit after an instant.
-    pub(crate) fn next_after(&mut self, instant: Instant) -> Option<Instant>
-        ensures same { self.new ≡ self.old }
-        ensures next { IsNextLooked self.old instant result }
-    {
-        let own = next_after(self.own.as_mut_slice(), instant);
-        let default = next_after(self.default.as_mut_slice(), instant);
-        sooner(own, default)
     }
 
     /// The next place of any of its rows after an instant.

@@ -53,17 +53,6 @@ impl<'a> Seen<'a> {
         self.row.profile.stack_level
     }
 
-    /// Its limit at an instant, where it has one.
-    pub(crate) fn limit(&self, instant: Instant) -> Option<u32>
-        ensures { result ≡ limit_seen instant self.now }
-    {
-        if is_within(self.since, self.until, instant) {
-            self.limit
-        } else {
-            self.row.profile.rate(self.base, instant)
-        }
-    }
-
     /// Its next place after an instant, from which on it keeps the limit that it has.
     pub(crate) fn next_after(&mut self, instant: Instant) -> Option<Instant>
         ensures same { self.new ≡ self.old }

@@ -22,6 +22,7 @@ pub(crate) fn sweep_along<C: Curve>(
     requires some { 0 < duration }
     requires whole { C.end curve.old ≡ duration }
     requires start { C.here curve.old ≡ 0 }
+    requires ready { C.IsReady curve.old }
     requires fresh { turns.old < 2 ^ 63 }
     ensures compiled { IsCompiled (C.limits curve.old) duration result }
     ensures bound { turns.new ≤ turns.old + (1 + places_within (C.is_place curve.old) duration) }
@@ -39,7 +40,7 @@ pub(crate) fn sweep_along<C: Curve>(
         };
         add_second(&mut periods, before, period)?;
         before = Some(limit);
-        match curve.go_on() {
+        match curve.go_on()? {
             Some(next) => second = next,
             None => return Ok(Composite::new(duration, periods)),
         }

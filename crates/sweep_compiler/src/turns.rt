@@ -1,17 +1,20 @@
 //! How often a limit was evaluated.
 
 ghost use Rattle.std.specs.Prelude.{◌≡◌, ℕ, ◌+◌, ◌<◌, ◌≤◌, ◌^◌, length, IfOk};
+ghost use Rattle.meaning.specs.View.{point_state};
 ghost use Rattle.meaning.specs.Limit.{limit};
 ghost use Rattle.meaning.specs.Cause.{reason};
+ghost use Rattle.sweep_compiler.specs.ByCases.Swept.{IsReadyCurve};
 
 use crate::asked::AskedLimit;
+use crate::limit_curve::LimitCurve;
 use meaning::Reason;
 use ocpp_scalars::Instant;
 use std::alloc::{AllocError, Global};
 use std::marker::Model;
 
-/// How often a limit was evaluated: each call of `limit_at` or `reason_at` is a turn. Only the call
-/// itself counts one.
+/// How often a limit was evaluated: each evaluation of the limit at one instant is a turn, with what
+/// sets it or without. Only the evaluation itself counts one.
 #[derive(Debug, Drop)]
 pub struct Turns {
     count: u64,
@@ -47,15 +50,18 @@ impl Turns {
         self.count += 1;
     }
 
-    /// The limit that is asked, at an instant and in tenths, which is one turn.
+    /// The limit that is asked, where a sweep stands and in tenths, which is one turn.
     // The counter evaluates by itself, so that whoever evaluates by it can't forget to count.
-    pub(crate) fn limit_at(&mut self, asked: &AskedLimit<'_>, instant: Instant) -> u32
+    pub(crate) fn limit_of(&mut self, curve: &LimitCurve<'_>) -> u32
         requires room { self.old + 1 < 2 ^ 64 }
-        ensures limit { result ≡ limit asked.now.state asked.now.connector asked.now.asked instant }
+        requires ready { IsReadyCurve curve.now }
+        requires within { curve.now.at ≤ curve.now.last }
+        ensures limit { result ≡ limit (point_state curve.now.view) curve.now.connector
+            curve.now.asked curve.now.at }
         ensures turn { self.new ≡ self.old + 1 }
     {
         self.count_one();
-        asked.at(instant)
+        curve.limit_here()
     }
 
     /// The limit that is asked with what sets it, at an instant, which is one turn.

@@ -1,6 +1,6 @@
 -- That the rate stays up to the nearest place, which the first clause says it is.
 use Rattle.std.proofs.Common.{rules}
-use Rattle.recurrence.proofs.RateLemmas.{one_rate}
+use Rattle.recurrence.specs.Theory.Rates.{one_rate}
 use Rattle.recurrence.proofs.places.next_change.Goals as goal
 
 pub returns-in_err-place-clause-rate : goal.returns-in_err-place-clause-rate

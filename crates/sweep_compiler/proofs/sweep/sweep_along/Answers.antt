@@ -1,5 +1,6 @@
 -- That the periods and the turns up to the next place, or to the end, are what the loop keeps.
-use Rattle.std.proofs.Common.{◌≡◌, ℕ, ◌<◌, ◌∙◌, ap, Some, None, length, arith}
+use Rattle.std.proofs.Common.{◌≡◌, ℕ, ◌<◌, ◌∙◌, ap, subst, Option, Some, None, length, arith}
+use Rattle.std.specs.Option.{IfSome}
 use Rattle.std.proofs.lemmas.Result.{err_from_is_err_and}
 use Rattle.std.proofs.lemmas.List.{length-append}
 use Rattle.meaning.specs.ByCases.PlainCompiler.{period_added}
@@ -32,23 +33,30 @@ returns-in_err-add_second-clause-bound g c =
     spent_whole (g.C.Curve.is_place c.args.curve.now) c.loop-periods.second c.args.duration c.loop-periods.turns c.args.turns.now _
     c.loop-periods.invariant.inside c.loop-periods.invariant.here c.loop-periods.invariant.turns c.limit-limit.ensures.turn
 
+pub returns-in_err-next-clause-bound : goal.returns-in_err-next-clause-bound
+returns-in_err-next-clause-bound g c =
+    spent_whole (g.C.Curve.is_place c.args.curve.now) c.loop-periods.second c.args.duration c.loop-periods.turns c.args.turns.now _
+    c.loop-periods.invariant.inside c.loop-periods.invariant.here c.loop-periods.invariant.turns c.limit-limit.ensures.turn
+
 pub loop-periods-preserved : goal.loop-periods-preserved
 loop-periods-preserved g c =
     let place = g.C.Curve.is_place c.args.curve.now in
     let limit = g.C.Curve.limits c.args.curve.now in
     let kept = c.loop-periods.invariant in
     let here : c.limit-limit.result ≡ limit c.loop-periods.second = rw (kept.limits, kept.stands) at c.limit-limit.ensures.limit in
-    let leads : LeadsOn limit place c.args.duration c.loop-periods.second (Some c.in-Some.next) = rw (kept.limits, kept.places, kept.whole, kept.stands) at c.in-Some.ensures.leads in
+    let onward = subst (λ (next : Option ℕ). LeadsOn (g.C.Curve.limits c.loop-periods.curve) (g.C.Curve.is_place c.loop-periods.curve) (g.C.Curve.end c.loop-periods.curve) (g.C.Curve.here c.loop-periods.curve) next) c.in-Some.is c.in_ok-next.ensures.leads in
+    let leads : LeadsOn limit place c.args.duration c.loop-periods.second (Some c.in-Some.next) = rw (kept.limits, kept.places, kept.whole, kept.stands) at onward in
     let added = c.in_ok-add_second.ensures.added in
     let turn = c.limit-limit.ensures.turn in
     let each = kept.each in
     let one = one_added c.loop-periods.before (record { start = c.loop-periods.second; limit = c.limit-limit.result }) in
     let many = ap length added ∙ length-append c.loop-periods.periods.items (period_added c.loop-periods.before (record { start = c.loop-periods.second; limit = c.limit-limit.result })) in
     record {
-      limits = c.in-Some.ensures.same_limits ∙ kept.limits;
-      places = c.in-Some.ensures.same_places ∙ kept.places;
-      whole = c.in-Some.ensures.same_end ∙ kept.whole;
-      stands = c.in-Some.ensures.here;
+      limits = c.in_ok-next.ensures.same_limits ∙ kept.limits;
+      places = c.in_ok-next.ensures.same_places ∙ kept.places;
+      whole = c.in_ok-next.ensures.same_end ∙ kept.whole;
+      stands = subst (λ (next : Option ℕ). IfSome next (λ next. g.C.Curve.here c.go_on.new.self ≡ next)) c.in-Some.is c.in_ok-next.ensures.here;
+      ready = subst (λ (next : Option ℕ). IfSome next (λ next. g.C.Curve.IsReady c.go_on.new.self)) c.in-Some.is c.in_ok-next.ensures.ready;
       inside = leads.1;
       here = λ above. leads.2;
       so_far = periods_upto limit c.loop-periods.second c.in-Some.next c.loop-periods.periods.items c.add_second.new.periods.items c.loop-periods.before c.limit-limit.result
@@ -65,7 +73,8 @@ new-requires g c =
     let limit = g.C.Curve.limits c.args.curve.now in
     let kept = c.loop-periods.invariant in
     let here : c.limit-limit.result ≡ limit c.loop-periods.second = rw (kept.limits, kept.stands) at c.limit-limit.ensures.limit in
-    let stays : LeadsOn limit place c.args.duration c.loop-periods.second None = rw (kept.limits, kept.whole, kept.stands) at c.in-None.ensures.leads in
+    let onward = subst (λ (next : Option ℕ). LeadsOn (g.C.Curve.limits c.loop-periods.curve) (g.C.Curve.is_place c.loop-periods.curve) (g.C.Curve.end c.loop-periods.curve) (g.C.Curve.here c.loop-periods.curve) next) c.in-None.is c.in_ok-next.ensures.leads in
+    let stays : LeadsOn limit place c.args.duration c.loop-periods.second None = rw (kept.limits, kept.whole, kept.stands) at onward in
     let whole = periods_upto limit c.loop-periods.second c.args.duration c.loop-periods.periods.items c.add_second.new.periods.items c.loop-periods.before c.limit-limit.result
     kept.so_far kept.before here c.in_ok-add_second.ensures.added kept.inside stays in
     record { schedule = is_schedule limit c.args.duration c.add_second.new.periods.items c.requires.some whole }
@@ -76,7 +85,8 @@ returns-in-None-clause-compiled g c =
     let limit = g.C.Curve.limits c.args.curve.now in
     let kept = c.loop-periods.invariant in
     let here : c.limit-limit.result ≡ limit c.loop-periods.second = rw (kept.limits, kept.stands) at c.limit-limit.ensures.limit in
-    let stays : LeadsOn limit place c.args.duration c.loop-periods.second None = rw (kept.limits, kept.whole, kept.stands) at c.in-None.ensures.leads in
+    let onward = subst (λ (next : Option ℕ). LeadsOn (g.C.Curve.limits c.loop-periods.curve) (g.C.Curve.is_place c.loop-periods.curve) (g.C.Curve.end c.loop-periods.curve) (g.C.Curve.here c.loop-periods.curve) next) c.in-None.is c.in_ok-next.ensures.leads in
+    let stays : LeadsOn limit place c.args.duration c.loop-periods.second None = rw (kept.limits, kept.whole, kept.stands) at onward in
     let whole = periods_upto limit c.loop-periods.second c.args.duration c.loop-periods.periods.items c.add_second.new.periods.items c.loop-periods.before c.limit-limit.result
     kept.so_far kept.before here c.in_ok-add_second.ensures.added kept.inside stays in
     exact_answer limit c.args.duration c.new.result c.requires.some c.new.ensures.lasts

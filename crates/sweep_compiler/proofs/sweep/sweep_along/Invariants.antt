@@ -13,6 +13,7 @@ invariant-loop-periods g l = record {
   places : g.C.Curve.is_place l.curve ≡ g.C.Curve.is_place l.fn.curve;
   whole : g.C.Curve.end l.curve ≡ l.duration;
   stands : g.C.Curve.here l.curve ≡ l.second;
+  ready : g.C.Curve.IsReady l.curve;
   inside : l.second < l.duration;
   here : 0 < l.second → g.C.Curve.is_place l.fn.curve l.second ≡ true;
   so_far : l.periods.items ≡ exact_periods (g.C.Curve.limits l.fn.curve) l.second;

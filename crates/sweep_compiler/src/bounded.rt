@@ -1,0 +1,99 @@
+//! What bounds a connector, or the whole point, on the way through an ask.
+
+ghost use Rattle.std.specs.Prelude.{◌≡◌, ◌<◌, length, IfErr, IfOk};
+ghost use Rattle.ocpp_scalars.specs.declared.refusal.Refusal.TheVariants.{OutOfMemory};
+ghost use Rattle.sweep_compiler.specs.ByCases.Running.{AreFalling, AreInForce, bound_now, bound_passed, due_at};
+
+use crate::looked::at_most;
+use crate::run::Run;
+use ocpp_scalars::{Instant, Refusal};
+use stacking::InForce;
+use std::alloc::Global;
+use std::marker::Model;
+
+/// A ceiling and rows by falling rank, with the limit that each has in force: the first that has one
+/// prevails.
+#[derive(Drop)]
+pub(crate) struct Bounded<'a> {
+    ceiling: u32,
+    runs: Vec<Run<'a>>,
+    in_force: InForce,
+}
+
+impl<'a> Model for Bounded<'a> {
+    ghost use Rattle.sweep_compiler.specs.ByCases.Running.{RunningBound, AreInForce};
+
+    ghost Value = { RunningBound };
+
+    ghost view = { λ b. record { ceiling = b.ceiling; runs = b.runs.items } };
+
+    ghost invariant = { λ b. AreInForce b.runs.items b.in_force };
+}
+
+impl<'a> Bounded<'a> {
+    /// A ceiling and rows, whose limits are put in force.
+    pub(crate) fn new(
+        alloc: Global,
+        ceiling: u32,
+        runs: Vec<Run<'a>>,
+    ) -> Result<Bounded<'a>, Refusal>
+        requires falling { AreFalling runs.items }
+        ensures made { IfOk result (λ bounded. bounded ≡ record { ceiling = ceiling; runs = runs.entry.items }) }
+        ensures cause { IfErr result (λ refusal. refusal ≡ OutOfMemory) }
+    {
+        let in_force = rates_of(alloc, runs.as_slice())?;
+        Ok(Bounded {
+            ceiling,
+            runs,
+            in_force,
+        })
+    }
+
+    /// How many rows there are.
+    pub(crate) fn len(&self) -> usize
+        ensures { result ≡ length self.now.runs }
+    {
+        self.runs.len()
+    }
+
+    /// The least of the ceiling and the limit that prevails.
+    pub(crate) fn limit(&self) -> u32
+        ensures { result ≡ bound_now self.now }
+    {
+        at_most(self.ceiling, self.in_force.top())
+    }
+
+    /// The instant of the next place of a row.
+    pub(crate) fn due(&self, index: usize) -> Option<Instant>
+        requires within { index < length self.now.runs }
+        ensures { result ≡ due_at self.now.runs index }
+    {
+        self.runs[index].due()
+    }
+
+    /// Lets a row pass its next place, and puts its limit there in force.
+    pub(crate) fn pass(&mut self, index: usize) -> Result<(), Refusal>
+        requires within { index < length self.old.runs }
+        ensures passed { IfOk result (λ _. self.new ≡ bound_passed index self.old) }
+        ensures cause { IfErr result (λ refusal. refusal ≡ OutOfMemory) }
+    {
+        let run = &self.runs[index];
+        // Memory comes first, so that a refusal leaves all as it was.
+        self.in_force.set(run.rank(), run.next_rate())?;
+        self.runs[index].pass();
+        Ok(())
+    }
+}
+
+/// The limits of rows by falling rank, each at its rank.
+fn rates_of(alloc: Global, runs: &[Run<'_>]) -> Result<InForce, Refusal>
+    requires falling { AreFalling runs.now }
+    ensures rates { IfOk result (λ rates. AreInForce runs.now rates) }
+    ensures cause { IfErr result (λ refusal. refusal ≡ OutOfMemory) }
+{
+    let mut rates = InForce::new(alloc);
+    for run in runs {
+        rates.set(run.rank(), run.rate())?;
+    }
+    Ok(rates)
+}

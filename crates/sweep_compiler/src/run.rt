@@ -1,0 +1,108 @@
+//! A row on its way through an ask.
+
+ghost use Rattle.std.specs.Prelude.{◌≡◌};
+ghost use Rattle.sweep_compiler.specs.ByCases.Running.{rate_running, due, passed, rank_running};
+
+use ocpp_scalars::Instant;
+use profile::{MAX_STACK_LEVEL, Purpose, Row};
+use recurrence::{Place, Places};
+use std::marker::Model;
+
+/// A row that counts for an ask, the limit that it has at the last of its places that was passed, and
+/// the places that are still to come.
+#[derive(Drop)]
+pub(crate) struct Run<'a> {
+    row: &'a Row,
+    base: Instant,
+    since: Instant,
+    last: Instant,
+    rate: Option<u32>,
+    next: Option<Place>,
+    later: Places<'a>,
+}
+
+impl<'a> Model for Run<'a> {
+    ghost use Rattle.sweep_compiler.specs.ByCases.Running.{Running, IsRun};
+
+    ghost Value = { Running };
+
+    ghost view = { λ r. record {
+      row = r.row.now;
+      base = r.base;
+      since = r.since;
+      last = r.last;
+    } };
+
+    ghost invariant = { λ r. IsRun
+        (record { row = r.row.now; base = r.base; since = r.since; last = r.last })
+        r.rate r.next r.later };
+}
+
+impl<'a> Run<'a> {
+    /// A row counted from a base, at an instant, with its places up to a last one.
+    pub(crate) fn new(row: &'a Row, base: Instant, start: Instant, last: Instant) -> Run<'a>
+        ensures { result ≡ record { row = row.now; base = base; since = start; last = last } }
+    {
+        let mut later = Places::new(&row.profile, base, start, last);
+        let next = later.next();
+        Run {
+            row,
+            base,
+            since: start,
+            last,
+            rate: row.profile.rate(base, start),
+            next,
+            later,
+        }
+    }
+
+    /// The rank of its row: a TxProfile comes before any TxDefaultProfile, and of one purpose the
+    /// higher stack level (chapter 3.13).
+    pub(crate) fn rank(&self) -> u32
+        ensures { result ≡ rank_running self.now }
+    {
+        let level = self.row.profile.stack_level;
+        match self.row.profile.purpose {
+            Purpose::TxProfile => MAX_STACK_LEVEL + 1 + level,
+            Purpose::TxDefaultProfile | Purpose::ChargePointMaxProfile => level,
+        }
+    }
+
+    /// The limit that it has had since the last of its places that was passed.
+    pub(crate) fn rate(&self) -> Option<u32>
+        ensures { result ≡ rate_running self.now }
+    {
+        self.rate
+    }
+
+    /// The limit that it will have at its next place, or where there is none has to the end.
+    pub(crate) fn next_rate(&self) -> Option<u32>
+        ensures { result ≡ rate_running (passed self.now) }
+    {
+        match self.next {
+            Some(place) => place.rate,
+            None => self.rate,
+        }
+    }
+
+    /// The instant of its next place.
+    pub(crate) fn due(&self) -> Option<Instant>
+        ensures { result ≡ due self.now }
+    {
+        Some(self.next?.instant)
+    }
+
+    /// Passes its next place, where there is one.
+    pub(crate) fn pass(&mut self)
+        ensures { self.new ≡ passed self.old }
+    {
+        let Some(place) = self.next else {
+            return;
+        };
+        let instant = place.instant;
+        let rate = place.rate;
+        self.next = self.later.next();
+        self.since = instant;
+        self.rate = rate;
+    }
+}
