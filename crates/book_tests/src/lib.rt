@@ -10,6 +10,8 @@ pub use fixtures::{
 };
 
 #[cfg(test)]
+mod books_at_random;
+#[cfg(test)]
 mod books_in_words;
 #[cfg(test)]
 mod callers;
