@@ -1,6 +1,6 @@
 //! The stack levels that have a rate, and the one that prevails.
 
-ghost use Rattle.std.specs.Prelude.{◌≡◌, [], IfErr, OnErr, OnOk};
+ghost use Rattle.std.specs.Prelude.{◌≡◌, [], None, IsOk, IfErr, OnErr, OnOk};
 ghost use Rattle.stacking.specs.InForce.{IsSet, IsTop};
 ghost use Rattle.ocpp_scalars.specs.declared.refusal.Refusal.TheVariants.{OutOfMemory};
 
@@ -41,6 +41,7 @@ impl InForce {
         ensures set { OnOk result (IsSet self.old level rate self.new) }
         ensures cause { IfErr result (λ refusal. refusal ≡ OutOfMemory) }
         ensures unchanged { OnErr result (self.new ≡ self.old) }
+        ensures certain { (rate ≡ None) → IsOk result }
     {
         match rate {
             Some(rate) => match self.rates.insert(level, rate) {

@@ -76,6 +76,7 @@ impl LimitCurve<'_> {
         let Some(due) = self.queue.pop() else {
             return Ok(());
         };
+        // Each row waits once, so this never holds: the test is in the place of a proof of that.
         if self.bounds[due.bound].due(due.row) != Some(due.instant) {
             return Ok(());
         }
