@@ -7,6 +7,7 @@ and have to print a line. With `write` the blocks of text are written anew, to b
 """
 import os
 import re
+import select
 import shlex
 import signal
 import socket
@@ -83,7 +84,8 @@ def run_page(page, program, is_written):
             run = start(PROGRAM.sub(lambda _: shlex.quote(program) + " ", command).replace(":9000", f":{port}"))
             if BESIDE.search(command):
                 beside.append(run)
-                yield name, [] if run.stdout.readline() else ["it prints nothing"]
+                speaks = select.select([run.stdout], [], [], PATIENCE)[0] and run.stdout.readline()
+                yield name, [] if speaks else ["it prints nothing"]
                 continue
             try:
                 printed = run.communicate(timeout=PATIENCE)[0].rstrip("\n")
