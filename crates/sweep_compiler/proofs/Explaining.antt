@@ -84,9 +84,6 @@ upto_next value reason start second next h begun stays here k from upto =
 abbrev pub spent_at : (ℕ → Bool) → ℕ → ℕ
 spent_at place second = 1 + count_by place (range_with_len 1 second)
 
-pub spent_first : (place : ℕ → Bool) (start after : ℕ) → after ≡ start + 1 → after ≤ start + spent_at place 0
-spent_first place start after h = omega (arith, h)
-
 next_place : (place : ℕ → Bool) (n m : ℕ) → n < m → place m ≡ true → spent_at place n + 1 ≤ spent_at place m
 next_place place n zero below here = absurd (omega arith)
 next_place place n (suc m) below here =

@@ -4,7 +4,7 @@ use Rattle.std.specs.List.{list_any, filter_map, cons_option, sum_by}
 use Rattle.std.specs.Ordering.{nat_cmp}
 use Rattle.std.proofs.lemmas.List.{append-nil, map-append}
 use Rattle.std.proofs.lemmas.List.Elements.{filter-append}
-use Rattle.std.proofs.lemmas.List.Sums.{fold-append, sum_by-cons}
+use Rattle.std.proofs.lemmas.List.Sums.{sum_by-cons}
 use Rattle.profile.specs.declared.purpose.Purpose.{Purpose}
 use Rattle.profile.specs.declared.purpose.Purpose.TheVariants.{ChargePointMaxProfile, TxDefaultProfile, TxProfile}
 use Rattle.profile.specs.Greatest.{greatest}
@@ -15,7 +15,7 @@ use Rattle.sweep_compiler.specs.Places.{is_place_for, is_place_at, is_place_aske
 use Rattle.recurrence.specs.ByCases.Sooner.{sooner}
 use Rattle.sweep_compiler.specs.ByCases.NextChange.{IsNextChange}
 use Rattle.sweep_compiler.specs.ByCases.NextPlace.{IsNextOfFirst, IsNextOfAll}
-use Rattle.sweep_compiler.specs.ByCases.Seen.{SeenRow, SeenConnector, AreGathered, is_place_seen, first_limit, inserted, by_falling_level, seen_from, rows_seen, connector_seen, own_limit_seen, is_place_looked, largest_limit}
+use Rattle.sweep_compiler.specs.ByCases.Seen.{SeenRow, SeenConnector, AreGathered, is_place_seen, first_limit, seen_from, rows_seen, connector_seen, own_limit_seen, is_place_looked, largest_limit}
 use Rattle.sweep_compiler.proofs.ByLevel.{first_prevails, any_falling}
 use Rattle.sweep_compiler.proofs.NextChanges.{change_as, change_both}
 
@@ -32,10 +32,6 @@ pub passed_skip : {X Y : Type 0} (give : X → Y) (test : X → Bool) (xs ys : L
 passed_skip give test xs ys x e fails =
     ap (λ zs. map give (filter test zs)) e
     ∙ ap (map give) (filter-append test xs (x ∷ []) ∙ (ap (λ b. filter test xs ++ cond b (x ∷ []) []) fails ∙ append-nil (filter test xs)))
-
--- a row more, put in its place
-pub falling_more : (rows : List SeenRow) (x : SeenRow) → by_falling_level (rows ++ x ∷ []) ≡ inserted x (by_falling_level rows)
-falling_more rows x = fold-append (λ (sorted : List SeenRow) (new : SeenRow). inserted new sorted) [] rows (x ∷ [])
 
 -- ---- what is made of each
 

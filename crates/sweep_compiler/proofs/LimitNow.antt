@@ -1,5 +1,5 @@
 -- What the bounds of an ask have in force is its limit, from where a sweep stands on and up to the next place.
-use Rattle.std.proofs.Common.{◌≡◌, ℕ, ◌+◌, ◌<◌, ◌≤◌, ◌==◌, suc, List, [], ◌∷◌, ◌++◌, map, min, get_or, length, Option, Some, refl, ap, sym, ◌∙◌, arith}
+use Rattle.std.proofs.Common.{◌≡◌, ℕ, ◌+◌, ◌<◌, ◌≤◌, ◌==◌, suc, List, [], ◌∷◌, ◌++◌, map, min, get_or, Option, Some, refl, ap, sym, ◌∙◌, arith}
 use Rattle.std.specs.List.{AllByRecursion, AllZip, Contains, sum_by}
 use Rattle.std.proofs.lemmas.List.{map-append}
 use Rattle.std.proofs.lemmas.List.Sums.{sum_by-cons}
@@ -125,7 +125,3 @@ pub first_now : (state : PointState) (connector asked : ℕ) (bounds : List Runn
     → min (bound_now (get_or bounds 0 d)) sum ≡ limit_now bounds sum
 first_now state connector asked [] d sum are = absurd are
 first_now state connector asked (point ∷ others) d sum are = refl
-
-pub some_bounds : (state : PointState) (connector asked : ℕ) (bounds : List RunningBound) → AreBounds state connector asked bounds → 0 < length bounds
-some_bounds state connector asked [] are = absurd are
-some_bounds state connector asked (point ∷ others) are = omega arith

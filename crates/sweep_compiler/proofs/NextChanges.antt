@@ -1,9 +1,9 @@
 -- Next places of two things are a next place of what is made of both: of rows, of connectors, of the point.
-use Rattle.std.proofs.Common.{◌≡◌, ℕ, ◌+◌, ◌<◌, ◌≤◌, Bool, true, false, ◌||◌, List, [], ◌∷◌, ◌++◌, length, take, drop, get_or, cond, Option, Some, None, is_some, nat_lt, refl, ap, sym, subst, ◌∙◌, arith}
+use Rattle.std.proofs.Common.{◌≡◌, ℕ, ◌+◌, ◌<◌, ◌≤◌, Bool, true, false, ◌||◌, List, [], ◌∷◌, ◌++◌, length, take, get_or, cond, Option, Some, None, is_some, nat_lt, refl, ap, sym, subst, ◌∙◌, arith}
 use Rattle.std.specs.List.{list_any, sum_by}
 use Rattle.std.specs.Ordering.{nat_cmp}
 use Rattle.std.proofs.Math.Bool.{or-false}
-use Rattle.std.proofs.lemmas.List.{take_more, take-append-drop}
+use Rattle.std.proofs.lemmas.List.{take_more}
 use Rattle.std.proofs.lemmas.List.Folds.{list_any-append}
 use Rattle.std.proofs.lemmas.List.Sums.{sum_by_push}
 use Rattle.std.proofs.lemmas.Bool.Decides.{nat_tests}
@@ -134,16 +134,6 @@ or_else_some : (limit other : Option ℕ) → is_some other ≡ true → is_some
 or_else_some None None h = h
 or_else_some None (Some other) h = refl
 or_else_some (Some limit) other h = refl
-
-pub first_stops : (i more : ℕ) (rows : List SeenRow) (x : SeenRow) (instant : ℕ) (next other : Option ℕ) → more ≡ i + 1 → i < length rows → x ≡ get_or rows i x
-    → is_some (limit_seen instant x) ≡ true
-    → IsNextOfFirst (take i rows) instant next → IsNextSeen x instant other → IsNextOfFirst rows instant (sooner nat_cmp next other)
-first_stops i more rows x instant next other e below is some h here =
-    let has : is_some (first_limit instant (take more rows)) ≡ true =
-    ap (λ (xs : List SeenRow). is_some (first_limit instant xs)) (take_one i more rows x e below is)
-    ∙ (ap is_some (first_append instant (take i rows) (x ∷ [])) ∙ or_else_some (first_limit instant (take i rows)) (limit_seen instant x) some) in
-    subst (λ (xs : List SeenRow). IsNextOfFirst xs instant (sooner nat_cmp next other)) (take-append-drop more rows)
-    (first_stays (take more rows) (drop more rows) instant (sooner nat_cmp next other) has (first_more i more rows x instant next other e below is h here))
 
 pub all_more : (i more : ℕ) (looked : List SeenConnector) (x : SeenConnector) (instant : ℕ) (next other : Option ℕ) → more ≡ i + 1 → i < length looked → x ≡ get_or looked i x
     → IsNextOfAll (take i looked) instant next → IsNextLooked x instant other → IsNextOfAll (take more looked) instant (sooner nat_cmp next other)

@@ -59,10 +59,6 @@ shared_set [] n new d some inside = absurd (omega (arith, inside))
 shared_set (point ∷ others) zero new d some inside = absurd (omega (arith, some))
 shared_set (point ∷ others) (suc n) new d some inside = sum_by-set bound_now others n new d (omega (arith, inside))
 
-pub shared_first : (bounds : List RunningBound) (new : RunningBound) → shared_now (slice_set bounds 0 new) ≡ shared_now bounds
-shared_first [] new = refl
-shared_first (point ∷ others) new = refl
-
 part_of : (others : List RunningBound) (n : ℕ) (d : RunningBound) → n < length others → bound_now (get_or others n d) ≤ sum_by bound_now others
 part_of [] n d inside = absurd (omega (arith, inside))
 part_of (bound ∷ others) zero d inside = let both = sum_by-cons bound_now bound others in omega (arith, both)

@@ -199,6 +199,3 @@ in_force_more runs i run rates after inside is_at falling is are =
     let more : take (i + 1) runs ≡ take i runs ++ run ∷ [] = take_more runs i run inside ∙ ap (λ (x : Running). take i runs ++ x ∷ []) (sym is_at) in
     subst (λ (xs : List Running). AreInForce xs after) (sym more)
     (in_force_push (take i runs) run rates after (subst AreFalling more (falling_take (i + 1) runs falling)) is are)
-
-pub in_force_none : AreInForce [] []
-in_force_none = record { falling = tt; each = tt; no_other = λ n limit has. cc }

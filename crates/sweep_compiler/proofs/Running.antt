@@ -28,9 +28,6 @@ next_rate_some run limit place later is =
     let facts = next_of run.row.profile run.base run.since run.last place later is.1 in
     facts.has_rate ∙ sym (ap (λ (left : List Place). rate_running (passed_by (first_due left) run)) is.1)
 
-pub next_rate_none : (run : Running) (limit : Option ℕ) (later : List Place) → IsRun run limit None later → limit ≡ rate_running (passed run)
-next_rate_none run limit later is = is.0 ∙ sym (ap (λ (left : List Place). rate_running (passed_by (first_due left) run)) is.1)
-
 pub rank_passed : (run : Running) → rank_running (passed run) ≡ rank_running run
 rank_passed run = go (due run)
   where

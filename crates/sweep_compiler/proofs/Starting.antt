@@ -67,19 +67,6 @@ sum_fits bounds k small few = let short = length_take k bounds in shared_small (
 
 -- ---- who waits
 
-nothing : (item : Due) → Contains [] item → ⊥
-nothing item (k, inside, is) = none inside
-  where
-    none : k < 0 → ⊥
-    none inside = omega (arith, inside)
-
-pub none_waits : (bounds : List RunningBound) → AreWaiting bounds 0 0 []
-none_waits bounds = record {
-  before = λ n row instant low is. absurd (omega (arith, low));
-  here = λ row instant low is. absurd (omega (arith, low));
-  each = λ item has. absurd (nothing item has);
-}
-
 pub some_not_none : (instant : ℕ) → ◌≡◌ {A = Option ℕ} None (Some instant) → ⊥
 some_not_none instant e = cc
 

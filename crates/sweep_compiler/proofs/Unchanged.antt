@@ -21,7 +21,7 @@ use Rattle.meaning.specs.Cause.{RowLimit, Bound, with_limit, row_limit, level_of
 use Rattle.meaning.specs.Theory.Reasons.{own_is}
 use Rattle.sweep_compiler.specs.Places.{is_place_asked}
 use Rattle.sweep_compiler.specs.ByCases.NextChange.{IsNextChange}
-use Rattle.sweep_compiler.specs.ByCases.NextPlace.{IsNextSeen, IsNextOfEach, IsNextOfEachLooked, IsNextOfAllRows}
+use Rattle.sweep_compiler.specs.ByCases.NextPlace.{IsNextSeen, IsNextOfEach, IsNextOfAllRows}
 use Rattle.sweep_compiler.specs.ByCases.Seen.{SeenRow, SeenConnector, AreGathered, limit_seen, is_place_seen, seen_from, rows_seen, connector_seen, is_place_looked, limits_differ, has_changed, any_changed, any_changed_looked}
 use Rattle.sweep_compiler.proofs.ByLevel.{any_falling}
 use Rattle.sweep_compiler.proofs.NextChanges.{change_as, change_both, take_one, any_push}
@@ -95,20 +95,6 @@ each_more i more rows x instant next other e below is h here =
     (λ k. any_changed instant k (take i rows)) (λ k. has_changed instant k x) instant next other h one in
     subst (λ (xs : List SeenRow). IsNextOfEach xs instant (sooner nat_cmp next other)) (sym (take_one i more rows x e below is))
     (change_as _ _ _ _ instant (sooner nat_cmp next other) (λ k. any_push (is_place_seen k) (take i rows) x) (λ k. any_push (has_changed instant k) (take i rows) x) both)
-
-pub looked_both : (x : SeenConnector) (instant : ℕ) (next other : Option ℕ) → IsNextOfEach x.own instant next → IsNextOfEach x.default instant other
-    → IsNextOfEachLooked x instant (sooner nat_cmp next other)
-looked_both x instant next other h h' =
-    change_both (λ (a b : Bool). a || b) (λ k. list_any (is_place_seen k) x.own) (λ k. list_any (is_place_seen k) x.default)
-    (λ k. any_changed instant k x.own) (λ k. any_changed instant k x.default) instant next other h h'
-
-pub all_rows_more : (i more : ℕ) (looked : List SeenConnector) (x : SeenConnector) (instant : ℕ) (next other : Option ℕ) → more ≡ i + 1 → i < length looked → x ≡ get_or looked i x
-    → IsNextOfAllRows (take i looked) instant next → IsNextOfEachLooked x instant other → IsNextOfAllRows (take more looked) instant (sooner nat_cmp next other)
-all_rows_more i more looked x instant next other e below is h here =
-    let both = change_both (λ (a b : Bool). a || b) (λ k. list_any (is_place_looked k) (take i looked)) (λ k. is_place_looked k x)
-    (λ k. list_any (any_changed_looked instant k) (take i looked)) (λ k. any_changed_looked instant k x) instant next other h here in
-    subst (λ (xs : List SeenConnector). IsNextOfAllRows xs instant (sooner nat_cmp next other)) (sym (take_one i more looked x e below is))
-    (change_as _ _ _ _ instant (sooner nat_cmp next other) (λ k. any_push (is_place_looked k) (take i looked) x) (λ k. any_push (any_changed_looked instant k) (take i looked) x) both)
 
 -- ---- rows that keep their limits
 

@@ -124,10 +124,6 @@ pub record AreRunsOf (purpose : Purpose) (state : PointState) (connector asked l
   pub rows_are : AreByFallingLevel (counted purpose state connector) rows
   pub runs_are : runs ≡ map (running_from state connector asked last) rows
 
-pub record IsAtStart (asked last : ℕ) (run : Running) : Type 0 where
-  pub since : run.since ≡ asked
-  pub last_is : run.last ≡ last
-
 pub record IsPointAtStart (state : PointState) (asked last : ℕ) (bound : RunningBound) : Type 0 where
   pub ceiling : bound.ceiling ≡ state.ceiling
   pub small : bound.ceiling < 2 ^ 32
