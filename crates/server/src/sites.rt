@@ -39,7 +39,7 @@ pub fn serve<R: Threads + Wait + Sync, M: Moments + Sync>(
     rt: &R,
     alloc: Global,
     site: Site,
-    listener: &TcpListener,
+    listener: TcpListener,
     workers: usize,
     sessions: u64,
     clock: &M,
@@ -74,7 +74,7 @@ fn serve_counted<
     rt: &R,
     plan: Plan,
     site: Site,
-    listener: &TcpListener,
+    listener: TcpListener,
     clock: &M,
     blanks: (Blank, Blank),
 ) -> Result<Totals, ServeFault>
@@ -125,7 +125,7 @@ fn serve_beside_workers<
 >(
     rt: &R,
     plan: Plan,
-    listener: &TcpListener,
+    listener: TcpListener,
     clock: &M,
     shared: &Shared<C, A>,
     channel: (Sender<Job>, Receiver<Job>),
@@ -182,7 +182,7 @@ fn serve_connections<
     M: Moments + Sync,
 >(
     context: Context<'_, C, A, R, M>,
-    listener: &TcpListener,
+    listener: TcpListener,
     passes: Vec<Pass<C, A>>,
 ) -> Result<Served<C, A>, ServeFault> {
     let Context {
@@ -224,6 +224,8 @@ fn serve_connections<
                 }
             }
         }
+        // Nobody is to wait for a connection that is never accepted.
+        drop(listener);
         for session in running {
             let _ = ended.push(session.join(rt));
         }

@@ -102,7 +102,7 @@ fn a_start_of_one_session_is_in_the_schedule_of_another(rt: HostRuntime) -> Resu
     let listener = TcpListener::bind(&rt, SocketAddr::from((Ipv4Addr::LOCALHOST, 0)))?;
     let address = listener.local_addr()?;
     let server = thread::spawn(&rt, move || {
-        serve(&rt, alloc, site, &listener, 2, 2, &TenPastMidnight)
+        serve(&rt, alloc, site, listener, 2, 2, &TenPastMidnight)
     })?;
     let mut operator = connected(&rt, alloc, address, "/operator/CP1")?;
     assert_eq!(&rt;
@@ -164,7 +164,7 @@ fn a_simulated_point_is_served_beside_an_operator(rt: HostRuntime) -> Result<(),
     let listener = TcpListener::bind(&rt, SocketAddr::from((Ipv4Addr::LOCALHOST, 0)))?;
     let address = listener.local_addr()?;
     let server = thread::spawn(&rt, move || {
-        serve(&rt, alloc, site, &listener, 2, 2, &TenPastMidnight)
+        serve(&rt, alloc, site, listener, 2, 2, &TenPastMidnight)
     })?;
     let mut operator = connected(&rt, alloc, address, "/operator/CP1")?;
     assert_eq!(&rt;

@@ -48,7 +48,7 @@ pub fn serve_file<
         rt,
         rt.alloc(),
         site,
-        &listener,
+        listener,
         workers as usize,
         sessions,
         &clock,
