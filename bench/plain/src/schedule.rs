@@ -1,89 +1,107 @@
-//! Composite schedules: the places of the candidate rows in order, the limit at each, and equal neighbours joined.
+//! Composite schedules: the rows wait in a queue for their next places, and at a place only those change that are due.
 use crate::profile::Profile;
 use crate::{Point, Row};
+use std::cmp::Reverse;
+use std::collections::binary_heap::PeekMut;
+use std::collections::{BTreeMap, BinaryHeap};
 
 const MOST_PERIODS: usize = 1_000;
+const LEVELS: i32 = 100;
 
-/// A row that speaks for a connector, and from where it counts.
-struct Candidate<'a> {
+/// A row that speaks for a connector, on its way through the seconds that are asked.
+struct Run<'a> {
     profile: &'a Profile,
+    rank: i32,
     anchor: i64,
+    round: Option<i64>,
+    /// Where its schedule began last, or will begin first.
+    begin: i64,
+    /// How many of its periods have begun since.
+    begun: usize,
 }
 
-/// The rows of one purpose that speak for a connector, the highest stack level first.
-type Candidates<'a> = Vec<Candidate<'a>>;
-
-/// A connector that is looked at.
-struct Looked<'a> {
+/// A ceiling, rows, and by their ranks the limits of those that have one: the last prevails.
+struct Bound<'a> {
     ceiling: u64,
-    own: Candidates<'a>,
-    default: Candidates<'a>,
+    runs: Vec<Run<'a>>,
+    in_force: BTreeMap<i32, u64>,
 }
 
-impl Candidate<'_> {
-    fn round(&self) -> Option<i64> {
-        match (self.profile.kind, self.profile.recurrency) {
+impl<'a> Run<'a> {
+    fn new(profile: &'a Profile, base: i64, asked: i64) -> Self {
+        let round = match (profile.kind, profile.recurrency) {
             ("Recurring", Some("Daily")) => Some(86_400),
             ("Recurring", _) => Some(604_800),
             _ => None,
-        }
-    }
-
-    /// The limit at a second, where there is one.
-    fn rate(&self, instant: i64) -> Option<u64> {
-        let profile = self.profile;
-        let is_early = instant < self.anchor || profile.valid_from.is_some_and(|bound| instant < bound.seconds());
-        if is_early || profile.valid_to.is_some_and(|bound| bound.seconds() <= instant) {
-            return None;
-        }
-        let since = instant - self.anchor;
-        let offset = self.round().map_or(since, |round| since % round);
-        if profile.duration.is_some_and(|duration| i64::from(duration) <= offset) {
-            return None;
-        }
-        let begun = profile.periods.partition_point(|period| i64::from(period.start) <= offset);
-        Some(u64::from(profile.periods[begun.checked_sub(1)?].limit))
-    }
-
-    /// Adds the seconds after `first` and before `end` at which the limit can change.
-    fn add_places(&self, first: i64, end: i64, places: &mut Vec<i64>) {
-        let mut add = |place: i64| {
-            if first < place && place < end {
-                places.push(place);
-            }
         };
-        for bound in [self.profile.valid_from, self.profile.valid_to].into_iter().flatten() {
-            add(bound.seconds());
+        let anchor = profile.start.filter(|_| profile.kind != "Relative").map_or(base, |start| start.seconds());
+        let passed = round.map_or(0, |round| (asked - anchor).max(0) / round * round);
+        let rank = if profile.purpose == "TxProfile" { LEVELS + profile.level } else { profile.level };
+        Run { profile, rank, anchor, round, begin: anchor + passed, begun: 0 }
+    }
+
+    /// Goes on to an instant, and returns its limit there, where it has one.
+    fn go_to(&mut self, instant: i64) -> Option<u64> {
+        let profile = self.profile;
+        if let Some(round) = self.round.filter(|round| self.begin + round <= instant) {
+            self.begin += round;
+            self.begun = 0;
         }
-        let round = self.round().unwrap_or(i64::MAX);
-        let mut begin = self.anchor;
-        if round < i64::MAX && begin < first {
-            begin += (first - begin) / round * round;
+        let offset = instant - self.begin;
+        while profile.periods.get(self.begun).is_some_and(|period| i64::from(period.start) <= offset) {
+            self.begun += 1;
         }
-        while begin < end {
-            add(begin);
-            let turns = self.profile.periods.iter().map(|period| period.start).chain(self.profile.duration);
-            for turn in turns.map(i64::from).filter(|turn| *turn < round) {
-                add(begin + turn);
-            }
-            match begin.checked_add(round) {
-                Some(next) => begin = next,
-                None => break,
-            }
+        let is_early = instant < self.anchor || profile.valid_from.is_some_and(|bound| instant < bound.seconds());
+        let is_late = profile.valid_to.is_some_and(|bound| bound.seconds() <= instant)
+            || profile.duration.is_some_and(|duration| i64::from(duration) <= offset);
+        if is_early || is_late {
+            return None;
         }
+        Some(u64::from(profile.periods[self.begun.checked_sub(1)?].limit))
+    }
+
+    /// The next second after the one it went to at which its limit can change.
+    fn next_place(&self, instant: i64) -> Option<i64> {
+        let profile = self.profile;
+        let places = [
+            profile.valid_from.map(|bound| bound.seconds()),
+            profile.valid_to.map(|bound| bound.seconds()),
+            Some(self.anchor),
+            profile.periods.get(self.begun).map(|period| self.begin + i64::from(period.start)),
+            profile.duration.map(|duration| self.begin + i64::from(duration)),
+            self.round.map(|round| self.begin + round),
+        ];
+        places.into_iter().flatten().filter(|place| instant < *place).min()
     }
 }
 
-fn prevailing(candidates: &Candidates, instant: i64) -> Option<u64> {
-    candidates.iter().find_map(|candidate| candidate.rate(instant))
+impl<'a> Bound<'a> {
+    fn new(ceiling: u64, runs: Vec<Run<'a>>) -> Self {
+        Bound { ceiling, runs, in_force: BTreeMap::new() }
+    }
+
+    fn limit(&self) -> u64 {
+        self.in_force.last_key_value().map_or(self.ceiling, |(_, limit)| self.ceiling.min(*limit))
+    }
+
+    /// Lets a row go on to an instant, and returns its next place.
+    fn pass(&mut self, run: usize, instant: i64) -> Option<i64> {
+        let run = &mut self.runs[run];
+        match run.go_to(instant) {
+            Some(limit) => self.in_force.insert(run.rank, limit),
+            None => self.in_force.remove(&run.rank),
+        };
+        run.next_place(instant)
+    }
 }
 
-fn candidates<'a>(point: &'a Point, purpose: &str, connector: i32, asked: i64) -> Candidates<'a> {
+/// The rows of a purpose that speak for a connector.
+fn runs<'a>(point: &'a Point, purpose: &'a str, connector: i32, asked: i64) -> impl Iterator<Item = Run<'a>> {
     let started = usize::try_from(connector - 1).ok().and_then(|place| point.started[place]);
-    let has_own = |level: i32| {
+    let has_own = move |level: i32| {
         point.rows.iter().any(|row| row.profile.purpose == purpose && row.connector == connector && row.profile.level == level)
     };
-    let counts = |row: &&Row| {
+    let counts = move |row: &&Row| {
         row.profile.purpose == purpose
             && match purpose {
                 "ChargePointMaxProfile" => row.connector == 0,
@@ -91,55 +109,64 @@ fn candidates<'a>(point: &'a Point, purpose: &str, connector: i32, asked: i64) -
                 _ => row.connector == connector || row.connector == 0 && !has_own(row.profile.level),
             }
     };
-    let mut rows: Vec<&Row> = point.rows.iter().filter(counts).collect();
-    rows.sort_by_key(|row| -row.profile.level);
-    let base = |row: &Row| if purpose == "ChargePointMaxProfile" { row.moment } else { started.unwrap_or(asked) };
-    let anchor = |row: &Row| match row.profile.start {
-        Some(start) if row.profile.kind != "Relative" => start.seconds(),
-        _ => base(row),
+    let base = move |row: &Row| if purpose == "ChargePointMaxProfile" { row.moment } else { started.unwrap_or(asked) };
+    point.rows.iter().filter(counts).map(move |row| Run::new(&row.profile, base(row), asked))
+}
+
+/// What bounds the whole point, and behind it what bounds each connector that is looked at.
+fn bounds(point: &Point, connector: i32, asked: i64) -> Vec<Bound<'_>> {
+    let all = 1..=point.ceilings.len() as i32;
+    let active = all.filter(|connector| point.started[*connector as usize - 1].is_some());
+    let looked_at: Vec<i32> = if connector > 0 { vec![connector] } else { active.collect() };
+    let maximum = Bound::new(point.ceiling, runs(point, "ChargePointMaxProfile", 0, asked).collect());
+    let of_connector = |connector: i32| {
+        let own = runs(point, "TxProfile", connector, asked).chain(runs(point, "TxDefaultProfile", connector, asked));
+        Bound::new(point.ceilings[connector as usize - 1], own.collect())
     };
-    rows.into_iter().map(|row| Candidate { profile: &row.profile, anchor: anchor(row) }).collect()
+    std::iter::once(maximum).chain(looked_at.into_iter().map(of_connector)).collect()
 }
 
 /// The periods of a connector of a point from `asked` on, or None where there are too many.
 pub fn compose(point: &Point, connector: i32, asked: i64, duration: i64) -> Option<Vec<(i64, u64)>> {
-    let maximum = candidates(point, "ChargePointMaxProfile", 0, asked);
-    let all = 1..=point.ceilings.len() as i32;
-    let active = all.filter(|connector| point.started[*connector as usize - 1].is_some());
-    let looked_at: Vec<i32> = if connector > 0 { vec![connector] } else { active.collect() };
-    let looked: Vec<Looked> = looked_at
-        .into_iter()
-        .map(|connector| Looked {
-            ceiling: point.ceilings[connector as usize - 1],
-            own: candidates(point, "TxProfile", connector, asked),
-            default: candidates(point, "TxDefaultProfile", connector, asked),
-        })
-        .collect();
-    let mut places = vec![asked];
-    let rows = looked.iter().flat_map(|connector| connector.own.iter().chain(&connector.default)).chain(&maximum);
-    rows.for_each(|row| row.add_places(asked, asked + duration, &mut places));
-    places.sort_unstable();
-    places.dedup();
-    let limit_at = |instant: i64| {
-        let shared: u64 = looked
-            .iter()
-            .map(|connector| {
-                let own = prevailing(&connector.own, instant).or_else(|| prevailing(&connector.default, instant));
-                own.map_or(connector.ceiling, |own| own.min(connector.ceiling))
-            })
-            .sum();
-        let most = prevailing(&maximum, instant).map_or(point.ceiling, |most| most.min(point.ceiling));
-        shared.min(most)
-    };
+    let end = asked + duration;
+    let mut bounds = bounds(point, connector, asked);
+    let mut queue = Vec::new();
+    for (index, bound) in bounds.iter_mut().enumerate() {
+        for run in 0..bound.runs.len() {
+            let next = bound.pass(run, asked).filter(|next| *next < end);
+            queue.extend(next.map(|next| Reverse((next, index, run))));
+        }
+    }
+    let mut queue = BinaryHeap::from(queue);
+    let mut shared: u64 = bounds[1..].iter().map(Bound::limit).sum();
     let mut periods: Vec<(i64, u64)> = Vec::new();
-    for place in places {
-        let limit = limit_at(place);
+    let mut instant = asked;
+    loop {
+        let limit = shared.min(bounds[0].limit());
         if periods.last().is_none_or(|last| last.1 != limit) {
             if periods.len() == MOST_PERIODS {
                 return None;
             }
-            periods.push((place - asked, limit));
+            periods.push((instant - asked, limit));
+        }
+        let Some(Reverse((next, ..))) = queue.peek() else {
+            return Some(periods);
+        };
+        instant = *next;
+        while let Some(mut first) = queue.peek_mut().filter(|first| first.0 .0 == instant) {
+            let Reverse((_, index, run)) = *first;
+            let bound = &mut bounds[index];
+            let before = bound.limit();
+            let next = bound.pass(run, instant).filter(|next| *next < end);
+            if index > 0 {
+                shared = shared - before + bound.limit();
+            }
+            match next {
+                Some(next) => first.0 .0 = next,
+                None => {
+                    PeekMut::pop(first);
+                }
+            }
         }
     }
-    Some(periods)
 }
