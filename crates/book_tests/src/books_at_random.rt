@@ -14,34 +14,39 @@ fn next_number(number: u32) -> u32 {
     number.wrapping_mul(1_664_525).wrapping_add(1_013_904_223)
 }
 
-/// A row told in words, by the bits of a number.
+/// A row told in words, by the bits of a number: all that it does lies within some minutes.
 fn row_in_words(alloc: Global, id: u32, number: u32) -> Result<String, Fail> {
     let (purpose, connector) = match (number >> 8) % 4 {
         0 => ("ChargePointMaxProfile", 0),
-        1 => ("TxProfile", 1),
+        1 => ("TxProfile", 1 + (number >> 11) % 2),
         _ => ("TxDefaultProfile", (number >> 10) % 3),
     };
-    let kind = match (number >> 12) % 3 {
-        0 => "Absolute",
-        1 => "Recurring recurrency=Daily",
-        _ => "Relative",
+    let kind = match (number >> 12) % 4 {
+        0 => "Absolute start=",
+        1 => "Recurring recurrency=Daily start=",
+        2 => "Recurring recurrency=Weekly moment=",
+        _ => "Relative moment=",
     };
     Ok(format!(in alloc;
-        "id={id} purpose={purpose} connector={connector} level={} kind={kind} start={} duration={} to={} periods=0:{},{}:{}",
+        "id={id} purpose={purpose} connector={connector} level={} kind={kind}{} duration={} from={} to={} periods={}:{},{}:{},{}:{}",
         (number >> 14) % 4,
-        (number >> 16) % 900,
-        300 + (number >> 18) % 1_200,
-        600 + (number >> 20) % 2_000,
+        86_400 + (number >> 16) % 150,
+        20 + (number >> 18) % 100,
+        86_400 + (number >> 15) % 60,
+        86_440 + (number >> 20) % 200,
+        (number >> 21) % 8,
         60 + (number >> 22) % 100,
-        1 + (number >> 6) % 600,
-        60 + (number >> 24) % 100
+        8 + (number >> 6) % 30,
+        60 + (number >> 24) % 100,
+        40 + (number >> 7) % 30,
+        60 + (number >> 9) % 300
     )?)
 }
 
 /// That both compilers answer alike, for each connector and the whole point.
 fn expect_alike(rt: &impl Abort, alloc: Global, book: &PointBook, seed: u32) -> Result<(), Fail> {
     for connector in 0..3u32 {
-        let ask = Ask::try_new(connector, instant_at(100)?, 2_000)?;
+        let ask = Ask::try_new(connector, instant_at(86_410)?, 60 + seed % 140)?;
         assert!(rt; ask.connector <= book.connectors());
         let plain = compile_plain(alloc, &book.view(), &ask)?;
         let schedule = compile(alloc, book, &ask, &mut Turns::new())?;
@@ -53,11 +58,12 @@ fn expect_alike(rt: &impl Abort, alloc: Global, book: &PointBook, seed: u32) -> 
 #[test]
 fn compiles_books_at_random(rt: HostRuntime) -> Result<(), Fail> {
     let alloc = rt.alloc();
-    for seed in 0..12u32 {
-        let mut book = point(alloc, 630, 2)?;
-        begin(alloc, &mut book, 1, 50)?;
-        let mut number = next_number(seed);
-        for id in 1..11u32 {
+    let mut number = 1;
+    for seed in 0..10_000u32 {
+        let mut book = point(alloc, 120 + seed % 600, 2)?;
+        begin(alloc, &mut book, 1, 86_350 + u64::from(seed % 100))?;
+        begin(alloc, &mut book, 2, 86_380 + u64::from(seed % 70))?;
+        for id in 0..1 + seed % 9 {
             number = next_number(number);
             let words = row_in_words(alloc, id, number)?;
             install(alloc, &mut book, words.as_str())?;
