@@ -6,7 +6,7 @@ import subprocess
 import tempfile
 
 from raw_client import RawClient
-from serving import ENVIRONMENT, PATIENCE, Serving, Unexpected, expect, free_port
+from serving import ENVIRONMENT, PATIENCE, Serving, Unexpected, expect, expect_nobody_listens, free_port
 from texts import CALL_0, heartbeat, plain_site, without_moment
 
 NO_ADDRESSES = ("", "x", "127.0.0.1", ":", "127.0.0.1:", "127.0.0.1:65536", "127.0.0.1:x", "192.0.2.1:9000")
@@ -146,10 +146,10 @@ def connection_not_accepted(program):
     """A connection for which no file can be opened: those before it are served to their end, and then the program ends so."""
     with Serving(program, plain_site(2), 9, limits={resource.RLIMIT_NOFILE: 6}) as serving:
         with RawClient.connected(serving, "/P1") as first, RawClient.connected(serving, "/P2") as second:
-            with socket.create_connection(("127.0.0.1", serving.port), PATIENCE):
-                for client in (first, second):
-                    texts = [without_moment(text) for text in client.texts_of(heartbeat("1"))]
-                    expect("the texts", texts, ['[3,"1",{}]', CALL_0])
+            expect_nobody_listens(serving.port)
+            for client in (first, second):
+                texts = [without_moment(text) for text in client.texts_of(heartbeat("1"))]
+                expect("the texts", texts, ['[3,"1",{}]', CALL_0])
             first.close()
             second.close()
         expect("its end", serving.fault(), SOCKET)

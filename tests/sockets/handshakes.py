@@ -5,7 +5,7 @@ import websockets
 
 from python_client import PythonClient
 from raw_client import CLOSE, PING, POLICY, PONG, Frame, RawClient, request_bytes
-from serving import Serving, expect
+from serving import Serving, expect, expect_nobody_listens
 from texts import CALL_0, OCPP, ask, call, error, heartbeat, site, start
 
 # Each point has so many connectors, and limits of its own, so that its answers tell which it is.
@@ -173,13 +173,12 @@ def odd_handshake(content):
 
 
 def one_connection_more(program):
-    """A client that comes after the last session isn't served, and its connection ends with the program."""
+    """A client that comes after the last session is refused at once, and that session is served on."""
     with Serving(program, SITE, 1) as serving:
-        with RawClient.connected(serving, "/CP1") as client, RawClient(serving) as late:
-            late.send_bytes(WHOLE)
+        with RawClient.connected(serving, "/CP1") as client:
+            expect_nobody_listens(serving.port)
             expect("the session", served_as(client), point("CP1"))
             client.close()
-            expect("the late client", late.read_response(), None)
         expect("the totals", serving.totals(), (1, 0))
 
 

@@ -35,6 +35,18 @@ def free_port():
         return probe.getsockname()[1]
 
 
+def expect_nobody_listens(port):
+    """A client is refused at once, now or soon: until the port is closed, it may still be let wait."""
+    end = time.monotonic() + PATIENCE
+    while time.monotonic() < end:
+        try:
+            socket.create_connection(("127.0.0.1", port), PATIENCE).close()
+        except ConnectionRefusedError:
+            return
+        time.sleep(0.01)
+    raise Unexpected("somebody still listens")
+
+
 def limit(limits):
     """Gives this process limits, and those that it starts."""
     for kind, most in limits.items():

@@ -34,7 +34,8 @@ pub enum ServeFault {
 }
 
 /// Serves a site: accepts so many connections, each served on a thread of its own, with so many workers beside
-/// them, and ends when all have ended. Gives how many changes were made and answers handed out in all sessions.
+/// them, and ends when all have ended. After the last one the listener is closed. Gives how many changes were made and
+/// answers handed out in all sessions.
 pub fn serve<R: Threads + Wait + Sync, M: Moments + Sync>(
     rt: &R,
     alloc: Global,

@@ -26,7 +26,7 @@ pub struct Shared<C: Ledger, A: Ledger> {
     sessions: u64,
 }
 
-/// So many places there are to wait at: as many as requests may be kept, so that those kept have each its own.
+/// So many places there are to wait at: as many as requests may be kept, so that few share one.
 const PLACES: u64 = 64;
 
 impl<C: Ledger, A: Ledger> Model for Shared<C, A> {
