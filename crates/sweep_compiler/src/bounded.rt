@@ -2,11 +2,11 @@
 
 ghost use Rattle.std.specs.Prelude.{◌≡◌, ◌<◌, ◌^◌, length, IfErr, IfOk};
 ghost use Rattle.meaning.specs.declared.cause.Cause.TheVariants.{Sum};
+ghost use Rattle.meaning.specs.Limit.{at_most};
 ghost use Rattle.meaning.specs.Cause.{bound_of};
 ghost use Rattle.ocpp_scalars.specs.declared.refusal.Refusal.TheVariants.{OutOfMemory};
 ghost use Rattle.sweep_compiler.specs.ByCases.Running.{AreFalling, AreInForce, below_now, bound_now, bound_passed, due_at, first_told, own_bound_now};
 
-use crate::looked::at_most;
 use crate::run::Run;
 use meaning::{Bound, Cause, ProfileLimit, lesser_of};
 use ocpp_scalars::{Instant, Refusal};
@@ -159,4 +159,14 @@ fn rates_of(alloc: Global, runs: &[Run<'_>]) -> Result<InForce, Refusal>
         rates.set(run.rank(), run.rate())?;
     }
     Ok(rates)
+}
+
+/// The lesser of a limit and another, where that is there.
+fn at_most(limit: u32, other: Option<u32>) -> u32
+    ensures { result ≡ at_most limit other }
+{
+    match other {
+        Some(other) => limit.min(other),
+        None => limit,
+    }
 }

@@ -1,7 +1,7 @@
 -- That the stretches up to the next place, or to the end, are what the loop keeps.
-use Rattle.std.proofs.Common.{◌≡◌, ◌≢◌, ◌<◌, ◌∙◌, true, false, [], ◌∷◌, ◌++◌, length, Some, None, refl, ap, sym, arith}
+use Rattle.std.proofs.Common.{◌≡◌, ◌≢◌, ◌+◌, ◌-◌, ◌<◌, ◌∙◌, true, false, [], ◌∷◌, ◌++◌, length, Some, None, refl, ap, sym, arith}
 use Rattle.std.proofs.lemmas.List.{length-append}
-use Rattle.meaning.specs.declared.ask.Ask.{Ask}
+use Rattle.meaning.specs.View.{point_state}
 use Rattle.meaning.specs.Cause.{reason_asked}
 use Rattle.sweep_compiler.specs.declared.stretch.Stretch.{Stretch}
 use Rattle.sweep_compiler.specs.Explained.{IsStretchOf}
@@ -12,98 +12,120 @@ use Rattle.sweep_compiler.proofs.explained.explain_along.Goals as goal
 
 pub returns-in_err-push-clause-bound : goal.returns-in_err-push-clause-bound
 returns-in_err-push-clause-bound c =
-    let of = c.args.curve.now.limit in
-    let place = is_second_asked of.state of.connector of.asked in
+    let of = c.args.curve.now in
+    let state = point_state of.view in
+    let place = is_second_asked state of.connector of.asked in
     let kept = c.loop-next.invariant in
-    let same : c.loop-next.curve.ask.duration ≡ c.args.curve.now.ask.duration = ap (λ (ask : Ask). ask.duration) kept.ask in
-    let within = c.loop-next.curve.within in
-    let inside : c.loop-next.curve.second < c.args.curve.now.ask.duration = omega (arith, same, within) in
-    spent_end place c.loop-next.curve.second c.args.curve.now.ask.duration c.loop-next.turns c.args.turns.now inside kept.turns
+    let last = kept.same.last in
+    let asked = kept.same.asked in
+    let whole = c.requires.whole in
+    let at = kept.inside in
+    let since = kept.ready.swept.from in
+    let within : c.loop-next.curve.at - c.loop-next.curve.asked < c.args.duration = omega (arith, last, asked, whole, at, since) in
+    let inside : (c.loop-next.curve.at - c.loop-next.curve.asked) < c.args.duration = within in
+    spent_end place (c.loop-next.curve.at - c.loop-next.curve.asked) c.args.duration c.loop-next.turns c.args.turns.now inside kept.turns
 
 pub new-requires : goal.new-requires
 new-requires c =
     let kept = c.loop-next.invariant in
-    let same : c.loop-next.curve.ask.duration ≡ c.args.curve.now.ask.duration = ap (λ (ask : Ask). ask.duration) kept.ask in
-    let within = c.loop-next.curve.within in
+    let last = kept.same.last in
+    let asked = kept.same.asked in
+    let whole = c.requires.whole in
+    let at = kept.inside in
+    let since = kept.ready.swept.from in
+    let within : c.loop-next.curve.at - c.loop-next.curve.asked < c.args.duration = omega (arith, last, asked, whole, at, since) in
     let begun = kept.begun in
-    let some : c.loop-next.start < c.args.curve.now.ask.duration = omega (arith, same, within, begun) in
-    let new : Stretch = record { start = c.loop-next.start; end = c.args.curve.now.ask.duration; reason = c.loop-next.reason } in
+    let some : c.loop-next.start < c.args.duration = omega (arith, within, begun) in
+    let new : Stretch = record { start = c.loop-next.start; end = c.args.duration; reason = c.loop-next.reason } in
     record { adjoin = rw c.in_ok-push.ensures.items (adjoin_more 0 c.loop-next.start c.loop-next.stretches.items new kept.adjoin refl some) }
 
 pub returns-in_default-clause-explained : goal.returns-in_default-clause-explained
 returns-in_default-clause-explained c =
-    let of = c.args.curve.now.limit in
-    let place = is_second_asked of.state of.connector of.asked in
-    let value = reason_asked of.state of.connector of.asked in
+    let of = c.args.curve.now in
+    let state = point_state of.view in
+    let place = is_second_asked state of.connector of.asked in
+    let value = reason_asked state of.connector of.asked in
     let kept = c.loop-next.invariant in
-    let same : c.loop-next.curve.ask.duration ≡ c.args.curve.now.ask.duration = ap (λ (ask : Ask). ask.duration) kept.ask in
-    let within = c.loop-next.curve.within in
+    let last = kept.same.last in
+    let asked = kept.same.asked in
+    let whole = c.requires.whole in
+    let at = kept.inside in
+    let since = kept.ready.swept.from in
+    let within : c.loop-next.curve.at - c.loop-next.curve.asked < c.args.duration = omega (arith, last, asked, whole, at, since) in
     let begun = kept.begun in
-    let some : c.loop-next.start < c.args.curve.now.ask.duration = omega (arith, same, within, begun) in
-    let stays : LeadsOn value place c.args.curve.now.ask.duration c.loop-next.curve.second None = rw (kept.limit, kept.ask) at c.in_default.ensures.leads in
-    let new : Stretch = record { start = c.loop-next.start; end = c.args.curve.now.ask.duration; reason = c.loop-next.reason } in
+    let some : c.loop-next.start < c.args.duration = omega (arith, within, begun) in
+    let stays : LeadsOn value place c.args.duration (c.loop-next.curve.at - c.loop-next.curve.asked) None = rw (kept.limit, kept.ask) at c.in_default.ensures.leads in
+    let new : Stretch = record { start = c.loop-next.start; end = c.args.duration; reason = c.loop-next.reason } in
     let items : c.new.result.stretches ≡ c.loop-next.stretches.items ++ new ∷ [] = c.new.ensures.same ∙ c.in_ok-push.ensures.items in
     record {
       lasts = c.new.ensures.lasts;
       adjoin = rw items (adjoin_more 0 c.loop-next.start c.loop-next.stretches.items new kept.adjoin refl some);
-      each = rw items (all_more (IsStretchOf of.state of.connector of.asked) c.loop-next.stretches.items new kept.so_far
-          (stretch_of of.state of.connector of.asked new
-          (stays_upto value c.loop-next.reason c.loop-next.start c.loop-next.curve.second c.args.curve.now.ask.duration kept.open_one begun stays)));
+      each = rw items (all_more (IsStretchOf state of.connector of.asked) c.loop-next.stretches.items new kept.so_far
+          (stretch_of state of.connector of.asked new
+          (stays_upto value c.loop-next.reason c.loop-next.start (c.loop-next.curve.at - c.loop-next.curve.asked) c.args.duration kept.open_one begun stays)));
       differ = rw items (differ_as c.loop-next.stretches.items (with_reason c.loop-next.reason) new refl kept.differ);
     }
 
 pub returns-in_default-clause-bound : goal.returns-in_default-clause-bound
 returns-in_default-clause-bound c =
-    let of = c.args.curve.now.limit in
-    let place = is_second_asked of.state of.connector of.asked in
+    let of = c.args.curve.now in
+    let state = point_state of.view in
+    let place = is_second_asked state of.connector of.asked in
     let kept = c.loop-next.invariant in
-    let same : c.loop-next.curve.ask.duration ≡ c.args.curve.now.ask.duration = ap (λ (ask : Ask). ask.duration) kept.ask in
-    let within = c.loop-next.curve.within in
-    let inside : c.loop-next.curve.second < c.args.curve.now.ask.duration = omega (arith, same, within) in
-    spent_end place c.loop-next.curve.second c.args.curve.now.ask.duration c.loop-next.turns c.args.turns.now inside kept.turns
+    let last = kept.same.last in
+    let asked = kept.same.asked in
+    let whole = c.requires.whole in
+    let at = kept.inside in
+    let since = kept.ready.swept.from in
+    let within : c.loop-next.curve.at - c.loop-next.curve.asked < c.args.duration = omega (arith, last, asked, whole, at, since) in
+    let inside : (c.loop-next.curve.at - c.loop-next.curve.asked) < c.args.duration = within in
+    spent_end place (c.loop-next.curve.at - c.loop-next.curve.asked) c.args.duration c.loop-next.turns c.args.turns.now inside kept.turns
 
 pub reason-requires-in-loop-next : goal.reason-requires-in-loop-next
 reason-requires-in-loop-next c =
-    let of = c.args.curve.now.limit in
-    let place = is_second_asked of.state of.connector of.asked in
+    let of = c.args.curve.now in
+    let state = point_state of.view in
+    let place = is_second_asked state of.connector of.asked in
     let kept = c.loop-next.invariant in
-    let few = spent_few place c.loop-next.curve.second in
+    let few = spent_few place (c.loop-next.curve.at - c.loop-next.curve.asked) in
     let turns = kept.turns in
-    let within = c.loop-next.curve.within in
     let most = c.loop-next.curve.ask.most in
     let fresh : c.args.turns.now < 9223372036854775808 = c.requires.fresh in
     record { room = omega (arith, few, turns, within, most, fresh) }
 
 pub returns-in_err-found-clause-bound : goal.returns-in_err-found-clause-bound
 returns-in_err-found-clause-bound c =
-    let of = c.args.curve.now.limit in
-    let place = is_second_asked of.state of.connector of.asked in
-    let value = reason_asked of.state of.connector of.asked in
+    let of = c.args.curve.now in
+    let state = point_state of.view in
+    let place = is_second_asked state of.connector of.asked in
+    let value = reason_asked state of.connector of.asked in
     let kept = c.loop-next.invariant in
-    let leads : LeadsOn value place c.args.curve.now.ask.duration c.loop-next.curve.second (Some c.in-Some.next) = rw (kept.limit, kept.ask) at c.in-Some.ensures.leads in
-    spent_end place c.in-Some.next c.args.curve.now.ask.duration _ c.args.turns.now leads.1
-    (spent_next place c.loop-next.curve.second c.in-Some.next c.loop-next.turns c.args.turns.now _ leads.0 leads.2 kept.turns c.in_err-found.ensures.turn)
+    let leads : LeadsOn value place c.args.duration (c.loop-next.curve.at - c.loop-next.curve.asked) (Some c.in-Some.next) = rw (kept.limit, kept.ask) at c.in-Some.ensures.leads in
+    spent_end place c.in-Some.next c.args.duration _ c.args.turns.now leads.1
+    (spent_next place (c.loop-next.curve.at - c.loop-next.curve.asked) c.in-Some.next c.loop-next.turns c.args.turns.now _ leads.0 leads.2 kept.turns c.in_err-found.ensures.turn)
 
 pub returns-in_err-push-2-clause-bound : goal.returns-in_err-push-2-clause-bound
 returns-in_err-push-2-clause-bound c =
-    let of = c.args.curve.now.limit in
-    let place = is_second_asked of.state of.connector of.asked in
-    let value = reason_asked of.state of.connector of.asked in
+    let of = c.args.curve.now in
+    let state = point_state of.view in
+    let place = is_second_asked state of.connector of.asked in
+    let value = reason_asked state of.connector of.asked in
     let kept = c.loop-next.invariant in
-    let leads : LeadsOn value place c.args.curve.now.ask.duration c.loop-next.curve.second (Some c.in-Some.next) = rw (kept.limit, kept.ask) at c.in-Some.ensures.leads in
-    spent_end place c.in-Some.next c.args.curve.now.ask.duration _ c.args.turns.now leads.1
-    (spent_next place c.loop-next.curve.second c.in-Some.next c.loop-next.turns c.args.turns.now _ leads.0 leads.2 kept.turns c.in_ok-found.ensures.turn)
+    let leads : LeadsOn value place c.args.duration (c.loop-next.curve.at - c.loop-next.curve.asked) (Some c.in-Some.next) = rw (kept.limit, kept.ask) at c.in-Some.ensures.leads in
+    spent_end place c.in-Some.next c.args.duration _ c.args.turns.now leads.1
+    (spent_next place (c.loop-next.curve.at - c.loop-next.curve.asked) c.in-Some.next c.loop-next.turns c.args.turns.now _ leads.0 leads.2 kept.turns c.in_ok-found.ensures.turn)
 
 pub loop-next-preserved-then-not-same : goal.loop-next-preserved-then-not-same
 loop-next-preserved-then-not-same c =
-    let of = c.args.curve.now.limit in
-    let place = is_second_asked of.state of.connector of.asked in
-    let value = reason_asked of.state of.connector of.asked in
+    let of = c.args.curve.now in
+    let state = point_state of.view in
+    let place = is_second_asked state of.connector of.asked in
+    let value = reason_asked state of.connector of.asked in
     let kept = c.loop-next.invariant in
     let begun = kept.begun in
     let next = c.in-Some.next in
     let stretches = c.loop-next.stretches.items in
-    let leads : LeadsOn value place c.args.curve.now.ask.duration c.loop-next.curve.second (Some next) = rw (kept.limit, kept.ask) at c.in-Some.ensures.leads in
+    let leads : LeadsOn value place c.args.duration (c.loop-next.curve.at - c.loop-next.curve.asked) (Some next) = rw (kept.limit, kept.ask) at c.in-Some.ensures.leads in
     let before = leads.0 in
     let some : c.loop-next.start < next = omega (arith, begun, before) in
     let here : c.go_on.new.self.second ≡ next = c.in-Some.ensures.here in
@@ -124,24 +146,25 @@ loop-next-preserved-then-not-same c =
       lasts = refl;
       begun = omega (arith, here);
       adjoin = rw items (adjoin_more 0 c.loop-next.start stretches new kept.adjoin refl some);
-      so_far = rw items (all_more (IsStretchOf of.state of.connector of.asked) stretches new kept.so_far
-          (stretch_of of.state of.connector of.asked new
-          (stays_upto value c.loop-next.reason c.loop-next.start c.loop-next.curve.second next kept.open_one begun leads.3)));
+      so_far = rw items (all_more (IsStretchOf state of.connector of.asked) stretches new kept.so_far
+          (stretch_of state of.connector of.asked new
+          (stays_upto value c.loop-next.reason c.loop-next.start (c.loop-next.curve.at - c.loop-next.curve.asked) next kept.open_one begun leads.3)));
       open_one = λ k from upto. at_one value c.in_ok-found.found next found k from (omega (arith, here, upto));
       differ = rw items (differ_more stretches new (with_reason c.in_ok-found.found) unlike (differ_as stretches (with_reason c.loop-next.reason) new refl kept.differ));
-      turns = rw here (spent_next place c.loop-next.curve.second next c.loop-next.turns c.args.turns.now _ leads.0 leads.2 kept.turns turn);
+      turns = rw here (spent_next place (c.loop-next.curve.at - c.loop-next.curve.asked) next c.loop-next.turns c.args.turns.now _ leads.0 leads.2 kept.turns turn);
       each = omega (arith, turn, each, many);
     }
 
 pub loop-next-preserved : goal.loop-next-preserved
 loop-next-preserved c =
-    let of = c.args.curve.now.limit in
-    let place = is_second_asked of.state of.connector of.asked in
-    let value = reason_asked of.state of.connector of.asked in
+    let of = c.args.curve.now in
+    let state = point_state of.view in
+    let place = is_second_asked state of.connector of.asked in
+    let value = reason_asked state of.connector of.asked in
     let kept = c.loop-next.invariant in
     let begun = kept.begun in
     let next = c.in-Some.next in
-    let leads : LeadsOn value place c.args.curve.now.ask.duration c.loop-next.curve.second (Some next) = rw (kept.limit, kept.ask) at c.in-Some.ensures.leads in
+    let leads : LeadsOn value place c.args.duration (c.loop-next.curve.at - c.loop-next.curve.asked) (Some next) = rw (kept.limit, kept.ask) at c.in-Some.ensures.leads in
     let before = leads.0 in
     let here : c.go_on.new.self.second ≡ next = c.in-Some.ensures.here in
     let same_limit : c.go_on.new.self.limit ≡ of = c.in-Some.ensures.same_limit ∙ kept.limit in
@@ -156,8 +179,8 @@ loop-next-preserved c =
       begun = omega (arith, here, begun, before);
       adjoin = kept.adjoin;
       so_far = kept.so_far;
-      open_one = λ k from upto. upto_next value c.loop-next.reason c.loop-next.start c.loop-next.curve.second next kept.open_one begun leads.3 (sym again ∙ found) k from (omega (arith, here, upto));
+      open_one = λ k from upto. upto_next value c.loop-next.reason c.loop-next.start (c.loop-next.curve.at - c.loop-next.curve.asked) next kept.open_one begun leads.3 (sym again ∙ found) k from (omega (arith, here, upto));
       differ = kept.differ;
-      turns = rw here (spent_next place c.loop-next.curve.second next c.loop-next.turns c.args.turns.now _ leads.0 leads.2 kept.turns turn);
+      turns = rw here (spent_next place (c.loop-next.curve.at - c.loop-next.curve.asked) next c.loop-next.turns c.args.turns.now _ leads.0 leads.2 kept.turns turn);
       each = omega (arith, turn, each);
     }
