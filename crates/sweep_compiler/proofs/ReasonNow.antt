@@ -197,3 +197,22 @@ pub reason_stays : (state : PointState) (connector asked last at k : ℕ) (bound
     → at ≤ k → k ≤ last → ((item : Due) → Contains items item → k < item.instant) → reason_now state connector bounds sum ≡ reason state connector asked k
 reason_stays state connector asked last at k bounds items sum swept from upto before =
     reason_of_bounds state connector asked k bounds sum swept.gathered (rows_now state connector asked last at k bounds items sum swept from upto before) swept.sum_is
+
+-- ---- as it is read
+
+pub whole_read : (state : PointState) (connector asked : ℕ) (bounds : List RunningBound) (d : RunningBound) (sum : ℕ) → AreBounds state connector asked bounds → (connector == 0) ≡ true
+    → below_now (get_or bounds 0 d) (bound_of Sum sum) ≡ bound_as_now (connector == 0) bounds sum
+whole_read state connector asked [] d sum are is = absurd are
+whole_read state connector asked (point ∷ others) d sum are is = ap (λ (whole : Bool). bound_as_now whole (point ∷ others) sum) (sym is)
+
+connector_by : (whole : Bool) (state : PointState) (connector asked : ℕ) (point : RunningBound) (others : List RunningBound) (d e : RunningBound) (sum : ℕ)
+    → AreLookedAt state asked (cond whole (active_connectors state) (connector ∷ [])) others → whole ≡ false
+    → below_now point (own_bound_now (get_or (point ∷ others) 1 e)) ≡ bound_as_now whole (point ∷ others) sum
+connector_by true state connector asked point others d e sum are is = cc
+connector_by false state connector asked point [] d e sum are is = absurd are
+connector_by false state connector asked point (own ∷ others) d e sum are is = refl
+
+pub connector_read : (state : PointState) (connector asked : ℕ) (bounds : List RunningBound) (d e : RunningBound) (sum : ℕ) → AreBounds state connector asked bounds → (connector == 0) ≡ false
+    → below_now (get_or bounds 0 d) (own_bound_now (get_or bounds 1 e)) ≡ bound_as_now (connector == 0) bounds sum
+connector_read state connector asked [] d e sum are is = absurd are
+connector_read state connector asked (point ∷ others) d e sum are is = connector_by (connector == 0) state connector asked point others d e sum are.1 is

@@ -54,7 +54,7 @@ returns-in_default-clause-explained c =
     let within : c.loop-next.curve.at - c.loop-next.curve.asked < c.args.duration = omega (arith, last, asked, whole, at, since) in
     let begun = kept.begun in
     let some : c.loop-next.start < c.args.duration = omega (arith, within, begun) in
-    let stays : LeadsOn value place c.args.duration (c.loop-next.curve.at - c.loop-next.curve.asked) None = rw (kept.limit, kept.ask) at c.in_default.ensures.leads in
+    let stays : LeadsOn value place c.args.duration (c.loop-next.curve.at - c.loop-next.curve.asked) None = rw (kept.same.view, kept.same.connector, kept.same.asked, kept.same.last) at c.in_default.ensures.leads in
     let new : Stretch = record { start = c.loop-next.start; end = c.args.duration; reason = c.loop-next.reason } in
     let items : c.new.result.stretches ≡ c.loop-next.stretches.items ++ new ∷ [] = c.new.ensures.same ∙ c.in_ok-push.ensures.items in
     record {
@@ -100,7 +100,7 @@ returns-in_err-found-clause-bound c =
     let place = is_second_asked state of.connector of.asked in
     let value = reason_asked state of.connector of.asked in
     let kept = c.loop-next.invariant in
-    let leads : LeadsOn value place c.args.duration (c.loop-next.curve.at - c.loop-next.curve.asked) (Some c.in-Some.next) = rw (kept.limit, kept.ask) at c.in-Some.ensures.leads in
+    let leads : LeadsOn value place c.args.duration (c.loop-next.curve.at - c.loop-next.curve.asked) (Some c.in-Some.next) = rw (kept.same.view, kept.same.connector, kept.same.asked, kept.same.last) at c.in-Some.ensures.leads in
     spent_end place c.in-Some.next c.args.duration _ c.args.turns.now leads.1
     (spent_next place (c.loop-next.curve.at - c.loop-next.curve.asked) c.in-Some.next c.loop-next.turns c.args.turns.now _ leads.0 leads.2 kept.turns c.in_err-found.ensures.turn)
 
@@ -111,7 +111,7 @@ returns-in_err-push-2-clause-bound c =
     let place = is_second_asked state of.connector of.asked in
     let value = reason_asked state of.connector of.asked in
     let kept = c.loop-next.invariant in
-    let leads : LeadsOn value place c.args.duration (c.loop-next.curve.at - c.loop-next.curve.asked) (Some c.in-Some.next) = rw (kept.limit, kept.ask) at c.in-Some.ensures.leads in
+    let leads : LeadsOn value place c.args.duration (c.loop-next.curve.at - c.loop-next.curve.asked) (Some c.in-Some.next) = rw (kept.same.view, kept.same.connector, kept.same.asked, kept.same.last) at c.in-Some.ensures.leads in
     spent_end place c.in-Some.next c.args.duration _ c.args.turns.now leads.1
     (spent_next place (c.loop-next.curve.at - c.loop-next.curve.asked) c.in-Some.next c.loop-next.turns c.args.turns.now _ leads.0 leads.2 kept.turns c.in_ok-found.ensures.turn)
 
@@ -125,7 +125,7 @@ loop-next-preserved-then-not-same c =
     let begun = kept.begun in
     let next = c.in-Some.next in
     let stretches = c.loop-next.stretches.items in
-    let leads : LeadsOn value place c.args.duration (c.loop-next.curve.at - c.loop-next.curve.asked) (Some next) = rw (kept.limit, kept.ask) at c.in-Some.ensures.leads in
+    let leads : LeadsOn value place c.args.duration (c.loop-next.curve.at - c.loop-next.curve.asked) (Some next) = rw (kept.same.view, kept.same.connector, kept.same.asked, kept.same.last) at c.in-Some.ensures.leads in
     let before = leads.0 in
     let some : c.loop-next.start < next = omega (arith, begun, before) in
     let here : c.go_on.new.self.second ≡ next = c.in-Some.ensures.here in
@@ -164,7 +164,7 @@ loop-next-preserved c =
     let kept = c.loop-next.invariant in
     let begun = kept.begun in
     let next = c.in-Some.next in
-    let leads : LeadsOn value place c.args.duration (c.loop-next.curve.at - c.loop-next.curve.asked) (Some next) = rw (kept.limit, kept.ask) at c.in-Some.ensures.leads in
+    let leads : LeadsOn value place c.args.duration (c.loop-next.curve.at - c.loop-next.curve.asked) (Some next) = rw (kept.same.view, kept.same.connector, kept.same.asked, kept.same.last) at c.in-Some.ensures.leads in
     let before = leads.0 in
     let here : c.go_on.new.self.second ≡ next = c.in-Some.ensures.here in
     let same_limit : c.go_on.new.self.limit ≡ of = c.in-Some.ensures.same_limit ∙ kept.limit in
