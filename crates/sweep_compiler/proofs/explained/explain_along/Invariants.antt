@@ -10,8 +10,8 @@ use Rattle.sweep_compiler.specs.ByCases.Swept.{IsReadyCurve, IsOfOneAsk}
 use Rattle.sweep_compiler.proofs.Explaining.{with_reason, spent_at}
 use Rattle.sweep_compiler.proofs.explained.explain_along.Given as goal
 
-abbrev pub invariant-loop-next : goal.invariant-loop-next
-invariant-loop-next l = record {
+abbrev pub invariant-loop-reason : goal.invariant-loop-reason
+invariant-loop-reason l = record {
   same : IsOfOneAsk l.fn.curve l.curve;
   ready : IsReadyCurve l.curve;
   inside : l.curve.at ≤ l.curve.last;
@@ -24,5 +24,5 @@ invariant-loop-next l = record {
   each : l.fn.turns + length l.stretches.items + 1 ≤ l.turns;
 }
 
-abbrev pub decreases-loop-next : goal.decreases-loop-next
-decreases-loop-next l = l.duration - (l.curve.at - l.curve.asked)
+abbrev pub decreases-loop-reason : goal.decreases-loop-reason
+decreases-loop-reason l = l.duration - (l.curve.at - l.curve.asked)

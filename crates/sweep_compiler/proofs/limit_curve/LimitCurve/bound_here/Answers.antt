@@ -1,5 +1,6 @@
 -- That what is in force sets the limit.
-use Rattle.std.proofs.Common.{ℕ, Bool, ◌==◌, ◌≡◌, true, false, ◌∙◌, ap, arith}
+use Rattle.std.proofs.Common.{ℕ, Bool, ◌==◌, ◌≡◌, true, false, get_or, ◌∙◌, ap, arith}
+use Rattle.std.proofs.lemmas.Bool.{eq-eqb}
 use Rattle.std.proofs.lemmas.Bool.Decides.{nat_tests}
 use Rattle.meaning.specs.View.{point_state}
 use Rattle.meaning.specs.Cause.{Bound, bound_of}
@@ -13,7 +14,7 @@ returns-then-self-eq0 c =
     let self = c.args.self.now in
     let state = point_state self.view in
     let swept = c.requires.ready.swept in
-    let whole : (self.connector == 0) ≡ true = c.if-self-eq0.true in
+    let whole : (self.connector == 0) ≡ true = eq-eqb self.connector 0 c.if-self-eq0.true in
     let now = bound_stays state self.connector self.asked self.last self.at self.at self.bounds.items self.queue self.sum swept (omega arith) c.requires.within c.requires.ready.ahead in
     c.or_sum.ensures
     ∙ (ap (λ (point : RunningBound). below_now point (bound_of Sum self.sum)) c.index-point.ensures
@@ -24,9 +25,10 @@ returns-else-self-eq0 c =
     let self = c.args.self.now in
     let state = point_state self.view in
     let swept = c.requires.ready.swept in
-    let one : (self.connector == 0) ≡ false = c.if-self-eq0.false in
+    let apart = c.if-self-eq0.false in
+    let one : (self.connector == 0) ≡ false = grind (arith, nat_tests, apart) in
     let now = bound_stays state self.connector self.asked self.last self.at self.at self.bounds.items self.queue self.sum swept (omega arith) c.requires.within c.requires.ready.ahead in
     c.or_below.ensures
     ∙ (ap (λ (other : Bound). below_now c.index-point.result.now other) (c.own_bound.ensures ∙ ap own_bound_now c.index.ensures)
-    ∙ (ap (λ (point : RunningBound). below_now point (own_bound_now _)) c.index-point.ensures
+    ∙ (ap (λ (point : RunningBound). below_now point (own_bound_now (get_or self.bounds.items 1 c.index.result.now))) c.index-point.ensures
     ∙ (connector_read state self.connector self.asked self.bounds.items c.index-point.result.now c.index.result.now self.sum swept.gathered one ∙ now)))
