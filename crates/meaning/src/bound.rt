@@ -3,15 +3,16 @@
 ghost use Rattle.std.specs.Prelude.{◌≡◌, ℕ, [], ◌∷◌};
 ghost use Rattle.std.specs.List.{filter_map};
 ghost use Rattle.profile.specs.Greatest.{greatest};
-ghost use Rattle.meaning.specs.Cause.{lesser};
-ghost use Rattle.meaning.specs.ByCases.Cause.{level_told, lesser_told};
+ghost use Rattle.meaning.specs.Cause.{lesser, with_limit};
+ghost use Rattle.meaning.specs.ByCases.Cause.{told, level_told, lesser_told};
 
 use crate::cause::{Cause, PrevailingProfile};
+use profile::Row;
 use std::marker::Model;
 
 /// A limit in tenths, with what sets it.
 #[derive(Drop)]
-pub(crate) struct Bound {
+pub struct Bound {
     pub limit: u32,
     pub cause: Cause,
 }
@@ -26,7 +27,7 @@ impl Model for Bound {
 
 impl Bound {
     /// Of two bounds the lesser, and the first of equals.
-    pub(crate) fn or_less(self, second: Bound) -> Bound
+    pub fn or_less(self, second: Bound) -> Bound
         ensures { result ≡ lesser self second }
     {
         if second.limit < self.limit {
@@ -39,13 +40,30 @@ impl Bound {
 
 /// A profile that prevails, with its limit in tenths.
 #[derive(Clone, Copy)]
-pub(crate) struct ProfileLimit {
+pub struct ProfileLimit {
     pub profile: PrevailingProfile,
     pub limit: u32,
 }
 
+impl ProfileLimit {
+    /// A row's profile with a limit.
+    pub fn of(row: &Row, limit: u32) -> ProfileLimit
+        ensures { result ≡ told (with_limit row.now limit) }
+    {
+        ProfileLimit {
+            profile: PrevailingProfile {
+                id: row.profile.id,
+                purpose: row.profile.purpose,
+                stack_level: row.profile.stack_level,
+                connector: row.connector,
+            },
+            limit,
+        }
+    }
+}
+
 /// Of a profile's limit, where there is one, and a bound the lesser, and the first of equals.
-pub(crate) fn lesser_of(best: Option<ProfileLimit>, other: Bound) -> Bound
+pub fn lesser_of(best: Option<ProfileLimit>, other: Bound) -> Bound
     ensures { result ≡ lesser_told best other }
 {
     match best {

@@ -21,6 +21,7 @@ mod why_not_laws;
 
 pub use ask::{Ask, MAX_DURATION};
 pub use ask_laws::asks;
+pub use bound::{Bound, ProfileLimit, lesser_of};
 pub use cause::{Cause, PrevailingProfile, Reason, Share, WhyNot};
 pub use composite::{Composite, CompositePeriod, MAX_COMPOSITE_PERIODS};
 pub use limit::limit_at;

@@ -9,7 +9,7 @@ ghost use Rattle.meaning.specs.Cause.{row_limit, prevailing_row, bound_of, lesse
 ghost use Rattle.meaning.specs.ByCases.Cause.{told, prevailing_told, transaction_told};
 
 use crate::bound::{Bound, ProfileLimit, higher_level, lesser_of};
-use crate::cause::{Cause, PrevailingProfile, Reason, Share};
+use crate::cause::{Cause, Reason, Share};
 use crate::prevailing::has_its_transaction;
 use crate::shares::Shares;
 use crate::view::View;
@@ -191,14 +191,6 @@ impl View<'_> {
     {
         let base = row.base(self.active_since(connector), asked);
         let limit = row.profile.rate(base, instant)?;
-        Some(ProfileLimit {
-            profile: PrevailingProfile {
-                id: row.profile.id,
-                purpose: row.profile.purpose,
-                stack_level: row.profile.stack_level,
-                connector: row.connector,
-            },
-            limit,
-        })
+        Some(ProfileLimit::of(row, limit))
     }
 }

@@ -1,4 +1,4 @@
--- Of private clauses: a prevailing row as it is told.
+-- A row with its limit as it is told, and what prevails as it is told: forms by cases of `specs/Cause.antt`.
 use Rattle.std.specs.Prelude.{ℕ, Option, Some, None, option_map}
 use Rattle.profile.specs.declared.purpose.Purpose.{Purpose}
 use Rattle.meaning.specs.declared.bound.ProfileLimit.{ProfileLimit}
