@@ -172,9 +172,15 @@ fn second_at(explained: &Explained<'_>, moment: u64) -> u32 {
 
 fn push_time_tick(out: &mut String, x: u64, moment: u64, step: u64) -> Result<(), AllocError> {
     let (foot, base) = (BOTTOM + 5, BOTTOM + 20);
+    let has_seconds = step % 60 != 0;
+    // A time with seconds would go past the right edge of the picture.
+    let middle = if has_seconds { x.min(RIGHT - 8) } else { x };
     write!(out, "<path class=\"grid\" d=\"M{x} {TOP}V{foot}\"/>")?;
-    write!(out, "<text class=\"middle soft\" x=\"{x}\" y=\"{base}\">")?;
-    push_time(out, moment % DAY, step % 60 != 0)?;
+    write!(
+        out,
+        "<text class=\"middle soft\" x=\"{middle}\" y=\"{base}\">"
+    )?;
+    push_time(out, moment % DAY, has_seconds)?;
     out.push_str("</text>\n")
 }
 
