@@ -16,6 +16,9 @@ PROFILE = '{"connectorId":0,"csChargingProfiles":{"chargingProfileId":1,"stackLe
     '{"startSchedule":"2025-01-01T00:00:00Z","chargingRateUnit":"A","chargingSchedulePeriod":[{"startPeriod":0,"limit":8}]}}}\n'
 
 
+CLEARS_ALL = b"clear: warning: this clears EVERYTHING that the point has, a fuse limit (ChargePointMaxProfile) too, since it names no criterion"
+
+
 def without_moments(out):
     return MOMENTS.sub(rb'"\1":"NOW"', out)
 
@@ -51,9 +54,33 @@ def options_of_call(program):
         expect("install and ask", operator(serving, "--ask", "1", "60", "--set-profile", profile.name), (0, wanted, b""))
         wanted = accepted % b"clear" + SCHEDULE % (b"ask", 2, b"16.0")
         expect("clear and ask", operator(serving, "--clear", '{"id":1}', "--ask", "2", "60"), (0, wanted, b""))
-        expect("clear nothing", operator(serving, "--clear", "{}"), (0, b'[3,"clear",{"status":"Unknown"}]\n', b""))
-        expect("ask another connector", operator(serving, "--ask", "3", "60"), (2, refused, b""))
+        expect("clear nothing", operator(serving, "--clear", "{}"), (0, b'[3,"clear",{"status":"Unknown"}]\n', CLEARS_ALL + b"\n"))
+        why = b"ask: UnknownConnector: the point has no connector of this number\n"
+        expect("ask another connector", operator(serving, "--ask", "3", "60"), (2, refused, why))
         expect("the totals", serving.totals(), (2, 2))
+
+
+def mistakes_before_a_call(program):
+    """What is wrong with a call by itself is said before it is sent, and a clear that names no criterion by mistake isn't sent."""
+    misspelled = PROFILE.replace('"limit"', '"limits":3,"limit"')
+    with Serving(program, SITE, 3) as serving, tempfile.NamedTemporaryFile("w", suffix=".json") as profile:
+        profile.write(misspelled)
+        profile.flush()
+        status, out, error = operator(serving, "--set-profile", profile.name)
+        expect("a field of no meaning", (status, out), (0, b'[3,"set-profile",{"status":"Accepted"}]\n'))
+        wanted = b'set-profile: warning: "limits" is no field of OCPP there and counts for nothing ("limit" is one)\n'
+        expect("what is said of it", error, wanted)
+        kept = (2, b"! clear NoCriterion\n" + SCHEDULE % (b"ask", 1, b"8.0"))
+        status, out, error = operator(serving, "--clear", '{"chargingProfileId":1}', "--ask", "1", "60")
+        expect("a clear by mistake", (status, out), kept)
+        expect("what is said of that", error, CLEARS_ALL + b'; "chargingProfileId" isn\'t one ("id" is)\n')
+        lines = b'[2,"a","ClearChargingProfile",{"ID":1}]\n[2,"b","ClearChargingProfile",{"id":1,"level":0}]\n'
+        status, out, error = operator(serving, given=lines)
+        expect("clears from lines", (status, out), (2, b'! 1 NoCriterion\n[3,"b",{"status":"Accepted"}]\n'))
+        first, second = error.splitlines()
+        expect("the first", first, CLEARS_ALL.replace(b"clear:", b"1:", 1) + b'; "ID" isn\'t one ("id" is)')
+        expect("the second", second.startswith(b'2: warning: "level" is no criterion and counts for nothing'), True)
+        expect("the totals", serving.totals(), (2, 1))
 
 
 def lines_of_call(program):
@@ -68,8 +95,13 @@ def lines_of_call(program):
         b'[4,"c","NotImplemented","",{}]\n[4,"d","FormationViolation","",{}]\n'
         b'[4,"e","TypeConstraintViolation","duration",{}]\n'
     )
+    why = (
+        b"6: NotImplemented: the action isn't known here, or is one of the other side\n"
+        b"7: FormationViolation: the CALL is malformed: its action is no text, or its payload no object\n"
+        b"8: TypeConstraintViolation: duration: the field is of another kind of JSON than it has to be\n"
+    )
     with Serving(program, SITE, 2) as serving:
-        expect("its end", operator(serving, given=lines), (2, wanted, b""))
+        expect("its end", operator(serving, given=lines), (2, wanted, why))
         expect("without a line", operator(serving), (0, b"", b""))
         expect("the totals", serving.totals(), (0, 1))
 
@@ -177,6 +209,7 @@ def back_office(program):
 
 def tests():
     yield "the options of call", options_of_call
+    yield "mistakes before a call", mistakes_before_a_call
     yield "the lines of call", lines_of_call
     yield "the faults of call", faults_of_call
     yield "command lines", command_lines

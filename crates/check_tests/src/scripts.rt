@@ -1,6 +1,9 @@
 //! Scripts and what is found in them.
 
-use checks::{FaultName, Finding, Place, check_printed, check_script, sort_by_line};
+use checks::{
+    FaultName, Finding, Place, answer_sentence, check_printed, check_script, check_sent,
+    sort_by_line,
+};
 use replay::replay;
 use site_rules::{Site, read_site};
 use std::alloc::{AllocError, Global};
@@ -265,6 +268,62 @@ fn printed_lines(rt: HostRuntime) -> Result<(), Fail> {
         assert!(rt;
             has_pieces(alloc, &findings, wanted)?,
             "{printed}: {findings:?}"
+        );
+    }
+    Ok(())
+}
+
+/// On each line an answer, and how the sentence of its refusal begins, if it has one.
+const ANSWERS: &str = r#"[3,"a",{"status":"Accepted"}] => -
+[3,"a",{"status":"Unknown"}] => -
+[3,"a",{"status":"Rejected","reason":"WrongUnit"}] => WrongUnit: chargingRateUnit isn't the unit
+[3,"a",{"status":"Rejected","reason":"NoSuchReason"}] => -
+[4,"a","NotImplemented","",{}] => NotImplemented: the action isn't known here
+[4,"a","TypeConstraintViolation","duration",{}] => TypeConstraintViolation: duration: the field is of another kind
+[4,"a","PropertyConstraintViolation","UnknownConnector",{}] => UnknownConnector: the point has no connector
+[4,"a","InternalError","OutboxFull",{}] => OutboxFull: 256 calls wait
+[4,"a","GenericError","x",{}] => -
+[2,"a","Heartbeat",{}] => -
+[3,"a" => -
+"#;
+
+#[test]
+fn sentences_of_answers(rt: HostRuntime) -> Result<(), Fail> {
+    let alloc = rt.alloc();
+    for row in ANSWERS.lines() {
+        let (answer, wanted) = row.split_once(" => ").unwrap_or((row, "no mark"));
+        let told = match answer_sentence(alloc, answer)? {
+            Some(sentence) => sentence,
+            None => String::from_str(alloc, "-")?,
+        };
+        assert!(rt; told.as_str().starts_with(wanted), "{answer}: {told}");
+    }
+    Ok(())
+}
+
+/// On each line an operator's text, whether it is a clear by mistake, and pieces of its warnings.
+const SENT_TEXTS: &str = r#"[2,"a","ClearChargingProfile",{}] => false => clears EVERYTHING
+[2,"a","ClearChargingProfile",{"chargingProfileId":1}] => true => "chargingProfileId" isn't one ("id" is)
+[2,"a","ClearChargingProfile",{"id":1,"level":0}] => false => "level" is no criterion
+[2,"a","ClearChargingProfile",{"id":1}] => false => -
+[2,"a","ClearChargingProfile",{"id":"1","x":2}] => false => "x" is no field
+[2,"a","GetCompositeSchedule",{"connectorId":1,"durations":1}] => false => "durations" is no field
+[2,"a","GetCompositeSchedule",{"connectorId":1,"duration":1,"duration":2}] => false => "duration" stands twice
+[2,"a","Heartbeat",{"x":1}] => false => -
+[2,"a" => false => -
+"#;
+
+#[test]
+fn texts_before_they_are_sent(rt: HostRuntime) -> Result<(), Fail> {
+    let alloc = rt.alloc();
+    for row in SENT_TEXTS.lines() {
+        let (text, rest) = row.split_once(" => ").unwrap_or((row, "no mark"));
+        let (by_mistake, wanted) = rest.split_once(" => ").unwrap_or((rest, "no mark"));
+        let sent = check_sent(alloc, text)?;
+        assert_eq!(rt; sent.clears_by_mistake, by_mistake == "true", "{text}");
+        assert!(rt;
+            has_pieces(alloc, &sent.warnings, wanted)?,
+            "{text}: {sent:?}"
         );
     }
     Ok(())

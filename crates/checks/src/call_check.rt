@@ -116,16 +116,16 @@ fn check_action(
     let report = &mut checked.report;
     let alloc = report.alloc;
     if matches!(kind.side(), Side::Operator) {
-        warn_repeated(report, call, kind)?;
+        warn_repeated(report, call.text.frame, kind)?;
     }
     match read_fields(alloc, kind, call.payload) {
         Ok(Action::SetChargingProfile { connector, profile }) => {
-            warn_unknown(report, call, kind)?;
+            warn_unknown(report, call.text.frame, kind)?;
             check_install(checked, call.text, connector, profile)
         }
         Ok(Action::ClearChargingProfile(criteria)) => check_clear(report, site, call, &criteria),
         Ok(Action::GetCompositeSchedule(request)) => {
-            warn_unknown(report, call, kind)?;
+            warn_unknown(report, call.text.frame, kind)?;
             check_ask(checked, call.text, &request)
         }
         Ok(Action::StartTransaction(start)) => {
@@ -137,21 +137,20 @@ fn check_action(
             let message = field_fault_message(alloc, call.payload, kind, fault)?;
             report.fault(FaultName::Call(fault), message)?;
             if matches!(kind.side(), Side::Operator) {
-                warn_unknown(report, call, kind)?;
+                warn_unknown(report, call.text.frame, kind)?;
             }
             Ok(())
         }
     }
 }
 
-/// Warns of fields that stand twice in their object.
-fn warn_repeated(
+/// Warns of fields of an operator's CALL that stand twice in their object.
+pub(crate) fn warn_repeated(
     report: &mut Report,
-    call: &Call<'_, '_, '_>,
+    frame: &str,
     kind: ActionKind,
 ) -> Result<(), AllocError> {
     let alloc = report.alloc;
-    let frame = call.text.frame;
     let outline = outline_of(alloc, frame)?;
     for name in &repeated_payload_fields(alloc, frame, &outline, kind)? {
         let message = format!(in alloc;
@@ -163,24 +162,23 @@ fn warn_repeated(
 }
 
 /// The fields of an operator's CALL that nothing looks at.
-fn unknown_fields<'a>(
+pub(crate) fn unknown_fields(
     alloc: Global,
-    call: &Call<'a, '_, '_>,
+    frame: &str,
     kind: ActionKind,
-) -> Result<Vec<UnknownField<'a>>, AllocError> {
-    let frame = call.text.frame;
+) -> Result<Vec<UnknownField<'_>>, AllocError> {
     let outline = outline_of(alloc, frame)?;
     unknown_payload_fields(alloc, frame, &outline, kind)
 }
 
-/// Warns of fields that nothing looks at.
-fn warn_unknown(
+/// Warns of fields of an operator's CALL that nothing looks at.
+pub(crate) fn warn_unknown(
     report: &mut Report,
-    call: &Call<'_, '_, '_>,
+    frame: &str,
     kind: ActionKind,
 ) -> Result<(), AllocError> {
     let alloc = report.alloc;
-    for field in &unknown_fields(alloc, call, kind)? {
+    for field in &unknown_fields(alloc, frame, kind)? {
         let name = shown(alloc, field.name)?;
         let message = match similar_name(alloc, field.name, field.part.fields())? {
             Some(meant) => {
@@ -210,12 +208,22 @@ fn check_clear(
         let message = unknown_point_message(report, site, call.text.point)?;
         report.fault(FaultName::Call(fault), message)?;
     }
-    let unknown = unknown_fields(alloc, call, ActionKind::ClearChargingProfile)?;
+    let unknown = unknown_fields(alloc, call.text.frame, ActionKind::ClearChargingProfile)?;
+    warn_of_clear(report, criteria, &unknown)
+}
+
+/// Warns of a clear that clears more than it seems to, by the fields that are no criteria.
+pub(crate) fn warn_of_clear(
+    report: &mut Report,
+    criteria: &Criteria,
+    unknown: &Vec<UnknownField<'_>>,
+) -> Result<(), AllocError> {
+    let alloc = report.alloc;
     if has_no_criterion(criteria) {
-        let message = clears_all_message(alloc, &unknown)?;
+        let message = clears_all_message(alloc, unknown)?;
         return report.warn(message);
     }
-    for field in &unknown {
+    for field in unknown {
         let name = shown(alloc, field.name)?;
         let message = format!(in alloc;
             "\"{name}\" is no criterion and counts for nothing, so more may be CLEARED than is meant: id, connectorId, chargingProfilePurpose and stackLevel are the criteria"
@@ -225,7 +233,8 @@ fn check_clear(
     Ok(())
 }
 
-fn has_no_criterion(criteria: &Criteria) -> bool {
+/// Whether a clear clears all.
+pub(crate) fn has_no_criterion(criteria: &Criteria) -> bool {
     criteria.id.is_none()
         && criteria.connector.is_none()
         && criteria.purpose.is_none()

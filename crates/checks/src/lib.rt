@@ -1,6 +1,8 @@
 //! What is wrong with a site file and with a script, said for people before they are used.
 #![tactic(auto)]
 
+mod answer;
+mod answer_sentence;
 mod call_check;
 mod field_fault;
 mod finding;
@@ -17,6 +19,7 @@ mod profile_check;
 mod report;
 mod requests;
 mod script_check;
+mod sent_check;
 mod sentences;
 mod shown;
 mod similar;
@@ -28,10 +31,12 @@ mod text_check;
 mod text_place;
 mod together;
 
+pub use answer_sentence::answer_sentence;
 pub use finding::{FaultName, Finding, Place, Severity, exit_status, sort_by_line};
 pub use never::{NeverRated, never_rated};
 pub use printed_check::check_printed;
 pub use script_check::check_script;
+pub use sent_check::{SentCheck, check_sent};
 pub use sentences::{call_sentence, line_sentence, never_sentence, sentence, site_sentence};
 pub use site_check::check_site;
 pub use standing_check::check_standing;

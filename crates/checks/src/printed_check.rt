@@ -1,10 +1,11 @@
 //! What a replay prints at a line, where only the state of the point by then can tell it.
 
+use crate::answer::{Answer, answer_of, refusal_of};
 use crate::finding::{FaultName, Finding, Place};
 use crate::sentences::sentence;
 use messages::CallFault;
 use ocpp_scalars::Refusal;
-use ocppj_frame::{Field, FrameFault, Node, ReadingMemory, read_tree, text_field};
+use ocppj_frame::{FrameFault, ReadingMemory, read_tree};
 use std::alloc::{AllocError, Global};
 
 /// The refusals that depend on what the point has by then, or on how long a schedule gets.
@@ -28,78 +29,71 @@ pub fn check_printed(alloc: Global, line: u64, printed: &str) -> Result<Vec<Find
         let Some(frame) = output.strip_prefix("> ") else {
             continue;
         };
-        if let Some(answer) = answer_in(&mut memory, frame)? {
-            findings.push(answer_finding(alloc, line, answer)?)?;
+        if let Some(finding) = finding_in(alloc, &mut memory, line, frame)? {
+            findings.push(finding)?;
         }
     }
     Ok(findings)
 }
 
-/// An answer that tells of the point's state.
-#[derive(Clone, Copy)]
-enum Answer {
-    /// A `Rejected` with this reason.
-    Rejected(Refusal),
-    /// A CALLERROR of this refusal.
-    Error(Refusal),
-    /// A clear that matched nothing.
-    Unknown,
-}
-
-/// The answer that a frame is, if it tells of the point's state.
-fn answer_in(memory: &mut ReadingMemory, frame: &str) -> Result<Option<Answer>, AllocError> {
+/// What is found in a frame, if it is an answer that tells of the point's state.
+fn finding_in(
+    alloc: Global,
+    memory: &mut ReadingMemory,
+    line: u64,
+    frame: &str,
+) -> Result<Option<Finding>, AllocError> {
     match read_tree(memory, frame) {
-        Ok(tree) => Ok(answer_of(tree.root())),
+        Ok(tree) => finding_of(alloc, line, answer_of(tree.root())),
         Err(FrameFault::OutOfMemory) => Err(AllocError),
         Err(_) => Ok(None),
     }
 }
 
-fn answer_of(root: Node<'_, '_>) -> Option<Answer> {
-    let entries = root.list()?;
-    match entries.get(0)?.number()? {
-        "3" => answer_of_result(entries.get(2)?),
-        "4" => Some(Answer::Error(refusal_of_state(entries.get(3)?.text()?)?)),
-        _ => None,
-    }
-}
-
-/// The answer of a CALLRESULT with this payload.
-fn answer_of_result(payload: Node<'_, '_>) -> Option<Answer> {
-    match text_field(payload, "status") {
-        Field::Value("Rejected") => match text_field(payload, "reason") {
-            Field::Value(reason) => Some(Answer::Rejected(refusal_of_state(reason)?)),
-            _ => None,
+fn finding_of(
+    alloc: Global,
+    line: u64,
+    answer: Option<Answer<'_>>,
+) -> Result<Option<Finding>, AllocError> {
+    match answer {
+        Some(Answer::Rejected(reason)) => match refusal_of_state(reason) {
+            Some(refusal) => refused(alloc, line, refusal, FaultName::Rejected(refusal)),
+            None => Ok(None),
         },
-        Field::Value("Unknown") => Some(Answer::Unknown),
-        _ => None,
+        Some(Answer::Error { description, .. }) => match refusal_of_state(description) {
+            Some(refusal) => {
+                let name = FaultName::Call(CallFault::Refused(refusal));
+                refused(alloc, line, refusal, name)
+            }
+            None => Ok(None),
+        },
+        Some(Answer::Unknown) => cleared_nothing(alloc, line),
+        None => Ok(None),
     }
 }
 
 /// The refusal of this name, if it depends on the point's state.
 fn refusal_of_state(name: &str) -> Option<Refusal> {
-    for refusal in &REFUSALS_OF_STATE {
-        if refusal.name() == name {
-            return Some(*refusal);
-        }
-    }
-    None
+    let refusal = refusal_of(name)?;
+    REFUSALS_OF_STATE.contains(&refusal).then_some(refusal)
 }
 
-fn answer_finding(alloc: Global, line: u64, answer: Answer) -> Result<Finding, AllocError> {
-    let place = Place::Line(line);
-    let (refusal, name) = match answer {
-        Answer::Rejected(refusal) => (refusal, FaultName::Rejected(refusal)),
-        Answer::Error(refusal) => (refusal, FaultName::Call(CallFault::Refused(refusal))),
-        Answer::Unknown => {
-            let message = String::from_str(
-                alloc,
-                "this clears nothing: the point has no profile that matches its criteria",
-            )?;
-            return Ok(Finding::warning(place, message));
-        }
-    };
+fn refused(
+    alloc: Global,
+    line: u64,
+    refusal: Refusal,
+    name: FaultName,
+) -> Result<Option<Finding>, AllocError> {
     let why = sentence(refusal);
     let message = format!(in alloc; "{refusal}: {why}")?;
-    Ok(Finding::fault(place, name, message))
+    Ok(Some(Finding::fault(Place::Line(line), name, message)))
+}
+
+/// A clear that matched nothing.
+fn cleared_nothing(alloc: Global, line: u64) -> Result<Option<Finding>, AllocError> {
+    let message = String::from_str(
+        alloc,
+        "this clears nothing: the point has no profile that matches its criteria",
+    )?;
+    Ok(Some(Finding::warning(Place::Line(line), message)))
 }

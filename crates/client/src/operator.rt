@@ -8,15 +8,15 @@ use ocppj_frame::{
 use std::alloc::Global;
 use std::io::{Read, Write};
 use std::sync::Wait;
-use tungstenite::{MaskKeys, WebSocket};
+use tungstenite::{MaskKeys, Utf8Bytes, WebSocket};
 
 /// What became of a text.
-#[derive(Clone, Copy, Debug, PartialEq, Eq)]
+#[derive(Drop)]
 pub enum Outcome {
     /// It was answered, neither by an error nor as Rejected.
     Accepted,
-    /// It was answered by a CALLERROR, or as Rejected.
-    Refused,
+    /// It was answered by a CALLERROR, or as Rejected: by this text.
+    Refused(Utf8Bytes),
     /// It is no CALL, so it wasn't sent: no answer would ever come.
     NotACall,
 }
@@ -54,8 +54,10 @@ impl<S: Read + Write + Drop, K: MaskKeys + Drop> OperatorClient<S, K> {
                 continue;
             };
             write_line(writer, answer.as_str())?;
-            if let Some(outcome) = outcome_of(&mut self.memory, answer.as_str(), &id)? {
-                return Ok(outcome);
+            match verdict_of(&mut self.memory, answer.as_str(), &id)? {
+                Some(Verdict::Accepted) => return Ok(Outcome::Accepted),
+                Some(Verdict::Refused) => return Ok(Outcome::Refused(answer)),
+                None => {}
             }
         }
         unreachable!()
@@ -85,31 +87,38 @@ fn id_of_call(memory: &mut ReadingMemory, text: &str) -> Result<Option<MessageId
     }
 }
 
+/// What an answer says of its CALL.
+#[derive(Clone, Copy)]
+enum Verdict {
+    Accepted,
+    Refused,
+}
+
 /// What a text says of the CALL of an id, if it answers that.
-fn outcome_of(
+fn verdict_of(
     memory: &mut ReadingMemory,
     text: &str,
     call: &MessageId,
-) -> Result<Option<Outcome>, ClientFault> {
+) -> Result<Option<Verdict>, ClientFault> {
     match read_frame(memory, text) {
-        Ok(frame) => Ok(outcome_in(&frame, call.as_str())),
+        Ok(frame) => Ok(verdict_in(&frame, call.as_str())),
         Err(FrameFault::OutOfMemory) => Err(ClientFault::OutOfMemory),
         Err(_) => Ok(None),
     }
 }
 
-fn outcome_in(frame: &Frame<'_>, call: &str) -> Option<Outcome> {
+fn verdict_in(frame: &Frame<'_>, call: &str) -> Option<Verdict> {
     match frame {
         Frame::Reply { id, payload } => {
             if id.as_str() != call {
                 None
             } else if is_rejected(payload) {
-                Some(Outcome::Refused)
+                Some(Verdict::Refused)
             } else {
-                Some(Outcome::Accepted)
+                Some(Verdict::Accepted)
             }
         }
-        Frame::Fault { id } if id.as_str() == call => Some(Outcome::Refused),
+        Frame::Fault { id } if id.as_str() == call => Some(Verdict::Refused),
         _ => None,
     }
 }

@@ -3,6 +3,7 @@
 use crate::program::command_line::Calling;
 use crate::program::payload_file::read_payload_file;
 use crate::program::program_fault::ProgramFault;
+use checks::{answer_sentence, check_sent};
 use client::{
     ClientFault, Lines, OperatorClient, Outcome, ask_call, clear_call, connect, set_profile_call,
 };
@@ -31,6 +32,7 @@ pub fn call_site<
     R: Files
         + Input
         + Print
+        + Eprint
         + AllocGlobal
         + Net<Stream = TcpStream>
         + RandomSource
@@ -56,7 +58,7 @@ pub fn call_site<
     Ok(if caller.all_accepted { 0 } else { REFUSED })
 }
 
-impl<R: Input + Print + AllocGlobal + RandomSource + Wait + Drop> Caller<'_, R> {
+impl<R: Input + Print + Eprint + AllocGlobal + RandomSource + Wait + Drop> Caller<'_, R> {
     /// Sends the calls of the options.
     fn send_given(
         &mut self,
@@ -94,17 +96,37 @@ impl<R: Input + Print + AllocGlobal + RandomSource + Wait + Drop> Caller<'_, R> 
         unreachable!()
     }
 
-    /// Sends a text, which is reported by this name where it is no CALL.
-    fn send<N: Display + Drop>(&mut self, name: N, text: &str) -> Result<(), ProgramFault> {
+    /// Sends a text, which is reported by this name where it is no CALL, or would clear everything by mistake.
+    fn send<N: Display + Copy + Drop>(&mut self, name: N, text: &str) -> Result<(), ProgramFault> {
+        let checked = check_sent(self.rt.alloc(), text)?;
+        for warning in &checked.warnings {
+            let severity = warning.severity;
+            let message = &warning.message;
+            self.say(format!(in self.rt.alloc(); "{name}: {severity}: {message}")?);
+        }
+        if checked.clears_by_mistake {
+            return self.report(name, "NoCriterion");
+        }
         let mut writer = io::writer(self.rt);
         match self.client.call(self.rt, &mut writer, text)? {
             Outcome::Accepted => Ok(()),
-            Outcome::Refused => {
-                self.all_accepted = false;
-                Ok(())
-            }
+            Outcome::Refused(answer) => self.refused(name, answer.as_str()),
             Outcome::NotACall => self.report(name, "NotACall"),
         }
+    }
+
+    /// Notes that a text was refused, and says what its answer means.
+    fn refused<N: Display + Drop>(&mut self, name: N, answer: &str) -> Result<(), ProgramFault> {
+        self.all_accepted = false;
+        if let Some(sentence) = answer_sentence(self.rt.alloc(), answer)? {
+            self.say(format!(in self.rt.alloc(); "{name}: {sentence}")?);
+        }
+        Ok(())
+    }
+
+    /// Says something more on standard error. Where that can't be written no answer is lost.
+    fn say(&self, words: String) {
+        let _ = self.rt.eprintln(&words);
     }
 
     /// Prints what is wrong with a text.

@@ -1,0 +1,101 @@
+//! What an answer says to an operator's CALL, as far as it refuses something.
+
+use messages::{CallFault, FieldName};
+use ocpp_scalars::Refusal;
+use ocppj_frame::{Field, Node, text_field};
+
+/// An answer that isn't simply accepted.
+#[derive(Clone, Copy)]
+pub(crate) enum Answer<'text> {
+    /// A `Rejected` with this reason.
+    Rejected(&'text str),
+    /// A CALLERROR.
+    Error {
+        code: &'text str,
+        description: &'text str,
+    },
+    /// A clear that matched nothing.
+    Unknown,
+}
+
+/// The refusals that an answer may name.
+const REFUSALS: [Refusal; 22] = [
+    Refusal::UnknownPoint,
+    Refusal::UnknownConnector,
+    Refusal::MaxNotAtZero,
+    Refusal::TxAtZero,
+    Refusal::WrongUnit,
+    Refusal::LevelTooHigh,
+    Refusal::TooManyPeriods,
+    Refusal::PeriodsOutOfOrder,
+    Refusal::NoRecurrency,
+    Refusal::NoTransaction,
+    Refusal::OtherTransaction,
+    Refusal::TooManyProfiles,
+    Refusal::OutboxFull,
+    Refusal::BadDuration,
+    Refusal::PastCalendar,
+    Refusal::TooManyOpen,
+    Refusal::ResultTooLong,
+    Refusal::VersionsExhausted,
+    Refusal::TransactionsExhausted,
+    Refusal::Behind { seen: 0, found: 0 },
+    Refusal::Stopped,
+    Refusal::OutOfMemory,
+];
+
+/// The faults that an error's code may name; which field it is of says the description.
+const FAULTS: [CallFault; 5] = [
+    CallFault::FormationViolation,
+    CallFault::NotImplemented,
+    CallFault::OccurenceConstraintViolation(FieldName::Id),
+    CallFault::TypeConstraintViolation(FieldName::Id),
+    CallFault::PropertyConstraintViolation(FieldName::Id),
+];
+
+/// What the frame of a tree says, if it is an answer that isn't simply accepted.
+pub(crate) fn answer_of<'memory>(root: Node<'_, 'memory>) -> Option<Answer<'memory>> {
+    let entries = root.list()?;
+    match entries.get(0)?.number()? {
+        "3" => answer_of_result(entries.get(2)?),
+        "4" => {
+            Some(Answer::Error {
+                code: entries.get(2)?.text()?,
+                description: entries.get(3)?.text()?,
+            })
+        }
+        _ => None,
+    }
+}
+
+/// The answer of a CALLRESULT with this payload.
+fn answer_of_result<'memory>(payload: Node<'_, 'memory>) -> Option<Answer<'memory>> {
+    match text_field(payload, "status") {
+        Field::Value("Rejected") => match text_field(payload, "reason") {
+            Field::Value(reason) => Some(Answer::Rejected(reason)),
+            _ => None,
+        },
+        Field::Value("Unknown") => Some(Answer::Unknown),
+        _ => None,
+    }
+}
+
+/// The refusal of this name.
+pub(crate) fn refusal_of(name: &str) -> Option<Refusal> {
+    for refusal in &REFUSALS {
+        if refusal.name() == name {
+            return Some(*refusal);
+        }
+    }
+    None
+}
+
+/// The fault of this code, of whichever field.
+pub(crate) fn fault_of(code: &str) -> Option<CallFault> {
+    for fault in &FAULTS {
+        if fault.code() == code {
+            return Some(*fault);
+        }
+    }
+    None
+}

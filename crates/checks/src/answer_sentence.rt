@@ -1,0 +1,51 @@
+//! What the refusal in an answer means, for an operator who got it.
+
+use crate::answer::{Answer, answer_of, fault_of, refusal_of};
+use crate::sentences::{call_sentence, sentence};
+use crate::shown::shown;
+use ocppj_frame::{FrameFault, ReadingMemory, read_tree};
+use std::alloc::{AllocError, Global};
+
+/// What an answer's refusal means: its name and its sentence, with the field that it is of where it has one.
+/// None where the answer refuses nothing, or by a name that isn't this system's.
+pub fn answer_sentence(alloc: Global, answer: &str) -> Result<Option<String>, AllocError> {
+    let mut memory = ReadingMemory::new(alloc);
+    match read_tree(&mut memory, answer) {
+        Ok(tree) => sentence_of(alloc, answer_of(tree.root())),
+        Err(FrameFault::OutOfMemory) => Err(AllocError),
+        Err(_) => Ok(None),
+    }
+}
+
+fn sentence_of(alloc: Global, answer: Option<Answer<'_>>) -> Result<Option<String>, AllocError> {
+    match answer {
+        Some(Answer::Rejected(reason)) => refusal_sentence(alloc, reason),
+        Some(Answer::Error { code, description }) => match refusal_sentence(alloc, description)? {
+            Some(sentence) => Ok(Some(sentence)),
+            None => fault_sentence(alloc, code, description),
+        },
+        Some(Answer::Unknown) | None => Ok(None),
+    }
+}
+
+/// The sentence of the refusal of a name.
+fn refusal_sentence(alloc: Global, name: &str) -> Result<Option<String>, AllocError> {
+    let Some(refusal) = refusal_of(name) else {
+        return Ok(None);
+    };
+    let why = sentence(refusal);
+    Ok(Some(format!(in alloc; "{refusal}: {why}")?))
+}
+
+/// The sentence of an error by its code, with the field that the description names.
+fn fault_sentence(alloc: Global, code: &str, field: &str) -> Result<Option<String>, AllocError> {
+    let Some(fault) = fault_of(code) else {
+        return Ok(None);
+    };
+    let why = call_sentence(fault);
+    if field.is_empty() {
+        return Ok(Some(format!(in alloc; "{code}: {why}")?));
+    }
+    let field = shown(alloc, field)?;
+    Ok(Some(format!(in alloc; "{code}: {field}: {why}")?))
+}
