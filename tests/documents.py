@@ -8,7 +8,7 @@ TOP is the repository, by default the one that this file stands in. What is comp
 - the actions in PROTOCOL, and those that DIFFERENCES says are there, with the names in messages/specs/ActionKind.antt;
 - the refusals in PROTOCOL with the names in ocpp_scalars/specs/Refusal.antt;
 - the crates and the files of definitions in ARCHITECTURE with crates.txt and specs/;
-- the sentences in OPERATING with those of the code, both ways;
+- the sentences in OPERATING with those of the code, both ways, and the numbers in them and in the help with the limits;
 - the replay cases and the situations in their READMEs with the folders, and the version in CHANGELOG with that of the program;
 - the kit's name and logic in README and WORKING with what the program prints;
 - the code on the pages of libraries with the callers in the crates of tests, which are proved and run;
@@ -408,6 +408,33 @@ def link_problems(top, names, page, number, link):
         yield f"{page}:{number}: no heading for the link {link}"
 
 
+# ---- limits in the program's words
+
+def told_numbers(text):
+    """The numbers above 9 in the string literals of a code text, instants left out."""
+    for literal in re.findall(r'"((?:[^"\\]|\\.)*)"', text, re.DOTALL):
+        for number in re.findall(r"(?<![\d.,-])\d[\d,]*(?:\.\d)?(?![\d-])", re.sub(r"\d{4}-\d\d-\d\d(?:T[\d:]+Z)?", "", literal)):
+            plain = number.rstrip(",").replace(",", "")
+            if float(plain) > 9:
+                yield plain
+
+
+def told_limit_problems(top, files):
+    """A number in a sentence or in the help of an option is a limit: so a limit isn't changed without its words."""
+    limits = limits_of(top, files)
+    known = {written(limit, value).replace(",", "") for limit, value in limits.items()}
+    help_text = text_of(top, "crates/central/src/program/help_text.rt")
+    options = re.findall(r"pub const (?:\w+_HELP|STATUSES): &str =\s*\"(?:[^\"\\]|\\.)*\";", help_text, re.DOTALL)
+    texts = {"crates/checks/src/sentences.rt": text_of(top, "crates/checks/src/sentences.rt"), "the help": "\n".join(options)}
+    for where, text in texts.items():
+        found = list(told_numbers(text))
+        if not found:
+            yield f"{where}: no number was found"
+        for number in found:
+            if number not in known:
+                yield f"{where}: {number} is no limit"
+
+
 # ---- numbers of papers
 
 def number_problems(top, files):
@@ -423,6 +450,7 @@ TESTS = {
     "actions": action_problems,
     "refusals": refusal_problems,
     "sentences": sentence_problems,
+    "limits in words": told_limit_problems,
     "map": map_problems,
     "cases": case_problems,
     "version": version_problems,

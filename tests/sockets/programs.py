@@ -96,6 +96,8 @@ def lines_of_call(program):
         b'[4,"e","TypeConstraintViolation","duration",{}]\n'
     )
     why = (
+        b"2: its JSON breaks at column 7, where `,` or `]` is wanted, and the text ends\n"
+        b"4: an operator sends CALLs, which begin with [2,\n"
         b"6: NotImplemented: the action isn't known here, or is one of the other side\n"
         b"7: FormationViolation: the CALL is malformed: its action is no text, or its payload no object\n"
         b"8: TypeConstraintViolation: duration: the field is of another kind of JSON than it has to be\n"
@@ -111,7 +113,8 @@ def faults_of_call(program):
     closed = b"central: url: closed by the central system, which may have no such point\n"
     with Serving(program, SITE, 2) as serving, tempfile.NamedTemporaryFile("wb") as binary:
         expect("no such point", operator(serving, "--ask", "1", "60", point="P2"), (3, b"", closed))
-        expect("no JSON", operator(serving, "--clear", "{id:1}"), (2, b"! clear NotACall\n", b""))
+        why = b"clear: line 1, column 2: a name in double quotes or `}` is wanted, and `i` stands there\n"
+        expect("no JSON", operator(serving, "--clear", "{id:1}"), (2, b"! clear NotACall\n", why))
         for path in ("none", "/", binary.name):
             binary.write(b"\xff")
             binary.flush()
@@ -120,6 +123,9 @@ def faults_of_call(program):
     no_url = (4, b"", b"central: url: not ws://HOST:PORT/PATH\n")
     for url in ("", "x", "http://127.0.0.1/", "wss://127.0.0.1/operator/P1"):
         expect(f"the URL {url!r}", run(program, ["call", "--url", url, "--ask", "1", "60"]), no_url)
+    for path in ("/P1", "/operators/P1", "/operator/", "/operator", "/"):
+        points = ["call", "--url", f"ws://127.0.0.1:9{path}", "--ask", "1", "60"]
+        expect(f"the path {path}", run(program, points), (4, b"", b"central: url: an operator's URL ends in /operator/ID\n"))
     nobody = (3, b"", b"central: url: no connection\n")
     expect("nobody", run(program, ["call", "--url", f"ws://127.0.0.1:{free_port()}/operator/P1", "--ask", "1", "60"]), nobody)
 

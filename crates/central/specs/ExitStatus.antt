@@ -18,6 +18,7 @@ replay_status replay_fault.OutOfMemory = 3
 -- a URL that can't be one is a fault of the command line
 abbrev pub client_status : ClientFault → ℕ
 client_status client_fault.Url = 4
+client_status client_fault.NotOperator = 4
 client_status _ = 3
 
 abbrev pub fault_status : ProgramFault → ℕ

@@ -15,6 +15,7 @@ use crate::sentences::sentence;
 use crate::shown::shown;
 use crate::similar::similar_name;
 use crate::text_check::not_composite;
+use crate::zone_check::remark_unzoned;
 use meaning::Ask;
 use messages::{Action, ActionKind, CallFault, ScheduleRequest, Side, read_fields};
 use ocpp_scalars::Refusal;
@@ -121,6 +122,7 @@ fn check_action(
     match read_fields(alloc, kind, call.payload) {
         Ok(Action::SetChargingProfile { connector, profile }) => {
             warn_unknown(report, call.text.frame, kind)?;
+            remark_unzoned(report, call.payload)?;
             check_install(checked, call.text, connector, profile)
         }
         Ok(Action::ClearChargingProfile(criteria)) => check_clear(report, site, call, &criteria),

@@ -4,6 +4,7 @@
 mod answer;
 mod answer_sentence;
 mod call_check;
+mod change_check;
 mod field_fault;
 mod finding;
 mod found;
@@ -30,13 +31,15 @@ mod standing_check;
 mod text_check;
 mod text_place;
 mod together;
+mod zone_check;
 
 pub use answer_sentence::answer_sentence;
+pub use change_check::{Change, check_change};
 pub use finding::{FaultName, Finding, Place, Severity, exit_status, sort_by_line};
 pub use never::{NeverRated, never_rated};
 pub use printed_check::check_printed;
 pub use script_check::check_script;
-pub use sent_check::{SentCheck, check_sent};
+pub use sent_check::{SentCheck, check_sent, json_fault};
 pub use sentences::{call_sentence, line_sentence, never_sentence, sentence, site_sentence};
 pub use site_check::check_site;
 pub use standing_check::check_standing;

@@ -123,7 +123,13 @@ pub(crate) fn repeated_payload_fields<'text>(
 }
 
 /// Whether a member of this name stands before this part in the same object.
-fn stands_before(text: &str, outline: &Outline, index: usize, part: &Part, name: &str) -> bool {
+pub(crate) fn stands_before(
+    text: &str,
+    outline: &Outline,
+    index: usize,
+    part: &Part,
+    name: &str,
+) -> bool {
     let Some(parent) = part.parent else {
         return false;
     };

@@ -230,20 +230,67 @@ fn warn_recurrence(
             )?;
             report.warn(message)?;
         } else if u64::from(duration) < length {
-            let message = format!(in alloc;
-                "this profile sets no limit from {duration} s to {length} s of each {unit}: the profile below it counts then, or none"
-            )?;
-            report.warn(message)?;
+            warn_gap(report, profile, recurrency, u64::from(duration), length)?;
         }
     }
     match profile.schedule.periods.as_slice().first() {
         Some(first) if first.start > 0 => {
-            let start = first.start;
-            let message = format!(in alloc;
-                "this profile sets no limit in the first {start} s of each {unit}: the profile below it counts then, or none"
-            )?;
-            report.warn(message)
+            warn_gap(report, profile, recurrency, 0, u64::from(first.start))
         }
         _ => Ok(()),
     }
+}
+
+/// That a Daily or Weekly profile sets no limit from one offset of its day or week to another: by the clock where that
+/// is known, and else in seconds.
+fn warn_gap(
+    report: &mut Report,
+    profile: &Profile,
+    recurrency: Recurrency,
+    from: u64,
+    to: u64,
+) -> Result<(), AllocError> {
+    let alloc = report.alloc;
+    let clock = match (recurrency, profile.schedule.start) {
+        (Recurrency::Daily, Some(start)) => clock_texts(alloc, start, from, to)?,
+        _ => None,
+    };
+    let when = match (clock, recurrency) {
+        (Some((from, to)), _) => format!(in alloc; "from {from} to {to} UTC of each day")?,
+        (None, Recurrency::Daily) => format!(in alloc; "from {from} s to {to} s of each day")?,
+        (None, Recurrency::Weekly) => format!(in alloc; "from {from} s to {to} s of each week")?,
+    };
+    let message = format!(in alloc;
+        "this profile sets no limit {when}: the profile below it counts then, or none"
+    )?;
+    report.warn(message)
+}
+
+/// The times of the day at two offsets from an instant, where both lie in the calendar.
+fn clock_texts(
+    alloc: Global,
+    start: Instant,
+    from: u64,
+    to: u64,
+) -> Result<Option<(String, String)>, AllocError> {
+    let (Some(from), Some(to)) = (
+        Instant::try_new(start.seconds().saturating_add(from)),
+        Instant::try_new(start.seconds().saturating_add(to)),
+    ) else {
+        return Ok(None);
+    };
+    let (from, to) = (instant_text(alloc, from)?, instant_text(alloc, to)?);
+    match (time_in(from.as_str()), time_in(to.as_str())) {
+        (Some(from), Some(to)) => {
+            Ok(Some((String::from_str(alloc, from)?, String::from_str(alloc, to)?)))
+        }
+        _ => Ok(None),
+    }
+}
+
+/// The hour and the minute in the text of an instant, with the second where it isn't 0.
+fn time_in(instant: &str) -> Option<&str> {
+    let (_, time) = instant.split_once('T')?;
+    let time = time.strip_suffix('Z')?;
+    Some(time.strip_suffix(":00").unwrap_or(time))
 }

@@ -4,7 +4,11 @@ use crate::call_check::{
     has_no_criterion, unknown_fields, warn_of_clear, warn_repeated, warn_unknown,
 };
 use crate::finding::Finding;
+use crate::json_fault::json_fault_text;
+use crate::json_outline::outline_of;
 use crate::report::Report;
+use crate::text_check::why_dropped;
+use crate::text_place::place_in_text;
 use messages::{Action, ActionKind, CallFault, Side, read_fields};
 use ocpp_scalars::Refusal;
 use ocppj_frame::{Frame, FrameFault, Node, ReadingMemory, read_frame};
@@ -14,6 +18,8 @@ use std::alloc::{AllocError, Global};
 /// What is said of an operator's text before it is sent.
 #[derive(Debug, Drop)]
 pub struct SentCheck {
+    /// Why it is no CALL, where it isn't one.
+    pub no_call: Option<String>,
     /// The warnings: fields that count for nothing or stand twice, and a clear that clears more than it seems to.
     pub warnings: Vec<Finding>,
     /// Whether it is a ClearChargingProfile that would clear everything by mistake: its payload has fields, and
@@ -24,9 +30,23 @@ pub struct SentCheck {
 /// Checks an operator's text by itself: nothing is known of the site, or of what the point has. A text that is no
 /// CALL of an operator's has no warnings.
 pub fn check_sent(alloc: Global, text: &str) -> Result<SentCheck, AllocError> {
-    let mut report = Report::new(alloc);
     let mut memory = ReadingMemory::new(alloc);
-    let clears_by_mistake = match read_frame(&mut memory, text) {
+    match check_message(alloc, &mut memory, text)? {
+        Some(checked) => Ok(checked),
+        None => {
+            let why = why_dropped(alloc, &mut memory, text, 0)?;
+            nothing_said(alloc, Some(why))
+        }
+    }
+}
+
+/// Checks a text as a message, if it is one.
+fn check_message(
+    alloc: Global,
+    memory: &mut ReadingMemory,
+    text: &str,
+) -> Result<Option<SentCheck>, AllocError> {
+    let checked = match read_frame(memory, text) {
         Ok(
             Frame::Call {
                 action,
@@ -34,15 +54,36 @@ pub fn check_sent(alloc: Global, text: &str) -> Result<SentCheck, AllocError> {
                 ..
             },
         ) => match operators_action(action.as_str()) {
-            Some(kind) => check_fields(&mut report, text, kind, payload.root())?,
-            None => false,
+            Some(kind) => check_fields(alloc, text, kind, payload.root())?,
+            None => nothing_said(alloc, None)?,
         },
+        Ok(_) => {
+            let why = "an operator sends CALLs, which begin with [2,";
+            nothing_said(alloc, Some(String::from_str(alloc, why)?))?
+        }
+        Err(FrameFault::Formation { id: _id }) => nothing_said(alloc, None)?,
+        Err(FrameFault::Dropped) => return Ok(None),
         Err(FrameFault::OutOfMemory) => return Err(AllocError),
-        _ => false,
     };
+    Ok(Some(checked))
+}
+
+/// Where the JSON of a text breaks, if it does: the line and the column, and what is wanted there.
+pub fn json_fault(alloc: Global, text: &str) -> Result<Option<String>, AllocError> {
+    let Some(fault) = outline_of(alloc, text)?.fault else {
+        return Ok(None);
+    };
+    let place = place_in_text(text, fault.offset);
+    let found = json_fault_text(alloc, &fault)?;
+    Ok(Some(format!(in alloc; "{place}: {found}")?))
+}
+
+/// Of a text there is nothing to warn of.
+fn nothing_said(alloc: Global, no_call: Option<String>) -> Result<SentCheck, AllocError> {
     Ok(SentCheck {
-        warnings: report.into_findings(),
-        clears_by_mistake,
+        no_call,
+        warnings: Vec::new(alloc),
+        clears_by_mistake: false,
     })
 }
 
@@ -55,24 +96,31 @@ fn operators_action(name: &str) -> Option<ActionKind> {
     }
 }
 
-/// Warns of the fields of a CALL. Returns whether it clears everything by mistake.
+/// Checks the fields of a CALL.
 fn check_fields(
-    report: &mut Report,
+    alloc: Global,
     text: &str,
     kind: ActionKind,
     payload: Node<'_, '_>,
-) -> Result<bool, AllocError> {
-    warn_repeated(report, text, kind)?;
-    match read_fields(report.alloc, kind, payload) {
-        Ok(Action::ClearChargingProfile(criteria)) => check_clear(report, text, &criteria),
-        Err(CallFault::Refused(Refusal::OutOfMemory)) => Err(AllocError),
+) -> Result<SentCheck, AllocError> {
+    let mut report = Report::new(alloc);
+    warn_repeated(&mut report, text, kind)?;
+    let clears_by_mistake = match read_fields(alloc, kind, payload) {
+        Ok(Action::ClearChargingProfile(criteria)) => check_clear(&mut report, text, &criteria)?,
+        Err(CallFault::Refused(Refusal::OutOfMemory)) => return Err(AllocError),
         _ => {
-            warn_unknown(report, text, kind)?;
-            Ok(false)
+            warn_unknown(&mut report, text, kind)?;
+            false
         }
-    }
+    };
+    Ok(SentCheck {
+        no_call: None,
+        warnings: report.into_findings(),
+        clears_by_mistake,
+    })
 }
 
+/// Warns of a clear. Returns whether it clears everything by mistake.
 fn check_clear(report: &mut Report, text: &str, criteria: &Criteria) -> Result<bool, AllocError> {
     let unknown = unknown_fields(report.alloc, text, ActionKind::ClearChargingProfile)?;
     warn_of_clear(report, criteria, &unknown)?;

@@ -4,7 +4,7 @@ use crate::finding::{FaultName, Finding, Place};
 use crate::found::{Wish, field_message, message_of, what_stands};
 use crate::json_fault::json_fault_text;
 use crate::json_outline::{Outline, outline_of};
-use crate::site_fields::unknown_site_fields;
+use crate::site_fields::{unknown_site_fields, warn_repeated_fields};
 use crate::site_point::{CheckedSite, KnownIds, check_point};
 use crate::text_place::place_in_text;
 use ocppj_frame::{
@@ -78,6 +78,7 @@ fn check_tree(
     check_root(&mut checked, root)?;
     let CheckedSite { mut findings, .. } = checked;
     names.warn(alloc, text, &mut findings)?;
+    warn_repeated_fields(alloc, text, outline, &mut findings)?;
     Ok(findings)
 }
 

@@ -2,6 +2,7 @@
 
 use crate::finding::Finding;
 use crate::json_outline::{Label, Outline, Part, Span};
+use crate::payload_fields::stands_before;
 use crate::shown::shown;
 use crate::similar::similar_name;
 use crate::text_place::place_in_text;
@@ -107,6 +108,53 @@ fn owner_of(text: &str, outline: &Outline, object: usize) -> Option<Option<usize
     let root = outline.parts.get(list.parent?)?;
     if text_of(text, span)? == "points" && matches!(root.label, Label::Root) {
         Some(Some(index))
+    } else {
+        None
+    }
+}
+
+/// Warns of the fields of the site and of its points that stand twice in their object, a hundred at the most.
+pub(crate) fn warn_repeated_fields(
+    alloc: Global,
+    text: &str,
+    outline: &Outline,
+    findings: &mut Vec<Finding>,
+) -> Result<(), AllocError> {
+    let mut told: usize = 0;
+    for (index, part) in outline.parts.iter().enumerate() {
+        if told >= MAX_UNKNOWN {
+            break;
+        }
+        if let Some((name, offset)) = repeated_field(text, outline, index, part) {
+            told += 1;
+            let place = place_in_text(text, offset);
+            let message = format!(in alloc;
+                "\"{name}\" stands twice in its object, and the later one counts"
+            )?;
+            findings.push(Finding::warning(place, message))?;
+        }
+    }
+    Ok(())
+}
+
+/// The name of this part, and where it begins, if it is a field of the site or of a point and stands there again.
+fn repeated_field(
+    text: &str,
+    outline: &Outline,
+    index: usize,
+    part: &Part,
+) -> Option<(&'static str, usize)> {
+    let Label::Member(span) = part.label else {
+        return None;
+    };
+    let point = owner_of(text, outline, part.parent?)?;
+    let found = text_of(text, span)?;
+    let name = fields_of(point)
+        .iter()
+        .copied()
+        .find(|name| *name == found)?;
+    if stands_before(text, outline, index, part, name) {
+        Some((name, span.start.saturating_sub(1)))
     } else {
         None
     }

@@ -147,7 +147,8 @@ fn check_dropped(
     memory: &mut ReadingMemory,
     text: &LineText<'_>,
 ) -> Result<(), AllocError> {
-    let why = why_dropped(report.alloc, memory, text)?;
+    let before = character_count(text.line).saturating_sub(character_count(text.frame));
+    let why = why_dropped(report.alloc, memory, text.frame, before)?;
     if text.sender == Sender::Hold {
         return not_composite(report, text, why.as_str());
     }
@@ -158,27 +159,32 @@ fn check_dropped(
     report.warn(message)
 }
 
-/// Why a text is no message.
-fn why_dropped(
+/// Why a frame, before which so many characters stand in its line, is no message.
+pub(crate) fn why_dropped(
     alloc: Global,
     memory: &mut ReadingMemory,
-    text: &LineText<'_>,
+    frame: &str,
+    before: usize,
 ) -> Result<String, AllocError> {
-    match read_tree(memory, text.frame) {
+    match read_tree(memory, frame) {
         Ok(tree) => String::from_str(alloc, why_no_message(tree.root())),
         Err(FrameFault::OutOfMemory) => Err(AllocError),
-        Err(_) => match outline_of(alloc, text.frame)?.fault {
-            Some(fault) => broken_at(alloc, text, &fault),
+        Err(_) => match outline_of(alloc, frame)?.fault {
+            Some(fault) => broken_at(alloc, frame, before, &fault),
             None => String::from_str(alloc, "it isn't JSON"),
         },
     }
 }
 
 /// Where the JSON of a frame breaks, by its column in the line.
-fn broken_at(alloc: Global, text: &LineText<'_>, fault: &JsonFault) -> Result<String, AllocError> {
-    let before = character_count(text.line).saturating_sub(character_count(text.frame));
+fn broken_at(
+    alloc: Global,
+    frame: &str,
+    before: usize,
+    fault: &JsonFault,
+) -> Result<String, AllocError> {
     let mut column = before.saturating_add(1);
-    for (offset, _) in text.frame.char_indices() {
+    for (offset, _) in frame.char_indices() {
         if offset >= fault.offset {
             break;
         }

@@ -14,13 +14,42 @@ pub type Connection<R> = WebSocket<TcpStream, RandomKeys<R>>;
 /// The port of a `ws` URL without one (RFC 6455, section 3).
 const DEFAULT_PORT: u16 = 80;
 
+/// Connects to an operator's URL, as `connect` does.
+pub fn connect_operator<R: Net<Stream = TcpStream> + RandomSource + Copy + Drop>(
+    rt: &R,
+    alloc: Global,
+    url: &str,
+) -> Result<Connection<R>, ClientFault> {
+    let request = request_to(alloc, url)?;
+    if !is_operators(request.uri().path()) {
+        return Err(ClientFault::NotOperator);
+    }
+    connect_by(rt, alloc, request)
+}
+
 /// Connects to a URL, and shakes hands in the subprotocol of OCPP 1.6.
 pub fn connect<R: Net<Stream = TcpStream> + RandomSource + Copy + Drop>(
     rt: &R,
     alloc: Global,
     url: &str,
 ) -> Result<Connection<R>, ClientFault> {
-    let request = request_to(alloc, url)?;
+    connect_by(rt, alloc, request_to(alloc, url)?)
+}
+
+/// Whether a path ends in `/operator/ID`.
+fn is_operators(path: &str) -> bool {
+    match path.rsplit_once('/') {
+        Some((before, id)) => !id.is_empty() && before.ends_with("/operator"),
+        None => false,
+    }
+}
+
+/// Connects and shakes hands by a request.
+fn connect_by<R: Net<Stream = TcpStream> + RandomSource + Copy + Drop>(
+    rt: &R,
+    alloc: Global,
+    request: Request<()>,
+) -> Result<Connection<R>, ClientFault> {
     let Some(host) = request.uri().host() else {
         return Err(ClientFault::Url);
     };

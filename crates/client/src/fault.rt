@@ -9,6 +9,10 @@ pub enum ClientFault {
     /// The URL isn't of the form `ws://HOST:PORT/PATH`; without a port it is 80.
     #[error("url: not ws://HOST:PORT/PATH")]
     Url,
+    /// The URL of an operator's client doesn't end in `/operator/ID`. At another one it would be taken for the charge
+    /// point of its last segment, and get the calls to that.
+    #[error("url: an operator's URL ends in /operator/ID")]
+    NotOperator,
     /// Nobody listens there.
     #[error("url: no connection")]
     Connection,

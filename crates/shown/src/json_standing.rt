@@ -3,6 +3,8 @@
 use crate::call_of_point::{WaitingCall, waiting_calls};
 use crate::call_words::action_name;
 use crate::standing::state_name;
+use crate::trace::Trace;
+use crate::traced_calls::RejectedCall;
 use messages::CallBody;
 use page_parts::{JsonWriter, kind_name, purpose_name, recurrency_name, unit_name};
 use point_book::PointBook;
@@ -11,8 +13,10 @@ use replay::Playing;
 use site_core::{Machine, Outbox};
 use std::alloc::{AllocError, Global};
 
-/// What stands at each point, in the order of the site file, which requests are held, and how many lines had a fault.
-pub fn standing_json(alloc: Global, playing: &Playing<'_>) -> Result<String, AllocError> {
+/// What stands at each point after a script, in the order of the site file, which requests are held, and how many
+/// lines had a fault.
+pub fn standing_json(alloc: Global, trace: &Trace<'_>) -> Result<String, AllocError> {
+    let playing = trace.playing();
     let machine = playing.machine();
     let mut json = JsonWriter::new(alloc);
     json.begin('{')?;
@@ -22,9 +26,9 @@ pub fn standing_json(alloc: Global, playing: &Playing<'_>) -> Result<String, All
     json.plain(playing.script_faults())?;
     json.key("points")?;
     json.begin('[')?;
-    for place in 0..machine.site().len() {
+    for (place, calls) in trace.points().iter().enumerate() {
         if let Some(point) = machine.site().point(place) {
-            push_point(alloc, &mut json, machine, point.id)?;
+            push_point(alloc, &mut json, machine, point.id, &calls.rejected)?;
         }
     }
     json.end(']')?;
@@ -38,6 +42,7 @@ fn push_point(
     json: &mut JsonWriter,
     machine: &Machine,
     id: &str,
+    rejected: &[RejectedCall],
 ) -> Result<(), AllocError> {
     let (Some(book), Some(outbox)) = (machine.book_of(id), machine.outbox_of(id)) else {
         return Ok(());
@@ -53,6 +58,7 @@ fn push_point(
     json.end(']')?;
     push_transactions(json, book)?;
     push_calls(alloc, json, outbox)?;
+    push_rejected(json, rejected)?;
     json.end('}')
 }
 
@@ -168,6 +174,23 @@ fn push_calls(alloc: Global, json: &mut JsonWriter, outbox: &Outbox) -> Result<(
     json.begin('[')?;
     for waiting in &waiting_calls(alloc, outbox)? {
         push_call(json, waiting)?;
+    }
+    json.end(']')
+}
+
+/// The calls that the point confirmed without doing them.
+fn push_rejected(json: &mut JsonWriter, rejected: &[RejectedCall]) -> Result<(), AllocError> {
+    json.key("rejected")?;
+    json.begin('[')?;
+    for answered in rejected {
+        json.begin('{')?;
+        json.key("number")?;
+        json.plain(answered.call.number)?;
+        json.key("status")?;
+        json.text(answered.status.as_str())?;
+        json.key("line")?;
+        json.plain(answered.line)?;
+        json.end('}')?;
     }
     json.end(']')
 }

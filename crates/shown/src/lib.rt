@@ -8,6 +8,7 @@ mod ending;
 mod json_standing;
 mod profile_words;
 mod reply;
+mod row_changes;
 mod standing;
 mod table;
 mod trace;
@@ -16,6 +17,7 @@ mod words;
 
 pub use ending::ending_text;
 pub use json_standing::standing_json;
+pub use row_changes::RowChange;
 pub use standing::standing_text;
 pub use table::Table;
 pub use trace::{HeldLine, Trace, TracedLine, trace_script, trace_text};

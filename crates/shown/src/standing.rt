@@ -4,6 +4,8 @@ use crate::call_of_point::{WaitingCall, waiting_calls};
 use crate::call_words::{action_name, profiles_text};
 use crate::profile_words::{from_text, kind_text, periods_text, until_text};
 use crate::table::Table;
+use crate::trace::Trace;
+use crate::traced_calls::RejectedCall;
 use crate::words::text;
 use page_parts::{instant_text, purpose_name};
 use point_book::PointBook;
@@ -11,14 +13,15 @@ use replay::Playing;
 use site_core::{Machine, Outbox};
 use std::alloc::{AllocError, Global};
 
-/// What stands at each point, in the order of the site file, and which requests are held: profiles, transactions
-/// and the calls that wait. A point with nothing has one line.
-pub fn standing_text(alloc: Global, playing: &Playing<'_>) -> Result<String, AllocError> {
+/// What stands at each point after a script, in the order of the site file, and which requests are held: profiles,
+/// transactions, the calls that wait and those that the point rejected. A point with nothing has one line.
+pub fn standing_text(alloc: Global, trace: &Trace<'_>) -> Result<String, AllocError> {
+    let playing = trace.playing();
     let machine = playing.machine();
     let mut out = String::new(alloc);
-    for place in 0..machine.site().len() {
+    for (place, calls) in trace.points().iter().enumerate() {
         if let Some(point) = machine.site().point(place) {
-            push_point(alloc, &mut out, machine, point.id)?;
+            push_point(alloc, &mut out, machine, point.id, &calls.rejected)?;
         }
     }
     push_held(alloc, &mut out, playing)?;
@@ -31,13 +34,15 @@ fn push_point(
     out: &mut String,
     machine: &Machine,
     id: &str,
+    rejected: &[RejectedCall],
 ) -> Result<(), AllocError> {
     let (Some(book), Some(outbox)) = (machine.book_of(id), machine.outbox_of(id)) else {
         return Ok(());
     };
     let calls = waiting_calls(alloc, outbox)?;
     let transactions = transaction_table(alloc, book)?;
-    if book.view().rows.is_empty() && transactions.is_none() && calls.len() <= 1 {
+    let has_nothing = book.view().rows.is_empty() && transactions.is_none();
+    if has_nothing && calls.len() <= 1 && rejected.is_empty() {
         return push_empty_point(alloc, out, id, outbox, &calls);
     }
     write!(out, "{id}\n")?;
@@ -54,7 +59,29 @@ fn push_point(
     if !calls.is_empty() {
         call_table(alloc, &calls)?.push_to(out, 4)?;
     }
-    Ok(())
+    push_rejected(alloc, out, rejected)
+}
+
+/// Appends the calls that the point confirmed without doing them, if there are any.
+fn push_rejected(
+    alloc: Global,
+    out: &mut String,
+    rejected: &[RejectedCall],
+) -> Result<(), AllocError> {
+    if rejected.is_empty() {
+        return Ok(());
+    }
+    let mut table = Table::new(alloc, &["number", "call", "answered", "at line"])?;
+    for answered in rejected {
+        table.push([
+            answered.call.number.to_string(alloc)?,
+            text(alloc, answered.call.what.as_str())?,
+            text(alloc, answered.status.as_str())?,
+            answered.line.to_string(alloc)?,
+        ])?;
+    }
+    out.push_str("  calls that the point rejected\n")?;
+    table.push_to(out, 4)
 }
 
 /// Appends the one line of a point with neither profiles nor transactions, and one call that waits at the most.

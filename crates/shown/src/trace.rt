@@ -3,6 +3,7 @@
 ghost use Rattle.std.specs.Prelude.{◌≤◌, length};
 ghost use Rattle.replay.specs.Limits.{max_script_bytes};
 
+use crate::row_changes::{PointRows, RowChange};
 use crate::table::Table;
 use crate::traced_calls::PointCalls;
 use crate::words::{cut, text};
@@ -50,6 +51,8 @@ pub struct Trace<'a> {
     held: Vec<HeldLine>,
     /// Each at its place in the site file.
     points: Vec<PointCalls>,
+    rows: Vec<PointRows>,
+    changes: Vec<RowChange>,
 }
 
 /// Who a line is from or for.
@@ -71,8 +74,10 @@ pub fn trace_script<'a>(
     requires { length script.now ≤ max_script_bytes }
 {
     let mut points = Vec::with_capacity(alloc, site.len())?;
+    let mut rows = Vec::with_capacity(alloc, site.len())?;
     for _place in 0..site.len() {
         points.push(PointCalls::new(alloc)?)?;
+        rows.push(PointRows::new(alloc))?;
     }
     let mut trace = Trace {
         alloc,
@@ -81,6 +86,8 @@ pub fn trace_script<'a>(
         lines: Vec::new(alloc),
         held: Vec::new(alloc),
         points,
+        rows,
+        changes: Vec::new(alloc),
     };
     // Each line has a byte at least.
     for _line in 0..script.len() {
@@ -116,12 +123,18 @@ impl<'a> Trace<'a> {
         self.points.as_slice()
     }
 
+    /// What lines changed in the profiles of their points, in the order of the lines.
+    pub fn changes(&self) -> &[RowChange] {
+        self.changes.as_slice()
+    }
+
     /// Takes in a line that was played.
     fn take_in(&mut self, played: PlayedLine<'a>) -> Result<(), AllocError> {
         let words = self.words_of(played.line)?;
         let number = played.number;
         if let Some(point) = &words.point {
             self.follow_calls(point.as_str(), number, words.reply.as_ref())?;
+            self.follow_rows(point.as_str(), number, played.line)?;
             self.follow_held(point.as_str(), number, played.printed.text.as_str())?;
         }
         if !played.printed.text.is_empty() {
@@ -152,6 +165,31 @@ impl<'a> Trace<'a> {
         };
         let reply = reply.map(|reply| reply.as_str());
         calls.follow(self.alloc, &mut self.memory, outbox, number, reply)
+    }
+
+    /// Takes in what a line did to the profiles of its point.
+    fn follow_rows(&mut self, point: &str, number: u64, line: &[u8]) -> Result<(), AllocError> {
+        let machine = self.playing.machine();
+        let Some(place) = machine.site().place_of(point) else {
+            return Ok(());
+        };
+        let (Some(rows), Some(book)) = (self.rows.get_mut(place), machine.book_of(point)) else {
+            return Ok(());
+        };
+        let Some(changed) = rows.follow(self.alloc, book.view().rows)? else {
+            return Ok(());
+        };
+        let frame = match read_line(line, machine.site()) {
+            Ok(ScriptLine::Text(sent)) => text(self.alloc, sent.frame())?,
+            _ => String::new(self.alloc),
+        };
+        self.changes.push(RowChange {
+            number,
+            frame,
+            came: changed.came,
+            gone: changed.gone,
+        })?;
+        Ok(())
     }
 
     /// Takes in that a line held a request.

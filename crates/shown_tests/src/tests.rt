@@ -4,7 +4,6 @@ mod left_undone;
 mod ordinary_day;
 mod two_points;
 
-use replay::play_quietly;
 use shown::{ending_text, standing_json, standing_text, trace_script, trace_text};
 use site_rules::read_site;
 use std::alloc::{AllocError, Global};
@@ -24,8 +23,8 @@ fn table_of(
     if bytes.len() > 16_777_216 {
         return Err(AllocError);
     }
-    let playing = play_quietly(alloc, bytes, site, last_line)?;
-    standing_text(alloc, &playing)
+    let trace = trace_script(alloc, bytes, site, last_line)?;
+    standing_text(alloc, &trace)
 }
 
 #[test]
@@ -48,8 +47,8 @@ fn json_of(alloc: Global, site: &str, script: &str) -> Result<String, AllocError
     if bytes.len() > 16_777_216 {
         return Err(AllocError);
     }
-    let playing = play_quietly(alloc, bytes, site, None)?;
-    standing_json(alloc, &playing)
+    let trace = trace_script(alloc, bytes, site, None)?;
+    standing_json(alloc, &trace)
 }
 
 /// What the lines of a script printed, and what was left undone.

@@ -3,9 +3,10 @@
 use crate::program::command_line::Calling;
 use crate::program::payload_file::read_payload_file;
 use crate::program::program_fault::ProgramFault;
-use checks::{answer_sentence, check_sent};
+use checks::{SentCheck, answer_sentence, check_sent, json_fault};
 use client::{
-    ClientFault, Lines, OperatorClient, Outcome, ask_call, clear_call, connect, set_profile_call,
+    ClientFault, Lines, OperatorClient, Outcome, ask_call, clear_call, connect_operator,
+    set_profile_call,
 };
 use std::alloc::AllocGlobal;
 use std::fmt::Display;
@@ -44,7 +45,7 @@ pub fn call_site<
         Some(path) => Some(read_payload_file(rt, path)?),
         None => None,
     };
-    let socket = connect(rt, rt.alloc(), calling.url)?;
+    let socket = connect_operator(rt, rt.alloc(), calling.url)?;
     let mut caller = Caller {
         rt,
         client: OperatorClient::new(rt.alloc(), socket),
@@ -68,11 +69,11 @@ impl<R: Input + Print + Eprint + AllocGlobal + RandomSource + Wait + Drop> Calle
         let alloc = self.rt.alloc();
         if let Some(payload) = payload {
             let text = set_profile_call(alloc, payload.as_str())?;
-            self.send("set-profile", text.as_str())?;
+            self.send_with(payload.as_str(), "set-profile", text.as_str())?;
         }
         if let Some(payload) = calling.clear {
             let text = clear_call(alloc, payload)?;
-            self.send("clear", text.as_str())?;
+            self.send_with(payload, "clear", text.as_str())?;
         }
         if let Some(asking) = calling.ask {
             let text = ask_call(alloc, asking.connector, asking.seconds)?;
@@ -96,14 +97,19 @@ impl<R: Input + Print + Eprint + AllocGlobal + RandomSource + Wait + Drop> Calle
         unreachable!()
     }
 
+    /// Sends the CALL of an option with its payload, once that is JSON.
+    fn send_with(&mut self, payload: &str, name: &str, text: &str) -> Result<(), ProgramFault> {
+        if let Some(fault) = json_fault(self.rt.alloc(), payload)? {
+            self.say(format!(in self.rt.alloc(); "{name}: {fault}")?);
+            return self.report(name, "NotACall");
+        }
+        self.send(name, text)
+    }
+
     /// Sends a text, which is reported by this name where it is no CALL, or would clear everything by mistake.
     fn send<N: Display + Copy + Drop>(&mut self, name: N, text: &str) -> Result<(), ProgramFault> {
         let checked = check_sent(self.rt.alloc(), text)?;
-        for warning in &checked.warnings {
-            let severity = warning.severity;
-            let message = &warning.message;
-            self.say(format!(in self.rt.alloc(); "{name}: {severity}: {message}")?);
-        }
+        self.say_of(name, &checked)?;
         if checked.clears_by_mistake {
             return self.report(name, "NoCriterion");
         }
@@ -113,6 +119,23 @@ impl<R: Input + Print + Eprint + AllocGlobal + RandomSource + Wait + Drop> Calle
             Outcome::Refused(answer) => self.refused(name, answer.as_str()),
             Outcome::NotACall => self.report(name, "NotACall"),
         }
+    }
+
+    /// Says what is wrong with a text before it is sent.
+    fn say_of<N: Display + Copy + Drop>(
+        &self,
+        name: N,
+        checked: &SentCheck,
+    ) -> Result<(), ProgramFault> {
+        if let Some(why) = &checked.no_call {
+            self.say(format!(in self.rt.alloc(); "{name}: {why}")?);
+        }
+        for warning in &checked.warnings {
+            let severity = warning.severity;
+            let message = &warning.message;
+            self.say(format!(in self.rt.alloc(); "{name}: {severity}: {message}")?);
+        }
+        Ok(())
     }
 
     /// Notes that a text was refused, and says what its answer means.

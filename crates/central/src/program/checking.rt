@@ -9,7 +9,8 @@ use crate::program::program_fault::ProgramFault;
 use crate::program::script_input::read_script;
 use crate::program::site_file::read_site_bytes;
 use checks::{
-    Finding, check_printed, check_script, check_site, check_standing, exit_status, sort_by_line,
+    Change, Finding, check_change, check_printed, check_script, check_site, check_standing,
+    exit_status, sort_by_line,
 };
 use shown::{Trace, ending_text, trace_script, trace_text};
 use site_rules::{Site, SiteFault, read_site};
@@ -68,6 +69,7 @@ fn push_played(
     let mut findings = check_script(alloc, &site, script)?;
     let trace = trace_script(alloc, script, site, None)?;
     find_in_answers(alloc, &trace, &mut findings)?;
+    find_in_changes(alloc, &trace, &mut findings)?;
     find_at_the_end(alloc, &trace, &mut findings)?;
     sort_by_line(&mut findings)?;
     push_findings(page, "script", findings.as_slice())?;
@@ -86,6 +88,25 @@ fn find_in_answers(
 ) -> Result<(), AllocError> {
     for line in trace.lines() {
         let mut more = check_printed(alloc, line.number, line.printed.as_str())?;
+        findings.append(&mut more)?;
+    }
+    Ok(())
+}
+
+/// Adds what is found in what lines changed in the profiles of their points.
+fn find_in_changes(
+    alloc: Global,
+    trace: &Trace<'_>,
+    findings: &mut Vec<Finding>,
+) -> Result<(), AllocError> {
+    for changed in trace.changes() {
+        let change = Change {
+            number: changed.number,
+            frame: changed.frame.as_str(),
+            came: changed.came,
+            gone: changed.gone.as_slice(),
+        };
+        let mut more = check_change(alloc, &change)?;
         findings.append(&mut more)?;
     }
     Ok(())

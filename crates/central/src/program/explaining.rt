@@ -3,7 +3,7 @@
 ghost use Rattle.std.specs.Prelude.{◌≤◌, length};
 
 use crate::program::command_line::Explaining;
-use crate::program::pages::{Screen, print_page, write_file};
+use crate::program::pages::{Screen, note_refused_lines, print_page, write_file};
 use crate::program::program_fault::ProgramFault;
 use crate::program::script_input::read_script;
 use crate::program::site_file::read_site_file;
@@ -18,7 +18,7 @@ use std::rt::Files;
 use sweep_compiler::{Turns, explain};
 
 /// Says why the limits of a connector are what they are after a script.
-pub fn explain_file<R: Files + Input + Print + AllocGlobal>(
+pub fn explain_file<R: Files + Input + Print + Eprint + AllocGlobal>(
     rt: &R,
     screen: Screen,
     explaining: Explaining<'_>,
@@ -34,6 +34,7 @@ pub fn explain_file<R: Files + Input + Print + AllocGlobal>(
     if ask.connector > book.connectors() {
         return Err(ProgramFault::NoSuchConnector);
     }
+    note_refused_lines(rt, &played);
     print_explained(rt, screen, &explaining, unit, book, &ask)
 }
 

@@ -1,6 +1,7 @@
 //! Pages that the program prints or writes to files.
 
 use crate::program::program_fault::ProgramFault;
+use replay::Playing;
 use std::io::Write;
 use std::rt::Files;
 use std::{fs, io};
@@ -23,6 +24,17 @@ impl Screen {
         } else {
             None
         }
+    }
+}
+
+/// Says on standard error how many lines of a script have a fault or were refused, if any: what is printed of the
+/// script is without them. Where that can't be written nothing else is lost.
+pub fn note_refused_lines<R: Eprint>(rt: &R, playing: &Playing<'_>) {
+    let count = playing.refused_lines();
+    if count > 0 {
+        let _ = eprintln!(rt;
+            "central: {count} of the script's lines have a fault or were refused: central check says which"
+        );
     }
 }
 

@@ -67,7 +67,7 @@ impl ProgramFault {
             ProgramFault::Replay(_) => 3,
             ProgramFault::SiteFile | ProgramFault::Write | ProgramFault::OutOfMemory => 3,
             ProgramFault::Serve(_) | ProgramFault::File => 3,
-            ProgramFault::Client(ClientFault::Url) => 4,
+            ProgramFault::Client(ClientFault::Url | ClientFault::NotOperator) => 4,
             ProgramFault::Client(_) => 3,
             ProgramFault::Words | ProgramFault::NoSuchPoint | ProgramFault::NoSuchConnector => 4,
             ProgramFault::NoInstant | ProgramFault::PastCalendar | ProgramFault::NoPicture => 4,

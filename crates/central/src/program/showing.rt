@@ -1,28 +1,28 @@
 //! The job of `central show`.
 
 use crate::program::command_line::Showing;
-use crate::program::pages::print_page;
+use crate::program::pages::{note_refused_lines, print_page};
 use crate::program::program_fault::ProgramFault;
 use crate::program::script_input::read_script;
 use crate::program::site_file::read_site_file;
-use replay::play_quietly;
-use shown::{standing_json, standing_text};
+use shown::{standing_json, standing_text, trace_script};
 use std::alloc::AllocGlobal;
 use std::rt::Files;
 
 /// Shows what each point of a site has after a script.
-pub fn show_file<R: Files + Input + Print + AllocGlobal>(
+pub fn show_file<R: Files + Input + Print + Eprint + AllocGlobal>(
     rt: &R,
     showing: Showing<'_>,
 ) -> Result<(), ProgramFault> {
     let alloc = rt.alloc();
     let site = read_site_file(rt, showing.site)?;
     let script = read_script(rt)?;
-    let played = play_quietly(alloc, script.as_slice(), site, showing.last_line)?;
+    let trace = trace_script(alloc, script.as_slice(), site, showing.last_line)?;
     let page = if showing.json {
-        standing_json(alloc, &played)?
+        standing_json(alloc, &trace)?
     } else {
-        standing_text(alloc, &played)?
+        standing_text(alloc, &trace)?
     };
+    note_refused_lines(rt, trace.playing());
     print_page(rt, page.as_str())
 }

@@ -33,6 +33,8 @@ pub struct Playing<'a> {
     /// The number of the next line.
     number: u64,
     script_faults: u64,
+    /// The lines that have a fault, or a text that was refused.
+    refused_lines: u64,
 }
 
 impl<'a> Model for Playing<'a> {
@@ -67,6 +69,7 @@ impl<'a> Playing<'a> {
             rest: script,
             number: 1,
             script_faults: 0,
+            refused_lines: 0,
         })
     }
 
@@ -81,6 +84,8 @@ impl<'a> Playing<'a> {
         let (line, others) = split_line(self.rest);
         let printed = play_line(&mut self.player, number, line)?;
         self.script_faults += u64::from(printed.is_fault);
+        let is_refused = printed.text.as_str().lines().any(is_refusal);
+        self.refused_lines = self.refused_lines.saturating_add(u64::from(is_refused));
         self.number = number + 1;
         self.rest = others;
         Ok(Some(PlayedLine {
@@ -121,12 +126,24 @@ impl<'a> Playing<'a> {
         self.script_faults
     }
 
+    /// How many of the lines so far have a fault or a text that was refused, by what they printed.
+    pub fn refused_lines(&self) -> u64 {
+        self.refused_lines
+    }
+
     /// The number of the next line, from 1, whether or not there is one.
     pub fn next_line(&self) -> u64
         ensures { result ≡ self.now.number }
     {
         self.number
     }
+}
+
+/// Whether a line of the output names a fault of its line, or is an answer that refuses a text.
+fn is_refusal(printed: &str) -> bool {
+    printed.starts_with("! ")
+        || printed.starts_with("> [4,")
+        || (printed.starts_with("> [3,") && printed.contains(r#"{"status":"Rejected""#))
 }
 
 /// Plays a script on a site up to the line of a number, or the whole of it, and prints nothing. What

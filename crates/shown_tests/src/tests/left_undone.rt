@@ -25,8 +25,15 @@ const NIGHT: &str = "CP1
     1       SetChargingProfile  TxDefaultProfile 1 at connector 1  in flight
 ";
 
-const END: &str =
-    "CP1: no profile, no transaction; calls: 2 confirmed, 0 in flight, 1 waiting (call 2, ClearChargingProfile, waiting)
+const END: &str = "CP1
+  no profile
+  no transaction
+  calls: 2 confirmed, 0 in flight, 1 waiting
+    number  action                profiles  state
+    2       ClearChargingProfile  id 1      waiting
+  calls that the point rejected
+    number  call                                                   answered  at line
+    1       SetChargingProfile, TxDefaultProfile 1 at connector 1  Rejected  4
 held requests
   number  id  point  connector  start                 seconds
   1       h   CP1    1          2025-01-01T00:00:04Z  60
@@ -49,7 +56,7 @@ CP1: 1 call never went out, waiting since line 6: a call goes out after a text o
 ";
 
 const JSON: &str =
-    r#"{"lines":7,"faults":1,"points":[{"id":"CP1","profiles":[],"transactions":[],"linked":true,"confirmed":2,"calls":[{"number":2,"state":"waiting","action":"ClearChargingProfile","id":1}]}],"held":[{"number":1,"messageId":"h","point":"CP1","connectorId":1,"start":"2025-01-01T00:00:04Z","duration":60}]}"#;
+    r#"{"lines":7,"faults":1,"points":[{"id":"CP1","profiles":[],"transactions":[],"linked":true,"confirmed":2,"calls":[{"number":2,"state":"waiting","action":"ClearChargingProfile","id":1}],"rejected":[{"number":1,"status":"Rejected","line":4}]}],"held":[{"number":1,"messageId":"h","point":"CP1","connectorId":1,"start":"2025-01-01T00:00:04Z","duration":60}]}"#;
 
 #[test]
 fn stands(rt: HostRuntime) -> Result<(), Fail> {
