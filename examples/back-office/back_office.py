@@ -14,12 +14,21 @@ LIMIT = {"connectorId": 0, "csChargingProfiles": {
     "chargingProfileId": 7, "stackLevel": 0, "chargingProfilePurpose": "TxDefaultProfile", "chargingProfileKind": "Absolute",
     "chargingSchedule": {"startSchedule": "2025-01-01T00:00:00Z", "chargingRateUnit": "A",
                          "chargingSchedulePeriod": [{"startPeriod": 0, "limit": 12.5}]}}}
+PATIENCE = 10  # seconds
+
+
+async def received(socket, else_said):
+    """The next message of the central system. Where none comes in time, the program says so and ends."""
+    try:
+        return json.loads(await asyncio.wait_for(socket.recv(), PATIENCE))
+    except asyncio.TimeoutError:
+        sys.exit(f"{else_said} (waited {PATIENCE} seconds)")
 
 
 async def call(socket, action, payload):
     """Sends a CALL and gives back the payload of its CALLRESULT: an operator's connection brings nothing else."""
     await socket.send(json.dumps([2, action, action, payload]))
-    kind, _, *rest = json.loads(await socket.recv())
+    kind, _, *rest = await received(socket, f"{action}: no answer came")
     return rest[0] if kind == 3 else sys.exit(f"{action}: {rest}")
 
 
@@ -27,7 +36,7 @@ async def point(socket, calls):
     """A point that boots, and then replies to so many calls of the central system, with their ids to the letter."""
     await socket.send(json.dumps([2, "boot", "BootNotification", {"chargePointVendor": "V", "chargePointModel": "M"}]))
     while calls > 0:
-        message = json.loads(await socket.recv())
+        message = await received(socket, "point: no call came: start the central system anew for each run")
         if message[0] == 2:
             print("point:", message[2])
             calls -= 1

@@ -97,6 +97,7 @@ ODD_HANDSHAKES = (
     ("a value in other letters", WHOLE.replace(b"Connection: Upgrade", b"CONNECTION: upgrade")),
     ("no blanks behind names", WHOLE.replace(b": ", b":")),
     ("headers that nobody asked for", WHOLE.replace(b"\r\n\r\n", b"\r\nOrigin: null\r\nX-Many: " + b"x" * 8_000 + b"\r\n\r\n")),
+    ("124 headers", request_bytes("/CP1", [*OFFER, *["X: y"] * 118])),
     ("an extension", WHOLE.replace(b"\r\n\r\n", b"\r\nSec-WebSocket-Extensions: permessage-deflate\r\n\r\n")),
 )
 
@@ -108,6 +109,7 @@ NO_HANDSHAKES = (
     ("bytes that are no text", bytes(range(256)) * 4),
     ("the greeting of TLS", bytes.fromhex("16030100c8010000c40303") + bytes(200)),
     ("a head without an end", b"GET /CP1 HTTP/1.1\r\nHost: 127.0.0.1\r\nX: " + b"x" * 70_000),
+    ("125 headers", request_bytes("/CP1", [*OFFER, *["X: y"] * 119])),
     ("no key", request_bytes("/CP1", OFFER, key=None)),
     ("a short key", request_bytes("/CP1", OFFER, key="c2hvcnQ=")),
     ("no version", request_bytes("/CP1", OFFER, version=None)),
