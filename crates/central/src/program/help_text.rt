@@ -83,9 +83,9 @@ then. A line that is no CALL isn't sent: '! LINE NotACall'.
 Examples:
   central call --url ws://127.0.0.1:9000/operator/CP1 --ask 1 86400
   central call --url ws://127.0.0.1:9000/operator/CP1 --set-profile night.json --ask 0 3600
-  central call --url ws://127.0.0.1:9000/operator/CP1 --clear '{\"id\":1}'
+  central call --url ws://127.0.0.1:9000/operator/CP1 --clear '{\"id\":5}'
 where night.json is, say,
-  {\"connectorId\":0,\"csChargingProfiles\":{\"chargingProfileId\":1,\"stackLevel\":0,
+  {\"connectorId\":0,\"csChargingProfiles\":{\"chargingProfileId\":5,\"stackLevel\":0,
    \"chargingProfilePurpose\":\"TxDefaultProfile\",\"chargingProfileKind\":\"Recurring\",\"recurrencyKind\":\"Daily\",
    \"chargingSchedule\":{\"startSchedule\":\"2025-01-01T22:00:00Z\",\"duration\":28800,\"chargingRateUnit\":\"A\",
     \"chargingSchedulePeriod\":[{\"startPeriod\":0,\"limit\":10}]}}}
