@@ -25,7 +25,7 @@ use Rattle.sweep_compiler.proofs.Prevailing.{first_of_candidates}
 abbrev IsLaterThan : ℕ → Running → Type 0
 IsLaterThan k run = (instant : ℕ) → due run ≡ Some instant → k < instant
 
-abbrev HasStayed : ℕ → Running → Type 0
+abbrev pub HasStayed : ℕ → Running → Type 0
 HasStayed k run = rate run.row.profile run.base k ≡ rate_running run
 
 has_stayed : (run : Running) (k : ℕ) → run.since ≤ k → k ≤ run.last → IsLaterThan k run → HasStayed k run
@@ -94,7 +94,7 @@ connector_now state asked k connector bound is stayed =
     ∙ ap (or_else (prevailing TxProfile state connector asked k)) default))))
     ∙ ap (λ (ceiling : ℕ). at_most ceiling (or_else (prevailing TxProfile state connector asked k) (prevailing TxDefaultProfile state connector asked k))) is.ceiling
 
-sum_now : (state : PointState) (asked k : ℕ) (looked : List ℕ) (others : List RunningBound) → AllZip (λ connector bound. IsConnectorBound state asked connector bound) looked others
+pub sum_now : (state : PointState) (asked k : ℕ) (looked : List ℕ) (others : List RunningBound) → AllZip (λ connector bound. IsConnectorBound state asked connector bound) looked others
     → EachRow (HasStayed k) others → sum_by bound_now others ≡ sum_by (λ connector. own_limit state connector asked k) looked
 sum_now state asked k [] [] are stayed = refl
 sum_now state asked k [] (bound ∷ others) are stayed = absurd are
@@ -115,11 +115,17 @@ now_by state connector asked k (point ∷ others) sum are stayed sum_is =
     ∙ (ap (min (at_most state.ceiling (prevailing ChargePointMaxProfile state 0 asked k))) (sum_is ∙ sum_now state asked k (looked_at state connector) others are.1 stayed.1)
     ∙ limit_seen_by (connector == 0) state connector asked k)
 
+-- each row has kept its limit up to an instant before which none is due
+pub rows_now : (state : PointState) (connector asked last at k : ℕ) (bounds : List RunningBound) (items : List Due) (sum : ℕ) → IsSwept state connector asked last at bounds items sum
+    → at ≤ k → k ≤ last → ((item : Due) → Contains items item → k < item.instant) → EachRow (HasStayed k) bounds
+rows_now state connector asked last at k bounds items sum swept from upto before =
+    let later = each_later bounds k (λ n row instant is. before (record { instant = instant; bound = n; row = row }) (swept.waits n row instant is)) in
+    each_stayed state connector asked last at k from upto bounds swept.passed later
+
 pub limit_stays : (state : PointState) (connector asked last at k : ℕ) (bounds : List RunningBound) (items : List Due) (sum : ℕ) → IsSwept state connector asked last at bounds items sum
     → at ≤ k → k ≤ last → ((item : Due) → Contains items item → k < item.instant) → limit_now bounds sum ≡ limit state connector asked k
 limit_stays state connector asked last at k bounds items sum swept from upto before =
-    let later = each_later bounds k (λ n row instant is. before (record { instant = instant; bound = n; row = row }) (swept.waits n row instant is)) in
-    now_by state connector asked k bounds sum swept.gathered (each_stayed state connector asked last at k from upto bounds swept.passed later) swept.sum_is
+    now_by state connector asked k bounds sum swept.gathered (rows_now state connector asked last at k bounds items sum swept from upto before) swept.sum_is
 
 pub first_now : (state : PointState) (connector asked : ℕ) (bounds : List RunningBound) (d : RunningBound) (sum : ℕ) → AreBounds state connector asked bounds
     → min (bound_now (get_or bounds 0 d)) sum ≡ limit_now bounds sum

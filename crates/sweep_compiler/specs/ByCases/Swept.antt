@@ -8,9 +8,11 @@ use Rattle.stacking.specs.Candidates.{AreByFallingLevel}
 use Rattle.meaning.specs.declared.view.View.{View}
 use Rattle.meaning.specs.View.{PointState, point_state, ceiling_of}
 use Rattle.meaning.specs.Prevailing.{counted}
+use Rattle.meaning.specs.declared.cause.Cause.TheVariants.{Sum}
+use Rattle.meaning.specs.Cause.{Bound, bound_of}
 use Rattle.sweep_compiler.specs.Places.{looked_at, is_place_asked}
 use Rattle.sweep_compiler.specs.ByCases.Seen.{seen_from, is_place_seen}
-use Rattle.sweep_compiler.specs.ByCases.Running.{Running, RunningBound, seen_running, running_from, due_at, bound_now, bound_passed}
+use Rattle.sweep_compiler.specs.ByCases.Running.{Running, RunningBound, seen_running, running_from, due_at, bound_now, own_bound_now, below_now, bound_passed}
 use Rattle.sweep_compiler.specs.ByCases.Queue.{Due}
 use Rattle.sweep_compiler.specs.declared.limit_curve.LimitCurve.{LimitCurve}
 
@@ -104,6 +106,14 @@ pub record IsReadyCurve (curve : LimitCurve) : Type 0 where
 abbrev pub limit_now : List RunningBound → ℕ → ℕ
 limit_now [] sum = sum
 limit_now (point ∷ others) sum = min (bound_now point) sum
+
+-- what sets the limit, as the bounds have it now: of the whole point, or of a connector
+abbrev pub bound_as_now : Bool → List RunningBound → ℕ → Bound
+bound_as_now true [] sum = bound_of Sum sum
+bound_as_now false [] sum = bound_of Sum sum
+bound_as_now true (point ∷ others) sum = below_now point (bound_of Sum sum)
+bound_as_now false (point ∷ []) sum = bound_of Sum sum
+bound_as_now false (point ∷ (own ∷ others)) sum = below_now point (own_bound_now own)
 
 -- how many wait for an instant
 abbrev pub waiting_at : ℕ → List Due → ℕ
