@@ -43,6 +43,7 @@ connectors_bound state asked last (connector ∷ looked) (bound ∷ bounds) are 
   record {
     own = are.0.own_are.rows;
     default = are.0.default_are.rows;
+    number = are.0.number;
     ceiling = are.0.ceiling;
     own_is = are.0.own_are.rows_are;
     default_is = are.0.default_are.rows_are;

@@ -1,6 +1,7 @@
 -- What the bounds of an ask have in force sets its limit, from where a sweep stands on and up to the next place.
-use Rattle.std.proofs.Common.{◌≡◌, ℕ, ◌≤◌, ◌<◌, ◌==◌, Bool, true, false, List, [], ◌∷◌, ◌++◌, map, cond, nat_lt, get_or, Option, Some, None, option_map, refl, ap, sym, subst, ◌∙◌}
+use Rattle.std.proofs.Common.{◌≡◌, ℕ, ◌≤◌, ◌<◌, ◌==◌, Bool, true, false, List, [], ◌∷◌, ◌++◌, map, cond, nat_lt, get_or, Option, Some, None, option_map, refl, ap, sym, subst, ◌∙◌, arith}
 use Rattle.std.specs.List.{AllByRecursion, AllZip, Contains}
+use Rattle.std.proofs.lemmas.Bool.Decides.{nat_tests}
 use Rattle.profile.specs.declared.purpose.Purpose.TheVariants.{ChargePointMaxProfile, TxDefaultProfile, TxProfile}
 use Rattle.profile.specs.declared.row.Row.{Row}
 use Rattle.profile.specs.ChargingProfile.{rate}
@@ -10,11 +11,11 @@ use Rattle.meaning.specs.declared.cause.Share.{Share}
 use Rattle.meaning.specs.declared.cause.Reason.{Reason}
 use Rattle.meaning.specs.View.{PointState, ceiling_of}
 use Rattle.meaning.specs.Limit.{active_connectors}
-use Rattle.meaning.specs.Cause.{RowLimit, Bound, with_limit, prevailing_row, row_or_else, transaction_row, bound_of, lesser, lesser_of, own_bound, below_point, bound_by, share, shares_by, reason}
+use Rattle.meaning.specs.Cause.{RowLimit, Bound, with_limit, prevailing_row, row_or_else, transaction_row, bound_of, lesser, lesser_of, own_bound, below_point, bound, bound_by, share, shares_by, reason}
 use Rattle.sweep_compiler.specs.ByCases.Seen.{SeenRow, limit_seen, seen_from}
-use Rattle.sweep_compiler.specs.ByCases.Running.{Running, RunningBound, seen_running, rate_running, first_row, own_bound_now, below_now, bound_now}
+use Rattle.sweep_compiler.specs.ByCases.Running.{Running, RunningBound, seen_running, rate_running, first_row, own_bound_now, below_now, bound_now, share_by, share_now}
 use Rattle.sweep_compiler.specs.ByCases.Queue.{Due}
-use Rattle.sweep_compiler.specs.ByCases.Swept.{IsConnectorBound, IsPointBound, AreBounds, EachRow, IsSwept, shared_now, bound_as_now}
+use Rattle.sweep_compiler.specs.ByCases.Swept.{IsConnectorBound, IsPointBound, AreBounds, EachRow, IsSwept, shared_now, shares_now, bound_as_now}
 use Rattle.sweep_compiler.proofs.LimitNow.{HasStayed, rows_now, sum_now}
 use Rattle.sweep_compiler.proofs.Prevailing.{rate_for, first_of, row_of_candidates}
 
@@ -103,35 +104,21 @@ bound_stays state connector asked last at k bounds items sum swept from upto bef
 
 -- ---- the shares
 
-abbrev share_by : ℕ → Bound → Share
-share_by connector bound = record { connector = connector; limit = bound.limit; cause = bound.cause }
-
--- what the connectors that are looked at have in the sum now
-abbrev shares_now : List ℕ → List RunningBound → List Share
-shares_now [] bounds = []
-shares_now (connector ∷ looked) [] = []
-shares_now (connector ∷ looked) (bound ∷ others) = share_by connector (own_bound_now bound) ∷ shares_now looked others
-
 shares_are : (state : PointState) (asked k : ℕ) (looked : List ℕ) (others : List RunningBound) → AreLookedAt state asked looked others → EachRow (HasStayed k) others
-    → shares_now looked others ≡ map (share state asked k) looked
+    → map share_now others ≡ map (share state asked k) looked
 shares_are state asked k [] [] are stayed = refl
 shares_are state asked k [] (bound ∷ others) are stayed = absurd are
 shares_are state asked k (connector ∷ looked) [] are stayed = absurd are
 shares_are state asked k (connector ∷ looked) (bound ∷ others) are stayed =
-    ap (λ (own : Bound). share_by connector own ∷ shares_now looked others) (own_now state asked k connector bound are.0 stayed.0)
-    ∙ ap (λ (shares : List Share). share state asked k connector ∷ shares) (shares_are state asked k looked others are.1 stayed.1)
+    ap (λ (n : ℕ). share_by n (own_bound_now bound) ∷ map share_now others) are.0.number
+    ∙ (ap (λ (own : Bound). share_by connector own ∷ map share_now others) (own_now state asked k connector bound are.0 stayed.0)
+    ∙ ap (λ (shares : List Share). share state asked k connector ∷ shares) (shares_are state asked k looked others are.1 stayed.1))
 
 -- ---- the whole
 
 abbrev NoSum : Cause → Type 0
 NoSum Sum = ⊥
 NoSum other = Unit {0}
-
-no_shares : (cause : Cause) (state : PointState) (asked k : ℕ) → NoSum cause → shares_by cause state asked k ≡ []
-no_shares (Profile profile) state asked k h = refl
-no_shares ConnectorCeiling state asked k h = refl
-no_shares PointCeiling state asked k h = refl
-no_shares Sum state asked k h = absurd h
 
 lesser_no_sum : (first second : Bound) → NoSum first.cause → NoSum second.cause → NoSum (lesser first second).cause
 lesser_no_sum first second h k = go (nat_lt second.limit first.limit)
@@ -151,7 +138,7 @@ connector_no_sum state connector asked k =
     (row_no_sum (transaction_row state connector asked k) (bound_of ConnectorCeiling (ceiling_of state connector)) tt) tt)
 
 -- the shares where the cause is the sum
-abbrev shares_of : Cause → List Share → List Share
+abbrev pub shares_of : Cause → List Share → List Share
 shares_of Sum shares = shares
 shares_of other shares = []
 
@@ -161,42 +148,57 @@ shares_by_now ConnectorCeiling state asked k shares h = refl
 shares_by_now PointCeiling state asked k shares h = refl
 shares_by_now Sum state asked k shares h = h
 
-abbrev reason_of : Bound → List Share → Reason
+no_sum_no_shares : (cause : Cause) (shares : List Share) (state : PointState) (asked k : ℕ) → NoSum cause → shares_of cause shares ≡ shares_by cause state asked k
+no_sum_no_shares (Profile profile) shares state asked k h = refl
+no_sum_no_shares ConnectorCeiling shares state asked k h = refl
+no_sum_no_shares PointCeiling shares state asked k h = refl
+no_sum_no_shares Sum shares state asked k h = absurd h
+
+abbrev pub reason_of : Bound → List Share → Reason
 reason_of bound shares = record { limit = bound.limit; cause = bound.cause; shares = shares }
 
 -- what sets the limit, with the shares, as the bounds have it now
-abbrev reason_by_now : Bool → PointState → List RunningBound → ℕ → Reason
-reason_by_now whole state [] sum = reason_of (bound_of Sum sum) []
-reason_by_now true state (point ∷ others) sum =
-    reason_of (bound_as_now true (point ∷ others) sum) (shares_of (bound_as_now true (point ∷ others) sum).cause (shares_now (active_connectors state) others))
-reason_by_now false state (point ∷ others) sum = reason_of (bound_as_now false (point ∷ others) sum) []
+abbrev pub reason_now : ℕ → List RunningBound → ℕ → Reason
+reason_now connector bounds sum =
+    reason_of (bound_as_now (connector == 0) bounds sum) (shares_of (bound_as_now (connector == 0) bounds sum).cause (shares_now bounds))
 
-abbrev pub reason_now : PointState → ℕ → List RunningBound → ℕ → Reason
-reason_now state connector bounds sum = reason_by_now (connector == 0) state bounds sum
-
-reason_is : (whole : Bool) (state : PointState) (connector asked k : ℕ) (point : RunningBound) (others : List RunningBound) (sum : ℕ)
+shares_by_bound : (whole : Bool) (state : PointState) (connector asked k : ℕ) (others : List RunningBound)
     → AreLookedAt state asked (cond whole (active_connectors state) (connector ∷ [])) others → EachRow (HasStayed k) others
-    → bound_as_now whole (point ∷ others) sum ≡ bound_by whole state connector asked k
-    → reason_by_now whole state (point ∷ others) sum ≡ reason_of (bound_by whole state connector asked k) (shares_by (bound_by whole state connector asked k).cause state asked k)
-reason_is true state connector asked k point others sum are stayed same =
-    ap (λ (bound : Bound). reason_of bound (shares_of bound.cause (shares_now (active_connectors state) others))) same
-    ∙ ap (reason_of (bound_by true state connector asked k))
-    (shares_by_now (bound_by true state connector asked k).cause state asked k (shares_now (active_connectors state) others) (shares_are state asked k (active_connectors state) others are stayed))
-reason_is false state connector asked k point others sum are stayed same =
-    ap (λ (bound : Bound). reason_of bound []) same
-    ∙ ap (reason_of (bound_by false state connector asked k)) (sym (no_shares (bound_by false state connector asked k).cause state asked k (connector_no_sum state connector asked k)))
+    → shares_of (bound_by whole state connector asked k).cause (map share_now others) ≡ shares_by (bound_by whole state connector asked k).cause state asked k
+shares_by_bound true state connector asked k others are stayed =
+    shares_by_now (bound_by true state connector asked k).cause state asked k (map share_now others) (shares_are state asked k (active_connectors state) others are stayed)
+shares_by_bound false state connector asked k others are stayed =
+    no_sum_no_shares (bound_by false state connector asked k).cause (map share_now others) state asked k (connector_no_sum state connector asked k)
 
 reason_of_bounds : (state : PointState) (connector asked k : ℕ) (bounds : List RunningBound) (sum : ℕ) → AreBounds state connector asked bounds → EachRow (HasStayed k) bounds
-    → sum ≡ shared_now bounds → reason_now state connector bounds sum ≡ reason state connector asked k
+    → sum ≡ shared_now bounds → reason_now connector bounds sum ≡ reason state connector asked k
 reason_of_bounds state connector asked k [] sum are stayed sum_is = absurd are
 reason_of_bounds state connector asked k (point ∷ others) sum are stayed sum_is =
-    reason_is (connector == 0) state connector asked k point others sum are.1 stayed.1
-    (bound_by_now (connector == 0) state connector asked k point others sum are.0 are.1 stayed sum_is)
+    ap (λ (bound : Bound). reason_of bound (shares_of bound.cause (map share_now others))) (bound_by_now (connector == 0) state connector asked k point others sum are.0 are.1 stayed sum_is)
+    ∙ ap (reason_of (bound state connector asked k)) (shares_by_bound (connector == 0) state connector asked k others are.1 stayed.1)
 
 pub reason_stays : (state : PointState) (connector asked last at k : ℕ) (bounds : List RunningBound) (items : List Due) (sum : ℕ) → IsSwept state connector asked last at bounds items sum
-    → at ≤ k → k ≤ last → ((item : Due) → Contains items item → k < item.instant) → reason_now state connector bounds sum ≡ reason state connector asked k
+    → at ≤ k → k ≤ last → ((item : Due) → Contains items item → k < item.instant) → reason_now connector bounds sum ≡ reason state connector asked k
 reason_stays state connector asked last at k bounds items sum swept from upto before =
     reason_of_bounds state connector asked k bounds sum swept.gathered (rows_now state connector asked last at k bounds items sum swept from upto before) swept.sum_is
+
+-- the shares, where the whole point is asked
+shares_at_point : (state : PointState) (asked k : ℕ) (bounds : List RunningBound) → AreBounds state 0 asked bounds → EachRow (HasStayed k) bounds → shares_now bounds ≡ shares_by Sum state asked k
+shares_at_point state asked k [] are stayed = absurd are
+shares_at_point state asked k (point ∷ others) are stayed = shares_are state asked k (active_connectors state) others are.1 stayed.1
+
+pub shares_stay : (state : PointState) (connector asked last at k : ℕ) (bounds : List RunningBound) (items : List Due) (sum : ℕ) → IsSwept state connector asked last at bounds items sum
+    → at ≤ k → k ≤ last → ((item : Due) → Contains items item → k < item.instant) → connector ≡ 0 → shares_now bounds ≡ shares_by Sum state asked k
+shares_stay state connector asked last at k bounds items sum swept from upto before whole =
+    shares_at_point state asked k bounds (subst (λ (n : ℕ). AreBounds state n asked bounds) whole swept.gathered) (rows_now state connector asked last at k bounds items sum swept from upto before)
+
+-- where the sum sets the limit, the whole point is asked
+pub sum_is_whole : (state : PointState) (connector asked k : ℕ) → (bound state connector asked k).cause ≡ Sum → connector ≡ 0
+sum_is_whole state connector asked k sum = go (connector == 0) refl sum
+  where
+    go : (whole : Bool) → (connector == 0) ≡ whole → (bound_by whole state connector asked k).cause ≡ Sum → connector ≡ 0
+    go true is sum = grind (arith, nat_tests, is)
+    go false is sum = absurd (subst NoSum sum (connector_no_sum state connector asked k))
 
 -- ---- as it is read
 

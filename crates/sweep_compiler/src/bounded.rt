@@ -5,10 +5,10 @@ ghost use Rattle.meaning.specs.declared.cause.Cause.TheVariants.{Sum};
 ghost use Rattle.meaning.specs.Limit.{at_most};
 ghost use Rattle.meaning.specs.Cause.{bound_of};
 ghost use Rattle.ocpp_scalars.specs.declared.refusal.Refusal.TheVariants.{OutOfMemory};
-ghost use Rattle.sweep_compiler.specs.ByCases.Running.{AreFalling, AreInForce, below_now, bound_now, bound_passed, due_at, first_told, own_bound_now};
+ghost use Rattle.sweep_compiler.specs.ByCases.Running.{AreFalling, AreInForce, below_now, bound_now, bound_passed, due_at, first_told, own_bound_now, share_now};
 
 use crate::run::Run;
-use meaning::{Bound, Cause, ProfileLimit, lesser_of};
+use meaning::{Bound, Cause, ProfileLimit, Share, lesser_of};
 use ocpp_scalars::{Instant, Refusal};
 use stacking::InForce;
 use std::alloc::Global;
@@ -18,8 +18,10 @@ use std::marker::Model;
 /// prevails.
 #[derive(Drop)]
 pub(crate) struct Bounded<'a> {
-    ceiling: u32,
+    /// The connector, 0 being the whole point.
+    connector: u32,
     runs: Vec<Run<'a>>,
+    ceiling: u32,
     in_force: InForce,
 }
 
@@ -28,26 +30,29 @@ impl<'a> Model for Bounded<'a> {
 
     ghost Value = { RunningBound };
 
-    ghost view = { λ b. record { ceiling = b.ceiling; runs = b.runs.items } };
+    ghost view = { λ b. record { connector = b.connector; ceiling = b.ceiling; runs = b.runs.items } };
 
     ghost invariant = { λ b. AreInForce b.runs.items b.in_force };
 }
 
 impl<'a> Bounded<'a> {
-    /// A ceiling and rows, whose limits are put in force.
+    /// A connector with rows, whose limits are put in force, and a ceiling.
     pub(crate) fn new(
         alloc: Global,
-        ceiling: u32,
+        connector: u32,
         runs: Vec<Run<'a>>,
+        ceiling: u32,
     ) -> Result<Bounded<'a>, Refusal>
         requires falling { AreFalling runs.items }
-        ensures made { IfOk result (λ bounded. bounded ≡ record { ceiling = ceiling; runs = runs.entry.items }) }
+        ensures made { IfOk result (λ bounded. bounded ≡ record {
+            connector = connector; ceiling = ceiling; runs = runs.entry.items }) }
         ensures cause { IfErr result (λ refusal. refusal ≡ OutOfMemory) }
     {
         let in_force = rates_of(alloc, runs.as_slice())?;
         Ok(Bounded {
-            ceiling,
+            connector,
             runs,
+            ceiling,
             in_force,
         })
     }
@@ -82,6 +87,18 @@ impl<'a> Bounded<'a> {
             cause: Cause::ConnectorCeiling,
         };
         lesser_of(self.prevailing(), ceiling)
+    }
+
+    /// What the connector that this bounds has in the sum.
+    pub(crate) fn share(&self) -> Share
+        ensures { result ≡ share_now self.now }
+    {
+        let own = self.own_bound();
+        Share {
+            connector: self.connector,
+            limit: own.limit,
+            cause: own.cause,
+        }
     }
 
     /// The least of what bounds the whole point and a bound below it.

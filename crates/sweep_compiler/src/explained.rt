@@ -62,8 +62,6 @@ fn explain_along(
     requires whole { curve.old.last + 1 - curve.old.asked ≡ duration }
     requires start { curve.old.at ≡ curve.old.asked }
     requires ready { IsReadyCurve curve.old }
-    requires has_connector { curve.old.connector ≤ length curve.old.view.ceilings.now }
-    requires numbered { length curve.old.view.ceilings.now < 2 ^ 32 }
     requires fresh { turns.old < 2 ^ 63 }
     ensures explained { IfOk result (λ explained. IsExplanation (point_state curve.old.view)
         curve.old.connector curve.old.asked duration explained) }

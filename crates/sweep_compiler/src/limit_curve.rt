@@ -5,18 +5,19 @@ ghost use Rattle.ocpp_scalars.specs.declared.refusal.Refusal.TheVariants.{OutOfM
 ghost use Rattle.std.specs.List.{AllByRecursion};
 ghost use Rattle.meaning.specs.View.{point_state};
 ghost use Rattle.meaning.specs.Limit.{limit, limit_asked};
-ghost use Rattle.meaning.specs.Cause.{bound, reason, reason_asked};
+ghost use Rattle.meaning.specs.declared.cause.Cause.TheVariants.{Sum};
+ghost use Rattle.meaning.specs.Cause.{bound, reason, reason_asked, shares_by};
 ghost use Rattle.sweep_compiler.specs.ByCases.Curve.{LeadsOn};
 ghost use Rattle.sweep_compiler.specs.Places.{is_second_asked};
 ghost use Rattle.sweep_compiler.specs.ByCases.Running.{RunningBound};
 ghost use Rattle.sweep_compiler.specs.ByCases.Queue.{IsSoonestOf};
-ghost use Rattle.sweep_compiler.specs.ByCases.Swept.{IsSweptCurve, IsReadyCurve, IsOfOneAsk, waiting_at, row_count, passed_in, due_in, shared_now};
+ghost use Rattle.sweep_compiler.specs.ByCases.Swept.{IsSweptCurve, IsReadyCurve, IsOfOneAsk, waiting_at, row_count, passed_in, due_in, shared_now, shares_now};
 
 use crate::bounded::Bounded;
 use crate::curve::Curve;
 use crate::queue::{Due, Queue};
 use crate::turns::Turns;
-use meaning::{Bound, Cause, Reason, Shares, View, reason_at};
+use meaning::{Bound, Cause, Reason, Shares, View};
 use ocpp_scalars::{Instant, Refusal};
 use std::alloc::{AllocError, Global};
 
@@ -67,20 +68,30 @@ impl LimitCurve<'_> {
     pub(crate) fn reason_here(&self, alloc: Global) -> Result<Reason, AllocError>
         requires ready { IsReadyCurve self.now }
         requires within { self.now.at ≤ self.now.last }
-        requires has_connector { self.now.connector ≤ length self.now.view.ceilings.now }
-        requires numbered { length self.now.view.ceilings.now < 2 ^ 32 }
         ensures { IfOk result (λ found. found ≡ reason (point_state self.now.view)
             self.now.connector self.now.asked self.now.at) }
     {
         let bound = self.bound_here();
-        match bound.cause {
-            Cause::Sum => reason_at(alloc, &self.view, self.connector, self.asked, self.at),
-            _ => Ok(Reason {
-                limit: bound.limit,
-                cause: bound.cause,
-                shares: Shares::none(alloc),
-            }),
-        }
+        let shares = match bound.cause {
+            Cause::Sum => self.shares_here(alloc)?,
+            _ => Shares::none(alloc),
+        };
+        Ok(Reason {
+            limit: bound.limit,
+            cause: bound.cause,
+            shares,
+        })
+    }
+
+    /// What each active connector has in the sum here, in an ask of the whole point.
+    fn shares_here(&self, alloc: Global) -> Result<Shares, AllocError>
+        requires ready { IsReadyCurve self.now }
+        requires within { self.now.at ≤ self.now.last }
+        requires whole { self.now.connector ≡ 0 }
+        ensures { IfOk result (λ shares. shares ≡ shares_by Sum (point_state self.now.view)
+            self.now.asked self.now.at) }
+    {
+        shares_of(alloc, &self.bounds)
     }
 
     /// Goes on to a later place, up to which the limit and what sets it stay as they are here, and returns
@@ -153,6 +164,17 @@ impl LimitCurve<'_> {
         }
         Ok(())
     }
+}
+
+/// What each connector behind the first bound has in the sum.
+fn shares_of(alloc: Global, bounds: &[Bounded<'_>]) -> Result<Shares, AllocError>
+    ensures { IfOk result (λ shares. shares ≡ shares_now bounds.now) }
+{
+    let mut shares = Vec::new(alloc);
+    for index in 1..bounds.len() {
+        shares.push(bounds[index].share())?;
+    }
+    Ok(Shares::new(shares))
 }
 
 /// Lets a row of a bound pass its next place, keeps the sum of what the connectors may draw, and returns

@@ -71,8 +71,6 @@ impl Turns {
         requires room { self.old + 1 < 2 ^ 64 }
         requires ready { IsReadyCurve curve.now }
         requires within { curve.now.at ≤ curve.now.last }
-        requires has_connector { curve.now.connector ≤ length curve.now.view.ceilings.now }
-        requires numbered { length curve.now.view.ceilings.now < 2 ^ 32 }
         ensures reason { IfOk result (λ found. found ≡ reason (point_state curve.now.view)
             curve.now.connector curve.now.asked curve.now.at) }
         ensures turn { self.new ≡ self.old + 1 }

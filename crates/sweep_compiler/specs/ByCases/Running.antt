@@ -12,6 +12,7 @@ use Rattle.stacking.specs.InForce.{rate_of}
 use Rattle.meaning.specs.View.{PointState, active_since}
 use Rattle.meaning.specs.declared.bound.ProfileLimit.{ProfileLimit}
 use Rattle.meaning.specs.declared.cause.Cause.TheVariants.{ConnectorCeiling, PointCeiling}
+use Rattle.meaning.specs.declared.cause.Share.{Share}
 use Rattle.meaning.specs.Limit.{or_else, at_most}
 use Rattle.meaning.specs.Cause.{RowLimit, Bound, with_limit, row_or_else, bound_of, lesser, lesser_of}
 use Rattle.meaning.specs.ByCases.Cause.{told}
@@ -94,8 +95,9 @@ pub record AreInForce (runs : List Running) (rates : List (ℕ × ℕ)) : Type 0
   pub each : AllByRecursion (λ (run : Running). rate_of rates (rank_running run) ≡ rate_running run) runs
   pub no_other : (n limit : ℕ) → rate_of rates n ≡ Some limit → HasRank n runs
 
--- what bounds a connector, or the whole point: its ceiling, and its rows by falling rank
+-- what bounds a connector, 0 being the whole point: its ceiling, and its rows by falling rank
 pub record RunningBound : Type 0 where
+  pub connector : ℕ
   pub ceiling : ℕ
   pub runs : List Running
 
@@ -122,6 +124,13 @@ own_bound_now bound = lesser_of (first_row bound.runs) (bound_of ConnectorCeilin
 abbrev pub below_now : RunningBound → Bound → Bound
 below_now point other = lesser_of (first_row point.runs) (lesser other (bound_of PointCeiling point.ceiling))
 
+-- what a connector has in the sum
+abbrev pub share_by : ℕ → Bound → Share
+share_by connector own = record { connector = connector; limit = own.limit; cause = own.cause }
+
+abbrev pub share_now : RunningBound → Share
+share_now bound = share_by bound.connector (own_bound_now bound)
+
 -- of the rows one that was passed
 abbrev pub passed_at : ℕ → List Running → List Running
 passed_at n [] = []
@@ -129,7 +138,7 @@ passed_at zero (run ∷ later) = passed run ∷ later
 passed_at (suc n) (run ∷ later) = run ∷ passed_at n later
 
 abbrev pub bound_passed : ℕ → RunningBound → RunningBound
-bound_passed n bound = record { ceiling = bound.ceiling; runs = passed_at n bound.runs }
+bound_passed n bound = record { connector = bound.connector; ceiling = bound.ceiling; runs = passed_at n bound.runs }
 
 -- the instant of the next place of one of the rows
 abbrev pub due_at : List Running → ℕ → Option ℕ

@@ -172,8 +172,6 @@ reason_of-requires-in-loop-reason c =
       room = omega (arith, few, turns, within, fresh, short);
       ready = ready;
       within = stands_within of after c.in-Some.next c.args.duration same ready there leads.1 c.requires.whole;
-      has_connector = rw (same.view, same.connector) c.requires.has_connector;
-      numbered = rw same.view c.requires.numbered;
     }
 
 pub loop-reason-preserved-then-not-same : goal.loop-reason-preserved-then-not-same

@@ -31,7 +31,7 @@ returns-in_default-clause-reasons c =
     let from = c.requires.ready.swept.from in
     let inside = c.requires.within in
     let within : self.at - self.asked < self.last + 1 - self.asked = omega (arith, from, inside) in
-    leads_none (reason_now state self.connector self.bounds.items self.sum) (reason state self.connector self.asked) state self.connector self.asked self.last self.at self.bounds.items self.queue self.sum c.requires.ready.swept none within
+    leads_none (reason_now self.connector self.bounds.items self.sum) (reason state self.connector self.asked) state self.connector self.asked self.last self.at self.bounds.items self.queue self.sum c.requires.ready.swept none within
     (λ k. reason_stays state self.connector self.asked self.last self.at k self.bounds.items self.queue self.sum c.requires.ready.swept)
 
 pub overflow_cast-result : goal.overflow_cast-result
@@ -66,5 +66,5 @@ returns-clause-reasons c =
     let asked = c.seconds-2.ensures.value ∙ c.in_ok-go_to.ensures.same.asked in
     let second : c.in-Some.next - self.asked ≡ c.seconds.result - c.seconds-2.result = omega (arith, at, asked) in
     subst (λ (n : ℕ). LeadsOn (reason_asked state self.connector self.asked) (is_second_asked state self.connector self.asked) (self.last + 1 - self.asked) (self.at - self.asked) (Some n)) second
-    (leads_some (reason_now state self.connector self.bounds.items self.sum) (reason state self.connector self.asked) state self.connector self.asked self.last self.at c.in-Some.next self.bounds.items self.queue self.sum c.requires.ready.swept c.requires.ready.ahead soonest
+    (leads_some (reason_now self.connector self.bounds.items self.sum) (reason state self.connector self.asked) state self.connector self.asked self.last self.at c.in-Some.next self.bounds.items self.queue self.sum c.requires.ready.swept c.requires.ready.ahead soonest
     (λ k. reason_stays state self.connector self.asked self.last self.at k self.bounds.items self.queue self.sum c.requires.ready.swept))
