@@ -1,8 +1,5 @@
 pub mod Sweeping
 pub mod Explaining
-pub mod NextChanges
-pub mod ByLevel
-pub mod Gathered
 pub mod WorkedExamples
 pub mod RatesInForce
 pub mod Running

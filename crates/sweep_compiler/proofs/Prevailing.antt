@@ -12,10 +12,10 @@ use Rattle.stacking.specs.Candidates.{AreStrictlyFalling, AreByFallingLevel, row
 use Rattle.meaning.specs.View.{PointState, active_since}
 use Rattle.meaning.specs.Prevailing.{counted, prevailing}
 use Rattle.meaning.specs.Limit.{or_else}
-use Rattle.meaning.specs.Cause.{RowLimit, with_limit, row_limit, level_of, prevailing_row, row_or_else}
+use Rattle.meaning.specs.Cause.{RowLimit, with_limit, level_of, prevailing_row, row_or_else}
 use Rattle.meaning.specs.Theory.Greatest.{greatest_of}
 use Rattle.meaning.specs.Theory.Reasons.{prevailing_is}
-use Rattle.sweep_compiler.specs.ByCases.Seen.{limit_seen, first_limit, seen_from}
+use Rattle.sweep_compiler.specs.ByCases.Seen.{first_limit, seen_from}
 
 -- the limit of a row for a connector at an instant
 abbrev pub rate_for : PointState → ℕ → ℕ → ℕ → Row → Option ℕ

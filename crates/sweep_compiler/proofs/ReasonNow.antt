@@ -13,7 +13,7 @@ use Rattle.meaning.specs.View.{PointState, ceiling_of}
 use Rattle.meaning.specs.Limit.{active_connectors}
 use Rattle.meaning.specs.Cause.{RowLimit, Bound, with_limit, prevailing_row, row_or_else, transaction_row, bound_of, lesser, lesser_of, own_bound, below_point, bound, bound_by, share, shares_by, reason}
 use Rattle.sweep_compiler.specs.ByCases.Seen.{SeenRow, limit_seen, seen_from}
-use Rattle.sweep_compiler.specs.ByCases.Running.{Running, RunningBound, seen_running, rate_running, first_row, own_bound_now, below_now, bound_now, share_by, share_now}
+use Rattle.sweep_compiler.specs.ByCases.Running.{Running, RunningBound, seen_running, first_row, own_bound_now, below_now, share_by, share_now}
 use Rattle.sweep_compiler.specs.ByCases.Queue.{Due}
 use Rattle.sweep_compiler.specs.ByCases.Swept.{IsConnectorBound, IsPointBound, AreBounds, EachRow, IsSwept, shared_now, shares_now, bound_as_now}
 use Rattle.sweep_compiler.proofs.LimitNow.{HasStayed, rows_now, sum_now}

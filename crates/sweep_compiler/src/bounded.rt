@@ -45,7 +45,10 @@ impl<'a> Bounded<'a> {
     ) -> Result<Bounded<'a>, Refusal>
         requires falling { AreFalling runs.items }
         ensures made { IfOk result (λ bounded. bounded ≡ record {
-            connector = connector; ceiling = ceiling; runs = runs.entry.items }) }
+          connector = connector;
+          ceiling = ceiling;
+          runs = runs.entry.items;
+        }) }
         ensures cause { IfErr result (λ refusal. refusal ≡ OutOfMemory) }
     {
         let in_force = rates_of(alloc, runs.as_slice())?;

@@ -1,5 +1,5 @@
 -- That what is in force sets the limit.
-use Rattle.std.proofs.Common.{ℕ, Bool, ◌==◌, ◌≡◌, true, false, get_or, ◌∙◌, ap, arith}
+use Rattle.std.proofs.Common.{◌==◌, ◌≡◌, true, false, get_or, ◌∙◌, ap, arith}
 use Rattle.std.proofs.lemmas.Bool.{eq-eqb}
 use Rattle.std.proofs.lemmas.Bool.Decides.{nat_tests}
 use Rattle.meaning.specs.View.{point_state}
