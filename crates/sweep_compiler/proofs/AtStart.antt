@@ -1,5 +1,5 @@
 -- What is gathered at the start of an ask is a sweep that stands there.
-use Rattle.std.proofs.Common.{◌≡◌, ℕ, ◌<◌, ◌≤◌, ◌^◌, ◌==◌, zero, suc, Bool, true, false, List, [], ◌∷◌, ◌++◌, length, map, filter, cond, Some, None, is_some, ⊎_elim, refl, ap, sym, subst, ◌∙◌, arith}
+use Rattle.std.proofs.Common.{◌≡◌, ℕ, ◌<◌, ◌≤◌, ◌^◌, ◌==◌, zero, suc, Bool, true, false, List, [], ◌∷◌, ◌++◌, length, map, filter, cond, ◌||◌, Some, None, is_some, ⊎_elim, refl, ap, sym, subst, ◌∙◌, arith}
 use Rattle.std.specs.List.{AllByRecursion, AllZip, Contains, list_any, range_with_len}
 use Rattle.std.proofs.lemmas.Bool.{cases_lt}
 use Rattle.std.proofs.lemmas.List.{map-append}
@@ -16,7 +16,6 @@ use Rattle.sweep_compiler.specs.ByCases.Seen.{seen_from}
 use Rattle.sweep_compiler.specs.ByCases.Running.{Running, RunningBound, seen_running, running_from, places_left, due, first_due, due_at}
 use Rattle.sweep_compiler.specs.ByCases.Queue.{Due}
 use Rattle.sweep_compiler.specs.ByCases.Swept.{IsConnectorBound, AreBounds, EachRow, row_count, due_in, shared_now, IsPassedUpTo, IsSwept, IsConnectorAtStart, AreConnectorsAtStart, AreAtStart, AreWaiting}
-use Rattle.sweep_compiler.proofs.NextChanges.{or-first, or-second}
 use Rattle.sweep_compiler.proofs.GatheredRuns.{all_sorted}
 use Rattle.sweep_compiler.proofs.Starting.{due_past, some_not_none, same_instant}
 
@@ -43,6 +42,7 @@ connectors_bound state asked last (connector ∷ looked) (bound ∷ bounds) are 
   record {
     own = are.0.own_are.rows;
     default = are.0.default_are.rows;
+    number = are.0.number;
     ceiling = are.0.ceiling;
     own_is = are.0.own_are.rows_are;
     default_is = are.0.default_are.rows_are;
@@ -105,6 +105,14 @@ all_few state connector asked last (point ∷ others) are few =
     omega (arith, same, less)
 
 -- ---- rows speak for what is asked
+
+or-first : (a b : Bool) → a ≡ true → (a || b) ≡ true
+or-first true b h = refl
+or-first false b h = cc
+
+or-second : (a b : Bool) → b ≡ true → (a || b) ≡ true
+or-second true b h = refl
+or-second false b h = h
 
 any_each : {X : Type 0} (test : ℕ → X → Bool) (xs : List X) → AllByRecursion (λ x. (i : ℕ) → test i x ≡ true → list_any (test i) xs ≡ true) xs
 any_each test [] = tt

@@ -2,13 +2,11 @@
 use Rattle.std.proofs.Common.{◌≡◌, ℕ, ◌+◌, ◌-◌, ◌<◌, ◌≤◌, ◌≢◌, true, List, [], ◌∷◌, Option, Some, None, ap, sym, subst, ◌∙◌, arith}
 use Rattle.std.specs.List.{AllByRecursion, Contains}
 use Rattle.meaning.specs.View.{PointState}
-use Rattle.meaning.specs.Limit.{limit, limit_asked}
 use Rattle.sweep_compiler.specs.Places.{is_second_asked, is_place_asked}
 use Rattle.sweep_compiler.specs.ByCases.Curve.{LeadsOn}
 use Rattle.sweep_compiler.specs.ByCases.Running.{Running, RunningBound}
 use Rattle.sweep_compiler.specs.ByCases.Queue.{Due, IsSoonest, IsSoonestOf}
-use Rattle.sweep_compiler.specs.ByCases.Swept.{EachRow, IsPassedUpTo, IsSwept, limit_now}
-use Rattle.sweep_compiler.proofs.LimitNow.{limit_stays}
+use Rattle.sweep_compiler.specs.ByCases.Swept.{EachRow, IsPassedUpTo, IsSwept}
 use Rattle.sweep_compiler.proofs.TakenRows.{all_has}
 
 -- ---- the sweep at the next place
@@ -69,10 +67,15 @@ all_ahead state connector asked last at bounds items sum (Some next) swept is ap
 
 -- ---- up to there
 
-pub leads_some : (state : PointState) (connector asked last at next : ℕ) (bounds : List RunningBound) (items : List Due) (sum : ℕ) → IsSwept state connector asked last at bounds items sum
-    → ((item : Due) → Contains items item → at < item.instant) → IsSoonestOf items next
-    → LeadsOn (limit_asked state connector asked) (is_second_asked state connector asked) (last + 1 - asked) (at - asked) (Some (next - asked))
-leads_some state connector asked last at next bounds items sum swept ahead soonest =
+-- a value is what it is now at each instant up to which none is due
+abbrev pub StaysWhileNoneIsDue : {X : Type 0} → X → (ℕ → X) → ℕ → ℕ → List Due → Type 0
+StaysWhileNoneIsDue now value at last items =
+    (k : ℕ) → at ≤ k → k ≤ last → ((item : Due) → Contains items item → k < item.instant) → now ≡ value k
+
+pub leads_some : {X : Type 0} (now : X) (value : ℕ → X) (state : PointState) (connector asked last at next : ℕ) (bounds : List RunningBound) (items : List Due) (sum : ℕ) → IsSwept state connector asked last at bounds items sum
+    → ((item : Due) → Contains items item → at < item.instant) → IsSoonestOf items next → StaysWhileNoneIsDue now value at last items
+    → LeadsOn (λ (second : ℕ). value (asked + second)) (is_second_asked state connector asked) (last + 1 - asked) (at - asked) (Some (next - asked))
+leads_some now value state connector asked last at next bounds items sum swept ahead soonest while =
     let first = swept.each soonest.item soonest.waits in
     let past = ahead soonest.item soonest.waits in
     let is = soonest.at in
@@ -84,20 +87,20 @@ leads_some state connector asked last at next bounds items sum swept ahead soone
       omega (arith, past, is, from, within),
       ap (is_place_asked state connector asked) there ∙ place,
       λ later low high.
-          let stays : (k : ℕ) → at ≤ k → k < next → limit_now bounds sum ≡ limit state connector asked k =
-          λ k low high. limit_stays state connector asked last at k bounds items sum swept low (omega (arith, high, is, within))
+          let stays : (k : ℕ) → at ≤ k → k < next → now ≡ value k =
+          λ k low high. while k low (omega (arith, high, is, within))
           (λ item has. let least : next ≤ item.instant = all_has (λ (other : Due). next ≤ other.instant) items item soonest.least has in omega (arith, high, least)) in
           sym (stays (asked + later) (omega (arith, low, from)) (omega (arith, high, there, past, is, from)))
           ∙ stays (asked + (at - asked)) (omega (arith, from)) (omega (arith, from, past, is)),
     )
 
-pub leads_none : (state : PointState) (connector asked last at : ℕ) (bounds : List RunningBound) (items : List Due) (sum : ℕ) → IsSwept state connector asked last at bounds items sum
-    → items ≡ [] → at - asked < last + 1 - asked
-    → LeadsOn (limit_asked state connector asked) (is_second_asked state connector asked) (last + 1 - asked) (at - asked) None
-leads_none state connector asked last at bounds items sum swept none inside = λ later low high.
+pub leads_none : {X : Type 0} (now : X) (value : ℕ → X) (state : PointState) (connector asked last at : ℕ) (bounds : List RunningBound) (items : List Due) (sum : ℕ) → IsSwept state connector asked last at bounds items sum
+    → items ≡ [] → at - asked < last + 1 - asked → StaysWhileNoneIsDue now value at last items
+    → LeadsOn (λ (second : ℕ). value (asked + second)) (is_second_asked state connector asked) (last + 1 - asked) (at - asked) None
+leads_none now value state connector asked last at bounds items sum swept none inside while = λ later low high.
     let from = swept.from in
-    let stays : (k : ℕ) → at ≤ k → k ≤ last → limit_now bounds sum ≡ limit state connector asked k =
-    λ k low high. limit_stays state connector asked last at k bounds items sum swept low high
+    let stays : (k : ℕ) → at ≤ k → k ≤ last → now ≡ value k =
+    λ k low high. while k low high
     (λ item has. absurd (nothing item (subst (λ (items : List Due). Contains items item) none has))) in
     sym (stays (asked + later) (omega (arith, low, from)) (omega (arith, high, from)))
     ∙ stays (asked + (at - asked)) (omega (arith, from)) (omega (arith, from, inside))

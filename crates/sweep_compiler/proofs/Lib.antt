@@ -1,15 +1,12 @@
 pub mod Sweeping
 pub mod Explaining
-pub mod NextChanges
-pub mod ByLevel
-pub mod Gathered
-pub mod Unchanged
 pub mod WorkedExamples
 pub mod RatesInForce
 pub mod Running
 pub mod Queueing
 pub mod Prevailing
 pub mod LimitNow
+pub mod ReasonNow
 pub mod Passing
 pub mod PassedRows
 pub mod TakenRows

@@ -1,5 +1,5 @@
 -- What the bounds of an ask have in force is its limit, from where a sweep stands on and up to the next place.
-use Rattle.std.proofs.Common.{◌≡◌, ℕ, ◌+◌, ◌<◌, ◌≤◌, ◌==◌, suc, List, [], ◌∷◌, ◌++◌, map, min, get_or, Option, Some, refl, ap, sym, ◌∙◌, arith}
+use Rattle.std.proofs.Common.{◌≡◌, ℕ, ◌+◌, ◌<◌, ◌≤◌, ◌==◌, suc, Bool, true, false, cond, List, [], ◌∷◌, ◌++◌, map, min, get_or, Option, None, Some, refl, ap, sym, ◌∙◌, arith}
 use Rattle.std.specs.List.{AllByRecursion, AllZip, Contains, sum_by}
 use Rattle.std.proofs.lemmas.List.{map-append}
 use Rattle.std.proofs.lemmas.List.Sums.{sum_by-cons}
@@ -10,14 +10,12 @@ use Rattle.recurrence.specs.declared.place.Place.{Place}
 use Rattle.recurrence.specs.Theory.Places.{next_of, stays_on}
 use Rattle.meaning.specs.View.{PointState}
 use Rattle.meaning.specs.Prevailing.{prevailing}
-use Rattle.meaning.specs.Limit.{or_else, at_most, own_limit, limit}
+use Rattle.meaning.specs.Limit.{or_else, at_most, own_limit, active_connectors, limit, limit_by}
 use Rattle.sweep_compiler.specs.Places.{looked_at}
-use Rattle.sweep_compiler.specs.ByCases.Seen.{first_limit, seen_from}
+use Rattle.sweep_compiler.specs.ByCases.Seen.{SeenRow, limit_seen, first_limit, seen_from}
 use Rattle.sweep_compiler.specs.ByCases.Running.{Running, RunningBound, seen_running, rate_running, places_left, due, first_due, due_at, first_rate, bound_now}
 use Rattle.sweep_compiler.specs.ByCases.Queue.{Due}
 use Rattle.sweep_compiler.specs.ByCases.Swept.{IsConnectorBound, IsPointBound, AreBounds, EachRow, due_in, IsPassedUpTo, IsSwept, limit_now, shared_now}
-use Rattle.sweep_compiler.proofs.NextChanges.{first_append}
-use Rattle.sweep_compiler.proofs.Gathered.{limit_seen_by}
 use Rattle.sweep_compiler.proofs.Prevailing.{first_of_candidates}
 
 -- ---- one row
@@ -25,7 +23,7 @@ use Rattle.sweep_compiler.proofs.Prevailing.{first_of_candidates}
 abbrev IsLaterThan : ℕ → Running → Type 0
 IsLaterThan k run = (instant : ℕ) → due run ≡ Some instant → k < instant
 
-abbrev HasStayed : ℕ → Running → Type 0
+abbrev pub HasStayed : ℕ → Running → Type 0
 HasStayed k run = rate run.row.profile run.base k ≡ rate_running run
 
 has_stayed : (run : Running) (k : ℕ) → run.since ≤ k → k ≤ run.last → IsLaterThan k run → HasStayed k run
@@ -69,6 +67,16 @@ first_at (run ∷ later) k stayed =
 
 -- ---- bounds
 
+-- the first of rows that has a limit is that of some of them, or else of the others
+first_append : (instant : ℕ) (rows others : List SeenRow) → first_limit instant (rows ++ others) ≡ or_else (first_limit instant rows) (first_limit instant others)
+first_append instant [] others = refl
+first_append instant (x ∷ rows) others = go (limit_seen instant x) (first_append instant rows others)
+  where
+    go : (limit : Option ℕ) → first_limit instant (rows ++ others) ≡ or_else (first_limit instant rows) (first_limit instant others)
+        → or_else limit (first_limit instant (rows ++ others)) ≡ or_else (or_else limit (first_limit instant rows)) (first_limit instant others)
+    go None h = h
+    go (Some limit) h = refl
+
 point_now : (state : PointState) (asked k : ℕ) (bound : RunningBound) → IsPointBound state asked bound → AllByRecursion (HasStayed k) bound.runs
     → bound_now bound ≡ at_most state.ceiling (prevailing ChargePointMaxProfile state 0 asked k)
 point_now state asked k bound is stayed =
@@ -94,7 +102,7 @@ connector_now state asked k connector bound is stayed =
     ∙ ap (or_else (prevailing TxProfile state connector asked k)) default))))
     ∙ ap (λ (ceiling : ℕ). at_most ceiling (or_else (prevailing TxProfile state connector asked k) (prevailing TxDefaultProfile state connector asked k))) is.ceiling
 
-sum_now : (state : PointState) (asked k : ℕ) (looked : List ℕ) (others : List RunningBound) → AllZip (λ connector bound. IsConnectorBound state asked connector bound) looked others
+pub sum_now : (state : PointState) (asked k : ℕ) (looked : List ℕ) (others : List RunningBound) → AllZip (λ connector bound. IsConnectorBound state asked connector bound) looked others
     → EachRow (HasStayed k) others → sum_by bound_now others ≡ sum_by (λ connector. own_limit state connector asked k) looked
 sum_now state asked k [] [] are stayed = refl
 sum_now state asked k [] (bound ∷ others) are stayed = absurd are
@@ -107,19 +115,33 @@ sum_now state asked k (connector ∷ looked) (bound ∷ others) are stayed =
 
 -- ---- the whole
 
+least_by : (whole : Bool) (state : PointState) (connector asked instant : ℕ)
+    → min (at_most state.ceiling (prevailing ChargePointMaxProfile state 0 asked instant)) (sum_by (λ looked. own_limit state looked asked instant) (cond whole (active_connectors state) (connector ∷ [])))
+    ≡ limit_by whole state connector asked instant
+least_by true state connector asked instant = refl
+least_by false state connector asked instant =
+    let one : 0 + own_limit state connector asked instant ≡ own_limit state connector asked instant = omega arith in
+    ap (min (at_most state.ceiling (prevailing ChargePointMaxProfile state 0 asked instant))) one
+
 now_by : (state : PointState) (connector asked k : ℕ) (bounds : List RunningBound) (sum : ℕ) → AreBounds state connector asked bounds → EachRow (HasStayed k) bounds
     → sum ≡ shared_now bounds → limit_now bounds sum ≡ limit state connector asked k
 now_by state connector asked k [] sum are stayed sum_is = absurd are
 now_by state connector asked k (point ∷ others) sum are stayed sum_is =
     ap (λ (n : ℕ). min n sum) (point_now state asked k point are.0 stayed.0)
     ∙ (ap (min (at_most state.ceiling (prevailing ChargePointMaxProfile state 0 asked k))) (sum_is ∙ sum_now state asked k (looked_at state connector) others are.1 stayed.1)
-    ∙ limit_seen_by (connector == 0) state connector asked k)
+    ∙ least_by (connector == 0) state connector asked k)
+
+-- each row has kept its limit up to an instant before which none is due
+pub rows_now : (state : PointState) (connector asked last at k : ℕ) (bounds : List RunningBound) (items : List Due) (sum : ℕ) → IsSwept state connector asked last at bounds items sum
+    → at ≤ k → k ≤ last → ((item : Due) → Contains items item → k < item.instant) → EachRow (HasStayed k) bounds
+rows_now state connector asked last at k bounds items sum swept from upto before =
+    let later = each_later bounds k (λ n row instant is. before (record { instant = instant; bound = n; row = row }) (swept.waits n row instant is)) in
+    each_stayed state connector asked last at k from upto bounds swept.passed later
 
 pub limit_stays : (state : PointState) (connector asked last at k : ℕ) (bounds : List RunningBound) (items : List Due) (sum : ℕ) → IsSwept state connector asked last at bounds items sum
     → at ≤ k → k ≤ last → ((item : Due) → Contains items item → k < item.instant) → limit_now bounds sum ≡ limit state connector asked k
 limit_stays state connector asked last at k bounds items sum swept from upto before =
-    let later = each_later bounds k (λ n row instant is. before (record { instant = instant; bound = n; row = row }) (swept.waits n row instant is)) in
-    now_by state connector asked k bounds sum swept.gathered (each_stayed state connector asked last at k from upto bounds swept.passed later) swept.sum_is
+    now_by state connector asked k bounds sum swept.gathered (rows_now state connector asked last at k bounds items sum swept from upto before) swept.sum_is
 
 pub first_now : (state : PointState) (connector asked : ℕ) (bounds : List RunningBound) (d : RunningBound) (sum : ℕ) → AreBounds state connector asked bounds
     → min (bound_now (get_or bounds 0 d)) sum ≡ limit_now bounds sum

@@ -36,6 +36,7 @@ connector_kept : (state : PointState) (asked connector row : ℕ) (bound : Runni
 connector_kept state asked connector row bound is = record {
   own = is.own;
   default = is.default;
+  number = is.number;
   ceiling = is.ceiling;
   own_is = is.own_is;
   default_is = is.default_is;

@@ -1,17 +1,18 @@
 -- A sweep at the start of an ask.
-use Rattle.std.proofs.Common.{◌≡◌, ℕ, ◌+◌, ◌<◌, ◌≤◌, ◌^◌, zero, suc, Bool, true, false, List, [], ◌∷◌, ◌++◌, length, filter, take, cond, get_or, Option, Some, None, is_some, inl, inr, ◌⊎◌, ⊎_elim, refl, ap, sym, subst, ◌∙◌, arith}
+use Rattle.std.proofs.Common.{◌≡◌, ℕ, ◌+◌, ◌<◌, ◌≤◌, ◌^◌, zero, suc, Bool, true, false, List, [], ◌∷◌, ◌++◌, length, filter, map, take, cond, get_or, Option, Some, None, is_some, inl, inr, ◌⊎◌, ⊎_elim, refl, ap, sym, subst, ◌∙◌, arith}
 use Rattle.std.specs.List.{AllByRecursion, Contains, sum_by, range_with_len}
 use Rattle.std.specs.List.Sorted.{IsPermutation}
 use Rattle.std.proofs.lemmas.Bool.{cases_lt}
-use Rattle.std.proofs.lemmas.List.{append-nil, take_more}
+use Rattle.std.proofs.lemmas.List.{append-nil, map-append, take_more}
 use Rattle.std.proofs.lemmas.List.Elements.{filter-append}
 use Rattle.std.proofs.lemmas.List.Sums.{sum_by_push}
 use Rattle.std.proofs.lemmas.List.Sorted.{Contains-permutation, IsPermutation-sym}
 use Rattle.meaning.specs.View.{PointState, active_since}
+use Rattle.meaning.specs.declared.cause.Share.{Share}
 use Rattle.meaning.specs.Theory.Ranges.{range_more}
-use Rattle.sweep_compiler.specs.ByCases.Running.{Running, RunningBound, due_at, bound_now}
+use Rattle.sweep_compiler.specs.ByCases.Running.{Running, RunningBound, due_at, bound_now, share_now}
 use Rattle.sweep_compiler.specs.ByCases.Queue.{Due}
-use Rattle.sweep_compiler.specs.ByCases.Swept.{IsConnectorAtStart, AreConnectorsAtStart, IsWithConnector, AreWaiting, due_in, row_count, shared_now}
+use Rattle.sweep_compiler.specs.ByCases.Swept.{IsConnectorAtStart, AreConnectorsAtStart, IsWithConnector, AreWaiting, due_in, row_count, shared_now, shares_now}
 use Rattle.sweep_compiler.proofs.Passing.{item, contains_cases, contains_more, contains_first}
 use Rattle.sweep_compiler.proofs.PassedRows.{shared_small}
 
@@ -51,6 +52,21 @@ shared_more (point ∷ others) (suc i) d some inside =
     let one : suc i + 1 ≡ suc (i + 1) = omega arith in
     ap (λ (n : ℕ). shared_now (take n (point ∷ others))) one
     ∙ (ap (sum_by bound_now) (take_more others i d (omega (arith, inside))) ∙ sum_by_push bound_now (take i others) (get_or others i d))
+
+shares_more : (bounds : List RunningBound) (i : ℕ) (d : RunningBound) → 0 < i → i < length bounds → shares_now (take (i + 1) bounds) ≡ shares_now (take i bounds) ++ share_now (get_or bounds i d) ∷ []
+shares_more [] i d some inside = absurd (omega (arith, inside))
+shares_more (point ∷ others) zero d some inside = absurd (omega (arith, some))
+shares_more (point ∷ others) (suc i) d some inside =
+    let one : suc i + 1 ≡ suc (i + 1) = omega arith in
+    ap (λ (n : ℕ). shares_now (take n (point ∷ others))) one
+    ∙ (ap (map share_now) (take_more others i d (omega (arith, inside))) ∙ map-append share_now (take i others) (get_or others i d ∷ []))
+
+pub share_pushed : (bounds : List RunningBound) (i : ℕ) (d : RunningBound) (before after : List Share) (share : Share) → 0 < i → i < length bounds
+    → before ≡ shares_now (take i bounds) → share ≡ share_now (get_or bounds i d) → after ≡ before ++ share ∷ [] → after ≡ shares_now (take (i + 1) bounds)
+share_pushed bounds i d before after share some inside so_far one added =
+    added
+    ∙ (ap (λ (share : Share). before ++ share ∷ []) one
+    ∙ (ap (λ (shares : List Share). shares ++ share_now (get_or bounds i d) ∷ []) so_far ∙ sym (shares_more bounds i d some inside)))
 
 small_take : (k : ℕ) (bounds : List RunningBound) → AllByRecursion (λ (bound : RunningBound). bound.ceiling < 2 ^ 32) bounds → AllByRecursion (λ (bound : RunningBound). bound.ceiling < 2 ^ 32) (take k bounds)
 small_take zero bounds small = tt

@@ -1,11 +1,14 @@
 //! What bounds a connector, or the whole point, on the way through an ask.
 
-ghost use Rattle.std.specs.Prelude.{◌≡◌, ◌<◌, length, IfErr, IfOk};
+ghost use Rattle.std.specs.Prelude.{◌≡◌, ◌<◌, ◌^◌, length, IfErr, IfOk};
+ghost use Rattle.meaning.specs.declared.cause.Cause.TheVariants.{Sum};
+ghost use Rattle.meaning.specs.Limit.{at_most};
+ghost use Rattle.meaning.specs.Cause.{bound_of};
 ghost use Rattle.ocpp_scalars.specs.declared.refusal.Refusal.TheVariants.{OutOfMemory};
-ghost use Rattle.sweep_compiler.specs.ByCases.Running.{AreFalling, AreInForce, bound_now, bound_passed, due_at};
+ghost use Rattle.sweep_compiler.specs.ByCases.Running.{AreFalling, AreInForce, below_now, bound_now, bound_passed, due_at, first_told, own_bound_now, share_now};
 
-use crate::looked::at_most;
 use crate::run::Run;
+use meaning::{Bound, Cause, ProfileLimit, Share, lesser_of};
 use ocpp_scalars::{Instant, Refusal};
 use stacking::InForce;
 use std::alloc::Global;
@@ -15,8 +18,10 @@ use std::marker::Model;
 /// prevails.
 #[derive(Drop)]
 pub(crate) struct Bounded<'a> {
-    ceiling: u32,
+    /// The connector, 0 being the whole point.
+    connector: u32,
     runs: Vec<Run<'a>>,
+    ceiling: u32,
     in_force: InForce,
 }
 
@@ -25,26 +30,32 @@ impl<'a> Model for Bounded<'a> {
 
     ghost Value = { RunningBound };
 
-    ghost view = { λ b. record { ceiling = b.ceiling; runs = b.runs.items } };
+    ghost view = { λ b. record { connector = b.connector; ceiling = b.ceiling; runs = b.runs.items } };
 
     ghost invariant = { λ b. AreInForce b.runs.items b.in_force };
 }
 
 impl<'a> Bounded<'a> {
-    /// A ceiling and rows, whose limits are put in force.
+    /// A connector with rows, whose limits are put in force, and a ceiling.
     pub(crate) fn new(
         alloc: Global,
-        ceiling: u32,
+        connector: u32,
         runs: Vec<Run<'a>>,
+        ceiling: u32,
     ) -> Result<Bounded<'a>, Refusal>
         requires falling { AreFalling runs.items }
-        ensures made { IfOk result (λ bounded. bounded ≡ record { ceiling = ceiling; runs = runs.entry.items }) }
+        ensures made { IfOk result (λ bounded. bounded ≡ record {
+          connector = connector;
+          ceiling = ceiling;
+          runs = runs.entry.items;
+        }) }
         ensures cause { IfErr result (λ refusal. refusal ≡ OutOfMemory) }
     {
         let in_force = rates_of(alloc, runs.as_slice())?;
         Ok(Bounded {
-            ceiling,
+            connector,
             runs,
+            ceiling,
             in_force,
         })
     }
@@ -61,6 +72,65 @@ impl<'a> Bounded<'a> {
         ensures { result ≡ bound_now self.now }
     {
         at_most(self.ceiling, self.in_force.top())
+    }
+
+    /// The profile that prevails, with its limit.
+    fn prevailing(&self) -> Option<ProfileLimit>
+        ensures { result ≡ first_told self.now.runs }
+    {
+        first_told(self.runs.as_slice())
+    }
+
+    /// What sets the limit of a connector that this bounds.
+    pub(crate) fn own_bound(&self) -> Bound
+        ensures { result ≡ own_bound_now self.now }
+    {
+        let ceiling = Bound {
+            limit: self.ceiling,
+            cause: Cause::ConnectorCeiling,
+        };
+        lesser_of(self.prevailing(), ceiling)
+    }
+
+    /// What the connector that this bounds has in the sum.
+    pub(crate) fn share(&self) -> Share
+        ensures { result ≡ share_now self.now }
+    {
+        let own = self.own_bound();
+        Share {
+            connector: self.connector,
+            limit: own.limit,
+            cause: own.cause,
+        }
+    }
+
+    /// The least of what bounds the whole point and a bound below it.
+    pub(crate) fn or_below(&self, other: Bound) -> Bound
+        ensures { result ≡ below_now self.now other }
+    {
+        let ceiling = Bound {
+            limit: self.ceiling,
+            cause: Cause::PointCeiling,
+        };
+        lesser_of(self.prevailing(), other.or_less(ceiling))
+    }
+
+    /// The same of what the connectors may draw together, which may be more than any limit.
+    pub(crate) fn or_sum(&self, sum: u64) -> Bound
+        ensures { result ≡ below_now self.now (bound_of Sum sum) }
+    {
+        if sum > u64::from(self.ceiling) {
+            let ceiling = Bound {
+                limit: self.ceiling,
+                cause: Cause::PointCeiling,
+            };
+            return lesser_of(self.prevailing(), ceiling);
+        }
+        let shared = Bound {
+            limit: sum as u32,
+            cause: Cause::Sum,
+        };
+        self.or_below(shared)
     }
 
     /// The instant of the next place of a row.
@@ -85,6 +155,19 @@ impl<'a> Bounded<'a> {
     }
 }
 
+/// The first row that has a limit, with that.
+fn first_told(runs: &[Run<'_>]) -> Option<ProfileLimit>
+    ensures { result ≡ first_told runs.now }
+{
+    for place in 0..runs.len() {
+        let told = runs[place].told();
+        if told.is_some() {
+            return told;
+        }
+    }
+    None
+}
+
 /// The limits of rows by falling rank, each at its rank.
 fn rates_of(alloc: Global, runs: &[Run<'_>]) -> Result<InForce, Refusal>
     requires falling { AreFalling runs.now }
@@ -96,4 +179,14 @@ fn rates_of(alloc: Global, runs: &[Run<'_>]) -> Result<InForce, Refusal>
         rates.set(run.rank(), run.rate())?;
     }
     Ok(rates)
+}
+
+/// The lesser of a limit and another, where that is there.
+fn at_most(limit: u32, other: Option<u32>) -> u32
+    ensures { result ≡ at_most limit other }
+{
+    match other {
+        Some(other) => limit.min(other),
+        None => limit,
+    }
 }

@@ -1,17 +1,19 @@
 //! What sets the limits of an ask.
 
-ghost use Rattle.std.specs.Prelude.{◌≡◌, ℕ, ◌+◌, ◌<◌, ◌≤◌, ◌^◌, length, IfOk};
+ghost use Rattle.std.specs.Prelude.{◌≡◌, ℕ, ◌+◌, ◌-◌, ◌<◌, ◌≤◌, ◌^◌, length, IfOk};
 ghost use Rattle.point_book.specs.Book.{state_of};
+ghost use Rattle.meaning.specs.View.{point_state};
+ghost use Rattle.sweep_compiler.specs.ByCases.Swept.{IsReadyCurve};
 ghost use Rattle.sweep_compiler.specs.Places.{is_second_asked, places, places_within};
 ghost use Rattle.sweep_compiler.specs.Explained.{IsExplanation};
 
-use crate::asked::AskedLimit;
 use crate::explanation::Explanation;
-use crate::gatherer::Gatherer;
-use crate::reason_curve::ReasonCurve;
+use crate::gathering::Gathering;
+use crate::limit_curve::LimitCurve;
 use crate::stretch::Stretch;
 use crate::turns::Turns;
 use meaning::Ask;
+use ocpp_scalars::Refusal;
 use point_book::PointBook;
 use std::alloc::{AllocError, Global};
 
@@ -32,42 +34,47 @@ pub fn explain(
     ensures counted { turns.old ≤ turns.new }
     ensures each { IfOk result (λ explained. turns.old + length explained.stretches ≤ turns.new) }
 {
-    let gatherer = Gatherer {
+    let gathering = Gathering {
         alloc,
+        book,
         view: book.view(),
         asked: ask.start,
+        last: ask.start.plus(u64::from(ask.duration) - 1),
     };
-    let limit = AskedLimit::gathered(&gatherer, ask.connector)?;
-    let mut curve = ReasonCurve {
-        limit,
-        ask: *ask,
-        second: 0,
+    // The one refusal on the way is that memory ran out.
+    let Ok(mut curve) = gathering.curve(ask.connector) else {
+        return Err(AllocError);
     };
-    explain_along(alloc, &mut curve, turns)
+    match explain_along(alloc, &mut curve, ask.duration, turns) {
+        Ok(explained) => Ok(explained),
+        Err(_) => Err(AllocError),
+    }
 }
 
 /// The stretches of a curve, found at its first second and then from place to place: one turn for each.
 fn explain_along(
     alloc: Global,
-    curve: &mut ReasonCurve<'_>,
+    curve: &mut LimitCurve<'_>,
+    duration: u32,
     turns: &mut Turns,
-) -> Result<Explanation, AllocError>
-    requires start { curve.old.second ≡ 0 }
+) -> Result<Explanation, Refusal>
+    requires some { 0 < duration }
+    requires whole { curve.old.last + 1 - curve.old.asked ≡ duration }
+    requires start { curve.old.at ≡ curve.old.asked }
+    requires ready { IsReadyCurve curve.old }
     requires fresh { turns.old < 2 ^ 63 }
-    ensures explained { IfOk result (λ explained. IsExplanation curve.old.limit.state
-        curve.old.limit.connector curve.old.limit.asked curve.old.ask.duration explained) }
+    ensures explained { IfOk result (λ explained. IsExplanation (point_state curve.old.view)
+        curve.old.connector curve.old.asked duration explained) }
     ensures bound { turns.new ≤ turns.old + (1 + places_within
-        (is_second_asked curve.old.limit.state curve.old.limit.connector curve.old.limit.asked)
-        curve.old.ask.duration) }
+        (is_second_asked (point_state curve.old.view) curve.old.connector curve.old.asked) duration) }
     ensures counted { turns.old ≤ turns.new }
     ensures each { IfOk result (λ explained. turns.old + length explained.stretches ≤ turns.new) }
 {
-    let duration = curve.ask.duration;
     let mut stretches = Vec::new(alloc);
     let mut start = 0;
-    let mut reason = curve.reason(alloc, turns)?;
+    let mut reason = turns.reason_of(alloc, curve)?;
     loop {
-        let Some(next) = curve.go_on() else {
+        let Some(next) = curve.go_to_next()? else {
             stretches.push(Stretch {
                 start,
                 end: duration,
@@ -75,7 +82,7 @@ fn explain_along(
             })?;
             return Ok(Explanation::new(duration, stretches));
         };
-        let found = curve.reason(alloc, turns)?;
+        let found = turns.reason_of(alloc, curve)?;
         if !found.same(&reason) {
             stretches.push(Stretch {
                 start,

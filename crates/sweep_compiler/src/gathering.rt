@@ -122,7 +122,7 @@ impl<'a> Gathering<'a> {
         ensures cause { IfErr result (λ refusal. refusal ≡ OutOfMemory) }
     {
         let runs = self.runs_of(Purpose::ChargePointMaxProfile, 0)?;
-        Bounded::new(self.alloc, self.view.ceiling, runs)
+        Bounded::new(self.alloc, 0, runs, self.view.ceiling)
     }
 
     /// What bounds a connector.
@@ -136,7 +136,8 @@ impl<'a> Gathering<'a> {
         let mut runs = self.runs_of(Purpose::TxProfile, connector)?;
         let mut default = self.runs_of(Purpose::TxDefaultProfile, connector)?;
         runs.append(&mut default)?;
-        Bounded::new(self.alloc, self.view.ceilings[connector as usize - 1], runs)
+        let ceiling = self.view.ceilings[connector as usize - 1];
+        Bounded::new(self.alloc, connector, runs, ceiling)
     }
 
     /// The rows of a purpose that count for a connector, by falling stack level.

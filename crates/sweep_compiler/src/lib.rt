@@ -3,7 +3,6 @@
 //! else. What a place is stands in `specs/Places.antt`.
 #![tactic(auto)]
 
-mod asked;
 mod bounded;
 mod compiled;
 mod compiler;
@@ -11,15 +10,10 @@ mod curve;
 mod explained;
 mod explanation;
 mod explanation_laws;
-mod falling;
-mod gatherer;
 mod gathering;
 mod limit_curve;
-mod looked;
 mod queue;
-mod reason_curve;
 mod run;
-mod seen;
 mod stretch;
 mod sweep;
 mod turns;

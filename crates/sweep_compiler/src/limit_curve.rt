@@ -1,21 +1,25 @@
 //! The limit of a connector along the seconds of an ask.
 
-ghost use Rattle.std.specs.Prelude.{◌≡◌, ℕ, ◌+◌, ◌-◌, ◌<◌, ◌≤◌, ◌^◌, length, IfErr, IfOk};
+ghost use Rattle.std.specs.Prelude.{◌≡◌, ℕ, ◌+◌, ◌-◌, ◌<◌, ◌≤◌, ◌^◌, length, IfErr, IfOk, IfSome};
 ghost use Rattle.ocpp_scalars.specs.declared.refusal.Refusal.TheVariants.{OutOfMemory};
 ghost use Rattle.std.specs.List.{AllByRecursion};
 ghost use Rattle.meaning.specs.View.{point_state};
 ghost use Rattle.meaning.specs.Limit.{limit, limit_asked};
+ghost use Rattle.meaning.specs.declared.cause.Cause.TheVariants.{Sum};
+ghost use Rattle.meaning.specs.Cause.{bound, reason, reason_asked, shares_by};
+ghost use Rattle.sweep_compiler.specs.ByCases.Curve.{LeadsOn};
 ghost use Rattle.sweep_compiler.specs.Places.{is_second_asked};
 ghost use Rattle.sweep_compiler.specs.ByCases.Running.{RunningBound};
 ghost use Rattle.sweep_compiler.specs.ByCases.Queue.{IsSoonestOf};
-ghost use Rattle.sweep_compiler.specs.ByCases.Swept.{IsSweptCurve, IsReadyCurve, IsOfOneAsk, waiting_at, row_count, passed_in, due_in, shared_now};
+ghost use Rattle.sweep_compiler.specs.ByCases.Swept.{IsSweptCurve, IsReadyCurve, IsOfOneAsk, waiting_at, row_count, passed_in, due_in, shared_now, shares_now};
 
 use crate::bounded::Bounded;
 use crate::curve::Curve;
 use crate::queue::{Due, Queue};
 use crate::turns::Turns;
-use meaning::View;
+use meaning::{Bound, Cause, Reason, Shares, View};
 use ocpp_scalars::{Instant, Refusal};
+use std::alloc::{AllocError, Global};
 
 /// The limit that is asked, on its way from place to place.
 #[derive(Drop)]
@@ -44,6 +48,76 @@ impl LimitCurve<'_> {
     {
         let point = self.bounds[0].limit();
         u64::from(point).min(self.sum) as u32
+    }
+
+    /// What sets the limit here.
+    fn bound_here(&self) -> Bound
+        requires ready { IsReadyCurve self.now }
+        requires within { self.now.at ≤ self.now.last }
+        ensures { result ≡ bound (point_state self.now.view) self.now.connector self.now.asked self.now.at }
+    {
+        let point = &self.bounds[0];
+        if self.connector == 0 {
+            point.or_sum(self.sum)
+        } else {
+            point.or_below(self.bounds[1].own_bound())
+        }
+    }
+
+    /// The limit here with what sets it.
+    pub(crate) fn reason_here(&self, alloc: Global) -> Result<Reason, AllocError>
+        requires ready { IsReadyCurve self.now }
+        requires within { self.now.at ≤ self.now.last }
+        ensures { IfOk result (λ found. found ≡ reason (point_state self.now.view)
+            self.now.connector self.now.asked self.now.at) }
+    {
+        let bound = self.bound_here();
+        let shares = match bound.cause {
+            Cause::Sum => self.shares_here(alloc)?,
+            _ => Shares::none(alloc),
+        };
+        Ok(Reason {
+            limit: bound.limit,
+            cause: bound.cause,
+            shares,
+        })
+    }
+
+    /// What each active connector has in the sum here, in an ask of the whole point.
+    fn shares_here(&self, alloc: Global) -> Result<Shares, AllocError>
+        requires ready { IsReadyCurve self.now }
+        requires within { self.now.at ≤ self.now.last }
+        requires whole { self.now.connector ≡ 0 }
+        ensures { IfOk result (λ shares. shares ≡ shares_by Sum (point_state self.now.view)
+            self.now.asked self.now.at) }
+    {
+        shares_of(alloc, &self.bounds)
+    }
+
+    /// Goes on to a later place, up to which the limit and what sets it stay as they are here, and returns
+    /// that, or `None` where they stay so to the end.
+    pub(crate) fn go_to_next(&mut self) -> Result<Option<u32>, Refusal>
+        requires ready { IsReadyCurve self.old }
+        requires within { self.old.at ≤ self.old.last }
+        ensures limits { IfOk result (λ next. LeadsOn
+            (limit_asked (point_state self.old.view) self.old.connector self.old.asked)
+            (is_second_asked (point_state self.old.view) self.old.connector self.old.asked)
+            (self.old.last + 1 - self.old.asked) (self.old.at - self.old.asked) next) }
+        ensures reasons { IfOk result (λ next. LeadsOn
+            (reason_asked (point_state self.old.view) self.old.connector self.old.asked)
+            (is_second_asked (point_state self.old.view) self.old.connector self.old.asked)
+            (self.old.last + 1 - self.old.asked) (self.old.at - self.old.asked) next) }
+        ensures here { IfOk result (λ next. IfSome next (λ next. self.new.at - self.new.asked ≡ next)) }
+        ensures ready { IfOk result (λ next. IfSome next (λ _. IsReadyCurve self.new)) }
+        ensures same { IfOk result (λ _. IsOfOneAsk self.old self.new) }
+        ensures cause { IfErr result (λ refusal. refusal ≡ OutOfMemory) }
+    {
+        let Some(next) = self.queue.soonest() else {
+            return Ok(None);
+        };
+        self.go_to(next)?;
+        let second = self.at.seconds() - self.asked.seconds();
+        Ok(Some(second as u32))
     }
 
     /// Goes to the next place: each row that is due there passes it.
@@ -92,6 +166,17 @@ impl LimitCurve<'_> {
     }
 }
 
+/// What each connector behind the first bound has in the sum.
+fn shares_of(alloc: Global, bounds: &[Bounded<'_>]) -> Result<Shares, AllocError>
+    ensures { IfOk result (λ shares. shares ≡ shares_now bounds.now) }
+{
+    let mut shares = Vec::new(alloc);
+    for index in 1..bounds.len() {
+        shares.push(bounds[index].share())?;
+    }
+    Ok(Shares::new(shares))
+}
+
 /// Lets a row of a bound pass its next place, keeps the sum of what the connectors may draw, and returns
 /// the instant at which the row is due again.
 fn pass_row(
@@ -137,11 +222,6 @@ impl Curve for LimitCurve<'_> {
     }
 
     fn go_on(&mut self) -> Result<Option<u32>, Refusal> {
-        let Some(next) = self.queue.soonest() else {
-            return Ok(None);
-        };
-        self.go_to(next)?;
-        let second = self.at.seconds() - self.asked.seconds();
-        Ok(Some(second as u32))
+        self.go_to_next()
     }
 }

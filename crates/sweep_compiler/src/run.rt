@@ -1,8 +1,10 @@
 //! A row on its way through an ask.
 
-ghost use Rattle.std.specs.Prelude.{◌≡◌};
-ghost use Rattle.sweep_compiler.specs.ByCases.Running.{rate_running, due, passed, rank_running};
+ghost use Rattle.std.specs.Prelude.{◌≡◌, option_map};
+ghost use Rattle.meaning.specs.ByCases.Cause.{told};
+ghost use Rattle.sweep_compiler.specs.ByCases.Running.{rate_running, row_running, due, passed, rank_running};
 
+use meaning::ProfileLimit;
 use ocpp_scalars::Instant;
 use profile::{MAX_STACK_LEVEL, Purpose, Row};
 use recurrence::{Place, Places};
@@ -73,6 +75,14 @@ impl<'a> Run<'a> {
         ensures { result ≡ rate_running self.now }
     {
         self.rate
+    }
+
+    /// Its profile with that limit, where it has one.
+    pub(crate) fn told(&self) -> Option<ProfileLimit>
+        ensures { result ≡ option_map told (row_running self.now) }
+    {
+        let limit = self.rate?;
+        Some(ProfileLimit::of(self.row, limit))
     }
 
     /// The limit that it will have at its next place, or where there is none has to the end.

@@ -6,10 +6,8 @@ ghost use Rattle.meaning.specs.Limit.{limit};
 ghost use Rattle.meaning.specs.Cause.{reason};
 ghost use Rattle.sweep_compiler.specs.ByCases.Swept.{IsReadyCurve};
 
-use crate::asked::AskedLimit;
 use crate::limit_curve::LimitCurve;
 use meaning::Reason;
-use ocpp_scalars::Instant;
 use std::alloc::{AllocError, Global};
 use std::marker::Model;
 
@@ -64,21 +62,20 @@ impl Turns {
         curve.limit_here()
     }
 
-    /// The limit that is asked with what sets it, at an instant, which is one turn.
-    pub(crate) fn reason_at(
+    /// The limit that is asked with what sets it, where a sweep stands, which is one turn.
+    pub(crate) fn reason_of(
         &mut self,
         alloc: Global,
-        asked: &AskedLimit<'_>,
-        instant: Instant,
+        curve: &LimitCurve<'_>,
     ) -> Result<Reason, AllocError>
         requires room { self.old + 1 < 2 ^ 64 }
-        requires has_connector { asked.now.connector ≤ length asked.now.state.ceilings }
-        requires numbered { length asked.now.state.ceilings < 2 ^ 32 }
-        ensures reason { IfOk result (λ found.
-            found ≡ reason asked.now.state asked.now.connector asked.now.asked instant) }
+        requires ready { IsReadyCurve curve.now }
+        requires within { curve.now.at ≤ curve.now.last }
+        ensures reason { IfOk result (λ found. found ≡ reason (point_state curve.now.view)
+            curve.now.connector curve.now.asked curve.now.at) }
         ensures turn { self.new ≡ self.old + 1 }
     {
         self.count_one();
-        asked.reason_at(alloc, instant)
+        curve.reason_here(alloc)
     }
 }

@@ -1,5 +1,5 @@
 -- Of private clauses: the rows that count for an ask, on their way through it.
-use Rattle.std.specs.Prelude.{◌≡◌, ℕ, ◌+◌, ◌<◌, zero, suc, Bool, List, [], ◌∷◌, Option, Some, None, option_and_then, slice_get, if◌then◌else◌, ◌⊎◌}
+use Rattle.std.specs.Prelude.{◌≡◌, ℕ, ◌+◌, ◌<◌, zero, suc, Bool, List, [], ◌∷◌, Option, Some, None, option_map, option_and_then, slice_get, if◌then◌else◌, ◌⊎◌}
 use Rattle.std.specs.List.{AllByRecursion}
 use Rattle.profile.specs.declared.row.Row.{Row}
 use Rattle.profile.specs.Limits.{max_stack_level}
@@ -10,7 +10,12 @@ use Rattle.recurrence.specs.declared.place.Place.{Place}
 use Rattle.recurrence.specs.Places.{places_after}
 use Rattle.stacking.specs.InForce.{rate_of}
 use Rattle.meaning.specs.View.{PointState, active_since}
+use Rattle.meaning.specs.declared.bound.ProfileLimit.{ProfileLimit}
+use Rattle.meaning.specs.declared.cause.Cause.TheVariants.{ConnectorCeiling, PointCeiling}
+use Rattle.meaning.specs.declared.cause.Share.{Share}
 use Rattle.meaning.specs.Limit.{or_else, at_most}
+use Rattle.meaning.specs.Cause.{RowLimit, Bound, with_limit, row_or_else, bound_of, lesser, lesser_of}
+use Rattle.meaning.specs.ByCases.Cause.{told}
 use Rattle.sweep_compiler.specs.ByCases.Seen.{SeenRow}
 
 -- a row, the base from which it counts, the last of its places that was passed, and the last instant of the ask
@@ -90,13 +95,41 @@ pub record AreInForce (runs : List Running) (rates : List (ℕ × ℕ)) : Type 0
   pub each : AllByRecursion (λ (run : Running). rate_of rates (rank_running run) ≡ rate_running run) runs
   pub no_other : (n limit : ℕ) → rate_of rates n ≡ Some limit → HasRank n runs
 
--- what bounds a connector, or the whole point: its ceiling, and its rows by falling rank
+-- what bounds a connector, 0 being the whole point: its ceiling, and its rows by falling rank
 pub record RunningBound : Type 0 where
+  pub connector : ℕ
   pub ceiling : ℕ
   pub runs : List Running
 
 abbrev pub bound_now : RunningBound → ℕ
 bound_now bound = at_most bound.ceiling (first_rate bound.runs)
+
+-- a row with the limit that it has had since, where it has one
+abbrev pub row_running : Running → Option RowLimit
+row_running run = option_map (with_limit run.row) (rate_running run)
+
+-- the first that has a limit, with that
+abbrev pub first_row : List Running → Option RowLimit
+first_row [] = None
+first_row (run ∷ later) = row_or_else (row_running run) (first_row later)
+
+-- the same, as it is told
+abbrev pub first_told : List Running → Option ProfileLimit
+first_told runs = option_map told (first_row runs)
+
+-- what sets a connector's own limit, and the lesser of a bound and what sets the point's
+abbrev pub own_bound_now : RunningBound → Bound
+own_bound_now bound = lesser_of (first_row bound.runs) (bound_of ConnectorCeiling bound.ceiling)
+
+abbrev pub below_now : RunningBound → Bound → Bound
+below_now point other = lesser_of (first_row point.runs) (lesser other (bound_of PointCeiling point.ceiling))
+
+-- what a connector has in the sum
+abbrev pub share_by : ℕ → Bound → Share
+share_by connector own = record { connector = connector; limit = own.limit; cause = own.cause }
+
+abbrev pub share_now : RunningBound → Share
+share_now bound = share_by bound.connector (own_bound_now bound)
 
 -- of the rows one that was passed
 abbrev pub passed_at : ℕ → List Running → List Running
@@ -105,7 +138,7 @@ passed_at zero (run ∷ later) = passed run ∷ later
 passed_at (suc n) (run ∷ later) = run ∷ passed_at n later
 
 abbrev pub bound_passed : ℕ → RunningBound → RunningBound
-bound_passed n bound = record { ceiling = bound.ceiling; runs = passed_at n bound.runs }
+bound_passed n bound = record { connector = bound.connector; ceiling = bound.ceiling; runs = passed_at n bound.runs }
 
 -- the instant of the next place of one of the rows
 abbrev pub due_at : List Running → ℕ → Option ℕ

@@ -8,9 +8,12 @@ use Rattle.stacking.specs.Candidates.{AreByFallingLevel}
 use Rattle.meaning.specs.declared.view.View.{View}
 use Rattle.meaning.specs.View.{PointState, point_state, ceiling_of}
 use Rattle.meaning.specs.Prevailing.{counted}
+use Rattle.meaning.specs.declared.cause.Cause.TheVariants.{Sum}
+use Rattle.meaning.specs.declared.cause.Share.{Share}
+use Rattle.meaning.specs.Cause.{Bound, bound_of}
 use Rattle.sweep_compiler.specs.Places.{looked_at, is_place_asked}
 use Rattle.sweep_compiler.specs.ByCases.Seen.{seen_from, is_place_seen}
-use Rattle.sweep_compiler.specs.ByCases.Running.{Running, RunningBound, seen_running, running_from, due_at, bound_now, bound_passed}
+use Rattle.sweep_compiler.specs.ByCases.Running.{Running, RunningBound, seen_running, running_from, due_at, bound_now, own_bound_now, below_now, share_now, bound_passed}
 use Rattle.sweep_compiler.specs.ByCases.Queue.{Due}
 use Rattle.sweep_compiler.specs.declared.limit_curve.LimitCurve.{LimitCurve}
 
@@ -20,6 +23,7 @@ use Rattle.sweep_compiler.specs.declared.limit_curve.LimitCurve.{LimitCurve}
 pub record IsConnectorBound (state : PointState) (asked connector : ℕ) (bound : RunningBound) : Type 0 where
   pub own : List Row
   pub default : List Row
+  pub number : bound.connector ≡ connector
   pub ceiling : bound.ceiling ≡ ceiling_of state connector
   pub own_is : AreByFallingLevel (counted TxProfile state connector) own
   pub default_is : AreByFallingLevel (counted TxDefaultProfile state connector) default
@@ -65,6 +69,11 @@ abbrev pub shared_now : List RunningBound → ℕ
 shared_now [] = 0
 shared_now (point ∷ others) = sum_by bound_now others
 
+-- what each of them has in that
+abbrev pub shares_now : List RunningBound → List Share
+shares_now [] = []
+shares_now (point ∷ others) = map share_now others
+
 -- ---- on the way
 
 -- a row of an ask up to a last instant that has passed its places up to another, but maybe those at it
@@ -105,6 +114,14 @@ abbrev pub limit_now : List RunningBound → ℕ → ℕ
 limit_now [] sum = sum
 limit_now (point ∷ others) sum = min (bound_now point) sum
 
+-- what sets the limit, as the bounds have it now: of the whole point, or of a connector
+abbrev pub bound_as_now : Bool → List RunningBound → ℕ → Bound
+bound_as_now true [] sum = bound_of Sum sum
+bound_as_now false [] sum = bound_of Sum sum
+bound_as_now true (point ∷ others) sum = below_now point (bound_of Sum sum)
+bound_as_now false (point ∷ []) sum = bound_of Sum sum
+bound_as_now false (point ∷ (own ∷ others)) sum = below_now point (own_bound_now own)
+
 -- how many wait for an instant
 abbrev pub waiting_at : ℕ → List Due → ℕ
 waiting_at instant items = count_by (λ (item : Due). item.instant == instant) items
@@ -132,6 +149,7 @@ pub record IsPointAtStart (state : PointState) (asked last : ℕ) (bound : Runni
 pub record IsConnectorAtStart (state : PointState) (asked last connector : ℕ) (bound : RunningBound) : Type 0 where
   pub own : List Running
   pub default : List Running
+  pub number : bound.connector ≡ connector
   pub ceiling : bound.ceiling ≡ ceiling_of state connector
   pub small : bound.ceiling < 2 ^ 32
   pub own_are : AreRunsOf TxProfile state connector asked last own

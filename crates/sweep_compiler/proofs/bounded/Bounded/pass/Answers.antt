@@ -17,4 +17,4 @@ returns-clause-passed c =
     let self = c.self.inside in
     let items = self.runs.items in
     let same = ap (slice_set items c.args.index) (c.pass.ensures ∙ ap passed c.index_mut.ensures.value) ∙ passed_set items c.args.index c.index_mut.result.now in
-    ap (λ (runs : List Running). record { ceiling = self.ceiling; runs = runs }) same ∙ ap (λ (bound : RunningBound). bound_passed c.args.index bound) c.self.view_is
+    ap (λ (runs : List Running). record { connector = self.connector; ceiling = self.ceiling; runs = runs }) same ∙ ap (λ (bound : RunningBound). bound_passed c.args.index bound) c.self.view_is
