@@ -6,7 +6,7 @@ use crate::runs::{opening, site};
 use crate::same::{same, same_outcome};
 use crate::told_steps::{answer_told, parts_of, step_of};
 use ocpp_scalars::Refusal;
-use profile::{Profile, Row};
+use profile::{Criteria, Profile, Row};
 use site_core::{PointId, Reply, Step, Take};
 use std::alloc::Global;
 use std::marker::Brand;
@@ -23,6 +23,9 @@ pub(crate) enum Back {
     Profile(Profile),
     Begin(Begin),
 }
+
+/// What comes of a call that gives nothing back, with its number, 0 where it has none.
+type Called = Result<(&'static str, u64), Refusal>;
 
 type Made = Result<(&'static str, u64), (Refusal, Back)>;
 
@@ -89,42 +92,69 @@ impl<C: Ledger, A: Ledger> Desk<C, A> {
     }
 
     /// The call of a step that gives nothing back.
-    fn bare_call(&mut self, step: Step) -> Result<(&'static str, u64), Refusal> {
+    fn bare_call(&mut self, step: Step) -> Called {
         match step {
-            Step::Clear { point, criteria } => {
-                let removed = self.book.clear(&mut self.pass, point, criteria)?;
-                Ok((if removed { "Accepted" } else { "Unknown" }, 0))
-            }
-            Step::Stop { point, transaction } => {
-                let ended = self.book.stop(&mut self.pass, point, transaction)?;
-                Ok((if ended { "Ended" } else { "NoSuch" }, 0))
-            }
+            Step::Clear { point, criteria } => self.clear(point, criteria),
+            Step::Stop { point, transaction } => self.stop(point, transaction),
             Step::Take(take) => self.take(take),
-            Step::Answer(number) => match self.book.collect(&mut self.pass, number)? {
-                Some(answer) => Ok(answer_told(answer.answer())),
-                None => Ok(("NotYet", 0)),
-            },
+            Step::Answer(number) => self.answer(number),
             other => self.link_call(other),
         }
     }
 
     /// The call of a step of a link.
-    fn link_call(&mut self, step: Step) -> Result<(&'static str, u64), Refusal> {
+    fn link_call(&mut self, step: Step) -> Called {
         match step {
-            Step::Attach(point) => Ok(("Attached", self.book.attach(&mut self.pass, point)?)),
-            Step::Send { point, link } => match self.book.send(point, link)? {
-                Some(call) => Ok(("Sent", call.number)),
-                None => Ok(("Nothing", 0)),
+            Step::Attach(point) => self.attach(point),
+            Step::Send { point, link } => self.send(point, link),
+            Step::Confirm { point, link, call } => match self.book.confirm(point, link, call) {
+                Ok(()) => Ok(("Confirmed", 0)),
+                Err(refusal) => Err(refusal),
             },
-            Step::Confirm { point, link, call } => {
-                self.book.confirm(point, link, call)?;
-                Ok(("Confirmed", 0))
-            }
-            Step::Lost { point, link } => {
-                self.book.lost(point, link)?;
-                Ok(("LinkLost", 0))
-            }
+            Step::Lost { point, link } => match self.book.lost(point, link) {
+                Ok(()) => Ok(("LinkLost", 0)),
+                Err(refusal) => Err(refusal),
+            },
             _ => Ok(("no call", 0)),
+        }
+    }
+
+    fn clear(&mut self, point: PointId, criteria: Criteria) -> Called {
+        match self.book.clear(&mut self.pass, point, criteria) {
+            Ok(true) => Ok(("Accepted", 0)),
+            Ok(false) => Ok(("Unknown", 0)),
+            Err(refusal) => Err(refusal),
+        }
+    }
+
+    fn stop(&mut self, point: PointId, transaction: i32) -> Called {
+        match self.book.stop(&mut self.pass, point, transaction) {
+            Ok(true) => Ok(("Ended", 0)),
+            Ok(false) => Ok(("NoSuch", 0)),
+            Err(refusal) => Err(refusal),
+        }
+    }
+
+    fn answer(&mut self, number: u64) -> Called {
+        match self.book.collect(&mut self.pass, number) {
+            Ok(Some(answer)) => Ok(answer_told(answer.answer())),
+            Ok(None) => Ok(("NotYet", 0)),
+            Err(refusal) => Err(refusal),
+        }
+    }
+
+    fn attach(&mut self, point: PointId) -> Called {
+        match self.book.attach(&mut self.pass, point) {
+            Ok(link) => Ok(("Attached", link)),
+            Err(refusal) => Err(refusal),
+        }
+    }
+
+    fn send(&mut self, point: PointId, link: u64) -> Called {
+        match self.book.send(point, link) {
+            Ok(Some(call)) => Ok(("Sent", call.number)),
+            Ok(None) => Ok(("Nothing", 0)),
+            Err(refusal) => Err(refusal),
         }
     }
 
@@ -154,7 +184,7 @@ impl<C: Ledger, A: Ledger> Desk<C, A> {
     }
 
     /// Takes a request and keeps its job.
-    fn take(&mut self, take: Take) -> Result<(&'static str, u64), Refusal> {
+    fn take(&mut self, take: Take) -> Called {
         let job = self.book.take(
             &mut self.pass,
             take.point,
