@@ -1,110 +1,185 @@
 //! Books at random, compiled from place to place and second by second, and explained.
 
-use crate::books_in_words::{begin, install, point};
-use crate::fixtures::instant_at;
+use crate::fixtures::{instant_at, row_of};
+use crate::same::holds;
+use crate::told_books::{begin, point};
 use meaning::{Ask, compile_plain, reason_at};
 use point_book::PointBook;
+use profile::Row;
 use std::alloc::Global;
 use std::process::Abort;
-use std::test::Fail;
-use sweep_compiler::{Turns, compile, explain};
+use sweep_compiler::{Stretch, Turns, compile, explain};
 
 /// The next of a sequence of numbers that looks random: a linear congruence.
 fn next_number(number: u32) -> u32 {
     number.wrapping_mul(1_664_525).wrapping_add(1_013_904_223)
 }
 
-/// A row told in words, by the bits of a number: all that it does lies within some minutes.
-fn row_in_words(alloc: Global, id: u32, number: u32) -> Result<String, Fail> {
-    let (purpose, connector) = match (number >> 8) % 4 {
+/// By the bits of a number, but for so many of them, one of as many numbers from `least` on.
+fn drawn(number: u32, but: u32, count: u32, least: u32) -> u32 {
+    (number.wrapping_shr(but) % count.max(1)).saturating_add(least)
+}
+
+fn put_purpose(rt: &impl Abort, text: &mut String, number: u32) {
+    let (purpose, connector) = match drawn(number, 8, 4, 0) {
         0 => ("ChargePointMaxProfile", 0),
-        1 => ("TxProfile", 1 + (number >> 11) % 2),
-        _ => ("TxDefaultProfile", (number >> 10) % 3),
+        1 => ("TxProfile", drawn(number, 11, 2, 1)),
+        _ => ("TxDefaultProfile", drawn(number, 10, 3, 0)),
     };
-    let kind = match (number >> 12) % 4 {
+    let level = drawn(number, 14, 4, 0);
+    write!(
+        text,
+        "purpose={purpose} connector={connector} level={level} "
+    )
+    .expect(rt, "error");
+}
+
+fn put_kind(rt: &impl Abort, text: &mut String, number: u32) {
+    let kind = match drawn(number, 12, 4, 0) {
         0 => "Absolute start=",
         1 => "Recurring recurrency=Daily start=",
         2 => "Recurring recurrency=Weekly moment=",
         _ => "Relative moment=",
     };
-    Ok(format!(in alloc;
-        "id={id} purpose={purpose} connector={connector} level={} kind={kind}{} duration={} from={} to={} periods={}:{},{}:{},{}:{}",
-        (number >> 14) % 4,
-        86_400 + (number >> 16) % 150,
-        20 + (number >> 18) % 100,
-        86_400 + (number >> 15) % 60,
-        86_440 + (number >> 20) % 200,
-        (number >> 21) % 8,
-        60 + (number >> 22) % 100,
-        8 + (number >> 6) % 30,
-        60 + (number >> 24) % 100,
-        40 + (number >> 7) % 30,
-        60 + (number >> 9) % 300
-    )?)
+    let second = drawn(number, 16, 150, 86_400);
+    let duration = drawn(number, 18, 100, 20);
+    write!(text, "kind={kind}{second} duration={duration} ").expect(rt, "error");
 }
 
-/// That both compilers answer alike, for each connector and the whole point.
-fn expect_alike(rt: &impl Abort, alloc: Global, book: &PointBook, seed: u32) -> Result<(), Fail> {
-    for connector in 0..3u32 {
-        let ask = Ask::try_new(connector, instant_at(86_410)?, 60 + seed % 140)?;
-        assert!(rt; ask.connector <= book.connectors());
-        let plain = compile_plain(alloc, &book.view(), &ask)?;
-        let schedule = compile(alloc, book, &ask, &mut Turns::new())?;
-        assert!(rt; schedule.periods() == plain.periods(), "{connector} {seed}");
-    }
-    Ok(())
+fn put_validity(rt: &impl Abort, text: &mut String, number: u32) {
+    let from = drawn(number, 15, 60, 86_400);
+    let to = drawn(number, 20, 200, 86_440);
+    write!(text, "from={from} to={to} periods=").expect(rt, "error");
 }
 
-/// A book with two transactions and up to nine rows, by a seed and the number before it, which it moves on.
-fn book_at_random(alloc: Global, seed: u32, number: &mut u32) -> Result<PointBook, Fail> {
-    let mut book = point(alloc, 120 + seed % 600, 2)?;
-    begin(alloc, &mut book, 1, 86_350 + u64::from(seed % 100))?;
-    begin(alloc, &mut book, 2, 86_380 + u64::from(seed % 70))?;
-    for id in 0..1 + seed % 9 {
-        *number = next_number(*number);
-        let words = row_in_words(alloc, id, *number)?;
-        install(alloc, &mut book, words.as_str())?;
+fn put_period(rt: &impl Abort, text: &mut String, start: u32, limit: u32) {
+    write!(text, "{start}:{limit}").expect(rt, "error");
+}
+
+fn put_periods(rt: &impl Abort, text: &mut String, number: u32) {
+    put_period(
+        rt,
+        text,
+        drawn(number, 21, 8, 0),
+        drawn(number, 22, 100, 60),
+    );
+    text.push(',').expect(rt, "error");
+    put_period(
+        rt,
+        text,
+        drawn(number, 6, 30, 8),
+        drawn(number, 24, 100, 60),
+    );
+    text.push(',').expect(rt, "error");
+    put_period(
+        rt,
+        text,
+        drawn(number, 7, 30, 40),
+        drawn(number, 9, 300, 60),
+    );
+}
+
+/// A row by the bits of a number, told in words: all that it does lies within some minutes.
+fn row(rt: &impl Abort, alloc: Global, id: u32, number: u32) -> Row {
+    let mut text = format!(in alloc; "id={id} ").expect(rt, "error");
+    put_purpose(rt, &mut text, number);
+    put_kind(rt, &mut text, number);
+    put_validity(rt, &mut text, number);
+    put_periods(rt, &mut text, number);
+    row_of(alloc, text.as_str()).expect(rt, text.as_str())
+}
+
+/// Installs rows with the ids from 0 on, by the next numbers, and says which came last.
+fn install(rt: &impl Abort, alloc: Global, book: &mut PointBook, count: u32, before: u32) -> u32 {
+    let mut number = before;
+    for id in 0..count {
+        number = next_number(number);
+        let row = row(rt, alloc, id, number);
+        assert!(rt; row.connector <= book.connectors());
+        holds(rt, book.install(row).is_ok(), "a row");
     }
-    Ok(book)
+    number
+}
+
+/// An ask of a connector for so many seconds from the second from which on the rows change.
+fn ask_of(rt: &impl Abort, connector: u32, duration: u32) -> Ask {
+    let start = instant_at(86_410).expect(rt, "error");
+    Ask::try_new(connector, start, duration).expect(rt, "error")
+}
+
+/// That both compilers answer an ask alike.
+fn expect_alike(rt: &impl Abort, alloc: Global, book: &PointBook, ask: &Ask) {
+    assert!(rt; ask.connector <= book.connectors());
+    let plain = compile_plain(alloc, &book.view(), ask).expect(rt, "error");
+    let schedule = compile(alloc, book, ask, &mut Turns::new()).expect(rt, "error");
+    holds(rt, schedule.periods() == plain.periods(), "a schedule");
+}
+
+/// That a stretch tells what `reason_at` finds at one of its seconds.
+fn expect_reason(
+    rt: &impl Abort,
+    alloc: Global,
+    book: &PointBook,
+    ask: &Ask,
+    (stretch, second): (&Stretch, u32),
+) {
+    let view = book.view();
+    assert!(rt; ask.connector as usize <= view.ceilings.len());
+    assert!(rt; view.ceilings.len() == 2);
+    let instant = ask.start.plus(u64::from(second));
+    let reason = reason_at(alloc, &view, ask.connector, ask.start, instant).expect(rt, "error");
+    holds(rt, reason.same(&stretch.reason), "a reason");
+}
+
+/// That each stretch of an explained ask tells its reason at its first second and at its last.
+fn expect_reasons(rt: &impl Abort, alloc: Global, book: &PointBook, ask: &Ask) {
+    assert!(rt; ask.connector <= book.connectors());
+    let explanation = explain(alloc, book, ask, &mut Turns::new()).expect(rt, "error");
+    for stretch in explanation.stretches() {
+        expect_reason(rt, alloc, book, ask, (stretch, stretch.start));
+        expect_reason(
+            rt,
+            alloc,
+            book,
+            ask,
+            (stretch, stretch.end.saturating_sub(1)),
+        );
+    }
+}
+
+/// A book with two transactions and up to nine rows by the numbers behind one of them, of which the last comes back.
+fn book_at_random(rt: &impl Abort, alloc: Global, seed: u32, before: u32) -> (PointBook, u32) {
+    let mut book = point(rt, alloc, drawn(seed, 0, 600, 120), (2, 320));
+    let second = u64::from(drawn(seed, 0, 100, 86_350));
+    begin(rt, alloc, &mut book, (1, "tag", second), 1);
+    let second = u64::from(drawn(seed, 0, 70, 86_380));
+    begin(rt, alloc, &mut book, (2, "tag", second), 1);
+    let number = install(rt, alloc, &mut book, drawn(seed, 0, 9, 1), before);
+    (book, number)
 }
 
 #[test]
-fn compiles_books_at_random(rt: HostRuntime) -> Result<(), Fail> {
-    let alloc = rt.alloc();
+fn compiles_books_at_random(rt: HostRuntime) {
     let mut number = 1;
     for seed in 0..10_000u32 {
-        let book = book_at_random(alloc, seed, &mut number)?;
-        expect_alike(&rt, alloc, &book, seed)?;
-    }
-    Ok(())
-}
-
-/// That each stretch tells what `reason_at` finds at its first second and at its last.
-fn expect_reasons(rt: &impl Abort, alloc: Global, book: &PointBook, ask: &Ask) -> Result<(), Fail> {
-    assert!(rt; ask.connector <= book.connectors());
-    let view = book.view();
-    assert!(rt; view.ceilings.len() == 2);
-    let explanation = explain(alloc, book, ask, &mut Turns::new())?;
-    for stretch in explanation.stretches() {
-        for second in [stretch.start, stretch.end.saturating_sub(1)] {
-            let instant = ask.start.plus(u64::from(second));
-            let reason = reason_at(alloc, &view, ask.connector, ask.start, instant)?;
-            assert!(rt; reason.same(&stretch.reason), "{} {second}", ask.connector);
+        let (book, next) = book_at_random(&rt, rt.alloc(), seed, number);
+        number = next;
+        for connector in 0..3u32 {
+            let ask = ask_of(&rt, connector, drawn(seed, 0, 140, 60));
+            expect_alike(&rt, rt.alloc(), &book, &ask);
         }
     }
-    Ok(())
 }
 
 #[test]
-fn explains_books_at_random(rt: HostRuntime) -> Result<(), Fail> {
-    let alloc = rt.alloc();
+fn explains_books_at_random(rt: HostRuntime) {
     let mut number = 1;
     for seed in 0..500u32 {
-        let book = book_at_random(alloc, seed, &mut number)?;
+        let (book, next) = book_at_random(&rt, rt.alloc(), seed, number);
+        number = next;
         for connector in 0..3u32 {
-            let ask = Ask::try_new(connector, instant_at(86_410)?, 60 + seed % 140)?;
-            expect_reasons(&rt, alloc, &book, &ask)?;
+            let ask = ask_of(&rt, connector, drawn(seed, 0, 140, 60));
+            expect_reasons(&rt, rt.alloc(), &book, &ask);
         }
     }
-    Ok(())
 }

@@ -1,206 +1,136 @@
-//! Limits and schedules with what sets them, and why a profile doesn't prevail: worked by hand.
+//! Limits and schedules with what sets them, and why a profile doesn't prevail: worked by hand. The lines are
+//! those of `told_books.rt`, each stretch with its start, its end and its reason.
 
-use crate::books_in_words::{ask_of, begin, install, point};
 use crate::fixtures::{instant_at, row_of};
-use meaning::{Cause, Reason, View, reason_at, why_not};
-use point_book::PointBook;
+use crate::same::{holds, same_text};
+use crate::told_books::play;
+use crate::told_reasons::put_reason;
+use crate::words::Words;
+use meaning::{Reason, View, reason_at, why_not};
+use ocpp_scalars::Instant;
+use profile::Row;
 use std::alloc::Global;
 use std::process::Abort;
-use std::test::Fail;
-use sweep_compiler::{Turns, explain};
-
-/// Writes a cause: the chargingProfileId, or which ceiling, or the sum.
-fn write_cause(text: &mut String, cause: Cause) -> Result<(), Fail> {
-    match cause {
-        Cause::Profile(profile) => write!(text, "id={}", profile.id)?,
-        Cause::ConnectorCeiling => write!(text, "connector")?,
-        Cause::PointCeiling => write!(text, "point")?,
-        Cause::Sum => write!(text, "sum")?,
-    }
-    Ok(())
-}
-
-/// Writes a limit with its cause and its shares, as `400:sum(1:200:id=2)(2:200:connector)`.
-fn write_reason(text: &mut String, reason: &Reason) -> Result<(), Fail> {
-    write!(text, "{}:", reason.limit)?;
-    write_cause(text, reason.cause)?;
-    for share in reason.shares.as_slice() {
-        write!(text, "({}:{}:", share.connector, share.limit)?;
-        write_cause(text, share.cause)?;
-        write!(text, ")")?;
-    }
-    Ok(())
-}
-
-/// Asks, each with its stretches, as `1 0 60 = 0-2:60:id=1 2-60:200:id=2`.
-fn expect(rt: &impl Abort, alloc: Global, book: &PointBook, lines: &str) -> Result<(), Fail> {
-    for line in lines.lines() {
-        let (asked, wanted) = line.split_once(" =").ok_or("no stretches")?;
-        let ask = ask_of(asked)?;
-        assert!(rt; ask.connector <= book.connectors());
-        let explanation = explain(alloc, book, &ask, &mut Turns::new())?;
-        assert_eq!(rt; explanation.duration(), ask.duration);
-        let mut text = String::new(alloc);
-        for stretch in explanation.stretches() {
-            write!(&mut text, " {}-{}:", stretch.start, stretch.end)?;
-            write_reason(&mut text, &stretch.reason)?;
-        }
-        assert_eq!(rt; text.as_str(), wanted, "{line}");
-    }
-    Ok(())
-}
 
 /// 6 A from 22:00 to 06:00, and 20 A below it.
 const NIGHT: &str = "\
-id=1 level=1 kind=Recurring recurrency=Daily start=79200 duration=28800 periods=0:60
-id=2 start=0 periods=0:200";
+row id=1 level=1 kind=Recurring recurrency=Daily start=79200 duration=28800 periods=0:60
+row id=2 start=0 periods=0:200
+explain 1 194398 86400 = 0-2:60:id=1 2-57602:200:id=2 57602-86400:60:id=1
+reasons 1 194398 604800 = 15 15";
 
 #[test]
-fn names_the_higher_of_two_levels(rt: HostRuntime) -> Result<(), Fail> {
-    let alloc = rt.alloc();
-    let mut book = point(alloc, 630, 2)?;
-    install(alloc, &mut book, NIGHT)?;
-    expect(
-        &rt,
-        alloc,
-        &book,
-        "1 194398 86400 = 0-2:60:id=1 2-57602:200:id=2 57602-86400:60:id=1",
-    )?;
-    let mut turns = Turns::new();
-    let week = ask_of("1 194398 604800")?;
-    assert!(rt; week.connector <= book.connectors());
-    let explanation = explain(alloc, &book, &week, &mut turns)?;
-    assert_eq!(rt; explanation.stretches().len(), 15);
-    assert_eq!(rt; turns.count(), 15);
-    Ok(())
+fn names_the_higher_of_two_levels(rt: HostRuntime) {
+    play(&rt, rt.alloc(), NIGHT);
 }
 
 /// The maximum of 10 A lies below the 20 A by day, and above the 6 A by night.
-#[test]
-fn names_a_fuse_while_it_is_the_least(rt: HostRuntime) -> Result<(), Fail> {
-    let alloc = rt.alloc();
-    let mut book = point(alloc, 630, 2)?;
-    install(alloc, &mut book, NIGHT)?;
-    let fuse = "id=3 purpose=ChargePointMaxProfile start=0 periods=0:100,43300:250,79000:100";
-    install(alloc, &mut book, fuse)?;
-    expect(
-        &rt,
-        alloc,
-        &book,
-        "1 43200 200 = 0-100:100:id=3 100-200:200:id=2\n2 79100 300 = 0-100:100:id=3 100-300:60:id=1",
-    )
-}
+const FUSE: &str = "\
+row id=1 level=1 kind=Recurring recurrency=Daily start=79200 duration=28800 periods=0:60
+row id=2 start=0 periods=0:200
+row id=3 purpose=ChargePointMaxProfile start=0 periods=0:100,43300:250,79000:100
+explain 1 43200 200 = 0-100:100:id=3 100-200:200:id=2
+explain 2 79100 300 = 0-100:100:id=3 100-300:60:id=1";
 
 #[test]
-fn names_a_transaction_profile_while_it_lasts(rt: HostRuntime) -> Result<(), Fail> {
-    let alloc = rt.alloc();
-    let mut book = point(alloc, 630, 2)?;
-    begin(alloc, &mut book, 1, 100)?;
-    let lines = "\
-id=5 connector=1 purpose=TxProfile kind=Relative duration=120 periods=0:60,60:160
-id=2 start=0 periods=0:200";
-    install(alloc, &mut book, lines)?;
-    expect(
-        &rt,
-        alloc,
-        &book,
-        "1 100 200 = 0-60:60:id=5 60-120:160:id=5 120-200:200:id=2",
-    )
+fn names_a_fuse_while_it_is_the_least(rt: HostRuntime) {
+    play(&rt, rt.alloc(), FUSE);
+}
+
+const TRANSACTION: &str = "\
+start 1 ann 100 1 = 1
+row id=5 connector=1 purpose=TxProfile kind=Relative duration=120 periods=0:60,60:160
+row id=2 start=0 periods=0:200
+explain 1 100 200 = 0-60:60:id=5 60-120:160:id=5 120-200:200:id=2";
+
+#[test]
+fn names_a_transaction_profile_while_it_lasts(rt: HostRuntime) {
+    play(&rt, rt.alloc(), TRANSACTION);
 }
 
 /// The second connector's own 40 A lie above its ceiling. The maximum holds from second 30 to 60.
-#[test]
-fn shares_the_sum(rt: HostRuntime) -> Result<(), Fail> {
-    let alloc = rt.alloc();
-    let mut book = point(alloc, 630, 3)?;
-    expect(&rt, alloc, &book, "0 0 60 = 0-60:0:sum")?;
-    begin(alloc, &mut book, 1, 0)?;
-    begin(alloc, &mut book, 2, 0)?;
-    let lines = "\
-id=2 start=0 periods=0:200
-id=4 connector=2 start=0 periods=0:400
-id=6 purpose=ChargePointMaxProfile start=30 duration=30 periods=0:500";
-    install(alloc, &mut book, lines)?;
-    let sum = "520:sum(1:200:id=2)(2:320:connector)";
-    let wanted = format!(in alloc; "0 0 90 = 0-30:{sum} 30-60:500:id=6 60-90:{sum}")?;
-    expect(&rt, alloc, &book, wanted.as_str())
-}
+const SHARES: &str = "\
+point 630 3 320
+explain 0 0 60 = 0-60:0:sum
+start 1 ann 0 1 = 1
+start 2 ann 0 1 = 1
+row id=2 start=0 periods=0:200
+row id=4 connector=2 start=0 periods=0:400
+row id=6 purpose=ChargePointMaxProfile start=30 duration=30 periods=0:500
+explain 0 0 90 = 0-30:520:sum(1:200:id=2)(2:320:connector) 30-60:500:id=6 60-90:520:sum(1:200:id=2)(2:320:connector)";
 
 #[test]
-fn parts_stretches_of_equal_sums(rt: HostRuntime) -> Result<(), Fail> {
-    let alloc = rt.alloc();
-    let mut book = point(alloc, 630, 2)?;
-    begin(alloc, &mut book, 1, 0)?;
-    begin(alloc, &mut book, 2, 0)?;
-    let lines = "\
-id=1 connector=1 start=0 periods=0:100,30:200
-id=2 connector=2 start=0 periods=0:200,30:100";
-    install(alloc, &mut book, lines)?;
-    let line =
-        "0 0 60 = 0-30:300:sum(1:100:id=1)(2:200:id=2) 30-60:300:sum(1:200:id=1)(2:100:id=2)";
-    expect(&rt, alloc, &book, line)
+fn shares_the_sum(rt: HostRuntime) {
+    play(&rt, rt.alloc(), SHARES);
+}
+
+const EQUAL_SUMS: &str = "\
+start 1 ann 0 1 = 1
+start 2 ann 0 1 = 1
+row id=1 connector=1 start=0 periods=0:100,30:200
+row id=2 connector=2 start=0 periods=0:200,30:100
+explain 0 0 60 = 0-30:300:sum(1:100:id=1)(2:200:id=2) 30-60:300:sum(1:200:id=1)(2:100:id=2)";
+
+#[test]
+fn parts_stretches_of_equal_sums(rt: HostRuntime) {
+    play(&rt, rt.alloc(), EQUAL_SUMS);
 }
 
 /// A point of 32 A with connectors of 32 A, a default and a maximum of 32 A, added one after the other.
+const EQUALS: &str = "\
+point 320 2 320
+explain 1 0 60 = 0-60:320:connector
+row id=2 start=0 duration=30 periods=0:320
+explain 1 0 60 = 0-30:320:id=2 30-60:320:connector
+start 2 ann 0 1 = 1
+explain 0 40 20 = 0-20:320:sum(2:320:connector)
+start 1 ann 0 1 = 1
+explain 0 40 20 = 0-20:320:point
+row id=3 purpose=ChargePointMaxProfile start=0 periods=0:320
+explain 1 0 60 = 0-60:320:id=3
+explain 0 0 60 = 0-60:320:id=3";
+
 #[test]
-fn names_the_first_of_equals(rt: HostRuntime) -> Result<(), Fail> {
-    let alloc = rt.alloc();
-    let mut book = point(alloc, 320, 2)?;
-    expect(&rt, alloc, &book, "1 0 60 = 0-60:320:connector")?;
-    install(alloc, &mut book, "id=2 start=0 duration=30 periods=0:320")?;
-    expect(
-        &rt,
-        alloc,
-        &book,
-        "1 0 60 = 0-30:320:id=2 30-60:320:connector",
-    )?;
-    begin(alloc, &mut book, 2, 0)?;
-    expect(&rt, alloc, &book, "0 40 20 = 0-20:320:sum(2:320:connector)")?;
-    begin(alloc, &mut book, 1, 0)?;
-    expect(&rt, alloc, &book, "0 40 20 = 0-20:320:point")?;
-    let most = "id=3 purpose=ChargePointMaxProfile start=0 periods=0:320";
-    install(alloc, &mut book, most)?;
-    expect(
-        &rt,
-        alloc,
-        &book,
-        "1 0 60 = 0-60:320:id=3\n0 0 60 = 0-60:320:id=3",
-    )
+fn names_the_first_of_equals(rt: HostRuntime) {
+    play(&rt, rt.alloc(), EQUALS);
 }
 
 /// The last second that may be asked is 9999-12-31T23:59:59Z, so many seconds after midnight.
+const LAST_SECOND: &str = "\
+row id=1 start=0 to=251666611199 periods=0:100
+explain 1 251666611198 2 = 0-1:100:id=1 1-2:320:connector
+explain 2 251666611199 1 = 0-1:320:connector";
+
 #[test]
-fn explains_the_last_second(rt: HostRuntime) -> Result<(), Fail> {
-    let alloc = rt.alloc();
-    let mut book = point(alloc, 630, 2)?;
-    install(
-        alloc,
-        &mut book,
-        "id=1 start=0 to=251666611199 periods=0:100",
-    )?;
-    expect(
-        &rt,
-        alloc,
-        &book,
-        "1 251666611198 2 = 0-1:100:id=1 1-2:320:connector\n2 251666611199 1 = 0-1:320:connector",
-    )
+fn explains_the_last_second(rt: HostRuntime) {
+    play(&rt, rt.alloc(), LAST_SECOND);
+}
+
+fn instant(rt: &impl Abort, second: u64) -> Instant {
+    instant_at(second).expect(rt, "error")
+}
+
+/// The reason at a connector of a point of two, asked from midnight on.
+fn reason(rt: &impl Abort, alloc: Global, view: &View<'_>, connector: u32, second: u64) -> Reason {
+    assert!(rt; view.ceilings.len() == 2);
+    assert!(rt; connector < 3);
+    let (asked, at) = (instant(rt, 0), instant(rt, second));
+    reason_at(alloc, view, connector, asked, at).expect(rt, "error")
 }
 
 #[test]
-fn gives_a_reason_at_an_instant(rt: HostRuntime) -> Result<(), Fail> {
+fn gives_a_reason_at_an_instant(rt: HostRuntime) {
     let alloc = rt.alloc();
-    let mut book = point(alloc, 630, 2)?;
-    install(alloc, &mut book, NIGHT)?;
-    let midnight = instant_at(0)?;
+    let book = play(&rt, alloc, NIGHT);
     let view = book.view();
-    assert!(rt; view.ceilings.len() == 2);
-    let reason = reason_at(alloc, &view, 2, midnight, instant_at(43_200)?)?;
+    let second = reason(&rt, alloc, &view, 2, 43_200);
     let mut text = String::new(alloc);
-    write_reason(&mut text, &reason)?;
-    assert_eq!(rt; text.as_str(), "200:id=2");
-    assert!(rt; reason.same(&reason_at(alloc, &view, 1, midnight, instant_at(43_200)?)?));
-    assert!(rt; !reason.same(&reason_at(alloc, &view, 1, midnight, instant_at(79_200)?)?));
-    Ok(())
+    put_reason(&rt, &mut text, &second);
+    same_text(&rt, text.as_str(), "200:id=2", "at noon");
+    let first = reason(&rt, alloc, &view, 1, 43_200);
+    holds(&rt, second.same(&first), "the same at both connectors");
+    let at_night = reason(&rt, alloc, &view, 1, 79_200);
+    holds(&rt, !second.same(&at_night), "another one at night");
 }
 
 /// Row by row from 0: at another connector, of a transaction, hidden at connector 2, valid from second 100 to
@@ -213,36 +143,33 @@ id=4 level=4 start=0 from=100 to=200
 id=5 level=5 start=100 duration=50 periods=10:160";
 
 /// Of a connector, a second and a row of `ROWS` why it doesn't prevail: `1 50 0 OtherConnector`.
-fn expect_why(rt: &impl Abort, view: &View<'_>, alloc: Global, lines: &str) -> Result<(), Fail> {
+fn expect_why(rt: &impl Abort, alloc: Global, view: &View<'_>, lines: &str) {
     for line in lines.lines() {
-        let mut words = line.split(' ');
-        let connector = words.next().ok_or("no connector")?.parse::<u32>()?;
-        let instant = instant_at(words.next().ok_or("no second")?.parse::<u64>()?)?;
-        let place = words.next().ok_or("no row")?.parse::<usize>()?;
-        assert!(rt; place < view.rows.len());
-        let told = match why_not(view, connector, instant_at(0)?, instant, place) {
-            Some(why) => format!(in alloc; "{why:?}")?,
-            None => String::from_str(alloc, "prevails")?,
-        };
-        assert_eq!(rt; Some(told.as_str()), words.next(), "{line}");
+        let mut words = Words::of(line);
+        let connector = words.number().expect(rt, line);
+        let second = words.instant().expect(rt, line);
+        let place = words.number().expect(rt, line) as usize;
+        let told = why(rt, alloc, view, (connector, second), place);
+        same_text(rt, told.as_str(), words.word(), line);
     }
-    Ok(())
 }
 
-#[test]
-fn tells_why_a_profile_does_not_prevail(rt: HostRuntime) -> Result<(), Fail> {
-    let alloc = rt.alloc();
-    let mut rows = Vec::new(alloc);
-    for line in ROWS.lines() {
-        rows.push(row_of(alloc, line)?)?;
-    }
-    let idle = View {
-        ceiling: 630,
-        ceilings: &[320, 320],
-        starts: &[None, None],
-        rows: rows.as_slice(),
+fn why(
+    rt: &impl Abort,
+    alloc: Global,
+    view: &View<'_>,
+    (connector, second): (u32, Instant),
+    place: usize,
+) -> String {
+    assert!(rt; place < view.rows.len());
+    let told = match why_not(view, connector, instant(rt, 0), second, place) {
+        Some(why) => format!(in alloc; "{why:?}"),
+        None => format!(in alloc; "prevails"),
     };
-    let lines = "\
+    told.expect(rt, "error")
+}
+
+const IDLE: &str = "\
 1 50 0 OtherConnector
 1 50 1 NoTransaction
 2 50 1 OtherConnector
@@ -256,16 +183,40 @@ fn tells_why_a_profile_does_not_prevail(rt: HostRuntime) -> Result<(), Fail> {
 1 110 2 BelowHigherLevel
 1 50 2 prevails
 2 50 0 prevails";
-    expect_why(&rt, &idle, alloc, lines)?;
-    let charging = View {
-        starts: &[Some(instant_at(40)?), None],
-        ..idle
-    };
-    let lines = "\
+
+/// With a transaction at the first connector, which began at second 40.
+const CHARGING: &str = "\
 1 110 4 BehindTxProfile
 1 110 1 prevails
 1 30 1 BeforeAnchor
 1 30 2 prevails
 2 110 4 prevails";
-    expect_why(&rt, &charging, alloc, lines)
+
+fn rows_of(rt: &impl Abort, alloc: Global, lines: &str) -> Vec<Row> {
+    let mut rows = Vec::new(alloc);
+    for line in lines.lines() {
+        let row = row_of(alloc, line).expect(rt, line);
+        rows.push(row).ok().expect(rt, line);
+    }
+    rows
+}
+
+/// Of a point of two connectors, at the first of which a transaction began.
+fn expect_of(rt: &impl Abort, alloc: Global, rows: &[Row], began: Option<Instant>, lines: &str) {
+    let view = View {
+        ceiling: 630,
+        ceilings: &[320, 320],
+        starts: &[began, None],
+        rows,
+    };
+    expect_why(rt, alloc, &view, lines);
+}
+
+#[test]
+fn tells_why_a_profile_does_not_prevail(rt: HostRuntime) {
+    let alloc = rt.alloc();
+    let rows = rows_of(&rt, alloc, ROWS);
+    expect_of(&rt, alloc, rows.as_slice(), None, IDLE);
+    let began = Some(instant(&rt, 40));
+    expect_of(&rt, alloc, rows.as_slice(), began, CHARGING);
 }

@@ -1,73 +1,68 @@
 //! What tests are made of: instants, profiles and their rows told in words, starts of transactions, site
 //! files. Tables in words are data, which nothing has to be proved of.
 
-use ocpp_scalars::{IdTag, Instant};
+use crate::words::{Told, instant_of};
+use ocpp_scalars::{IdTag, Instant, Refusal};
 use profile::{
-    Criteria, Named, Period, PeriodList, Profile, ProfileKind, ProfileParts, Purpose, Row,
-    ScheduleParts, Unit,
+    Criteria, Period, PeriodList, Profile, ProfileKind, ProfileParts, Purpose, Row, ScheduleParts,
+    Unit,
 };
-use std::alloc::Global;
-use std::test::Fail;
+use std::alloc::{AllocError, AllocFailed, Global};
+use std::fmt;
 use transactions::Begin;
-
-/// 2025-01-01T00:00:00Z, a Wednesday.
-pub const MIDNIGHT: u64 = 1_735_689_600;
 
 /// As long as an idTag may be, of characters of four bytes.
 pub const LONGEST_TAG: &str = "🔌🔌🔌🔌🔌🔌🔌🔌🔌🔌🔌🔌🔌🔌🔌🔌🔌🔌🔌🔌";
 
+/// Why there isn't what words tell of.
+#[derive(Clone, Copy, Debug, PartialEq, Eq)]
+pub enum Untold {
+    /// They can't be read.
+    Words,
+    /// It is no profile.
+    Refused(Refusal),
+    /// Memory ran out.
+    OutOfMemory,
+}
+
+impl From<AllocError> for Untold {
+    fn from(_error: AllocError) -> Untold {
+        Untold::OutOfMemory
+    }
+}
+
+impl<T: Drop> From<AllocFailed<T>> for Untold {
+    fn from(_failed: AllocFailed<T>) -> Untold {
+        Untold::OutOfMemory
+    }
+}
+
+/// Of a text in memory that is written.
+impl From<fmt::Error> for Untold {
+    fn from(_error: fmt::Error) -> Untold {
+        Untold::OutOfMemory
+    }
+}
+
 /// The instant so many seconds after midnight.
-pub fn instant_at(second: u64) -> Result<Instant, Fail> {
-    let seconds = MIDNIGHT.checked_add(second).ok_or("too many seconds")?;
-    Ok(Instant::try_new(seconds).ok_or("past the last instant")?)
-}
-
-/// What follows a key in the first of the words that begins with it.
-fn value_in<'a>(words: &'a str, key: &str) -> Option<&'a str> {
-    for word in words.split(' ') {
-        if let Some(value) = word.strip_prefix(key) {
-            return Some(value);
-        }
-    }
-    None
-}
-
-fn number_in(words: &str, key: &str) -> Result<Option<u32>, Fail> {
-    match value_in(words, key) {
-        Some(value) => Ok(Some(value.parse::<u32>()?)),
-        None => Ok(None),
-    }
-}
-
-fn whole_in(words: &str, key: &str) -> Result<Option<i32>, Fail> {
-    match value_in(words, key) {
-        Some(value) => Ok(Some(value.parse::<i32>()?)),
-        None => Ok(None),
-    }
-}
-
-fn instant_in(words: &str, key: &str) -> Result<Option<Instant>, Fail> {
-    match value_in(words, key) {
-        Some(value) => Ok(Some(instant_at(value.parse::<u64>()?)?)),
-        None => Ok(None),
-    }
-}
-
-fn name_in<T: Named + Drop>(words: &str, key: &str) -> Result<Option<T>, Fail> {
-    match value_in(words, key) {
-        Some(value) => Ok(Some(T::named(value).ok_or("no such name")?)),
-        None => Ok(None),
-    }
+pub fn instant_at(second: u64) -> Result<Instant, Untold> {
+    instant_of(second).ok_or(Untold::Words)
 }
 
 /// The criteria told in words: `id=`, `connector=`, `purpose=`, `level=`. What isn't told isn't given.
-pub fn criteria_of(words: &str) -> Result<Criteria, Fail> {
-    Ok(Criteria {
-        id: whole_in(words, "id=")?,
-        connector: number_in(words, "connector=")?,
-        purpose: name_in(words, "purpose=")?,
-        stack_level: number_in(words, "level=")?,
-    })
+pub fn criteria_of(words: &str) -> Result<Criteria, Untold> {
+    let mut told = Told::of(words);
+    let criteria = Criteria {
+        id: told.whole("id="),
+        connector: told.number("connector="),
+        purpose: told.name("purpose="),
+        stack_level: told.number("level="),
+    };
+    if told.is_read() {
+        Ok(criteria)
+    } else {
+        Err(Untold::Words)
+    }
 }
 
 fn period(start: u32, limit: u32) -> Period {
@@ -78,18 +73,28 @@ fn period(start: u32, limit: u32) -> Period {
     }
 }
 
-/// The periods of `periods=0:160,3600:80`, of each its start and its limit.
-fn periods_told(alloc: Global, told: &str) -> Result<Vec<Period>, Fail> {
+/// The period of `3600:80`, its start and its limit.
+fn period_told(word: &str) -> Option<Period> {
+    let (start, limit) = word.split_once(':')?;
+    let start = start.parse::<u32>().ok()?;
+    let limit = limit.parse::<u32>().ok()?;
+    Some(period(start, limit))
+}
+
+/// The periods of `periods=0:160,3600:80`.
+fn periods_told(alloc: Global, told: &str) -> Result<Vec<Period>, Untold> {
     let mut periods = Vec::new(alloc);
-    for one in told.split(',') {
-        let (start, limit) = one.split_once(':').ok_or("no period")?;
-        periods.push(period(start.parse::<u32>()?, limit.parse::<u32>()?))?;
+    for word in told.split(',') {
+        match period_told(word) {
+            Some(period) => periods.push(period)?,
+            None => return Err(Untold::Words),
+        }
     }
     Ok(periods)
 }
 
 /// 200 periods of so many seconds, of 6 A and 10 A by turns.
-fn periods_by_turns(alloc: Global, seconds: u32) -> Result<Vec<Period>, Fail> {
+fn periods_by_turns(alloc: Global, seconds: u32) -> Result<Vec<Period>, Untold> {
     let mut periods = Vec::new(alloc);
     for index in 0..200u32 {
         let limit = if index % 2 == 0 { 60 } else { 100 };
@@ -98,61 +103,92 @@ fn periods_by_turns(alloc: Global, seconds: u32) -> Result<Vec<Period>, Fail> {
     Ok(periods)
 }
 
-fn period_list(alloc: Global, words: &str) -> Result<PeriodList, Fail> {
-    let periods = match number_in(words, "turns=")? {
-        Some(seconds) => periods_by_turns(alloc, seconds)?,
-        None => periods_told(alloc, value_in(words, "periods=").unwrap_or("0:160"))?,
+fn period_list(alloc: Global, told: &mut Told<'_>) -> Result<PeriodList, Untold> {
+    let periods = match told.number("turns=") {
+        Some(seconds) => periods_by_turns(alloc, seconds),
+        None => periods_told(alloc, told.value("periods=").unwrap_or("0:160")),
     };
-    Ok(PeriodList::try_new(periods).ok().ok_or("no period")?)
+    match PeriodList::try_new(periods?) {
+        Ok(list) => Ok(list),
+        Err(_) => Err(Untold::Words),
+    }
+}
+
+fn parts_of(told: &mut Told<'_>, periods: PeriodList) -> ProfileParts {
+    let schedule = ScheduleParts {
+        duration: told.number("duration="),
+        start: told.instant("start="),
+        unit: told.name("unit=").unwrap_or(Unit::A),
+        periods,
+        min_charging_rate: None,
+    };
+    ProfileParts {
+        id: told.whole("id=").unwrap_or(1),
+        transaction: told.whole("transaction="),
+        stack_level: told.number("level=").unwrap_or(0),
+        purpose: told.name("purpose=").unwrap_or(Purpose::TxDefaultProfile),
+        kind: told.name("kind=").unwrap_or(ProfileKind::Absolute),
+        recurrency: told.name("recurrency="),
+        valid_from: told.instant("from="),
+        valid_to: told.instant("to="),
+        schedule,
+    }
+}
+
+fn profile_told(alloc: Global, told: &mut Told<'_>) -> Result<Profile, Untold> {
+    let periods = period_list(alloc, told)?;
+    let parts = parts_of(told, periods);
+    if !told.is_read() {
+        return Err(Untold::Words);
+    }
+    match Profile::try_new(parts) {
+        Ok(profile) => Ok(profile),
+        Err((refusal, _)) => Err(Untold::Refused(refusal)),
+    }
 }
 
 /// The profile told in words: `id=`, `purpose=`, `level=`, `transaction=`, `kind=`, `recurrency=`, `from=`
 /// and `to=` (its validity), `duration=`, `start=`, `unit=`, and `periods=0:160,3600:80` or `turns=432`: 200
 /// periods of so many seconds, of 6 A and 10 A by turns. Instants count from midnight. What isn't told is
 /// that of an Absolute TxDefaultProfile of 16 A without a start, of id 1 and level 0.
-pub fn profile_of(alloc: Global, words: &str) -> Result<Profile, Fail> {
-    let schedule = ScheduleParts {
-        duration: number_in(words, "duration=")?,
-        start: instant_in(words, "start=")?,
-        unit: name_in(words, "unit=")?.unwrap_or(Unit::A),
-        periods: period_list(alloc, words)?,
-        min_charging_rate: None,
-    };
-    let parts = ProfileParts {
-        id: whole_in(words, "id=")?.unwrap_or(1),
-        transaction: whole_in(words, "transaction=")?,
-        stack_level: number_in(words, "level=")?.unwrap_or(0),
-        purpose: name_in(words, "purpose=")?.unwrap_or(Purpose::TxDefaultProfile),
-        kind: name_in(words, "kind=")?.unwrap_or(ProfileKind::Absolute),
-        recurrency: name_in(words, "recurrency=")?,
-        valid_from: instant_in(words, "from=")?,
-        valid_to: instant_in(words, "to=")?,
-        schedule,
-    };
-    match Profile::try_new(parts) {
-        Ok(profile) => Ok(profile),
-        Err((refusal, _)) => Err(refusal)?,
-    }
+pub fn profile_of(alloc: Global, words: &str) -> Result<Profile, Untold> {
+    profile_told(alloc, &mut Told::of(words))
 }
 
 /// The row of a profile told in words, with `connector=` and `moment=`, of the whole point and from
 /// midnight where these aren't told.
-pub fn row_of(alloc: Global, words: &str) -> Result<Row, Fail> {
+pub fn row_of(alloc: Global, words: &str) -> Result<Row, Untold> {
+    let midnight = instant_at(0)?;
+    let mut told = Told::of(words);
+    let connector = told.number("connector=").unwrap_or(0);
+    let moment = told.instant("moment=").unwrap_or(midnight);
     Ok(Row {
-        connector: number_in(words, "connector=")?.unwrap_or(0),
-        moment: instant_in(words, "moment=")?.unwrap_or(instant_at(0)?),
-        profile: profile_of(alloc, words)?,
+        connector,
+        moment,
+        profile: profile_told(alloc, &mut told)?,
     })
 }
 
 /// A start by an idTag, so many seconds after midnight.
-pub fn begin_of(alloc: Global, tag: &str, meter_start: i32, second: u64) -> Result<Begin, Fail> {
-    let id_tag = IdTag::try_new(String::from_str(alloc, tag)?);
-    Ok(Begin {
-        id_tag: id_tag.ok().ok_or("too long a tag")?,
-        meter_start,
-        timestamp: instant_at(second)?,
-    })
+pub fn begin_of(alloc: Global, tag: &str, meter_start: i32, second: u64) -> Result<Begin, Untold> {
+    let timestamp = instant_at(second)?;
+    match IdTag::try_new(String::from_str(alloc, tag)?) {
+        Ok(id_tag) => Ok(Begin {
+            id_tag,
+            meter_start,
+            timestamp,
+        }),
+        Err(_) => Err(Untold::Words),
+    }
+}
+
+/// The limits of so many connectors of 32 A, as a site file has them.
+fn limits_text(alloc: Global, connectors: usize) -> Result<String, Untold> {
+    let mut text = String::from_str(alloc, "32")?;
+    for _ in 1..connectors {
+        text.push_str(",32")?;
+    }
+    Ok(text)
 }
 
 /// A site file of so many points of 1,000 A, each with so many connectors of 32 A and an identity of so
@@ -162,18 +198,15 @@ pub fn site_text(
     points: usize,
     connectors: usize,
     width: usize,
-) -> Result<String, Fail> {
+) -> Result<String, Untold> {
+    let limits = limits_text(alloc, connectors)?;
     let mut text = String::from_str(alloc, r#"{"unit":"A","points":["#)?;
     for place in 0..points {
-        if place > 0 {
-            text.push(',')?;
-        }
-        text.push_str(&format!(in alloc; r#"{{"id":"{place:0>width$}","ceiling":1000,"#)?)?;
-        text.push_str(r#""connectors":[32"#)?;
-        for _ in 1..connectors {
-            text.push_str(",32")?;
-        }
-        text.push_str("]}")?;
+        let comma = if place > 0 { "," } else { "" };
+        write!(
+            &mut text,
+            r#"{comma}{{"id":"{place:0>width$}","ceiling":1000,"connectors":[{limits}]}}"#
+        )?;
     }
     text.push_str("]}")?;
     Ok(text)

@@ -4,15 +4,15 @@
 #![tactic(auto)]
 
 mod fixtures;
+mod words;
 
 pub use fixtures::{
-    LONGEST_TAG, MIDNIGHT, begin_of, criteria_of, instant_at, profile_of, row_of, site_text,
+    LONGEST_TAG, Untold, begin_of, criteria_of, instant_at, profile_of, row_of, site_text,
 };
+pub use words::{MIDNIGHT, Words};
 
 #[cfg(test)]
 mod books_at_random;
-#[cfg(test)]
-mod books_in_words;
 #[cfg(test)]
 mod callers;
 #[cfg(test)]
@@ -26,6 +26,8 @@ mod point_books;
 #[cfg(test)]
 mod rows_of_a_point;
 #[cfg(test)]
+mod same;
+#[cfg(test)]
 mod schedules_by_seconds;
 #[cfg(test)]
 mod schedules_by_sweeps;
@@ -33,3 +35,7 @@ mod schedules_by_sweeps;
 mod site_files;
 #[cfg(test)]
 mod starts_and_stops;
+#[cfg(test)]
+mod told_books;
+#[cfg(test)]
+mod told_reasons;

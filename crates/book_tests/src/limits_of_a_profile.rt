@@ -1,10 +1,13 @@
 //! Worked changes of a profile's limit, found by hand. Seconds count from 2025-01-01T00:00:00Z.
 
-use crate::fixtures::{instant_at, profile_of};
+use crate::fixtures::profile_of;
+use crate::same::holds;
+use crate::words::Words;
+use ocpp_scalars::Instant;
+use profile::Profile;
 use recurrence::{next_change, rate_at};
 use std::alloc::Global;
 use std::process::Abort;
-use std::test::Fail;
 
 /// On each line a profile, its base, where to begin, where its limit changes, each with the limit from
 /// there on (`-` for none), and whether these are all up to the end of 9999 (`end`) or not (`on`). In turn:
@@ -19,40 +22,40 @@ start=0 duration=7200 periods=0:160,3600:80 from=1800 to=5400 | 0 | 0 | 1800:160
 kind=Relative start=0 duration=180 periods=60:160,120:80 | 600 | 0 | 600:- 660:160 720:80 780:- end
 kind=Recurring recurrency=Daily start=0 to=251666611199 | 0 | 251666524799 | 251666524800:160 251666611199:- end";
 
-fn limit_told(word: &str) -> Result<Option<u32>, Fail> {
-    if word == "-" {
-        return Ok(None);
-    }
-    Ok(Some(word.parse::<u32>()?))
+fn instant_of(rt: &impl Abort, word: &str) -> Instant {
+    Words::of(word).instant().expect(rt, word)
 }
 
-fn expect_changes(rt: &impl Abort, alloc: Global, line: &str) -> Result<(), Fail> {
+/// What follows an instant, by a word as `3600:80` or `end`: where the limit changes next, and the limit from
+/// there on; or else the same instant.
+fn change(rt: &impl Abort, profile: &Profile, base: Instant, at: Instant, word: &str) -> Instant {
+    let found = next_change(profile, base, at);
+    let Some((second, limit)) = word.split_once(':') else {
+        holds(rt, found.is_none() == (word == "end"), word);
+        return at;
+    };
+    let next = instant_of(rt, second);
+    holds(rt, found == Some(next), word);
+    // What is no number is `-`.
+    let rate = rate_at(profile, base, next);
+    holds(rt, rate == limit.parse::<u32>().ok(), word);
+    next
+}
+
+fn expect_changes(rt: &impl Abort, alloc: Global, line: &str) {
     let mut parts = line.split(" | ");
-    let profile = profile_of(alloc, parts.next().ok_or("no profile")?)?;
-    let base = instant_at(parts.next().ok_or("no base")?.parse::<u64>()?)?;
-    let mut instant = instant_at(parts.next().ok_or("no instant")?.parse::<u64>()?)?;
-    for word in parts.next().ok_or("no changes")?.split(' ') {
-        let found = next_change(&profile, base, instant);
-        let Some((second, told)) = word.split_once(':') else {
-            let is_last = found.is_none();
-            let is_told_last = word == "end";
-            assert_eq!(rt; is_last, is_told_last);
-            continue;
-        };
-        let next = instant_at(second.parse::<u64>()?)?;
-        let limit = limit_told(told)?;
-        assert_eq!(rt; found, Some(next));
-        assert_eq!(rt; rate_at(&profile, base, next), limit);
-        instant = next;
+    let words = parts.next().expect(rt, line);
+    let profile = profile_of(alloc, words).expect(rt, words);
+    let base = instant_of(rt, parts.next().expect(rt, line));
+    let mut instant = instant_of(rt, parts.next().expect(rt, line));
+    for word in parts.next().expect(rt, line).split(' ') {
+        instant = change(rt, &profile, base, instant, word);
     }
-    Ok(())
 }
 
 #[test]
-fn changes_where_it_should(rt: HostRuntime) -> Result<(), Fail> {
-    let alloc = rt.alloc();
+fn changes_where_it_should(rt: HostRuntime) {
     for line in CASES.lines() {
-        expect_changes(&rt, alloc, line)?;
+        expect_changes(&rt, rt.alloc(), line);
     }
-    Ok(())
 }

@@ -1,12 +1,14 @@
 //! Places one after another, and levels that have a rate, from outside. Seconds count from
 //! 2025-01-01T00:00:00Z.
 
-use crate::fixtures::{instant_at, profile_of};
+use crate::fixtures::profile_of;
+use crate::same::{holds, same_text};
+use crate::words::{MIDNIGHT, Words};
+use ocpp_scalars::Instant;
 use recurrence::Places;
 use stacking::InForce;
 use std::alloc::Global;
 use std::process::Abort;
-use std::test::Fail;
 
 /// On each line a profile, its base, an instant, a last one, and the places between, each with the rate from
 /// there on (`-` for none). In turn: bounds of the validity between occurrences; a duration that is a start
@@ -19,38 +21,43 @@ start=0 periods=0:160,60:80,120:40 | 0 | 60 | 120 | 120:40
 start=0 periods=0:160,60:80,120:40 | 0 | 59 | 119 | 60:80
 kind=Recurring recurrency=Daily start=0 periods=0:160,90000:80 | 0 | 200000000 | 200100000 | 200016000:160";
 
-fn rate_in_words(alloc: Global, rate: Option<u32>) -> Result<String, Fail> {
+/// A number of tenths, or none.
+fn put_rate(rt: &impl Abort, text: &mut String, rate: Option<u32>) {
     match rate {
-        Some(rate) => Ok(format!(in alloc; "{rate}")?),
-        None => Ok(String::from_str(alloc, "-")?),
+        Some(rate) => write!(text, "{rate}").expect(rt, "error"),
+        None => text.push('-').expect(rt, "error"),
     }
 }
 
-fn places_in_words(alloc: Global, line: &str) -> Result<String, Fail> {
+/// The seconds of a part of a line: ` 7200 `.
+fn instant_of(rt: &impl Abort, part: Option<&str>) -> Instant {
+    let part = part.expect(rt, "no second");
+    Words::of(part).instant().expect(rt, part)
+}
+
+fn places_in_words(rt: &impl Abort, alloc: Global, line: &str) -> String {
     let mut parts = line.split(" | ");
-    let profile = profile_of(alloc, parts.next().ok_or("no profile")?)?;
-    let base = instant_at(parts.next().ok_or("no base")?.parse::<u64>()?)?;
-    let after = instant_at(parts.next().ok_or("no instant")?.parse::<u64>()?)?;
-    let last = instant_at(parts.next().ok_or("no last")?.parse::<u64>()?)?;
-    let midnight = instant_at(0)?.seconds();
+    let words = parts.next().expect(rt, line);
+    let profile = profile_of(alloc, words).expect(rt, words);
+    let base = instant_of(rt, parts.next());
+    let after = instant_of(rt, parts.next());
+    let last = instant_of(rt, parts.next());
     let mut text = String::new(alloc);
     for place in Places::new(&profile, base, after, last) {
-        let second = place.instant.seconds().saturating_sub(midnight);
-        let rate = rate_in_words(alloc, place.rate)?;
-        write!(&mut text, " {second}:{}", rate.as_str())?;
+        let second = place.instant.seconds().saturating_sub(MIDNIGHT);
+        write!(&mut text, " {second}:").expect(rt, "error");
+        put_rate(rt, &mut text, place.rate);
     }
-    Ok(text)
+    text
 }
 
 #[test]
-fn yields_each_place_once(rt: HostRuntime) -> Result<(), Fail> {
-    let alloc = rt.alloc();
+fn yields_each_place_once(rt: HostRuntime) {
     for line in PLACES.lines() {
-        let (_, wanted) = line.rsplit_once(" |").ok_or("no places")?;
-        let found = places_in_words(alloc, line)?;
-        assert_eq!(rt; found.as_str(), wanted, "{line}");
+        let (_, wanted) = line.rsplit_once(" |").expect(&rt, line);
+        let found = places_in_words(&rt, rt.alloc(), line);
+        same_text(&rt, found.as_str(), wanted, line);
     }
-    Ok(())
 }
 
 /// Levels that get a rate or lose it (`-`), each with the rate that prevails then.
@@ -65,21 +72,23 @@ const LEVELS: &str = "\
 3:- = -
 99:10 = 10";
 
+/// Sets the rate of a level, and compares what prevails then.
+fn set_level(rt: &impl Abort, alloc: Global, levels: &mut InForce, line: &str) {
+    let (told, wanted) = line.split_once(" = ").expect(rt, line);
+    let (level, rate) = told.split_once(':').expect(rt, line);
+    let level = level.parse::<u32>().expect(rt, line);
+    // What is no number is `-`.
+    levels.set(level, rate.parse::<u32>().ok()).expect(rt, line);
+    let mut top = String::new(alloc);
+    put_rate(rt, &mut top, levels.top());
+    same_text(rt, top.as_str(), wanted, line);
+}
+
 #[test]
-fn shows_the_highest_level_with_a_rate(rt: HostRuntime) -> Result<(), Fail> {
-    let alloc = rt.alloc();
-    let mut levels = InForce::new(alloc);
-    assert!(rt; levels.top().is_none());
+fn shows_the_highest_level_with_a_rate(rt: HostRuntime) {
+    let mut levels = InForce::new(rt.alloc());
+    holds(&rt, levels.top().is_none(), "no level");
     for line in LEVELS.lines() {
-        let (told, wanted) = line.split_once(" = ").ok_or("no rate")?;
-        let (level, rate) = told.split_once(':').ok_or("no level")?;
-        let rate = match rate {
-            "-" => None,
-            rate => Some(rate.parse::<u32>()?),
-        };
-        levels.set(level.parse::<u32>()?, rate)?;
-        let top = rate_in_words(alloc, levels.top())?;
-        assert_eq!(rt; top.as_str(), wanted, "{line}");
+        set_level(&rt, rt.alloc(), &mut levels, line);
     }
-    Ok(())
 }

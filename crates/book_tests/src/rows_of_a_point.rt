@@ -1,50 +1,61 @@
 //! Installs and clears from outside, and that memory suffices.
 
 use crate::fixtures::{criteria_of, row_of};
+use crate::same::{holds, same, same_text};
 use ocpp_scalars::Refusal;
 use profile::{Named, Purpose};
 use stacking::Rows;
 use std::alloc::Global;
 use std::process::Abort;
-use std::test::Fail;
 
-fn install(alloc: Global, rows: &mut Rows, words: &str) -> Result<(), Fail> {
-    match rows.install(row_of(alloc, words)?) {
-        Ok(()) => Ok(()),
-        Err((refusal, _)) => Err(refusal)?,
+/// Installs a row, and says why it is refused, if it is: then it comes back.
+fn refusal_of(rt: &impl Abort, alloc: Global, rows: &mut Rows, words: &str) -> Option<Refusal> {
+    let row = row_of(alloc, words).expect(rt, words);
+    let id = row.profile.id;
+    match rows.install(row) {
+        Ok(()) => None,
+        Err((refusal, back)) => {
+            holds(rt, back.profile.id == id, words);
+            Some(refusal)
+        }
     }
 }
 
-fn rows_of(alloc: Global, lines: &str) -> Result<Rows, Fail> {
-    let mut rows = Rows::new(alloc);
+fn install(rt: &impl Abort, alloc: Global, rows: &mut Rows, lines: &str) {
     for line in lines.lines() {
-        install(alloc, &mut rows, line)?;
+        let refusal = refusal_of(rt, alloc, rows, line);
+        holds(rt, refusal.is_none(), line);
     }
-    Ok(rows)
+}
+
+fn rows_of(rt: &impl Abort, alloc: Global, lines: &str) -> Rows {
+    let mut rows = Rows::new(alloc);
+    install(rt, alloc, &mut rows, lines);
+    rows
 }
 
 /// 100 rows at connector 0, ids from 1 and levels from 0.
-fn full(alloc: Global) -> Result<Rows, Fail> {
+fn full(rt: &impl Abort, alloc: Global) -> Rows {
     let mut rows = Rows::new(alloc);
     for level in 0..100u32 {
-        let words = format!(in alloc; "id={} level={level}", level + 1)?;
-        install(alloc, &mut rows, words.as_str())?;
+        let id = level.saturating_add(1);
+        let words = format!(in alloc; "id={id} level={level}").expect(rt, "error");
+        install(rt, alloc, &mut rows, words.as_str());
     }
-    Ok(rows)
+    rows
+}
+
+fn put_id(rt: &impl Abort, text: &mut String, id: i32) {
+    write!(text, " {id}").expect(rt, "error");
 }
 
 /// The rows' ids, with a blank before each.
-fn ids(alloc: Global, rows: &Rows) -> Result<String, Fail> {
+fn expect(rt: &impl Abort, alloc: Global, rows: &Rows, wanted: &str) {
     let mut text = String::new(alloc);
     for row in rows.as_slice() {
-        write!(&mut text, " {}", row.profile.id)?;
+        put_id(rt, &mut text, row.profile.id);
     }
-    Ok(text)
-}
-
-fn expect(rt: &impl Abort, alloc: Global, rows: &Rows, wanted: &str) -> Result<(), Fail> {
-    assert_eq!(rt; ids(alloc, rows)?.as_str(), wanted);
-    Ok(())
+    same_text(rt, text.as_str(), wanted, "rows");
 }
 
 const EIGHT_ROWS: &str = "\
@@ -69,68 +80,73 @@ TxProfile 1 = 5
 TxProfile 2 = 7 8
 TxProfile 3 =";
 
-#[test]
-fn yields_the_highest_level_first(rt: HostRuntime) -> Result<(), Fail> {
-    let alloc = rt.alloc();
-    let rows = rows_of(alloc, EIGHT_ROWS)?;
-    for line in CANDIDATES.lines() {
-        let (asked, wanted) = line.split_once(" =").ok_or("no ids")?;
-        let (purpose, connector) = asked.split_once(' ').ok_or("no connector")?;
-        let purpose = Purpose::named(purpose).ok_or("no purpose")?;
-        let mut yielded = String::new(alloc);
-        for row in rows.candidates(purpose, connector.parse::<u32>()?) {
-            write!(&mut yielded, " {}", row.profile.id)?;
-        }
-        assert_eq!(rt; yielded.as_str(), wanted, "{line}");
+fn expect_candidates(rt: &impl Abort, alloc: Global, rows: &Rows, line: &str) {
+    let (asked, wanted) = line.split_once(" =").expect(rt, line);
+    let (purpose, connector) = asked.split_once(' ').expect(rt, line);
+    let purpose = Purpose::named(purpose).expect(rt, line);
+    let connector = connector.parse::<u32>().expect(rt, line);
+    let mut yielded = String::new(alloc);
+    for row in rows.candidates(purpose, connector) {
+        put_id(rt, &mut yielded, row.profile.id);
     }
-    Ok(())
+    same_text(rt, yielded.as_str(), wanted, line);
 }
 
 #[test]
-fn replaces_by_id_and_by_key(rt: HostRuntime) -> Result<(), Fail> {
-    let alloc = rt.alloc();
-    let mut rows = rows_of(alloc, "id=7 connector=1 level=3\nid=8 connector=2 level=3")?;
-    install(alloc, &mut rows, "id=7 connector=2 level=3")?;
-    expect(&rt, alloc, &rows, " 7")?;
-    assert_eq!(rt; rows.clear(&criteria_of("id=8")?), 0);
-    assert_eq!(rt; rows.clear(&criteria_of("id=7")?), 1);
-    expect(&rt, alloc, &rows, "")?;
-    // Another connector, purpose or level is another key, and an id is one of the whole point.
-    install(alloc, &mut rows, "id=1 connector=0 level=3")?;
-    install(
-        alloc,
-        &mut rows,
-        "id=2 connector=1 purpose=TxProfile level=3",
-    )?;
-    install(alloc, &mut rows, "id=3 connector=1 level=2")?;
-    install(alloc, &mut rows, "id=4 connector=1 level=3")?;
-    expect(&rt, alloc, &rows, " 1 2 3 4")?;
-    install(alloc, &mut rows, "id=1 connector=2 purpose=TxProfile")?;
-    expect(&rt, alloc, &rows, " 2 3 4 1")
+fn yields_the_highest_level_first(rt: HostRuntime) {
+    let rows = rows_of(&rt, rt.alloc(), EIGHT_ROWS);
+    for line in CANDIDATES.lines() {
+        expect_candidates(&rt, rt.alloc(), &rows, line);
+    }
 }
 
+fn clear(rt: &impl Abort, rows: &mut Rows, words: &str) -> u64 {
+    let criteria = criteria_of(words).expect(rt, words);
+    rows.clear(&criteria) as u64
+}
+
+/// Another connector, purpose or level is another key, and an id is one of the whole point.
+const OTHER_KEYS: &str = "\
+id=1 connector=0 level=3
+id=2 connector=1 purpose=TxProfile level=3
+id=3 connector=1 level=2
+id=4 connector=1 level=3";
+
 #[test]
-fn keeps_its_limit(rt: HostRuntime) -> Result<(), Fail> {
+fn replaces_by_id_and_by_key(rt: HostRuntime) {
     let alloc = rt.alloc();
-    let mut rows = full(alloc)?;
-    let before = rows.copy()?;
-    assert!(rt; before.same(&rows));
-    let Err((refusal, back)) = rows.install(row_of(alloc, "id=101 connector=1")?) else {
-        return Err("101 rows")?;
-    };
-    assert_eq!(rt; refusal, Refusal::TooManyProfiles);
-    assert_eq!(rt; back.profile.id, 101);
-    assert!(rt; before.same(&rows));
-    install(alloc, &mut rows, "id=101 level=5")?;
-    assert_eq!(rt; rows.as_slice().len(), 100);
-    assert_eq!(rt; rows.as_slice().last().map(|row| row.profile.id), Some(101));
-    assert!(rt; !before.same(&rows));
+    let lines = "id=7 connector=1 level=3\nid=8 connector=2 level=3\nid=7 connector=2 level=3";
+    let mut rows = rows_of(&rt, alloc, lines);
+    expect(&rt, alloc, &rows, " 7");
+    same(&rt, clear(&rt, &mut rows, "id=8"), 0, "id=8");
+    same(&rt, clear(&rt, &mut rows, "id=7"), 1, "id=7");
+    expect(&rt, alloc, &rows, "");
+    install(&rt, alloc, &mut rows, OTHER_KEYS);
+    expect(&rt, alloc, &rows, " 1 2 3 4");
+    install(&rt, alloc, &mut rows, "id=1 connector=2 purpose=TxProfile");
+    expect(&rt, alloc, &rows, " 2 3 4 1");
+}
+
+/// A refused row changes nothing. One that takes the place of another needs no room.
+#[test]
+fn keeps_its_limit(rt: HostRuntime) {
+    let alloc = rt.alloc();
+    let mut rows = full(&rt, alloc);
+    let before = rows.copy().expect(&rt, "error");
+    holds(&rt, before.same(&rows), "a copy");
+    let refusal = refusal_of(&rt, alloc, &mut rows, "id=101 connector=1");
+    holds(&rt, refusal == Some(Refusal::TooManyProfiles), "101 rows");
+    holds(&rt, before.same(&rows), "what a refusal leaves");
+    install(&rt, alloc, &mut rows, "id=101 level=5");
+    same(&rt, rows.as_slice().len() as u64, 100, "rows");
+    let last = rows.as_slice().last().map(|row| row.profile.id);
+    holds(&rt, last == Some(101), "the last row");
+    holds(&rt, !before.same(&rows), "a copy of before");
     // The row of one id and that of one key go at once, and so there is room for one more.
-    install(alloc, &mut rows, "id=3 level=10")?;
-    assert_eq!(rt; rows.as_slice().len(), 99);
-    install(alloc, &mut rows, "id=102 connector=1")?;
-    assert_eq!(rt; rows.as_slice().len(), 100);
-    Ok(())
+    install(&rt, alloc, &mut rows, "id=3 level=10");
+    same(&rt, rows.as_slice().len() as u64, 99, "rows");
+    install(&rt, alloc, &mut rows, "id=102 connector=1");
+    same(&rt, rows.as_slice().len() as u64, 100, "rows");
 }
 
 const FOUR_ROWS: &str = "\
@@ -150,20 +166,24 @@ id=1 purpose=TxProfile = 0: 1 2 3 4
 connector=1 purpose=TxDefaultProfile = 1: 1 3 4
  = 4:";
 
+/// What was cleared is cleared no second time.
+fn expect_clear(rt: &impl Abort, alloc: Global, line: &str) {
+    let (criteria, outcome) = line.split_once(" = ").expect(rt, line);
+    let (removed, left) = outcome.split_once(':').expect(rt, line);
+    let removed = removed.parse::<u64>().expect(rt, line);
+    let mut rows = rows_of(rt, alloc, FOUR_ROWS);
+    same(rt, clear(rt, &mut rows, criteria), removed, line);
+    expect(rt, alloc, &rows, left);
+    same(rt, clear(rt, &mut rows, criteria), 0, line);
+}
+
 #[test]
-fn clears_by_each_criterion(rt: HostRuntime) -> Result<(), Fail> {
-    let alloc = rt.alloc();
+fn clears_by_each_criterion(rt: HostRuntime) {
     for line in CLEARS.lines() {
-        let (criteria, outcome) = line.split_once(" = ").ok_or("no outcome")?;
-        let (removed, left) = outcome.split_once(':').ok_or("no rows")?;
-        let criteria = criteria_of(criteria)?;
-        let mut rows = rows_of(alloc, FOUR_ROWS)?;
-        assert_eq!(rt; rows.clear(&criteria), removed.parse::<usize>()?, "{line}");
-        expect(&rt, alloc, &rows, left)?;
-        assert_eq!(rt; rows.clear(&criteria), 0);
+        expect_clear(&rt, rt.alloc(), line);
     }
-    let mut rows = rows_of(alloc, FOUR_ROWS)?;
-    assert_eq!(rt; rows.drop_tx(0), 0);
-    assert_eq!(rt; rows.drop_tx(1), 1);
-    expect(&rt, alloc, &rows, " 1 2 4")
+    let mut rows = rows_of(&rt, rt.alloc(), FOUR_ROWS);
+    same(&rt, rows.drop_tx(0) as u64, 0, "connector 0");
+    same(&rt, rows.drop_tx(1) as u64, 1, "connector 1");
+    expect(&rt, rt.alloc(), &rows, " 1 2 4");
 }

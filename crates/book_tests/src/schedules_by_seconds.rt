@@ -1,41 +1,69 @@
 //! The worked examples by the plain compiler, and copies at their largest, with ample memory.
 
 use crate::fixtures::{instant_at, row_of};
-use meaning::{Ask, View, compile_plain, limit_at};
-use ocpp_scalars::Refusal;
-use profile::Row;
+use crate::same::{holds, same, same_text};
+use crate::words::Words;
+use meaning::{Ask, Composite, View, compile_plain, limit_at};
+use ocpp_scalars::{Instant, Refusal};
+use profile::{Row, Schedule};
 use std::alloc::Global;
 use std::process::Abort;
-use std::test::Fail;
 
 /// The rows of lines.
-fn rows_of(alloc: Global, lines: &str) -> Result<Vec<Row>, Fail> {
+fn rows_of(rt: &impl Abort, alloc: Global, lines: &str) -> Vec<Row> {
     let mut rows = Vec::new(alloc);
     for line in lines.lines() {
-        rows.push(row_of(alloc, line)?)?;
+        let row = row_of(alloc, line).expect(rt, line);
+        rows.push(row).ok().expect(rt, line);
     }
-    Ok(rows)
+    rows
 }
 
-/// The schedule of an ask, against what is expected: `1 30 60 = 0:100 30:320` is connector 1, 30 seconds
-/// after midnight, for 60 seconds, and of each period its start and its limit.
-fn expect(rt: &impl Abort, alloc: Global, view: &View<'_>, line: &str) -> Result<(), Fail> {
-    let (asked, expected) = line.split_once(" = ").ok_or("no periods")?;
-    let mut words = asked.split(' ');
-    let connector = words.next().ok_or("no connector")?.parse::<u32>()?;
-    let start = instant_at(words.next().ok_or("no start")?.parse::<u64>()?)?;
-    let duration = words.next().ok_or("no duration")?.parse::<u32>()?;
-    assert!(rt; connector as usize <= view.ceilings.len());
-    let schedule = compile_plain(alloc, view, &Ask::try_new(connector, start, duration)?)?;
-    assert_eq!(rt; schedule.duration(), duration);
+/// The ask of `1 30 60`: connector 1, 30 seconds after midnight, for 60 seconds.
+fn ask_of(rt: &impl Abort, line: &str) -> Ask {
+    let mut words = Words::of(line);
+    let connector = words.number().expect(rt, line);
+    let start = words.instant().expect(rt, line);
+    let duration = words.number().expect(rt, line);
+    Ask::try_new(connector, start, duration).expect(rt, line)
+}
+
+/// Of each period its start and its limit.
+fn periods_of(rt: &impl Abort, alloc: Global, schedule: &Composite) -> String {
     let mut text = String::new(alloc);
     for period in schedule.periods() {
-        write!(&mut text, " {}:{}", period.start, period.limit)?;
+        write!(&mut text, " {}:{}", period.start, period.limit).expect(rt, "error");
     }
-    assert_eq!(rt; text.as_str().strip_prefix(" "), Some(expected), "{line}");
+    text
+}
+
+/// The schedule of an ask, against what is expected: `1 30 60 = 0:100 30:320`, of each period its start and
+/// its limit. At its start it has the limit of that second.
+fn expect(rt: &impl Abort, alloc: Global, view: &View<'_>, line: &str) {
+    let (asked, wanted) = line.split_once(" =").expect(rt, line);
+    let ask = ask_of(rt, asked);
+    assert!(rt; ask.connector as usize <= view.ceilings.len());
+    let schedule = compile_plain(alloc, view, &ask).expect(rt, line);
+    holds(rt, schedule.duration() == ask.duration, line);
+    let found = periods_of(rt, alloc, &schedule);
+    same_text(rt, found.as_str(), wanted, line);
     let first = schedule.periods().first().map(|period| period.limit);
-    assert_eq!(rt; first, Some(limit_at(view, connector, start, start)));
-    Ok(())
+    let limit = limit_at(view, ask.connector, ask.start, ask.start);
+    holds(rt, first == Some(limit), line);
+}
+
+/// Asks of a point of two connectors of 32 A, at the first of which a transaction began or not.
+fn expect_all(rt: &impl Abort, alloc: Global, rows: &str, began: Option<Instant>, lines: &str) {
+    let rows = rows_of(rt, alloc, rows);
+    let view = View {
+        ceiling: 630,
+        ceilings: &[320, 320],
+        starts: &[began, None],
+        rows: rows.as_slice(),
+    };
+    for line in lines.lines() {
+        expect(rt, alloc, &view, line);
+    }
 }
 
 /// 6 A from 22:00 to 06:00, and 20 A below it. A recurrencyKind that an Absolute profile has doesn't count.
@@ -44,65 +72,70 @@ level=1 kind=Recurring recurrency=Daily start=79200 duration=28800 periods=0:60
 kind=Absolute recurrency=Daily start=0 periods=0:200";
 
 #[test]
-fn answers_two_levels(rt: HostRuntime) -> Result<(), Fail> {
-    let alloc = rt.alloc();
-    let rows = rows_of(alloc, TWO_LEVELS)?;
-    let view = View {
-        ceiling: 630,
-        ceilings: &[320, 320],
-        starts: &[None, None],
-        rows: rows.as_slice(),
-    };
-    expect(&rt, alloc, &view, "1 194398 86400 = 0:60 2:200 57602:60")?;
-    expect(&rt, alloc, &view, "0 194398 60 = 0:0")
+fn answers_two_levels(rt: HostRuntime) {
+    let lines = "1 194398 86400 = 0:60 2:200 57602:60\n0 194398 60 = 0:0";
+    expect_all(&rt, rt.alloc(), TWO_LEVELS, None, lines);
 }
 
-#[test]
-fn answers_each_connector_and_the_point(rt: HostRuntime) -> Result<(), Fail> {
-    let alloc = rt.alloc();
-    let relative = "kind=Relative recurrency=Daily duration=60 periods=0:100";
-    let rows = rows_of(alloc, relative)?;
-    let started = Some(instant_at(0)?);
-    let view = View {
-        ceiling: 630,
-        ceilings: &[320, 320],
-        starts: &[started, None],
-        rows: rows.as_slice(),
-    };
-    expect(&rt, alloc, &view, "1 30 60 = 0:100 30:320")?;
-    expect(&rt, alloc, &view, "2 30 60 = 0:100")?;
-    expect(&rt, alloc, &view, "0 30 60 = 0:100 30:320")
-}
+const FOR_A_MINUTE: &str = "kind=Relative recurrency=Daily duration=60 periods=0:100";
+
+const EACH_CONNECTOR: &str = "\
+1 30 60 = 0:100 30:320
+2 30 60 = 0:100
+0 30 60 = 0:100 30:320";
 
 #[test]
-fn answers_up_to_the_most_periods(rt: HostRuntime) -> Result<(), Fail> {
-    let alloc = rt.alloc();
-    let rows = rows_of(alloc, "kind=Recurring recurrency=Daily start=0 turns=432")?;
+fn answers_each_connector_and_the_point(rt: HostRuntime) {
+    let began = Some(instant_at(0).expect(&rt, "error"));
+    expect_all(&rt, rt.alloc(), FOR_A_MINUTE, began, EACH_CONNECTOR);
+}
+
+/// How many periods the answer has, or why there is none, of a point of one connector.
+fn count(rt: &impl Abort, alloc: Global, rows: &str, line: &str) -> Result<usize, Refusal> {
+    let rows = rows_of(rt, alloc, rows);
     let view = View {
         ceiling: 630,
         ceilings: &[320],
         starts: &[None],
         rows: rows.as_slice(),
     };
-    let most = Ask::try_new(1, instant_at(0)?, 432_000)?;
-    let schedule = compile_plain(alloc, &view, &most)?.copy()?;
-    assert_eq!(rt; schedule.periods().len(), 1_000);
-    let more = Ask::try_new(1, instant_at(0)?, 432_001)?;
-    let refusal = compile_plain(alloc, &view, &more).err();
-    assert_eq!(rt; refusal, Some(Refusal::ResultTooLong));
-    Ok(())
+    let ask = ask_of(rt, line);
+    assert!(rt; ask.connector == 1);
+    match compile_plain(alloc, &view, &ask) {
+        Ok(schedule) => Ok(schedule.copy().expect(rt, "error").periods().len()),
+        Err(refusal) => Err(refusal),
+    }
+}
+
+const BY_TURNS: &str = "kind=Recurring recurrency=Daily start=0 turns=432";
+
+#[test]
+fn answers_up_to_the_most_periods(rt: HostRuntime) {
+    let most = count(&rt, rt.alloc(), BY_TURNS, "1 0 432000");
+    holds(&rt, most == Ok(1_000), "the most periods");
+    let more = count(&rt, rt.alloc(), BY_TURNS, "1 0 432001");
+    holds(&rt, more == Err(Refusal::ResultTooLong), "one more");
+}
+
+/// A copy of a schedule, and of its periods, is the same.
+fn expect_copies(rt: &impl Abort, schedule: &Schedule) {
+    let copy = schedule.copy().expect(rt, "error");
+    holds(rt, copy.same(schedule), "a schedule");
+    let copy = schedule.periods.copy().expect(rt, "error");
+    holds(rt, copy.same(&schedule.periods), "its periods");
+    same(rt, schedule.periods.as_slice().len() as u64, 200, "periods");
 }
 
 #[test]
-fn copies_200_periods(rt: HostRuntime) -> Result<(), Fail> {
-    let alloc = rt.alloc();
-    let first = row_of(alloc, "connector=1 kind=Relative duration=60 turns=1")?;
-    assert!(rt; first.copy()?.same(&first));
-    assert!(rt; first.profile.copy()?.same(&first.profile));
-    let schedule = &first.profile.schedule;
-    assert!(rt; schedule.copy()?.same(schedule));
-    assert!(rt; schedule.periods.copy()?.same(&schedule.periods));
-    let shorter = row_of(alloc, "connector=1 kind=Relative duration=60 periods=0:60")?;
-    assert!(rt; !shorter.same(&first));
-    Ok(())
+fn copies_200_periods(rt: HostRuntime) {
+    let words = "connector=1 kind=Relative duration=60 turns=1";
+    let first = row_of(rt.alloc(), words).expect(&rt, words);
+    let copy = first.copy().expect(&rt, "error");
+    holds(&rt, copy.same(&first), "a row");
+    let copy = first.profile.copy().expect(&rt, "error");
+    holds(&rt, copy.same(&first.profile), "its profile");
+    expect_copies(&rt, &first.profile.schedule);
+    let words = "connector=1 kind=Relative duration=60 periods=0:60";
+    let shorter = row_of(rt.alloc(), words).expect(&rt, words);
+    holds(&rt, !shorter.same(&first), "another row");
 }

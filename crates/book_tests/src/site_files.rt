@@ -1,10 +1,12 @@
 //! Site files with their faults, limits at their edges, and where profiles may stand.
 
 use crate::fixtures::{profile_of, site_text};
-use profile::Unit;
-use site_rules::{MAX_SITE_BYTES, SiteFault, admit, read_site};
+use crate::same::{holds, same, same_text};
+use crate::words::Words;
+use profile::{Profile, Unit};
+use site_rules::{MAX_SITE_BYTES, Site, SiteFault, admit, read_site};
 use std::alloc::Global;
-use std::test::Fail;
+use std::process::Abort;
 
 /// What a well-formed point has beside its identity, for which `@` stands in the texts below.
 const LIMITS: &str = r#""ceiling":16.1,"connectors":[32.0,0.1]"#;
@@ -57,66 +59,82 @@ fn fault_of(alloc: Global, text: &[u8]) -> Option<SiteFault> {
     read_site(alloc, text).err()
 }
 
+fn with_limits(rt: &impl Abort, alloc: Global, text: &str) -> String {
+    text.replace(alloc, "@", LIMITS).expect(rt, "error")
+}
+
+fn expect_fault(rt: &impl Abort, alloc: Global, line: &str) {
+    let (name, text) = line.split_once(' ').expect(rt, line);
+    let text = with_limits(rt, alloc, text);
+    let fault = fault_of(alloc, text.as_bytes()).expect(rt, line);
+    let found = format!(in alloc; "{fault}").expect(rt, "error");
+    same_text(rt, found.as_str(), name, line);
+}
+
 #[test]
-fn names_the_first_fault(rt: HostRuntime) -> Result<(), Fail> {
-    let alloc = rt.alloc();
+fn names_the_first_fault(rt: HostRuntime) {
     for line in FAULTS.lines() {
-        let (name, text) = line.split_once(' ').ok_or("no blank")?;
-        let text = text.replace(alloc, "@", LIMITS)?;
-        let fault = fault_of(alloc, text.as_bytes()).ok_or("no fault")?;
-        assert_eq!(rt; format!(in alloc; "{fault}")?.as_str(), name, "of {text}");
+        expect_fault(&rt, rt.alloc(), line);
     }
-    Ok(())
+}
+
+fn site(rt: &impl Abort, alloc: Global) -> Site {
+    let text = with_limits(rt, alloc, SITE);
+    read_site(alloc, text.as_bytes()).expect(rt, "error")
+}
+
+fn expect_point(rt: &impl Abort, site: &Site, place: usize, id: &str) {
+    holds(rt, site.place_of(id) == Some(place), id);
+    let point = site.point(place).expect(rt, id);
+    same_text(rt, point.id, id, "an identity");
+    same(rt, u64::from(point.ceiling), 161, id);
+    holds(rt, point.ceilings == [320, 1].as_slice(), id);
 }
 
 #[test]
-fn keeps_the_points_in_order(rt: HostRuntime) -> Result<(), Fail> {
-    let alloc = rt.alloc();
-    let site = read_site(alloc, SITE.replace(alloc, "@", LIMITS)?.as_bytes())?;
-    assert_eq!(rt; site.unit(), Unit::A);
-    assert_eq!(rt; site.len(), 4);
+fn keeps_the_points_in_order(rt: HostRuntime) {
+    let site = site(&rt, rt.alloc());
+    holds(&rt, site.unit() == Unit::A, "the unit");
+    same(&rt, site.len() as u64, 4, "points");
     for (place, id) in ["b", "B", "a", "AZaz09._-~"].iter().enumerate() {
-        assert_eq!(rt; site.place_of(id), Some(place));
-        let point = site.point(place).ok_or("no point")?;
-        assert_eq!(rt; point.id, *id);
-        assert_eq!(rt; point.ceiling, 161);
-        assert!(rt; point.ceilings == [320, 1].as_slice());
+        expect_point(&rt, &site, place, id);
     }
-    assert!(rt; site.point(4).is_none());
-    assert!(rt; site.place_of("A").is_none());
-    Ok(())
+    holds(&rt, site.point(4).is_none(), "a fifth point");
+    holds(&rt, site.place_of("A").is_none(), "A");
+}
+
+/// How many points, how many connectors each has, how many characters an identity, and the fault of that.
+const SIZES: [(usize, usize, usize, Option<SiteFault>); 7] = [
+    (1_000, 1, 3, None),
+    (1_001, 1, 4, Some(SiteFault::BadPoints)),
+    (2, 64, 1, None),
+    (2, 65, 1, Some(SiteFault::BadConnectors)),
+    (2, 1, 48, None),
+    (1_000, 64, 48, None),
+    (2, 1, 49, Some(SiteFault::BadId)),
+];
+
+#[test]
+fn keeps_its_limits(rt: HostRuntime) {
+    for (points, connectors, width, fault) in &SIZES {
+        let text = site_text(rt.alloc(), *points, *connectors, *width).expect(&rt, "error");
+        let found = fault_of(rt.alloc(), text.as_bytes());
+        holds(&rt, found == *fault, "a size");
+    }
 }
 
 #[test]
-fn keeps_its_limits(rt: HostRuntime) -> Result<(), Fail> {
-    let alloc = rt.alloc();
-    let sizes = [
-        (1_000, 1, 3, None),
-        (1_001, 1, 4, Some(SiteFault::BadPoints)),
-        (2, 64, 1, None),
-        (2, 65, 1, Some(SiteFault::BadConnectors)),
-        (2, 1, 48, None),
-        (1_000, 64, 48, None),
-        (2, 1, 49, Some(SiteFault::BadId)),
-    ];
-    for (points, connectors, width, fault) in sizes {
-        let text = site_text(alloc, points, connectors, width)?;
-        assert_eq!(rt; fault_of(alloc, text.as_bytes()), fault);
-    }
-    Ok(())
-}
-
-#[test]
-fn reads_a_file_of_16_mebibytes(rt: HostRuntime) -> Result<(), Fail> {
-    let alloc = rt.alloc();
-    let mut text = SITE.replace(alloc, "@", LIMITS)?.into_bytes();
-    text.resize(MAX_SITE_BYTES, b' ')?;
-    assert_eq!(rt; fault_of(alloc, text.as_slice()), None);
+fn reads_a_file_of_16_mebibytes(rt: HostRuntime) {
+    let mut text = with_limits(&rt, rt.alloc(), SITE).into_bytes();
+    text.resize(MAX_SITE_BYTES, b' ').ok().expect(&rt, "memory");
+    let found = fault_of(rt.alloc(), text.as_slice());
+    holds(&rt, found.is_none(), "16 mebibytes");
     // How many bytes there are is looked at before whether they are a text.
-    text.push(0xff)?;
-    assert_eq!(rt; fault_of(alloc, text.as_slice()), Some(SiteFault::TooLarge));
-    assert_eq!(rt; fault_of(alloc, b"{\xff}"), Some(SiteFault::NotUtf8));
-    Ok(())
+    text.push(0xff).ok().expect(&rt, "memory");
+    let found = fault_of(rt.alloc(), text.as_slice());
+    holds(&rt, found == Some(SiteFault::TooLarge), "a byte more");
+    let found = fault_of(rt.alloc(), b"{\xff}");
+    holds(&rt, found == Some(SiteFault::NotUtf8), "no text");
 }
 
 /// Of a point and a connector a profile, and why it may not stand there, if it may not.
@@ -132,20 +150,27 @@ a 0 purpose=ChargePointMaxProfile unit=A = -
 b 0 purpose=TxDefaultProfile unit=A = -
 B 2 purpose=TxProfile unit=A = -";
 
-#[test]
-fn admits_by_five_rules(rt: HostRuntime) -> Result<(), Fail> {
-    let alloc = rt.alloc();
-    let site = read_site(alloc, SITE.replace(alloc, "@", LIMITS)?.as_bytes())?;
-    for line in ADMISSIONS.lines() {
-        let (asked, wanted) = line.split_once(" = ").ok_or("no outcome")?;
-        let (point, rest) = asked.split_once(' ').ok_or("no connector")?;
-        let (connector, words) = rest.split_once(' ').ok_or("no profile")?;
-        let profile = profile_of(alloc, words)?;
-        let found = match admit(&site, point, connector.parse::<u32>()?, &profile) {
-            Ok(()) => "-",
-            Err(refusal) => refusal.name(),
-        };
-        assert_eq!(rt; found, wanted, "{line}");
+fn admitted(site: &Site, point: &str, connector: u32, profile: &Profile) -> &'static str {
+    match admit(site, point, connector, profile) {
+        Ok(()) => "-",
+        Err(refusal) => refusal.name(),
     }
-    Ok(())
+}
+
+fn expect_admission(rt: &impl Abort, alloc: Global, site: &Site, line: &str) {
+    let (asked, wanted) = line.split_once(" = ").expect(rt, line);
+    let mut words = Words::of(asked);
+    let point = words.word();
+    let connector = words.number().expect(rt, line);
+    let profile = profile_of(alloc, words.rest()).expect(rt, line);
+    let found = admitted(site, point, connector, &profile);
+    same_text(rt, found, wanted, line);
+}
+
+#[test]
+fn admits_by_five_rules(rt: HostRuntime) {
+    let site = site(&rt, rt.alloc());
+    for line in ADMISSIONS.lines() {
+        expect_admission(&rt, rt.alloc(), &site, line);
+    }
 }

@@ -1,31 +1,30 @@
 //! Starts and stops from outside, and that memory suffices.
 
 use crate::fixtures::{LONGEST_TAG, begin_of, instant_at};
+use crate::same::{holds, same};
+use crate::words::Words;
 use std::alloc::Global;
 use std::process::Abort;
-use std::test::Fail;
 use transactions::{ActiveTable, Began};
+
+fn table(rt: &impl Abort, alloc: Global, connectors: u32) -> ActiveTable {
+    ActiveTable::new(alloc, connectors).expect(rt, "error")
+}
 
 /// Makes the start of a line: its connector, idTag, meterStart and second after midnight. What it was: 0
 /// where it begins a new transaction, of which `next` is the number, or else the number told again.
-fn start(
-    rt: &impl Abort,
-    alloc: Global,
-    table: &mut ActiveTable,
-    line: &str,
-    next: i32,
-) -> Result<i32, Fail> {
-    let mut words = line.split(' ');
-    let connector = words.next().ok_or("no connector")?.parse::<u32>()?;
-    let tag = words.next().ok_or("no tag")?;
-    let meter_start = words.next().ok_or("no meter")?.parse::<i32>()?;
-    let second = words.next().ok_or("no second")?.parse::<u64>()?;
-    let begin = begin_of(alloc, tag, meter_start, second)?;
+fn start(rt: &impl Abort, alloc: Global, table: &mut ActiveTable, line: &str, next: i32) -> i32 {
+    let mut words = Words::of(line);
+    let connector = words.number().expect(rt, line);
+    let tag = words.word();
+    let meter_start = words.whole().expect(rt, line);
+    let second = words.long().expect(rt, line);
+    let begin = begin_of(alloc, tag, meter_start, second).expect(rt, line);
     assert!(rt; connector > 0);
     assert!(rt; connector as usize <= table.starts().len());
     match table.start(connector, begin, next) {
-        Began::Fresh => Ok(0),
-        Began::Repeat(number) => Ok(number),
+        Began::Fresh => 0,
+        Began::Repeat(number) => number,
     }
 }
 
@@ -42,35 +41,39 @@ const STARTS: &str = "\
 3 \u{c9} -5 3600 = 0
 3  0 0 = 0";
 
-#[test]
-fn begins_or_repeats(rt: HostRuntime) -> Result<(), Fail> {
-    let alloc = rt.alloc();
-    let mut table = ActiveTable::new(alloc, 3)?;
-    let mut next = 0i32;
-    for line in STARTS.lines() {
-        let (words, wanted) = line.split_once(" = ").ok_or("no outcome")?;
-        next = next.saturating_add(1);
-        let before = table.copy()?;
-        let repeated = start(&rt, alloc, &mut table, words, next)?;
-        assert_eq!(rt; repeated, wanted.parse::<i32>()?, "{line}");
-        assert_eq!(rt; table.same(&before), repeated > 0, "{line}");
+/// A start that is told again changes nothing.
+fn expect_start(rt: &impl Abort, alloc: Global, table: &mut ActiveTable, line: &str, next: i32) {
+    let (words, wanted) = line.split_once(" = ").expect(rt, line);
+    let before = table.copy().expect(rt, "error");
+    let repeated = start(rt, alloc, table, words, next);
+    holds(rt, Ok(repeated) == wanted.parse::<i32>(), line);
+    holds(rt, table.same(&before) == (repeated > 0), line);
+}
+
+/// At each of the connectors from 0 on the number of the transaction, if there is one.
+fn expect_active(rt: &impl Abort, table: &ActiveTable, wanted: &[Option<i32>]) {
+    for (connector, number) in (0..100u32).zip(wanted) {
+        holds(rt, table.active_on(connector) == *number, "active");
     }
-    assert_eq!(rt; table.active_on(1), Some(5));
-    assert_eq!(rt; table.active_on(2), Some(6));
-    assert_eq!(rt; table.active_on(3), Some(10));
-    Ok(())
 }
 
 #[test]
-fn compares_tags_with_their_case(rt: HostRuntime) -> Result<(), Fail> {
-    let alloc = rt.alloc();
-    let mut one = ActiveTable::new(alloc, 1)?;
-    let mut other = ActiveTable::new(alloc, 1)?;
-    assert!(rt; one.same(&other));
-    start(&rt, alloc, &mut one, "1 A1 0 0", 1)?;
-    start(&rt, alloc, &mut other, "1 a1 0 0", 1)?;
-    assert!(rt; !one.same(&other));
-    Ok(())
+fn begins_or_repeats(rt: HostRuntime) {
+    let mut table = table(&rt, rt.alloc(), 3);
+    for (number, line) in (1..100i32).zip(STARTS.lines()) {
+        expect_start(&rt, rt.alloc(), &mut table, line, number);
+    }
+    expect_active(&rt, &table, &[None, Some(5), Some(6), Some(10)]);
+}
+
+#[test]
+fn compares_tags_with_their_case(rt: HostRuntime) {
+    let mut one = table(&rt, rt.alloc(), 1);
+    let mut other = table(&rt, rt.alloc(), 1);
+    holds(&rt, one.same(&other), "both empty");
+    start(&rt, rt.alloc(), &mut one, "1 A1 0 0", 1);
+    start(&rt, rt.alloc(), &mut other, "1 a1 0 0", 1);
+    holds(&rt, !one.same(&other), "tags of another case");
 }
 
 /// The numbers of stops, each with the connector at which a transaction ends.
@@ -86,36 +89,38 @@ const STOPS: [(i32, Option<u32>); 8] = [
 ];
 
 #[test]
-fn ends_by_number(rt: HostRuntime) -> Result<(), Fail> {
-    let alloc = rt.alloc();
-    let mut table = ActiveTable::new(alloc, 4)?;
-    start(&rt, alloc, &mut table, "1 A1 0 0", 1)?;
-    start(&rt, alloc, &mut table, "2 A2 0 0", 2)?;
-    start(&rt, alloc, &mut table, "3 A3 0 0", 2)?;
-    for (id, expected) in &STOPS {
-        assert_eq!(rt; table.stop(*id), *expected, "stop {id}");
+fn ends_by_number(rt: HostRuntime) {
+    let mut table = table(&rt, rt.alloc(), 4);
+    start(&rt, rt.alloc(), &mut table, "1 A1 0 0", 1);
+    start(&rt, rt.alloc(), &mut table, "2 A2 0 0", 2);
+    start(&rt, rt.alloc(), &mut table, "3 A3 0 0", 2);
+    for (number, connector) in &STOPS {
+        holds(&rt, table.stop(*number) == *connector, "a stop");
     }
-    for connector in 0..6 {
-        assert_eq!(rt; table.active_on(connector), None, "at {connector}");
+    expect_active(&rt, &table, &[None; 6]);
+}
+
+/// Transactions at 64 connectors, which began a second after one another.
+fn full(rt: &impl Abort, alloc: Global) -> ActiveTable {
+    let mut table = table(rt, alloc, 64);
+    for connector in 1..65u32 {
+        let line = format!(in alloc; "{connector} {LONGEST_TAG} 0 {connector}").expect(rt, "error");
+        let repeated = start(rt, alloc, &mut table, line.as_str(), 1);
+        same(rt, u64::from(repeated.unsigned_abs()), 0, line.as_str());
     }
-    Ok(())
+    table
 }
 
 #[test]
-fn has_room_for_its_starts(rt: HostRuntime) -> Result<(), Fail> {
-    let alloc = rt.alloc();
-    let mut table = ActiveTable::new(alloc, 64)?;
-    for connector in 1..65u32 {
-        let line = format!(in alloc; "{connector} {LONGEST_TAG} 0 {connector}")?;
-        assert_eq!(rt; start(&rt, alloc, &mut table, line.as_str(), 1)?, 0);
-    }
-    let copy = table.copy()?;
-    assert!(rt; copy.same(&table));
-    assert_eq!(rt; table.stop(1), Some(1));
-    assert!(rt; !copy.same(&table));
+fn has_room_for_its_starts(rt: HostRuntime) {
+    let mut table = full(&rt, rt.alloc());
+    let copy = table.copy().expect(&rt, "error");
+    holds(&rt, copy.same(&table), "a copy");
+    holds(&rt, table.stop(1) == Some(1), "a stop");
+    holds(&rt, !copy.same(&table), "a copy of before");
     let starts = table.starts();
-    assert_eq!(rt; starts.len(), 64);
-    assert_eq!(rt; starts.first(), Some(&None));
-    assert_eq!(rt; starts.last(), Some(&Some(instant_at(64)?)));
-    Ok(())
+    let last = instant_at(64).expect(&rt, "error");
+    same(&rt, starts.len() as u64, 64, "starts");
+    holds(&rt, starts.first() == Some(&None), "the first");
+    holds(&rt, starts.last() == Some(&Some(last)), "the last");
 }

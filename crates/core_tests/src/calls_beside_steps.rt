@@ -4,16 +4,17 @@
 ghost use Rattle.std.specs.Prelude.{◌≡◌};
 
 use crate::obeying_point::RandomNumbers;
-use crate::runs::site;
+use crate::runs::opening;
+use crate::same::{holds, same_outcome};
 use crate::told_calls::Desk;
 use crate::told_steps::{reply_told, step_of};
 use ocpp_scalars::Refusal;
 use site_core::{Machine, Step};
-use std::alloc::Global;
+use std::alloc::{AllocError, Global};
 use std::marker::Brand;
 use std::process::Abort;
 use std::sync::ledger::{Blank, Ledger};
-use std::test::Fail;
+use version_store::StoredEvent;
 
 /// What can be read of a machine.
 #[derive(Clone, Copy, Debug, PartialEq, Eq)]
@@ -47,6 +48,8 @@ fn read_book<C: Ledger, A: Ledger>(desk: &Desk<C, A>) -> Readings {
     }
 }
 
+type Written = Result<String, AllocError>;
+
 /// The numbers that were drawn last, from which later steps are made.
 #[derive(Drop)]
 struct Course {
@@ -66,61 +69,59 @@ impl Course {
     }
 
     /// The words of a random step.
-    fn words(&mut self, alloc: Global, machine: &Machine) -> Result<String, Fail> {
+    fn words(&mut self, rt: &impl Abort, alloc: Global, machine: &Machine) -> String {
         let point = match self.random.below(16) {
             0 => "CP9",
             1..=6 => "CP2",
             _ => "CP1",
         };
-        match self.random.below(16) {
+        let words = match self.random.below(16) {
             0 | 1 => self.change(alloc, point),
             2 | 3 => self.transact(alloc, point),
-            4 => Ok(format!(in alloc; "{point} take")?),
+            4 => format!(in alloc; "{point} take"),
             5 | 6 => self.request(alloc),
-            7..=9 => Ok(format!(in alloc; "{point} attach")?),
-            _ => {
-                let link = machine.link_of(point).unwrap_or(0);
-                self.exchange(alloc, point, link)
-            }
-        }
+            7..=9 => format!(in alloc; "{point} attach"),
+            _ => self.exchange(alloc, point, machine.link_of(point).unwrap_or(0)),
+        };
+        words.expect(rt, "error")
     }
 
-    fn change(&mut self, alloc: Global, point: &str) -> Result<String, Fail> {
+    fn change(&mut self, alloc: Global, point: &str) -> Written {
         let limit = u64::from(self.random.below(100)).wrapping_add(60);
         match self.random.below(4) {
-            0 => Ok(format!(in alloc; "{point} clear")?),
-            _ => Ok(format!(in alloc; "{point} install {limit}")?),
+            0 => format!(in alloc; "{point} clear"),
+            _ => format!(in alloc; "{point} install {limit}"),
         }
     }
 
-    fn transact(&mut self, alloc: Global, point: &str) -> Result<String, Fail> {
+    fn transact(&mut self, alloc: Global, point: &str) -> Written {
         let connector = self.random.below(4);
         let transaction = self.near(self.transaction, 2);
         match self.random.below(2) {
-            0 => Ok(format!(in alloc; "{point} stop {transaction}")?),
-            _ => Ok(format!(in alloc; "{point} start {connector}")?),
+            0 => format!(in alloc; "{point} stop {transaction}"),
+            _ => format!(in alloc; "{point} start {connector}"),
         }
     }
 
-    fn request(&mut self, alloc: Global) -> Result<String, Fail> {
+    fn request(&mut self, alloc: Global) -> Written {
         let number = self.near(self.request, 80);
         match self.random.below(2) {
-            0 => Ok(format!(in alloc; "- compile {number}")?),
-            _ => Ok(format!(in alloc; "- answer {number}")?),
+            0 => format!(in alloc; "- compile {number}"),
+            _ => format!(in alloc; "- answer {number}"),
         }
     }
 
     /// A step over the present link, or over the one before.
-    fn exchange(&mut self, alloc: Global, point: &str, link: u64) -> Result<String, Fail> {
+    fn exchange(&mut self, alloc: Global, point: &str, link: u64) -> Written {
         let link = match self.random.below(8) {
             0 => link.saturating_sub(1),
             _ => link,
         };
         let call = self.call;
         match self.random.below(8) {
-            0 => Ok(format!(in alloc; "{point} lost {link}")?),
-            1..=4 => Ok(format!(in alloc; "{point} send {link}")?),
-            _ => Ok(format!(in alloc; "{point} confirm {link} {call}")?),
+            0 => format!(in alloc; "{point} lost {link}"),
+            1..=4 => format!(in alloc; "{point} send {link}"),
+            _ => format!(in alloc; "{point} confirm {link} {call}"),
         }
     }
 
@@ -148,15 +149,15 @@ fn step_both<C: Ledger, A: Ledger>(
     desk: &mut Desk<C, A>,
     machine: &mut Machine,
     words: &str,
-) -> Result<(&'static str, u64), Fail> {
-    let step = step_of(desk.alloc, words)?;
-    let other = step.copy(desk.alloc)?;
+) -> (&'static str, u64) {
+    let step = step_of(rt, desk.alloc, words);
+    let other = step.copy(desk.alloc).expect(rt, "error");
     let told = desk.told(step);
-    assert_eq!(rt; told, machine_told(machine, other), "{words}");
-    assert!(rt; read_machine(machine) == read_book(desk), "{words}");
-    assert_eq!(rt; desk.pass.totals(), desk.book.totals());
-    assert!(rt; told.0 != Refusal::OutOfMemory.name());
-    Ok(told)
+    same_outcome(rt, told, machine_told(machine, other), words);
+    holds(rt, read_machine(machine) == read_book(desk), words);
+    holds(rt, desk.pass.totals() == desk.book.totals(), words);
+    holds(rt, told.0 != Refusal::OutOfMemory.name(), "memory");
+    told
 }
 
 /// A random step on both.
@@ -165,40 +166,49 @@ fn random_step<C: Ledger, A: Ledger>(
     desk: &mut Desk<C, A>,
     machine: &mut Machine,
     course: &mut Course,
-) -> Result<(), Fail> {
-    let words = course.words(desk.alloc, machine)?;
+) {
+    let words = course.words(rt, desk.alloc, machine);
     let stored = desk.book.stored();
-    let told = step_both(rt, desk, machine, words.as_str())?;
+    let told = step_both(rt, desk, machine, words.as_str());
     course.note(told);
     if desk.book.stored() < stored {
         course.folds = course.folds.saturating_add(1);
     }
-    Ok(())
+}
+
+/// A stored event is made as a step.
+fn make_again(rt: &impl Abort, alloc: Global, machine: &mut Machine, event: &StoredEvent) {
+    let step = event.step().copy(alloc).expect(rt, "error");
+    holds(rt, machine.step(step).is_ok(), "a stored event");
 }
 
 /// The stored events are made as steps from the base on.
-fn replayed<C: Ledger, A: Ledger>(desk: &Desk<C, A>) -> Result<Machine, Fail> {
-    let mut machine = desk.book.base().copy()?;
+fn replayed<C: Ledger, A: Ledger>(rt: &impl Abort, desk: &Desk<C, A>) -> Machine {
+    let mut machine = desk.book.base().copy().expect(rt, "error");
     for event in desk.book.events() {
-        match machine.step(event.step().copy(desk.alloc)?) {
-            Ok(_) => {}
-            Err(refused) => return Err(refused.refusal)?,
-        }
+        make_again(rt, desk.alloc, &mut machine, event);
     }
-    Ok(machine)
+    machine
 }
 
-fn run_both<C: Ledger, A: Ledger>(
-    rt: &impl Abort,
-    alloc: Global,
-    changes: Blank,
-    answers: Blank,
-) -> Result<(), Fail>
+/// 24,000 steps, then the end, and then all once more.
+fn run_desk<C: Ledger, A: Ledger>(rt: &impl Abort, desk: &mut Desk<C, A>, course: &mut Course) {
+    let mut machine = opening(rt, desk.alloc);
+    for _ in 0..24_000u32 {
+        random_step(rt, desk, &mut machine, course);
+    }
+    holds(rt, course.folds >= 2, "folds");
+    holds(rt, desk.book.totals().answers > 100, "answers");
+    step_both(rt, desk, &mut machine, "- finish");
+    let again = read_machine(&replayed(rt, desk));
+    holds(rt, again == read_machine(desk.book.present()), "replayed");
+}
+
+fn run_both<C: Ledger, A: Ledger>(rt: &impl Abort, alloc: Global, changes: Blank, answers: Blank)
     requires changes { (changes.name ≡ C.name) × (changes.parts ≡ C.parts) × (changes.parts ≡ 1) }
     requires answers { (answers.name ≡ A.name) × (answers.parts ≡ A.parts) × (answers.parts ≡ 1) }
 {
-    let mut desk: Desk<C, A> = Desk::new(alloc, changes, answers)?;
-    let mut machine = Machine::new(alloc, site(alloc)?)?;
+    let mut desk: Desk<C, A> = Desk::new(rt, alloc, changes, answers);
     let mut course = Course {
         random: RandomNumbers { state: 20_261_124 },
         transaction: 0,
@@ -206,25 +216,14 @@ fn run_both<C: Ledger, A: Ledger>(
         call: 0,
         folds: 0,
     };
-    for _ in 0..24_000u32 {
-        random_step(rt, &mut desk, &mut machine, &mut course)?;
-    }
-    assert!(rt; course.folds >= 2, "{}", course.folds);
-    assert!(rt;
-        desk.book.totals().answers > 100,
-        "{}",
-        desk.book.totals().answers
-    );
-    step_both(rt, &mut desk, &mut machine, "- finish")?;
-    assert!(rt; read_machine(&replayed(&desk)?) == read_machine(desk.book.present()));
-    Ok(())
+    run_desk(rt, &mut desk, &mut course);
 }
 
-fn run_beside(rt: &impl Abort, alloc: Global) -> Result<(), Fail> {
-    run_both::<Brand, Brand>(rt, alloc, Blank::new(1), Blank::new(1))
+fn run_beside(rt: &impl Abort, alloc: Global) {
+    run_both::<Brand, Brand>(rt, alloc, Blank::new(1), Blank::new(1));
 }
 
 #[test]
-fn calls_are_steps_over_folds(rt: HostRuntime) -> Result<(), Fail> {
-    run_beside(&rt, rt.alloc())
+fn calls_are_steps_over_folds(rt: HostRuntime) {
+    run_beside(&rt, rt.alloc());
 }

@@ -21,6 +21,8 @@ mod random_run;
 #[cfg(test)]
 mod runs;
 #[cfg(test)]
+mod same;
+#[cfg(test)]
 mod stored_histories;
 #[cfg(test)]
 mod told_calls;

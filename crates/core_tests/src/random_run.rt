@@ -2,12 +2,13 @@
 //! obeys has what the store had after the call's change.
 
 use crate::obeying_point::{Keys, RandomNumbers, lasting, obey};
+use crate::same::{holds, same};
 use book_tests::{begin_of, instant_at, row_of};
 use profile::{Purpose, Row};
 use site_core::{Machine, PointId, Reply, Step, Take};
 use site_rules::read_site;
-use std::alloc::{AllocError, Global};
-use std::test::Fail;
+use std::alloc::Global;
+use std::process::Abort;
 
 const SITE: &str =
     r#"{"unit":"A","points":[{"id":"CP1","ceiling":32.0,"connectors":[16.0,16.0]}]}"#;
@@ -38,112 +39,113 @@ impl Trial {
     }
 
     /// A random step.
-    fn step(&mut self) -> Result<(), Fail> {
+    fn step(&mut self, rt: &impl Abort) {
         match self.random.below(16) {
-            0..=3 => self.change(),
-            4 => self.transact(),
-            5 => self.attach(),
-            6 => self.lose(),
-            _ => self.exchange(),
+            0..=3 => self.change(rt),
+            4 => self.transact(rt),
+            5 => self.attach(rt),
+            6 => self.lose(rt),
+            _ => self.exchange(rt),
+        }
+    }
+
+    /// An install or a clear.
+    fn change_step(&mut self, rt: &impl Abort) -> Step {
+        let point = id(rt, self.alloc);
+        if self.random.below(4) == 0 {
+            let criteria = self.random.criteria();
+            Step::Clear { point, criteria }
+        } else {
+            let row = row(rt, self.alloc, self.random.keys());
+            Step::Install { point, row }
         }
     }
 
     /// Installs or clears, and keeps what the store has where a call comes of it.
-    fn change(&mut self) -> Result<(), Fail> {
-        let point = id(self.alloc)?;
-        let step = if self.random.below(4) == 0 {
-            let criteria = self.random.criteria();
-            Step::Clear { point, criteria }
-        } else {
-            let row = row(self.alloc, self.random.keys())?;
-            Step::Install { point, row }
-        };
-        if let Some(Reply::Accepted) = self.made(step) {
-            let rows = self.store()?;
-            self.stores.push(rows)?;
+    fn change(&mut self, rt: &impl Abort) {
+        let step = self.change_step(rt);
+        let made = self.made(step);
+        if matches!(made, Some(Reply::Accepted)) {
+            let rows = self.store(rt);
+            self.stores.push(rows).ok().expect(rt, "error");
         }
-        Ok(())
     }
 
     /// What the store has that outlasts transactions.
-    fn store(&mut self) -> Result<Vec<Keys>, Fail> {
-        let take = take(self.alloc)?;
+    fn store(&mut self, rt: &impl Abort) -> Vec<Keys> {
+        let take = take(rt, self.alloc);
         let Some(Reply::Taken { number, book, .. }) = self.made(take) else {
-            return Err(Fail::new("no book"));
+            rt.panic("no book");
         };
         drop(self.made(Step::Compile(number)));
         drop(self.made(Step::Answer(number)));
-        Ok(lasting(self.alloc, book.book().view().rows)?)
+        lasting(self.alloc, book.book().view().rows).expect(rt, "error")
     }
 
     /// Begins a transaction, or else ends the one that began last.
-    fn transact(&mut self) -> Result<(), Fail> {
-        let start = start(self.alloc, u32::from(self.random.below(3)))?;
-        let point = id(self.alloc)?;
+    fn transact(&mut self, rt: &impl Abort) {
+        let start = start(rt, self.alloc, u32::from(self.random.below(3)));
+        let point = id(rt, self.alloc);
         let transaction = self.transaction;
         match self.made(start) {
             Some(Reply::Started(number)) => self.transaction = number,
             _ => drop(self.made(Step::Stop { point, transaction })),
         }
-        Ok(())
     }
 
     /// A new link. The reply to a call that was sent over the one before isn't taken any more.
-    fn attach(&mut self) -> Result<(), Fail> {
+    fn attach(&mut self, rt: &impl Abort) {
         let before = self.link;
-        let point = id(self.alloc)?;
-        let Some(Reply::Attached(link)) = self.made(Step::Attach(point)) else {
-            return Err(Fail::new("no link"));
+        let attach = Step::Attach(id(rt, self.alloc));
+        let Some(Reply::Attached(link)) = self.made(attach) else {
+            rt.panic("no link");
         };
         self.link = link;
-        let Some(call) = self.obeyed.take() else {
-            return Ok(());
-        };
-        if self.is_confirmed(before, call)? {
-            return Err(Fail::new("confirmed late"));
+        if let Some(call) = self.obeyed.take() {
+            let is_confirmed = self.is_confirmed(rt, before, call);
+            holds(rt, !is_confirmed, "not confirmed late");
         }
-        Ok(())
     }
 
-    fn lose(&mut self) -> Result<(), Fail> {
-        let point = id(self.alloc)?;
+    fn lose(&mut self, rt: &impl Abort) {
+        let point = id(rt, self.alloc);
         let link = self.link;
         drop(self.made(Step::Lost { point, link }));
         self.obeyed = None;
-        Ok(())
     }
 
-    /// Has the point reply, or sends the first call, or gives a new link where neither can be.
-    fn exchange(&mut self) -> Result<(), Fail> {
-        if let Some(call) = self.obeyed {
-            return self.reply(call);
+    /// Has the point reply, or sends the first call.
+    fn exchange(&mut self, rt: &impl Abort) {
+        match self.obeyed {
+            Some(call) => self.reply(rt, call),
+            None => self.send(rt),
         }
-        let point = id(self.alloc)?;
+    }
+
+    /// Sends the first call, or gives a new link where that can't be.
+    fn send(&mut self, rt: &impl Abort) {
+        let point = id(rt, self.alloc);
         let link = self.link;
         let Some(Reply::Sent(call)) = self.made(Step::Send { point, link }) else {
-            return self.attach();
+            return self.attach(rt);
         };
         if !self.is_lost() {
-            obey(&mut self.point, &call.body)?;
+            obey(&mut self.point, &call.body).expect(rt, "error");
             self.obeyed = Some(call.number);
         }
-        Ok(())
     }
 
     /// The point's reply to a call. Unless it is lost, it confirms the call, and the point has what the
     /// store had after the call's change.
-    fn reply(&mut self, call: u64) -> Result<(), Fail> {
+    fn reply(&mut self, rt: &impl Abort, call: u64) {
         self.obeyed = None;
         if self.is_lost() {
-            return Ok(());
+            return;
         }
-        if !self.is_confirmed(self.link, call)? {
-            return Err(Fail::new("not confirmed"));
-        }
-        match self.stores.get(call as usize) {
-            Some(store) if store.as_slice() == self.point.as_slice() => Ok(()),
-            _ => Err(Fail::new("out of step")),
-        }
+        let is_confirmed = self.is_confirmed(rt, self.link, call);
+        holds(rt, is_confirmed, "confirmed");
+        let store = self.stores.get(call as usize).expect(rt, "no such call");
+        holds(rt, store.as_slice() == self.point.as_slice(), "in step");
     }
 
     /// One sending or reply of six is lost.
@@ -155,37 +157,37 @@ impl Trial {
         is_lost
     }
 
-    fn is_confirmed(&mut self, link: u64, call: u64) -> Result<bool, Fail> {
-        let point = id(self.alloc)?;
+    fn is_confirmed(&mut self, rt: &impl Abort, link: u64, call: u64) -> bool {
+        let point = id(rt, self.alloc);
         let reply = self.made(Step::Confirm { point, link, call });
-        Ok(matches!(reply, Some(Reply::Confirmed)))
+        matches!(reply, Some(Reply::Confirmed))
     }
 }
 
-fn id(alloc: Global) -> Result<PointId, AllocError> {
-    PointId::copied(alloc, "CP1")
+fn id(rt: &impl Abort, alloc: Global) -> PointId {
+    PointId::copied(alloc, "CP1").expect(rt, "error")
 }
 
-fn take(alloc: Global) -> Result<Step, Fail> {
-    Ok(Step::Take(Take {
-        point: id(alloc)?,
+fn take(rt: &impl Abort, alloc: Global) -> Step {
+    Step::Take(Take {
+        point: id(rt, alloc),
         connector: 0,
-        start: instant_at(0)?,
+        start: instant_at(0).expect(rt, "error"),
         duration: 60,
         unit: None,
         seen: 0,
-    }))
-}
-
-fn start(alloc: Global, connector: u32) -> Result<Step, Fail> {
-    Ok(Step::Start {
-        point: id(alloc)?,
-        connector,
-        begin: begin_of(alloc, "ann", 0, 0)?,
     })
 }
 
-fn row(alloc: Global, keys: Keys) -> Result<Row, Fail> {
+fn start(rt: &impl Abort, alloc: Global, connector: u32) -> Step {
+    Step::Start {
+        point: id(rt, alloc),
+        connector,
+        begin: begin_of(alloc, "ann", 0, 0).expect(rt, "error"),
+    }
+}
+
+fn row(rt: &impl Abort, alloc: Global, keys: Keys) -> Row {
     let purpose = match keys.purpose {
         Purpose::ChargePointMaxProfile => "ChargePointMaxProfile",
         Purpose::TxDefaultProfile => "TxDefaultProfile",
@@ -194,20 +196,21 @@ fn row(alloc: Global, keys: Keys) -> Result<Row, Fail> {
     let words = format!(in alloc;
         "id={} connector={} purpose={purpose} level={}",
         keys.id, keys.connector, keys.level
-    )?;
-    row_of(alloc, words.as_str())
+    );
+    row_of(alloc, words.expect(rt, "error").as_str()).expect(rt, "error")
 }
 
 /// A machine whose point has a row of before, which call 0 is to remove.
-fn opening(alloc: Global) -> Result<Trial, Fail> {
+fn opening(rt: &impl Abort, alloc: Global) -> Trial {
     let mut random = RandomNumbers { state: 20_261_123 };
     let mut point = Vec::new(alloc);
-    point.push(random.keys())?;
+    point.push(random.keys()).ok().expect(rt, "error");
     let mut stores = Vec::new(alloc);
-    stores.push(Vec::new(alloc))?;
-    Ok(Trial {
+    stores.push(Vec::new(alloc)).ok().expect(rt, "error");
+    let site = read_site(alloc, SITE.as_bytes()).expect(rt, "error");
+    Trial {
         alloc,
-        machine: Machine::new(alloc, read_site(alloc, SITE.as_bytes())?)?,
+        machine: Machine::new(alloc, site).expect(rt, "error"),
         random,
         link: 0,
         transaction: 0,
@@ -215,23 +218,22 @@ fn opening(alloc: Global) -> Result<Trial, Fail> {
         point,
         stores,
         losses: 0,
-    })
+    }
 }
 
 #[test]
-fn a_point_that_obeys_stays_in_step(rt: HostRuntime) -> Result<(), Fail> {
-    let mut trial = opening(rt.alloc())?;
+fn a_point_that_obeys_stays_in_step(rt: HostRuntime) {
+    let mut trial = opening(&rt, rt.alloc());
     for _ in 0..400u32 {
-        trial.step()?;
+        trial.step(&rt);
     }
     for _ in 0..400u32 {
-        trial.exchange()?;
+        trial.exchange(&rt);
     }
     // Each call is confirmed now.
-    assert_eq!(rt; trial.machine.outbox_len("CP1"), 0);
-    let store = trial.store()?;
-    assert!(rt; trial.point.as_slice() == store.as_slice());
-    assert!(rt; trial.stores.len() > 30);
-    assert!(rt; trial.losses > 20);
-    Ok(())
+    same(&rt, trial.machine.outbox_len("CP1") as u64, 0, "calls");
+    let store = trial.store(&rt);
+    holds(&rt, trial.point.as_slice() == store.as_slice(), "in step");
+    holds(&rt, trial.stores.len() > 30, "changes");
+    holds(&rt, trial.losses > 20, "losses");
 }

@@ -1,25 +1,30 @@
 //! Runs of steps with what comes of each, steps at the last numbers, and steps to which memory is refused.
 
+use crate::same::{holds, same, same_outcome, same_text};
 use crate::told_steps::{parts_of, reply_told, run, step_of, steps_of};
 use ocpp_scalars::Refusal;
-use site_core::{MAX_NUMBER, Machine, Numbers, Outcome, Refused, Reply, Step};
-use site_rules::{Site, SiteFault, read_site};
+use site_core::{MAX_NUMBER, Machine, Numbers, Outcome, RunFault, Step};
+use site_rules::{Site, read_site};
 use std::alloc::Global;
 use std::process::Abort;
-use std::test::Fail;
 
 const SITE: &str =
     r#"{"unit":"A","points":[{"id":"CP1","ceiling":32.0,"connectors":[16.0,16.0]},{"id":"CP2","ceiling":32.0,"connectors":[16.0]}]}"#;
 
-pub(crate) fn site(alloc: Global) -> Result<Site, SiteFault> {
-    read_site(alloc, SITE.as_bytes())
+pub(crate) fn site(rt: &impl Abort, alloc: Global) -> Site {
+    read_site(alloc, SITE.as_bytes()).expect(rt, "error")
+}
+
+/// A machine of two points where nothing was done yet.
+pub(crate) fn opening(rt: &impl Abort, alloc: Global) -> Machine {
+    Machine::new(alloc, site(rt, alloc)).expect(rt, "error")
 }
 
 /// Runs steps from the opening state.
-fn run_anew(rt: &impl Abort, alloc: Global, lines: &str) -> Result<Machine, Fail> {
-    let mut machine = Machine::new(alloc, site(alloc)?)?;
-    run(rt, alloc, &mut machine, lines)?;
-    Ok(machine)
+fn run_anew(rt: &impl Abort, alloc: Global, lines: &str) -> Machine {
+    let mut machine = opening(rt, alloc);
+    run(rt, alloc, &mut machine, lines);
+    machine
 }
 
 const FINISHED: &str = "\
@@ -32,9 +37,8 @@ CP9 take = Stopped
 - finish = Finished";
 
 #[test]
-fn finishing_answers_stopped(rt: HostRuntime) -> Result<(), Fail> {
-    let _machine = run_anew(&rt, rt.alloc(), FINISHED)?;
-    Ok(())
+fn finishing_answers_stopped(rt: HostRuntime) {
+    run_anew(&rt, rt.alloc(), FINISHED);
 }
 
 const GIVEN_ONCE: &str = "\
@@ -49,9 +53,8 @@ CP1 take = Taken 1
 - compile 1 = UnknownRequest";
 
 #[test]
-fn an_answer_is_given_once(rt: HostRuntime) -> Result<(), Fail> {
-    let _machine = run_anew(&rt, rt.alloc(), GIVEN_ONCE)?;
-    Ok(())
+fn an_answer_is_given_once(rt: HostRuntime) {
+    run_anew(&rt, rt.alloc(), GIVEN_ONCE);
 }
 
 const OF_THEIR_BOOKS: &str = "\
@@ -71,11 +74,10 @@ CP1 clear = Accepted
 
 /// Each answer is of the book that its point had when it was asked, whatever the order of the answers.
 #[test]
-fn answers_are_of_their_books(rt: HostRuntime) -> Result<(), Fail> {
-    let machine = run_anew(&rt, rt.alloc(), OF_THEIR_BOOKS)?;
-    assert_eq!(rt; machine.version(), 3);
-    assert_eq!(rt; machine.open_requests(), 0);
-    Ok(())
+fn answers_are_of_their_books(rt: HostRuntime) {
+    let machine = run_anew(&rt, rt.alloc(), OF_THEIR_BOOKS);
+    same(&rt, machine.version(), 3, "version");
+    same(&rt, machine.open_requests() as u64, 0, "open requests");
 }
 
 const NUMBERED_OVER_THE_SITE: &str = "\
@@ -90,10 +92,9 @@ CP2 stop 2 = NoSuch
 CP9 stop 1 = UnknownPoint";
 
 #[test]
-fn transactions_are_numbered_over_the_site(rt: HostRuntime) -> Result<(), Fail> {
-    let machine = run_anew(&rt, rt.alloc(), NUMBERED_OVER_THE_SITE)?;
-    assert_eq!(rt; machine.version(), 3);
-    Ok(())
+fn transactions_are_numbered_over_the_site(rt: HostRuntime) {
+    let machine = run_anew(&rt, rt.alloc(), NUMBERED_OVER_THE_SITE);
+    same(&rt, machine.version(), 3, "version");
 }
 
 const AT_THE_LAST_VERSION: &str = "\
@@ -110,49 +111,61 @@ CP1 start 1 = TransactionsExhausted
 CP1 take = VersionsExhausted
 CP1 install 100 = Accepted";
 
+/// Runs steps from the last numbers that were drawn.
+fn run_at(rt: &impl Abort, alloc: Global, numbers: Numbers, lines: &str) {
+    let mut machine = Machine::new_at(alloc, site(rt, alloc), numbers).expect(rt, "error");
+    run(rt, alloc, &mut machine, lines);
+}
+
 #[test]
-fn numbers_end(rt: HostRuntime) -> Result<(), Fail> {
-    let alloc = rt.alloc();
+fn numbers_end(rt: HostRuntime) {
     let last_version = Numbers {
         version: MAX_NUMBER,
         request: 0,
         transaction: 0,
         link: 0,
     };
-    let mut machine = Machine::new_at(alloc, site(alloc)?, last_version)?;
-    run(&rt, alloc, &mut machine, AT_THE_LAST_VERSION)?;
+    run_at(&rt, rt.alloc(), last_version, AT_THE_LAST_VERSION);
     let last_transaction = Numbers {
         version: 0,
         request: MAX_NUMBER,
         transaction: 2_147_483_647,
         link: 0,
     };
-    let mut machine = Machine::new_at(alloc, site(alloc)?, last_transaction)?;
-    run(&rt, alloc, &mut machine, AT_THE_LAST_TRANSACTION)
+    run_at(&rt, rt.alloc(), last_transaction, AT_THE_LAST_TRANSACTION);
 }
 
 #[test]
-fn a_take_is_not_behind(rt: HostRuntime) -> Result<(), Fail> {
-    let alloc = rt.alloc();
-    let mut machine = Machine::new(alloc, site(alloc)?)?;
-    let refusal = machine.step(step_of(alloc, "CP1 take 5")?).err();
-    let refusal = refusal.map(|refused| refused.refusal);
-    assert_eq!(rt; refusal, Some(Refusal::Behind { seen: 5, found: 0 }));
-    run(&rt, alloc, &mut machine, "CP1 take = Taken 1")
+fn a_take_is_not_behind(rt: HostRuntime) {
+    let mut machine = opening(&rt, rt.alloc());
+    let step = step_of(&rt, rt.alloc(), "CP1 take 5");
+    let refusal = machine.step(step).err().map(|refused| refused.refusal);
+    let behind = Refusal::Behind { seen: 5, found: 0 };
+    holds(&rt, refusal == Some(behind), "a take that is behind");
+    run(&rt, rt.alloc(), &mut machine, "CP1 take = Taken 1");
 }
+
+fn take_and_compile(rt: &impl Abort, alloc: Global, machine: &mut Machine, number: u64) {
+    let lines = format!(in alloc;
+        "CP1 take = Taken {number}\n- compile {number} = Compiled"
+    ).expect(rt, "error");
+    run(rt, alloc, machine, lines.as_str());
+}
+
+const PAST_THE_LAST_REQUEST: &str = "\
+CP1 take = TooManyOpen
+- answer 2 = limit 160
+CP1 take = Taken 65";
 
 /// Requests are counted until their answers are handed out.
 #[test]
-fn as_many_requests_as_may_be_open(rt: HostRuntime) -> Result<(), Fail> {
-    let alloc = rt.alloc();
-    let mut machine = Machine::new(alloc, site(alloc)?)?;
+fn as_many_requests_as_may_be_open(rt: HostRuntime) {
+    let mut machine = opening(&rt, rt.alloc());
     for number in 1..65u64 {
-        let lines = format!(in alloc; "CP1 take = Taken {number}\n- compile {number} = Compiled")?;
-        run(&rt, alloc, &mut machine, lines.as_str())?;
+        take_and_compile(&rt, rt.alloc(), &mut machine, number);
     }
-    assert_eq!(rt; machine.open_requests(), 64);
-    let lines = "CP1 take = TooManyOpen\n- answer 2 = limit 160\nCP1 take = Taken 65";
-    run(&rt, alloc, &mut machine, lines)
+    same(&rt, machine.open_requests() as u64, 64, "open requests");
+    run(&rt, rt.alloc(), &mut machine, PAST_THE_LAST_REQUEST);
 }
 
 const UNTIL_IT_IS_CONFIRMED: &str = "\
@@ -177,9 +190,8 @@ CP9 send 3 = Superseded";
 
 /// A call goes out over the present link alone, and again until it is confirmed.
 #[test]
-fn a_call_is_sent_until_it_is_confirmed(rt: HostRuntime) -> Result<(), Fail> {
-    let _machine = run_anew(&rt, rt.alloc(), UNTIL_IT_IS_CONFIRMED)?;
-    Ok(())
+fn a_call_is_sent_until_it_is_confirmed(rt: HostRuntime) {
+    run_anew(&rt, rt.alloc(), UNTIL_IT_IS_CONFIRMED);
 }
 
 const OVER_A_NEW_LINK: &str = "\
@@ -200,9 +212,8 @@ CP2 attach = Stopped";
 
 /// A call that is in flight over a link waits again once the point has a new one.
 #[test]
-fn a_new_link_sends_what_was_in_flight(rt: HostRuntime) -> Result<(), Fail> {
-    let _machine = run_anew(&rt, rt.alloc(), OVER_A_NEW_LINK)?;
-    Ok(())
+fn a_new_link_sends_what_was_in_flight(rt: HostRuntime) {
+    run_anew(&rt, rt.alloc(), OVER_A_NEW_LINK);
 }
 
 /// Each with the link over which a call is to be sent after it.
@@ -215,15 +226,13 @@ const WITH_THE_LINK_TO_SEND: [(&str, Option<u64>); 5] = [
 ];
 
 #[test]
-fn a_call_that_waits_has_a_link_to_be_sent_over(rt: HostRuntime) -> Result<(), Fail> {
-    let alloc = rt.alloc();
-    let mut machine = Machine::new(alloc, site(alloc)?)?;
-    for (line, link) in WITH_THE_LINK_TO_SEND {
-        run(&rt, alloc, &mut machine, line)?;
-        assert_eq!(rt; machine.link_to_send("CP1"), link, "{line}");
-        assert_eq!(rt; machine.link_to_send("CP2"), None);
+fn a_call_that_waits_has_a_link_to_be_sent_over(rt: HostRuntime) {
+    let mut machine = opening(&rt, rt.alloc());
+    for (line, link) in &WITH_THE_LINK_TO_SEND {
+        run(&rt, rt.alloc(), &mut machine, line);
+        holds(&rt, machine.link_to_send("CP1") == *link, line);
+        holds(&rt, machine.link_to_send("CP2").is_none(), line);
     }
-    Ok(())
 }
 
 const FULL_OUTBOX: &str = "\
@@ -243,15 +252,13 @@ CP1 send 1 = Sent 1";
 
 /// As many calls wait as may be, call 0 among them. A start adds none.
 #[test]
-fn an_outbox_is_full_after_255_installs(rt: HostRuntime) -> Result<(), Fail> {
-    let alloc = rt.alloc();
-    let mut machine = Machine::new(alloc, site(alloc)?)?;
+fn an_outbox_is_full_after_255_installs(rt: HostRuntime) {
+    let mut machine = opening(&rt, rt.alloc());
     for _ in 0..255u8 {
-        run(&rt, alloc, &mut machine, "CP1 install 100 = Accepted")?;
+        run(&rt, rt.alloc(), &mut machine, "CP1 install 100 = Accepted");
     }
-    run(&rt, alloc, &mut machine, FULL_OUTBOX)?;
-    assert_eq!(rt; machine.version(), 259);
-    Ok(())
+    run(&rt, rt.alloc(), &mut machine, FULL_OUTBOX);
+    same(&rt, machine.version(), 259, "version");
 }
 
 /// From one link below the last, 1,000,000,000,000.
@@ -266,29 +273,35 @@ CP1 lost 1000000000000 = LinkLost
 CP1 attach = VersionsExhausted";
 
 #[test]
-fn links_end(rt: HostRuntime) -> Result<(), Fail> {
-    let alloc = rt.alloc();
+fn links_end(rt: HostRuntime) {
     let one_left = Numbers {
         version: 0,
         request: 0,
         transaction: 0,
         link: MAX_NUMBER - 1,
     };
-    let mut machine = Machine::new_at(alloc, site(alloc)?, one_left)?;
-    run(&rt, alloc, &mut machine, LAST_LINKS)
+    run_at(&rt, rt.alloc(), one_left, LAST_LINKS);
+}
+
+/// What comes of a step that has to be made: else the test fails with these words and the refusal.
+fn reply(rt: &impl Abort, machine: &mut Machine, step: Step, words: &str) -> (&'static str, u64) {
+    match machine.step(step) {
+        Ok(reply) => reply_told(&reply),
+        Err(refused) => rt.panic(format_args!("{words}: {}", refused.refusal)),
+    }
 }
 
 /// The reply to a step. Where memory is refused to it, nothing has changed, and the step that comes back is
 /// made again.
-fn made(rt: &impl Abort, machine: &mut Machine, step: Step) -> Result<(&'static str, u64), Fail> {
+fn made(rt: &impl Abort, machine: &mut Machine, step: Step) -> (&'static str, u64) {
     let before = (machine.version(), machine.open_requests());
     match machine.step(step) {
-        Ok(reply) => Ok(reply_told(&reply)),
+        Ok(reply) => reply_told(&reply),
         Err(refused) => {
-            assert_eq!(rt; refused.refusal, Refusal::OutOfMemory);
-            assert_eq!(rt; (machine.version(), machine.open_requests()), before);
-            let again = machine.step(refused.step).ok().ok_or("no memory")?;
-            Ok(reply_told(&again))
+            holds(rt, refused.refusal == Refusal::OutOfMemory, "a refusal");
+            let now = (machine.version(), machine.open_requests());
+            holds(rt, now == before, "what a refusal leaves");
+            reply(rt, machine, refused.step, "made again")
         }
     }
 }
@@ -310,17 +323,15 @@ CP1 lost 1 = LinkLost";
 /// Passes whichever allocation of a step is refused: what a refused step left shows in what comes of the
 /// same one once more.
 #[test]
-fn a_step_is_made_again_where_memory_was_refused(rt: HostRuntime) -> Result<(), Fail> {
-    let alloc = rt.alloc();
-    let mut machine = Machine::new(alloc, site(alloc)?)?;
-    let steps = steps_of(alloc, OF_EACH_KIND)?;
+fn a_step_is_made_again_where_memory_was_refused(rt: HostRuntime) {
+    let mut machine = opening(&rt, rt.alloc());
+    let steps = steps_of(&rt, rt.alloc(), OF_EACH_KIND);
     for (step, line) in steps.into_iter().zip(OF_EACH_KIND.lines()) {
-        let (_, wanted) = parts_of(line)?;
-        assert_eq!(rt; made(&rt, &mut machine, step)?, wanted, "{line}");
+        let (_, wanted) = parts_of(&rt, line);
+        same_outcome(&rt, made(&rt, &mut machine, step), wanted, line);
     }
-    assert_eq!(rt; machine.version(), 5);
-    assert_eq!(rt; machine.open_requests(), 2);
-    Ok(())
+    same(&rt, machine.version(), 5, "version");
+    same(&rt, machine.open_requests() as u64, 2, "open requests");
 }
 
 const FOUR_TAKES: &str = "\
@@ -329,43 +340,48 @@ CP1 take = Taken 2
 CP1 take = Taken 3
 CP1 take = Taken 4";
 
+/// The outcomes of a run of as many steps. Where memory is refused to it, none of them was made, and all come
+/// back and are run again.
+fn run_again(rt: &impl Abort, machine: &mut Machine, steps: Vec<Step>) -> Vec<Outcome> {
+    let count = steps.len();
+    let before = machine.open_requests();
+    match machine.run(steps) {
+        Ok(outcomes) => outcomes,
+        Err(RunFault { steps }) => {
+            holds(rt, steps.len() == count, "the steps that come back");
+            holds(rt, machine.open_requests() == before, "what a fault leaves");
+            machine.run(steps).ok().expect(rt, "no memory")
+        }
+    }
+}
+
+/// What came of one of four takes. Where memory was refused to it, the other three are made, and it is made now.
+fn take_told(rt: &impl Abort, machine: &mut Machine, outcome: Outcome) -> (&'static str, u64) {
+    match outcome {
+        Outcome::Done(reply) => reply_told(&reply),
+        Outcome::Refused(refused) => {
+            same(rt, machine.open_requests() as u64, 3, "open requests");
+            made(rt, machine, refused.step)
+        }
+    }
+}
+
 /// Where memory is refused to a run, none of its steps was made; where it is refused to one of them, the
 /// others are made.
 #[test]
-fn a_run_goes_on_where_memory_was_refused(rt: HostRuntime) -> Result<(), Fail> {
-    let alloc = rt.alloc();
-    let mut machine = Machine::new(alloc, site(alloc)?)?;
-    let steps = steps_of(alloc, FOUR_TAKES)?;
-    let outcomes = match machine.run(steps) {
-        Ok(outcomes) => outcomes,
-        Err(fault) => {
-            assert_eq!(rt; (fault.steps.len(), machine.open_requests()), (4, 0));
-            machine.run(fault.steps).ok().ok_or("no memory")?
-        }
-    };
-    let mut taken = 0u64;
+fn a_run_goes_on_where_memory_was_refused(rt: HostRuntime) {
+    let mut machine = opening(&rt, rt.alloc());
+    let steps = steps_of(&rt, rt.alloc(), FOUR_TAKES);
+    let outcomes = run_again(&rt, &mut machine, steps);
+    let mut number = 0u64;
     for outcome in outcomes {
-        match outcome {
-            Outcome::Done(reply) => {
-                taken = taken.saturating_add(1);
-                assert_eq!(rt; reply_told(&reply), ("Taken", taken));
-            }
-            Outcome::Refused(refused) => {
-                assert_eq!(rt; machine.open_requests(), 3);
-                assert_eq!(rt; made(&rt, &mut machine, refused.step)?, ("Taken", 4));
-            }
-        }
+        let is_done = matches!(outcome, Outcome::Done(_));
+        let wanted = if is_done { number.saturating_add(1) } else { 4 };
+        let told = take_told(&rt, &mut machine, outcome);
+        same_outcome(&rt, told, ("Taken", wanted), "a take");
+        number = if is_done { wanted } else { number };
     }
-    assert_eq!(rt; machine.open_requests(), 4);
-    Ok(())
-}
-
-/// What came of a step.
-fn told(made: Result<Reply, Refused>) -> (&'static str, u64) {
-    match made {
-        Ok(reply) => reply_told(&reply),
-        Err(refused) => (refused.refusal.name(), 0),
-    }
+    same(&rt, machine.open_requests() as u64, 4, "open requests");
 }
 
 /// Steps that make way for those below, which are no events.
@@ -381,39 +397,38 @@ CP1 start 1 = Repeated 1
 CP1 stop 2 = NoSuch
 CP1 send 1 = Nothing";
 
-/// Makes the steps before. Where memory is refused to one of them, that is the failure.
-fn make_way(rt: &impl Abort, alloc: Global, machine: &mut Machine) -> Result<(), Fail> {
-    let steps = steps_of(alloc, BEFORE)?;
+/// Makes the steps before.
+fn make_way(rt: &impl Abort, alloc: Global, machine: &mut Machine) {
+    let steps = steps_of(rt, alloc, BEFORE);
     for (step, line) in steps.into_iter().zip(BEFORE.lines()) {
-        let (_, wanted) = parts_of(line)?;
-        match machine.step(step) {
-            Ok(reply) => assert_eq!(rt; reply_told(&reply), wanted, "{line}"),
-            Err(refused) => return Err(refused.refusal)?,
-        }
+        let (_, wanted) = parts_of(rt, line);
+        same_outcome(rt, reply(rt, machine, step, "error"), wanted, line);
     }
-    Ok(())
+}
+
+/// What came of a step.
+fn told(machine: &mut Machine, step: Step) -> (&'static str, u64) {
+    match machine.step(step) {
+        Ok(reply) => reply_told(&reply),
+        Err(refused) => (refused.refusal.name(), 0),
+    }
 }
 
 /// A step without an event wants no memory: it has its reply where each allocation is refused, as
 /// `tests/program.py` does from each one on. A take wants some, and shows that it was refused.
 #[test]
-fn a_step_without_an_event_wants_no_memory(rt: HostRuntime) -> Result<(), Fail> {
-    let alloc = rt.alloc();
-    let mut machine = Machine::new(alloc, site(alloc)?)?;
-    make_way(&rt, alloc, &mut machine)?;
-    let take = step_of(alloc, "CP1 take")?;
-    let steps = steps_of(alloc, WITHOUT_AN_EVENT)?;
+fn a_step_without_an_event_wants_no_memory(rt: HostRuntime) {
+    let mut machine = opening(&rt, rt.alloc());
+    make_way(&rt, rt.alloc(), &mut machine);
+    let take = step_of(&rt, rt.alloc(), "CP1 take");
+    let steps = steps_of(&rt, rt.alloc(), WITHOUT_AN_EVENT);
     for (step, line) in steps.into_iter().zip(WITHOUT_AN_EVENT.lines()) {
-        let (_, wanted) = parts_of(line)?;
-        assert_eq!(rt; told(machine.step(step)), wanted, "{line}");
+        let (_, wanted) = parts_of(&rt, line);
+        same_outcome(&rt, told(&mut machine, step), wanted, line);
     }
-    let taken = told(machine.step(take));
-    assert!(rt;
-        taken == ("Taken", 1) || taken == ("OutOfMemory", 0),
-        "{}",
-        taken.0
-    );
-    Ok(())
+    let taken = told(&mut machine, take);
+    let is_taken = taken == ("Taken", 1) || taken == ("OutOfMemory", 0);
+    holds(&rt, is_taken, taken.0);
 }
 
 /// What would come of steps at the opening, an event, an answer alone or a refusal.
@@ -432,21 +447,20 @@ CP1 attach = event
 CP1 send 1 = Superseded
 - finish = event";
 
-#[test]
-fn what_would_come_of_a_step_can_be_asked(rt: HostRuntime) -> Result<(), Fail> {
-    let alloc = rt.alloc();
-    let machine = run_anew(&rt, alloc, "")?;
-    for (step, line) in steps_of(alloc, AT_THE_OPENING)?
-        .into_iter()
-        .zip(AT_THE_OPENING.lines())
-    {
-        let told = match machine.outlook(&step) {
-            Ok(true) => "event",
-            Ok(false) => "answer",
-            Err(refusal) => refusal.name(),
-        };
-        let (_, wanted) = parts_of(line)?;
-        assert_eq!(rt; told, wanted.0, "{line}");
+fn outlook_told(machine: &Machine, step: &Step) -> &'static str {
+    match machine.outlook(step) {
+        Ok(true) => "event",
+        Ok(false) => "answer",
+        Err(refusal) => refusal.name(),
     }
-    Ok(())
+}
+
+#[test]
+fn what_would_come_of_a_step_can_be_asked(rt: HostRuntime) {
+    let machine = opening(&rt, rt.alloc());
+    for line in AT_THE_OPENING.lines() {
+        let (step, wanted) = parts_of(&rt, line);
+        let step = step_of(&rt, rt.alloc(), step);
+        same_text(&rt, outlook_told(&machine, &step), wanted.0, line);
+    }
 }

@@ -2,16 +2,16 @@
 
 ghost use Rattle.std.specs.Prelude.{◌≡◌};
 
-use crate::runs::site;
+use crate::runs::{opening, site};
+use crate::same::{same, same_outcome};
 use crate::told_steps::{answer_told, parts_of, step_of};
 use ocpp_scalars::Refusal;
-use profile::{Profile, Row};
-use site_core::{Machine, PointId, Reply, Step, Take};
+use profile::{Criteria, Profile, Row};
+use site_core::{PointId, Reply, Step, Take};
 use std::alloc::Global;
 use std::marker::Brand;
 use std::process::Abort;
 use std::sync::ledger::{Blank, Ledger};
-use std::test::Fail;
 use sweep_compiler::Compiled;
 use transactions::Begin;
 use version_store::{Book, Job, Pass};
@@ -23,6 +23,9 @@ pub(crate) enum Back {
     Profile(Profile),
     Begin(Begin),
 }
+
+/// What comes of a call that gives nothing back, with its number, 0 where it has none.
+type Called = Result<(&'static str, u64), Refusal>;
 
 type Made = Result<(&'static str, u64), (Refusal, Back)>;
 
@@ -39,28 +42,32 @@ pub(crate) struct Desk<C: Ledger, A: Ledger> {
 }
 
 /// An answer of another store.
-fn stranger(alloc: Global) -> Result<Compiled, Fail> {
-    let mut machine = Machine::new(alloc, site(alloc)?)?;
-    match machine.step(step_of(alloc, "CP1 take")?) {
-        Ok(Reply::Taken { book, ask, .. }) => Ok(Compiled::make(alloc, book.into_arc(), ask)),
-        Ok(_) => Err("not taken")?,
-        Err(refused) => Err(refused.refusal)?,
+fn stranger(rt: &impl Abort, alloc: Global) -> Compiled {
+    let mut machine = opening(rt, alloc);
+    match machine.step(step_of(rt, alloc, "CP1 take")) {
+        Ok(Reply::Taken { book, ask, .. }) => Compiled::make(alloc, book.into_arc(), ask),
+        Ok(_) => rt.panic("not taken"),
+        Err(refused) => rt.panic(format_args!("error: {}", refused.refusal)),
     }
 }
 
 impl<C: Ledger, A: Ledger> Desk<C, A> {
-    pub(crate) fn new(alloc: Global, changes: Blank, answers: Blank) -> Result<Desk<C, A>, Fail>
+    pub(crate) fn new(rt: &impl Abort, alloc: Global, changes: Blank, answers: Blank) -> Desk<C, A>
         requires changes { (changes.name ≡ C.name) × (changes.parts ≡ C.parts) × (changes.parts ≡ 1) }
         requires answers { (answers.name ≡ A.name) × (answers.parts ≡ A.parts) × (answers.parts ≡ 1) }
     {
-        let (book, mut passes) = Book::make(alloc, changes, answers, site(alloc)?, 1)?;
-        Ok(Desk {
+        let stranger = Some(stranger(rt, alloc));
+        let jobs = Vec::with_capacity(alloc, 64).expect(rt, "error");
+        let (book, mut passes) = Book::make(alloc, changes, answers, site(rt, alloc), 1).expect(
+            rt, "error",
+        );
+        Desk {
             alloc,
             book,
-            pass: passes.pop().ok_or("no pass")?,
-            jobs: Vec::with_capacity(alloc, 64)?,
-            stranger: Some(stranger(alloc)?),
-        })
+            pass: passes.pop().expect(rt, "no pass"),
+            jobs,
+            stranger,
+        }
     }
 
     /// What comes of the call of a step, with its number, 0 where it has none.
@@ -85,42 +92,69 @@ impl<C: Ledger, A: Ledger> Desk<C, A> {
     }
 
     /// The call of a step that gives nothing back.
-    fn bare_call(&mut self, step: Step) -> Result<(&'static str, u64), Refusal> {
+    fn bare_call(&mut self, step: Step) -> Called {
         match step {
-            Step::Clear { point, criteria } => {
-                let removed = self.book.clear(&mut self.pass, point, criteria)?;
-                Ok((if removed { "Accepted" } else { "Unknown" }, 0))
-            }
-            Step::Stop { point, transaction } => {
-                let ended = self.book.stop(&mut self.pass, point, transaction)?;
-                Ok((if ended { "Ended" } else { "NoSuch" }, 0))
-            }
+            Step::Clear { point, criteria } => self.clear(point, criteria),
+            Step::Stop { point, transaction } => self.stop(point, transaction),
             Step::Take(take) => self.take(take),
-            Step::Answer(number) => match self.book.collect(&mut self.pass, number)? {
-                Some(answer) => Ok(answer_told(answer.answer())),
-                None => Ok(("NotYet", 0)),
-            },
+            Step::Answer(number) => self.answer(number),
             other => self.link_call(other),
         }
     }
 
     /// The call of a step of a link.
-    fn link_call(&mut self, step: Step) -> Result<(&'static str, u64), Refusal> {
+    fn link_call(&mut self, step: Step) -> Called {
         match step {
-            Step::Attach(point) => Ok(("Attached", self.book.attach(&mut self.pass, point)?)),
-            Step::Send { point, link } => match self.book.send(point, link)? {
-                Some(call) => Ok(("Sent", call.number)),
-                None => Ok(("Nothing", 0)),
+            Step::Attach(point) => self.attach(point),
+            Step::Send { point, link } => self.send(point, link),
+            Step::Confirm { point, link, call } => match self.book.confirm(point, link, call) {
+                Ok(()) => Ok(("Confirmed", 0)),
+                Err(refusal) => Err(refusal),
             },
-            Step::Confirm { point, link, call } => {
-                self.book.confirm(point, link, call)?;
-                Ok(("Confirmed", 0))
-            }
-            Step::Lost { point, link } => {
-                self.book.lost(point, link)?;
-                Ok(("LinkLost", 0))
-            }
+            Step::Lost { point, link } => match self.book.lost(point, link) {
+                Ok(()) => Ok(("LinkLost", 0)),
+                Err(refusal) => Err(refusal),
+            },
             _ => Ok(("no call", 0)),
+        }
+    }
+
+    fn clear(&mut self, point: PointId, criteria: Criteria) -> Called {
+        match self.book.clear(&mut self.pass, point, criteria) {
+            Ok(true) => Ok(("Accepted", 0)),
+            Ok(false) => Ok(("Unknown", 0)),
+            Err(refusal) => Err(refusal),
+        }
+    }
+
+    fn stop(&mut self, point: PointId, transaction: i32) -> Called {
+        match self.book.stop(&mut self.pass, point, transaction) {
+            Ok(true) => Ok(("Ended", 0)),
+            Ok(false) => Ok(("NoSuch", 0)),
+            Err(refusal) => Err(refusal),
+        }
+    }
+
+    fn answer(&mut self, number: u64) -> Called {
+        match self.book.collect(&mut self.pass, number) {
+            Ok(Some(answer)) => Ok(answer_told(answer.answer())),
+            Ok(None) => Ok(("NotYet", 0)),
+            Err(refusal) => Err(refusal),
+        }
+    }
+
+    fn attach(&mut self, point: PointId) -> Called {
+        match self.book.attach(&mut self.pass, point) {
+            Ok(link) => Ok(("Attached", link)),
+            Err(refusal) => Err(refusal),
+        }
+    }
+
+    fn send(&mut self, point: PointId, link: u64) -> Called {
+        match self.book.send(point, link) {
+            Ok(Some(call)) => Ok(("Sent", call.number)),
+            Ok(None) => Ok(("Nothing", 0)),
+            Err(refusal) => Err(refusal),
         }
     }
 
@@ -150,7 +184,7 @@ impl<C: Ledger, A: Ledger> Desk<C, A> {
     }
 
     /// Takes a request and keeps its job.
-    fn take(&mut self, take: Take) -> Result<(&'static str, u64), Refusal> {
+    fn take(&mut self, take: Take) -> Called {
         let job = self.book.take(
             &mut self.pass,
             take.point,
@@ -196,14 +230,18 @@ impl<C: Ledger, A: Ledger> Desk<C, A> {
         }
     }
 
+    /// Makes the call of a line, with what has to come of it.
+    fn run_line(&mut self, rt: &impl Abort, line: &str) {
+        let (step, wanted) = parts_of(rt, line);
+        let step = step_of(rt, self.alloc, step);
+        same_outcome(rt, self.told(step), wanted, line);
+    }
+
     /// Makes the calls of lines, each with what has to come of it.
-    pub(crate) fn run(&mut self, rt: &impl Abort, lines: &str) -> Result<(), Fail> {
+    pub(crate) fn run(&mut self, rt: &impl Abort, lines: &str) {
         for line in lines.lines() {
-            let (step, wanted) = parts_of(line)?;
-            let step = step_of(self.alloc, step)?;
-            assert_eq!(rt; self.told(step), wanted, "{line}");
+            self.run_line(rt, line);
         }
-        Ok(())
     }
 }
 
@@ -213,22 +251,20 @@ fn run_at<C: Ledger, A: Ledger>(
     alloc: Global,
     changes: Blank,
     answers: Blank,
-    lines: String,
+    lines: &str,
     version: u64,
-) -> Result<(), Fail>
+)
     requires changes { (changes.name ≡ C.name) × (changes.parts ≡ C.parts) × (changes.parts ≡ 1) }
     requires answers { (answers.name ≡ A.name) × (answers.parts ≡ A.parts) × (answers.parts ≡ 1) }
 {
-    let mut desk: Desk<C, A> = Desk::new(alloc, changes, answers)?;
-    desk.run(rt, lines.as_str())?;
-    assert_eq!(rt; desk.book.version(), version);
-    assert_eq!(rt; desk.pass.totals().changes, version);
-    Ok(())
+    let mut desk: Desk<C, A> = Desk::new(rt, alloc, changes, answers);
+    desk.run(rt, lines);
+    same(rt, desk.book.version(), version, "version");
+    same(rt, desk.pass.totals().changes, version, "changes");
 }
 
-fn run_on_a_book(rt: &impl Abort, alloc: Global, lines: &str, version: u64) -> Result<(), Fail> {
-    let lines = String::from_str(alloc, lines)?;
-    run_at::<Brand, Brand>(rt, alloc, Blank::new(1), Blank::new(1), lines, version)
+fn run_on_a_book(rt: &impl Abort, alloc: Global, lines: &str, version: u64) {
+    run_at::<Brand, Brand>(rt, alloc, Blank::new(1), Blank::new(1), lines, version);
 }
 
 const OF_THE_TAKEN_BOOK: &str = "\
@@ -252,8 +288,8 @@ CP9 install 70 = UnknownPoint";
 
 /// Two installs, a clear, a start and a stop are changes.
 #[test]
-fn a_session_changes_what_a_point_has(rt: HostRuntime) -> Result<(), Fail> {
-    run_on_a_book(&rt, rt.alloc(), OF_THE_TAKEN_BOOK, 5)
+fn a_session_changes_what_a_point_has(rt: HostRuntime) {
+    run_on_a_book(&rt, rt.alloc(), OF_THE_TAKEN_BOOK, 5);
 }
 
 const OF_LINKS: &str = "\
@@ -277,8 +313,8 @@ CP9 send 5 = Superseded";
 
 /// A call that is in flight waits again over a new link.
 #[test]
-fn a_session_sends_over_the_present_link(rt: HostRuntime) -> Result<(), Fail> {
-    run_on_a_book(&rt, rt.alloc(), OF_LINKS, 0)
+fn a_session_sends_over_the_present_link(rt: HostRuntime) {
+    run_on_a_book(&rt, rt.alloc(), OF_LINKS, 0);
 }
 
 const OF_THE_END: &str = "\
@@ -305,6 +341,6 @@ CP1 attach = Stopped";
 
 /// Finishing answers `Stopped`, and then only collecting goes on.
 #[test]
-fn a_session_collects_after_the_end(rt: HostRuntime) -> Result<(), Fail> {
-    run_on_a_book(&rt, rt.alloc(), OF_THE_END, 0)
+fn a_session_collects_after_the_end(rt: HostRuntime) {
+    run_on_a_book(&rt, rt.alloc(), OF_THE_END, 0);
 }

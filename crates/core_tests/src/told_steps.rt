@@ -6,103 +6,98 @@
 //! limit, and its id is the limit's number of tenths; a start is by `ann` at midnight; an ask is of connector 1
 //! for a minute from midnight on.
 
-use book_tests::{begin_of, criteria_of, instant_at, row_of};
+use crate::same::{same, same_outcome};
+use book_tests::{Words, begin_of, criteria_of, instant_at, row_of};
 use meaning::Composite;
 use ocpp_scalars::Refusal;
 use site_core::{Machine, Outcome, PointId, Reply, Step, Take};
 use std::alloc::Global;
 use std::process::Abort;
-use std::test::Fail;
 
-/// The words of a step, with 0 for each number that isn't there.
-#[derive(Clone, Copy)]
-struct Words<'a> {
-    point: &'a str,
-    step: &'a str,
-    first: u64,
-    second: u64,
-}
-
-fn number(word: Option<&str>) -> Result<u64, Fail> {
-    match word {
-        Some(word) => Ok(word.parse::<u64>()?),
-        None => Ok(0),
+/// The next number, 0 where no word is left.
+fn number(rt: &impl Abort, words: &mut Words<'_>) -> u64 {
+    let word = words.word();
+    if word.is_empty() {
+        return 0;
     }
-}
-
-fn words_of(text: &str) -> Result<Words<'_>, Fail> {
-    let mut words = text.split(' ');
-    Ok(Words {
-        point: words.next().ok_or("no point")?,
-        step: words.next().ok_or("no step")?,
-        first: number(words.next())?,
-        second: number(words.next())?,
-    })
+    word.parse::<u64>().expect(rt, word)
 }
 
 /// The install of a limit.
-fn install(alloc: Global, point: PointId, limit: u64) -> Result<Step, Fail> {
-    let words = format!(in alloc; "id={limit} periods=0:{limit}")?;
-    let row = row_of(alloc, words.as_str())?;
-    Ok(Step::Install { point, row })
+fn install(rt: &impl Abort, alloc: Global, point: PointId, limit: u64) -> Step {
+    let words = format!(in alloc; "id={limit} periods=0:{limit}").expect(rt, "error");
+    let row = row_of(alloc, words.as_str()).expect(rt, "error");
+    Step::Install { point, row }
 }
 
-fn start(alloc: Global, point: PointId, connector: u64) -> Result<Step, Fail> {
-    Ok(Step::Start {
+fn start(rt: &impl Abort, alloc: Global, point: PointId, connector: u64) -> Step {
+    Step::Start {
         point,
-        connector: u32::try_from(connector).ok().ok_or("no connector")?,
-        begin: begin_of(alloc, "ann", 0, 0)?,
-    })
+        connector: u32::try_from(connector).expect(rt, "no connector"),
+        begin: begin_of(alloc, "ann", 0, 0).expect(rt, "error"),
+    }
 }
 
-fn take(point: PointId, seen: u64) -> Result<Step, Fail> {
-    Ok(Step::Take(Take {
+fn take(rt: &impl Abort, point: PointId, seen: u64) -> Step {
+    Step::Take(Take {
         point,
         connector: 1,
-        start: instant_at(0)?,
+        start: instant_at(0).expect(rt, "no instant"),
         duration: 60,
         unit: None,
         seen,
-    }))
+    })
 }
 
 /// The step of a line's words.
-pub(crate) fn step_of(alloc: Global, text: &str) -> Result<Step, Fail> {
-    let words = words_of(text)?;
-    let point = PointId::copied(alloc, words.point)?;
-    let Words { first, second, .. } = words;
-    match words.step {
-        "install" => install(alloc, point, first),
-        "clear" => Ok(Step::Clear {
+pub(crate) fn step_of(rt: &impl Abort, alloc: Global, text: &str) -> Step {
+    let mut words = Words::of(text);
+    let point = words.word();
+    let name = words.word();
+    let first = number(rt, &mut words);
+    match name {
+        "compile" => Step::Compile(first),
+        "answer" => Step::Answer(first),
+        "finish" => Step::Finish,
+        name => {
+            let point = PointId::copied(alloc, point).expect(rt, "error");
+            point_step(rt, alloc, point, name, (first, number(rt, &mut words)))
+        }
+    }
+}
+
+/// A step of a point.
+fn point_step(
+    rt: &impl Abort,
+    alloc: Global,
+    point: PointId,
+    name: &str,
+    (first, second): (u64, u64),
+) -> Step {
+    match name {
+        "install" => install(rt, alloc, point, first),
+        "clear" => Step::Clear {
             point,
-            criteria: criteria_of("")?,
-        }),
-        "start" => start(alloc, point, first),
-        "stop" => Ok(Step::Stop {
+            criteria: criteria_of("").expect(rt, "no criteria"),
+        },
+        "start" => start(rt, alloc, point, first),
+        "stop" => Step::Stop {
             point,
-            transaction: i32::try_from(first).ok().ok_or("no transaction")?,
-        }),
-        "take" => take(point, first),
-        "compile" => Ok(Step::Compile(first)),
-        "answer" => Ok(Step::Answer(first)),
-        "finish" => Ok(Step::Finish),
-        _ => link_step(words, point),
+            transaction: i32::try_from(first).expect(rt, "no transaction"),
+        },
+        "take" => take(rt, point, first),
+        name => link_step(rt, point, name, first, second),
     }
 }
 
 /// A step of a link.
-fn link_step(words: Words<'_>, point: PointId) -> Result<Step, Fail> {
-    let link = words.first;
-    match words.step {
-        "attach" => Ok(Step::Attach(point)),
-        "send" => Ok(Step::Send { point, link }),
-        "confirm" => Ok(Step::Confirm {
-            point,
-            link,
-            call: words.second,
-        }),
-        "lost" => Ok(Step::Lost { point, link }),
-        _ => Err("no step")?,
+fn link_step(rt: &impl Abort, point: PointId, name: &str, link: u64, call: u64) -> Step {
+    match name {
+        "attach" => Step::Attach(point),
+        "send" => Step::Send { point, link },
+        "confirm" => Step::Confirm { point, link, call },
+        "lost" => Step::Lost { point, link },
+        name => rt.panic(name),
     }
 }
 
@@ -147,37 +142,36 @@ pub(crate) fn outcome_told(outcome: &Outcome) -> (&'static str, u64) {
 }
 
 /// The step of a line, and the outcome that is wanted.
-pub(crate) fn parts_of(line: &str) -> Result<(&str, (&str, u64)), Fail> {
-    let (step, wanted) = line.split_once(" = ").ok_or("no outcome")?;
-    match wanted.split_once(' ') {
-        Some((name, word)) => Ok((step, (name, number(Some(word))?))),
-        None => Ok((step, (wanted, 0))),
-    }
+pub(crate) fn parts_of<'a>(rt: &impl Abort, line: &'a str) -> (&'a str, (&'a str, u64)) {
+    let (step, wanted) = line.split_once(" = ").expect(rt, line);
+    let mut words = Words::of(wanted);
+    let name = words.word();
+    (step, (name, number(rt, &mut words)))
 }
 
 /// The steps of lines.
-pub(crate) fn steps_of(alloc: Global, lines: &str) -> Result<Vec<Step>, Fail> {
+pub(crate) fn steps_of(rt: &impl Abort, alloc: Global, lines: &str) -> Vec<Step> {
     let mut steps = Vec::new(alloc);
     for line in lines.lines() {
-        let (step, _) = parts_of(line)?;
-        steps.push(step_of(alloc, step)?)?;
+        let (step, _) = parts_of(rt, line);
+        let step = step_of(rt, alloc, step);
+        steps.push(step).ok().expect(rt, "error: OutOfMemory");
     }
-    Ok(steps)
+    steps
 }
 
 /// Runs the steps of lines, each with what has to come of it.
-pub(crate) fn run(
-    rt: &impl Abort,
-    alloc: Global,
-    machine: &mut Machine,
-    lines: &str,
-) -> Result<(), Fail> {
-    let steps = steps_of(alloc, lines)?;
-    let outcomes = machine.run(steps).ok().ok_or("no memory")?;
-    assert_eq!(rt; outcomes.len(), lines.lines().count());
+pub(crate) fn run(rt: &impl Abort, alloc: Global, machine: &mut Machine, lines: &str) {
+    let steps = steps_of(rt, alloc, lines);
+    let outcomes = machine.run(steps).ok().expect(rt, "no memory");
+    same(
+        rt,
+        outcomes.len() as u64,
+        lines.lines().count() as u64,
+        "outcomes",
+    );
     for (line, outcome) in lines.lines().zip(outcomes.iter()) {
-        let (_, wanted) = parts_of(line)?;
-        assert_eq!(rt; outcome_told(outcome), wanted, "{line}");
+        let (_, wanted) = parts_of(rt, line);
+        same_outcome(rt, outcome_told(outcome), wanted, line);
     }
-    Ok(())
 }

@@ -1,12 +1,12 @@
 //! What no clause says: the bytes of worked calls to a charge point, and that memory suffices to write
 //! and to copy the longest. Each call is made of what an operator asks for, with its fields in another
 //! order than they are written in.
+use crate::same::same_text;
 use messages::{Action, Call, CallBody, push_call, read_action};
 use ocppj_frame::{ReadingMemory, read_frame};
-use profile::Profile;
-use std::alloc::{AllocError, Global};
+use profile::{Profile, ProfileParts};
+use std::alloc::Global;
 use std::process::Abort;
-use std::test::Fail;
 
 /// On each line what an operator asks for, and below it the call that is written, of number 7.
 const CALLS: &str = r#"[2,"a","ClearChargingProfile",{}]
@@ -28,84 +28,95 @@ const CALLS: &str = r#"[2,"a","ClearChargingProfile",{}]
 [2,"a","SetChargingProfile",{"csChargingProfiles":{"chargingSchedule":{"minChargingRate":0,"chargingSchedulePeriod":[{"limit":7360.2,"startPeriod":10}],"chargingRateUnit":"W","duration":86400},"validTo":"2025-02-01T00:00:00Z","recurrencyKind":"Daily","chargingProfileKind":"Recurring","chargingProfilePurpose":"ChargePointMaxProfile","stackLevel":10,"transactionId":12,"chargingProfileId":0},"connectorId":0}]
 [2,"7","SetChargingProfile",{"connectorId":0,"csChargingProfiles":{"chargingProfileId":0,"stackLevel":10,"chargingProfilePurpose":"ChargePointMaxProfile","chargingProfileKind":"Recurring","recurrencyKind":"Daily","validTo":"2025-02-01T00:00:00Z","chargingSchedule":{"duration":86400,"chargingRateUnit":"W","chargingSchedulePeriod":[{"startPeriod":10,"limit":7360.2}],"minChargingRate":0.0}}}]"#;
 
-fn body_of(alloc: Global, text: &str) -> Result<CallBody, Fail> {
-    let mut memory = ReadingMemory::new(alloc);
-    let Ok(frame) = read_frame(&mut memory, text) else {
-        return Err(Fail::new("no message"));
-    };
-    match read_action(alloc, &frame) {
-        Ok(Action::ClearChargingProfile(criteria)) => Ok(CallBody::Clear(criteria)),
-        Ok(Action::SetChargingProfile { connector, profile }) => match Profile::try_new(profile) {
-            Ok(profile) => Ok(CallBody::Set { connector, profile }),
-            Err(_) => Err(Fail::new("a refused profile")),
-        },
-        _ => Err(Fail::new("another action")),
+fn profile(rt: &impl Abort, parts: ProfileParts) -> Profile {
+    match Profile::try_new(parts) {
+        Ok(profile) => profile,
+        Err((refusal, _)) => rt.panic(refusal),
     }
 }
 
-/// What is appended for a call and for its copy is the text wanted.
-fn assert_call(rt: &impl Abort, alloc: Global, call: &Call, wanted: &str) -> Result<(), Fail> {
-    let copy = call.copy()?;
-    let mut text = String::from_str(alloc, "* ")?;
-    push_call(&mut text, call)?;
-    let mut again = String::new(alloc);
-    push_call(&mut again, &copy)?;
-    assert_eq!(rt; text.as_str().strip_prefix("* "), Some(wanted));
-    assert_eq!(rt; again.as_str(), wanted);
-    Ok(())
+fn body_of(rt: &impl Abort, alloc: Global, text: &str) -> CallBody {
+    let mut memory = ReadingMemory::new(alloc);
+    let frame = read_frame(&mut memory, text).ok().expect(rt, text);
+    match read_action(alloc, &frame) {
+        Ok(Action::ClearChargingProfile(criteria)) => CallBody::Clear(criteria),
+        Ok(
+            Action::SetChargingProfile {
+                connector,
+                profile: parts,
+            },
+        ) => CallBody::Set {
+            connector,
+            profile: profile(rt, parts),
+        },
+        _ => rt.panic(text),
+    }
+}
+
+/// What is appended for a call is the text wanted.
+fn assert_text(rt: &impl Abort, alloc: Global, call: &Call, wanted: &str) {
+    let mut text = String::from_str(alloc, "* ").expect(rt, "error");
+    push_call(&mut text, call).expect(rt, "error");
+    let found = text.as_str().strip_prefix("* ");
+    same_text(rt, found.expect(rt, wanted), wanted, "a call");
+}
+
+/// What is appended for the call of a text, and for its copy, is the text wanted.
+fn assert_call(rt: &impl Abort, alloc: Global, number: u64, asked: &str, wanted: &str) {
+    let body = body_of(rt, alloc, asked);
+    let call = Call { number, body };
+    assert_text(rt, alloc, &call, wanted);
+    let copy = call.copy().expect(rt, "error");
+    assert_text(rt, alloc, &copy, wanted);
 }
 
 #[test]
-fn calls_are_written(rt: HostRuntime) -> Result<(), Fail> {
+fn calls_are_written(rt: HostRuntime) {
     let mut lines = CALLS.lines();
     while let Some(asked) = lines.next() {
-        let wanted = lines.next().ok_or("no call")?;
-        let body = body_of(rt.alloc(), asked)?;
-        assert_call(&rt, rt.alloc(), &Call { number: 7, body }, wanted)?;
+        let wanted = lines.next().expect(&rt, asked);
+        assert_call(&rt, rt.alloc(), 7, asked, wanted);
     }
-    Ok(())
 }
 
+const CLEAR: &str = r#"[2,"a","ClearChargingProfile",{}]"#;
+
+const NUMBERED: [(u64, &str); 3] = [
+    (0, r#"[2,"0","ClearChargingProfile",{}]"#),
+    (256, r#"[2,"256","ClearChargingProfile",{}]"#),
+    (
+        18_446_744_073_709_551_615,
+        r#"[2,"18446744073709551615","ClearChargingProfile",{}]"#,
+    ),
+];
+
 #[test]
-fn a_call_has_its_number(rt: HostRuntime) -> Result<(), Fail> {
-    for (number, wanted) in [
-        (0, r#"[2,"0","ClearChargingProfile",{}]"#),
-        (256, r#"[2,"256","ClearChargingProfile",{}]"#),
-        (
-            18_446_744_073_709_551_615,
-            r#"[2,"18446744073709551615","ClearChargingProfile",{}]"#,
-        ),
-    ] {
-        let body = body_of(rt.alloc(), r#"[2,"a","ClearChargingProfile",{}]"#)?;
-        assert_call(&rt, rt.alloc(), &Call { number, body }, wanted)?;
+fn a_call_has_its_number(rt: HostRuntime) {
+    for (number, wanted) in &NUMBERED {
+        assert_call(&rt, rt.alloc(), *number, CLEAR, wanted);
     }
-    Ok(())
 }
 
 /// Appends so many periods, a second apart.
-fn push_periods(text: &mut String, periods: u32) -> Result<(), AllocError> {
+fn push_periods(rt: &impl Abort, text: &mut String, periods: u32) {
     for start in 0..periods {
-        if start > 0 {
-            text.push_str(",")?;
-        }
+        let comma = if start > 0 { "," } else { "" };
         write!(
             text,
-            r#"{{"startPeriod":{start},"limit":16.0,"numberPhases":3}}"#
-        )?;
+            r#"{comma}{{"startPeriod":{start},"limit":16.0,"numberPhases":3}}"#
+        )
+        .expect(rt, "error");
     }
-    Ok(())
 }
 
+const BEFORE_THE_PERIODS: &str =
+    r#"[2,"7","SetChargingProfile",{"connectorId":1,"csChargingProfiles":{"chargingProfileId":1,"stackLevel":0,"chargingProfilePurpose":"TxDefaultProfile","chargingProfileKind":"Relative","chargingSchedule":{"chargingRateUnit":"A","chargingSchedulePeriod":["#;
+
 #[test]
-fn a_call_has_200_periods(rt: HostRuntime) -> Result<(), Fail> {
-    let alloc = rt.alloc();
-    let mut wanted = String::from_str(
-        alloc,
-        r#"[2,"7","SetChargingProfile",{"connectorId":1,"csChargingProfiles":{"chargingProfileId":1,"stackLevel":0,"chargingProfilePurpose":"TxDefaultProfile","chargingProfileKind":"Relative","chargingSchedule":{"chargingRateUnit":"A","chargingSchedulePeriod":["#,
-    )?;
-    push_periods(&mut wanted, 200)?;
-    wanted.push_str("]}}}]")?;
+fn a_call_has_200_periods(rt: HostRuntime) {
+    let mut wanted = String::from_str(rt.alloc(), BEFORE_THE_PERIODS).expect(&rt, "error");
+    push_periods(&rt, &mut wanted, 200);
+    wanted.push_str("]}}}]").expect(&rt, "error");
     // what is written says no less than what was asked
-    let body = body_of(alloc, wanted.as_str())?;
-    assert_call(&rt, alloc, &Call { number: 7, body }, wanted.as_str())
+    assert_call(&rt, rt.alloc(), 7, wanted.as_str(), wanted.as_str());
 }

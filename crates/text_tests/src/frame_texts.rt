@@ -1,14 +1,14 @@
 //! What no replayed script shows: which frames get no answer and why, texts of their largest size,
 //! fields by kind, and written frames. `tests/replay` at the top of the repository has the texts of
 //! JSON conformance suites.
+use crate::same::{holds, same_text};
 use ocppj_frame::{
     Field, Frame, FrameFault, Node, ReadingMemory, instant_field, list_field, object_field,
     push_call_head, push_error, push_frame_end, push_result_head, read_frame, read_tree,
     tenths_field, text_field, whole_field, write_call, write_error, write_result,
 };
-use std::alloc::{AllocError, Global};
+use std::alloc::Global;
 use std::process::Abort;
-use std::test::Fail;
 
 fn outcome(memory: &mut ReadingMemory, text: &str) -> &'static str {
     match read_frame(memory, text) {
@@ -122,69 +122,78 @@ Dropped [2,"🔌🔌🔌🔌🔌🔌🔌🔌🔌🔌🔌🔌🔌🔌🔌🔌🔌
 Dropped [3,"aaaaaaaaaaaaaaaaaaaaaaaaaaaaaaaaaaaaa"]"#;
 
 #[test]
-fn texts_are_frames_by_their_elements(rt: HostRuntime) -> Result<(), Fail> {
+fn texts_are_frames_by_their_elements(rt: HostRuntime) {
     // One memory for all of them: what was read before leaves no trace.
     let mut memory = ReadingMemory::new(rt.alloc());
     for line in FRAMES.lines() {
-        let (wanted, text) = line.split_once(' ').ok_or("no text")?;
-        assert_eq!(rt; outcome(&mut memory, text), wanted, "{text}");
+        let (wanted, text) = line.split_once(' ').expect(&rt, line);
+        same_text(&rt, outcome(&mut memory, text), wanted, text);
     }
-    assert_eq!(rt; outcome(&mut memory, " \t\r\n[7,\n\"5\"]\n\r\t "), "Other");
-    assert_eq!(rt; outcome(&mut memory, "[7,\"a\nb\"]"), "Dropped");
-    Ok(())
+    let other = outcome(&mut memory, " \t\r\n[7,\n\"5\"]\n\r\t ");
+    same_text(&rt, other, "Other", "blanks");
+    let dropped = outcome(&mut memory, "[7,\"a\nb\"]");
+    same_text(&rt, dropped, "Dropped", "a line within a text");
 }
 
-fn push_times(out: &mut String, piece: &str, times: u32) -> Result<(), AllocError> {
+fn push_times(rt: &impl Abort, out: &mut String, piece: &str, times: u32) {
     for _ in 0..times {
-        out.push_str(piece)?;
+        out.push_str(piece).expect(rt, "error");
     }
-    Ok(())
 }
 
 #[test]
-fn frames_have_at_most_1048576_bytes(rt: HostRuntime) -> Result<(), AllocError> {
-    let alloc = rt.alloc();
-    let mut text = String::from_str(alloc, "[7,\"5\"]")?;
-    push_times(&mut text, " ", 1_048_569)?;
-    assert_eq!(rt; text.len(), 1_048_576);
-    let mut memory = ReadingMemory::new(alloc);
-    assert_eq!(rt; outcome(&mut memory, text.as_str()), "Other");
-    text.push_str(" ")?;
-    assert_eq!(rt; outcome(&mut memory, text.as_str()), "Dropped");
-    assert!(rt; read_tree(&mut memory, text.as_str()).is_ok());
-    Ok(())
+fn frames_have_at_most_1048576_bytes(rt: HostRuntime) {
+    let mut text = String::from_str(rt.alloc(), "[7,\"5\"]").expect(&rt, "error");
+    push_times(&rt, &mut text, " ", 1_048_569);
+    holds(&rt, text.len() == 1_048_576, "1,048,576 bytes");
+    let mut memory = ReadingMemory::new(rt.alloc());
+    let found = outcome(&mut memory, text.as_str());
+    same_text(&rt, found, "Other", "1,048,576 bytes");
+    text.push_str(" ").expect(&rt, "error");
+    let found = outcome(&mut memory, text.as_str());
+    same_text(&rt, found, "Dropped", "a byte more");
+    let is_read = read_tree(&mut memory, text.as_str()).is_ok();
+    holds(&rt, is_read, "a byte more as a tree");
+}
+
+/// What is written so many times, what stands within, what is written as often behind that, and whether the
+/// text is read. The inner value is a level of its own.
+const NESTED: [(&str, &str, &str, u32, bool); 12] = [
+    ("[", "[]", "]", 126, true),
+    ("[", "[]", "]", 127, false),
+    ("{\"a\":", "{}", "}", 126, true),
+    ("{\"a\":", "{}", "}", 127, false),
+    ("[", "{}", "]", 126, true),
+    ("[", "{}", "]", 127, false),
+    ("{\"a\":", "[0,\"a\",null]", "}", 126, true),
+    ("{\"a\":", "[0,\"a\",null]", "}", 127, false),
+    ("[", "", "", 100_000, false),
+    ("{\"a\":", "", "", 100_000, false),
+    ("[{\"a\":", "", "", 100_000, false),
+    ("[", "", "]", 100_000, false),
+];
+
+fn nested(
+    rt: &impl Abort,
+    alloc: Global,
+    (open, inner, close): (&str, &str, &str),
+    times: u32,
+) -> String {
+    let mut text = String::new(alloc);
+    push_times(rt, &mut text, open, times);
+    push_times(rt, &mut text, inner, 1);
+    push_times(rt, &mut text, close, times);
+    text
 }
 
 #[test]
-fn texts_nest_to_127_levels(rt: HostRuntime) -> Result<(), AllocError> {
-    let alloc = rt.alloc();
-    let mut memory = ReadingMemory::new(alloc);
-    for (open, inner, close, times, wanted) in [
-        // the inner value is a level of its own
-        ("[", "[]", "]", 126, true),
-        ("[", "[]", "]", 127, false),
-        ("{\"a\":", "{}", "}", 126, true),
-        ("{\"a\":", "{}", "}", 127, false),
-        ("[", "{}", "]", 126, true),
-        ("[", "{}", "]", 127, false),
-        ("{\"a\":", "[0,\"a\",null]", "}", 126, true),
-        ("{\"a\":", "[0,\"a\",null]", "}", 127, false),
-        ("[", "", "", 100_000, false),
-        ("{\"a\":", "", "", 100_000, false),
-        ("[{\"a\":", "", "", 100_000, false),
-        ("[", "", "]", 100_000, false),
-    ] {
-        let mut text = String::new(alloc);
-        push_times(&mut text, open, times)?;
-        text.push_str(inner)?;
-        push_times(&mut text, close, times)?;
-        assert_eq!(rt;
-            read_tree(&mut memory, text.as_str()).is_ok(),
-            wanted,
-            "{open}{inner}"
-        );
+fn texts_nest_to_127_levels(rt: HostRuntime) {
+    let mut memory = ReadingMemory::new(rt.alloc());
+    for (open, inner, close, times, is_read) in &NESTED {
+        let text = nested(&rt, rt.alloc(), (open, inner, close), *times);
+        let found = read_tree(&mut memory, text.as_str()).is_ok();
+        holds(&rt, found == *is_read, open);
     }
-    Ok(())
 }
 
 /// How many entries the list of a call has, and its last field; `None` where memory ran out.
@@ -206,41 +215,41 @@ fn parts(memory: &mut ReadingMemory, text: &str) -> Option<(usize, Field<i32>)> 
 /// Where memory is refused to a text, at whichever of its allocations, it is read into the same memory
 /// once there is some again. `tests/program.py` refuses, twenty in a row; else the text is read at once.
 #[test]
-fn a_text_is_read_again_where_memory_was_refused(rt: HostRuntime) -> Result<(), Fail> {
-    let alloc = rt.alloc();
-    let mut text = String::from_str(alloc, "[2,\"again\",\"DataTransfer\",{\"list\":[")?;
-    push_times(&mut text, r#"{"a":["\n",1.5],"b":{}},"#, 300)?;
-    text.push_str(r#"7],"last":160}]"#)?;
-    let mut memory = ReadingMemory::new(alloc);
+fn a_text_is_read_again_where_memory_was_refused(rt: HostRuntime) {
+    let head = "[2,\"again\",\"DataTransfer\",{\"list\":[";
+    let mut text = String::from_str(rt.alloc(), head).expect(&rt, "error");
+    push_times(&rt, &mut text, r#"{"a":["\n",1.5],"b":{}},"#, 300);
+    push_times(&rt, &mut text, r#"7],"last":160}]"#, 1);
+    let mut memory = ReadingMemory::new(rt.alloc());
     let mut is_read = false;
     for _ in 0..21 {
         if let Some(found) = parts(&mut memory, text.as_str()) {
-            assert!(rt; found == (301, Field::Value(160)));
+            holds(&rt, found == (301, Field::Value(160)), "the parts");
             is_read = true;
         }
     }
-    assert!(rt; is_read);
-    Ok(())
+    holds(&rt, is_read, "read");
 }
 
 #[test]
-fn a_call_has_its_parts(rt: HostRuntime) -> Result<(), Fail> {
+fn a_call_has_its_parts(rt: HostRuntime) {
     let text = "[2,\"\\u0041\\/é\",\"Data\\nTransfer\",{\"k\\\"1\":\"-5e\"},0]";
     let mut memory = ReadingMemory::new(rt.alloc());
-    let Ok(
-        Frame::Call {
-            id,
-            action,
-            payload,
-        },
-    ) = read_frame(&mut memory, text)
-    else {
-        return Err(Fail::new("no call"));
-    };
-    assert_eq!(rt; id.as_str(), "A/é");
-    assert_eq!(rt; action.as_str(), "Data\nTransfer");
-    assert!(rt; text_field(payload.root(), "k\"1") == Field::Value("-5e"));
-    Ok(())
+    match read_frame(&mut memory, text) {
+        Ok(
+            Frame::Call {
+                id,
+                action,
+                payload,
+            },
+        ) => {
+            same_text(&rt, id.as_str(), "A/é", "the id");
+            same_text(&rt, action.as_str(), "Data\nTransfer", "the action");
+            let field = text_field(payload.root(), "k\"1");
+            holds(&rt, field == Field::Value("-5e"), "the field");
+        }
+        _ => rt.panic("no call"),
+    }
 }
 
 // On each line a kind, the name of a field, and what is there.
@@ -274,24 +283,30 @@ fn found(node: Node<'_, '_>, kind: &str, name: &str) -> &'static str {
     }
 }
 
+fn assert_field(rt: &impl Abort, node: Node<'_, '_>, line: &str) {
+    let (kind, rest) = line.split_once(' ').expect(rt, line);
+    let (name, wanted) = rest.split_once(' ').expect(rt, line);
+    same_text(rt, found(node, kind, name), wanted, line);
+}
+
+const TREE: &str =
+    "{\"whole\":-2.0,\"half\":0.5,\"nothing\":null,\"time\":\"1970-01-01T00:00:10Z\",\"list\":[{},1],\"whole\":16e1}";
+
 #[test]
-fn fields_are_read_by_kind(rt: HostRuntime) -> Result<(), Fail> {
-    let text =
-        "{\"whole\":-2.0,\"half\":0.5,\"nothing\":null,\"time\":\"1970-01-01T00:00:10Z\",\"list\":[{},1],\"whole\":16e1}";
+fn fields_are_read_by_kind(rt: HostRuntime) {
     let mut memory = ReadingMemory::new(rt.alloc());
-    let Ok(payload) = read_tree(&mut memory, text) else {
-        return Err(Fail::new("no tree"));
-    };
+    let payload = read_tree(&mut memory, TREE).ok().expect(&rt, "no tree");
     let root = payload.root();
     for line in FIELDS.lines() {
-        let (kind, rest) = line.split_once(' ').ok_or("no kind")?;
-        let (name, wanted) = rest.split_once(' ').ok_or("no name")?;
-        assert_eq!(rt; found(root, kind, name), wanted, "{line}");
+        assert_field(&rt, root, line);
     }
-    assert!(rt; whole_field(root, "whole") == Field::Value(160));
-    assert!(rt; tenths_field(root, "half") == Field::Value(5));
-    assert!(rt; seconds_in(root, "time") == Some(10));
-    Ok(())
+    holds(
+        &rt,
+        whole_field(root, "whole") == Field::Value(160),
+        "whole",
+    );
+    holds(&rt, tenths_field(root, "half") == Field::Value(5), "half");
+    holds(&rt, seconds_in(root, "time") == Some(10), "time");
 }
 
 fn seconds_in(node: Node<'_, '_>, name: &str) -> Option<u64> {
@@ -301,84 +316,77 @@ fn seconds_in(node: Node<'_, '_>, name: &str) -> Option<u64> {
     }
 }
 
-#[test]
-fn lists_have_their_entries(rt: HostRuntime) -> Result<(), Fail> {
-    let mut memory = ReadingMemory::new(rt.alloc());
-    let Ok(payload) = read_tree(&mut memory, "{\"list\":[{},1]}") else {
-        return Err(Fail::new("no tree"));
-    };
-    let Field::Value(entries) = list_field(payload.root(), "list") else {
-        return Err(Fail::new("no list"));
-    };
-    assert!(rt; entries.len() == 2);
-    let mut objects = 0u8;
-    for node in entries.iter() {
-        if node.is_object() {
-            objects = objects.wrapping_add(1);
+/// How many entries a list has, and how many of these are objects.
+fn counts(node: Node<'_, '_>, name: &str) -> (usize, usize) {
+    match list_field(node, name) {
+        Field::Value(entries) => {
+            let objects = entries.iter().filter(|node| node.is_object());
+            (entries.len(), objects.count())
         }
+        _ => (0, 0),
     }
-    assert!(rt; objects == 1);
-    Ok(())
-}
-
-fn assert_text(rt: &impl Abort, found: &String, wanted: &str) {
-    assert_eq!(rt; found.as_str(), wanted);
 }
 
 #[test]
-fn frames_are_written_without_blanks(rt: HostRuntime) -> Result<(), Fail> {
-    let alloc = rt.alloc();
-    let call = write_call(alloc, "7", "Re\"set", "{\"a\":1}")?;
-    assert_text(&rt, &call, r#"[2,"7","Re\"set",{"a":1}]"#);
-    let result = write_result(alloc, "é/", "{}")?;
-    assert_text(&rt, &result, r#"[3,"é/",{}]"#);
-    let error = write_error(alloc, "a\"\u{1}\n", "GenericError", "")?;
-    assert_text(&rt, &error, r#"[4,"a\"\u0001\n","GenericError","",{}]"#);
-    let error = write_error(alloc, "", "a\tb", "c\\d")?;
-    assert_text(&rt, &error, r#"[4,"","a\tb","c\\d",{}]"#);
-    Ok(())
-}
-
-#[test]
-fn frames_are_appended(rt: HostRuntime) -> Result<(), AllocError> {
-    let mut out = String::from_str(rt.alloc(), "> ")?;
-    push_call_head(&mut out, "1", "Reset")?;
-    push_frame_end(&mut out)?;
-    push_result_head(&mut out, "\u{1}")?;
-    push_error(&mut out, "2", "é", "")?;
-    assert_text(
-        &rt,
-        &out,
-        r#"> [2,"1","Reset",][3,"\u0001",[4,"2","é","",{}]"#,
-    );
-    Ok(())
-}
-
-#[test]
-fn the_last_field_of_a_name_counts(rt: HostRuntime) -> Result<(), Fail> {
+fn lists_have_their_entries(rt: HostRuntime) {
     let mut memory = ReadingMemory::new(rt.alloc());
-    for (text, name, wanted) in [
-        ("{\"a\":1,\"a\":2}", "a", 2),
-        (r#"{"a":1,"b":7,"\u0061":2}"#, "a", 2),
-        (r#"{"\u0061":2,"b":7,"a":1}"#, "a", 1),
-        ("{\"a\":\"x\",\"a\":null,\"a\":3}", "a", 3),
-        ("{\"a\":01,\"a\":4}", "a", 4),
-        ("{\"A\":1,\"a\":5,\"á\":2}", "a", 5),
-        ("{\"sa\":1,\"na\":2,\"a\":6}", "a", 6),
-        ("{\"sa\":1,\"na\":2,\"a\":6}", "sa", 1),
-        ("{\"a\":1,\"\":7}", "", 7),
-        (r#"{"\u0000":8,"":1}"#, "\0", 8),
-        (r#"{"\"\\\/":9}"#, "\"\\/", 9),
-        ("{\"12\":10}", "12", 10),
-    ] {
-        let Ok(payload) = read_tree(&mut memory, text) else {
-            return Err(Fail::new("no tree"));
-        };
-        assert_eq!(rt;
-            whole_field(payload.root(), name),
-            Field::Value(wanted),
-            "{text}"
-        );
+    let tree = read_tree(&mut memory, "{\"list\":[{},1]}");
+    let payload = tree.ok().expect(&rt, "no tree");
+    holds(&rt, counts(payload.root(), "list") == (2, 1), "the list");
+}
+
+#[test]
+fn frames_are_written_without_blanks(rt: HostRuntime) {
+    let alloc = rt.alloc();
+    let call = write_call(alloc, "7", "Re\"set", "{\"a\":1}").expect(&rt, "error");
+    same_text(&rt, call.as_str(), r#"[2,"7","Re\"set",{"a":1}]"#, "a CALL");
+    let result = write_result(alloc, "é/", "{}").expect(&rt, "error");
+    same_text(&rt, result.as_str(), r#"[3,"é/",{}]"#, "a CALLRESULT");
+    let error = write_error(alloc, "a\"\u{1}\n", "GenericError", "").expect(&rt, "error");
+    let wanted = r#"[4,"a\"\u0001\n","GenericError","",{}]"#;
+    same_text(&rt, error.as_str(), wanted, "a CALLERROR");
+    let error = write_error(alloc, "", "a\tb", "c\\d").expect(&rt, "error");
+    same_text(
+        &rt,
+        error.as_str(),
+        r#"[4,"","a\tb","c\\d",{}]"#,
+        "a CALLERROR",
+    );
+}
+
+#[test]
+fn frames_are_appended(rt: HostRuntime) {
+    let mut out = String::from_str(rt.alloc(), "> ").expect(&rt, "error");
+    push_call_head(&mut out, "1", "Reset").expect(&rt, "error");
+    push_frame_end(&mut out).expect(&rt, "error");
+    push_result_head(&mut out, "\u{1}").expect(&rt, "error");
+    push_error(&mut out, "2", "é", "").expect(&rt, "error");
+    let wanted = r#"> [2,"1","Reset",][3,"\u0001",[4,"2","é","",{}]"#;
+    same_text(&rt, out.as_str(), wanted, "appended");
+}
+
+/// Texts, each with the name of a field, and its value.
+const LAST_FIELDS: [(&str, &str, i32); 12] = [
+    ("{\"a\":1,\"a\":2}", "a", 2),
+    (r#"{"a":1,"b":7,"\u0061":2}"#, "a", 2),
+    (r#"{"\u0061":2,"b":7,"a":1}"#, "a", 1),
+    ("{\"a\":\"x\",\"a\":null,\"a\":3}", "a", 3),
+    ("{\"a\":01,\"a\":4}", "a", 4),
+    ("{\"A\":1,\"a\":5,\"á\":2}", "a", 5),
+    ("{\"sa\":1,\"na\":2,\"a\":6}", "a", 6),
+    ("{\"sa\":1,\"na\":2,\"a\":6}", "sa", 1),
+    ("{\"a\":1,\"\":7}", "", 7),
+    (r#"{"\u0000":8,"":1}"#, "\0", 8),
+    (r#"{"\"\\\/":9}"#, "\"\\/", 9),
+    ("{\"12\":10}", "12", 10),
+];
+
+#[test]
+fn the_last_field_of_a_name_counts(rt: HostRuntime) {
+    let mut memory = ReadingMemory::new(rt.alloc());
+    for (text, name, wanted) in &LAST_FIELDS {
+        let payload = read_tree(&mut memory, text).ok().expect(&rt, text);
+        let field = whole_field(payload.root(), name);
+        holds(&rt, field == Field::Value(*wanted), text);
     }
-    Ok(())
 }

@@ -11,4 +11,6 @@ mod frame_texts;
 #[cfg(test)]
 mod message_texts;
 #[cfg(test)]
+mod same;
+#[cfg(test)]
 mod scalar_texts;

@@ -1,6 +1,7 @@
 //! What no clause says: what worked messages are read as, which fault of theirs is named, what answers
 //! look like, and that memory suffices at the largest sizes.
-use meaning::{Ask, View, compile_plain};
+use crate::same::{holds, same_text};
+use meaning::{Ask, Composite, View, compile_plain};
 use messages::{
     Action, CallFault, FieldName, Response, ScheduleResponse, Side, read_action, side_of,
     write_response,
@@ -10,7 +11,6 @@ use ocppj_frame::{ReadingMemory, read_frame};
 use profile::{Profile, ProfileParts, Unit};
 use std::alloc::{AllocError, Global};
 use std::process::Abort;
-use std::test::Fail;
 
 /// 2025-01-01T00:00:00Z.
 const MIDNIGHT: u64 = 1_735_689_600;
@@ -63,11 +63,11 @@ const PROFILE_HEAD: &str =
 const PROFILE_TAIL: &str =
     r#"]},"validTo":"2025-01-02T00:00:00Z","validFrom":"2025-01-01T00:00:00Z","recurrencyKind":"Weekly","chargingProfileKind":"Recurring","chargingProfilePurpose":"TxProfile","stackLevel":5,"transactionId":-7,"chargingProfileId":-1},"connectorId":2}]"#;
 
-fn read(alloc: Global, text: &str) -> Result<Result<Action, CallFault>, Fail> {
+fn read(rt: &impl Abort, alloc: Global, text: &str) -> Result<Action, CallFault> {
     let mut memory = ReadingMemory::new(alloc);
     match read_frame(&mut memory, text) {
-        Ok(frame) => Ok(read_action(alloc, &frame)),
-        Err(_) => Err(Fail::new("no message")),
+        Ok(frame) => read_action(alloc, &frame),
+        Err(_) => rt.panic(text),
     }
 }
 
@@ -108,46 +108,52 @@ fn described(alloc: Global, action: &Action) -> Result<String, AllocError> {
     }
 }
 
+fn assert_action(rt: &impl Abort, alloc: Global, text: &str, wanted: &str) {
+    let action = read(rt, alloc, text).ok().expect(rt, text);
+    let found = described(alloc, &action).expect(rt, "error");
+    same_text(rt, found.as_str(), wanted, text);
+}
+
 #[test]
-fn actions_are_read(rt: HostRuntime) -> Result<(), Fail> {
+fn actions_are_read(rt: HostRuntime) {
     for line in ACTIONS.lines() {
-        let (wanted, text) = line.split_once(" = ").ok_or("no text")?;
-        let Ok(action) = read(rt.alloc(), text)? else {
-            return Err(Fail::new("a fault"));
-        };
-        let found = described(rt.alloc(), &action)?;
-        assert_eq!(rt; found.as_str(), wanted, "{text}");
+        let (wanted, text) = line.split_once(" = ").expect(&rt, line);
+        assert_action(&rt, rt.alloc(), text, wanted);
     }
-    Ok(())
+}
+
+fn assert_fault(rt: &impl Abort, alloc: Global, line: &str) {
+    let (code, rest) = line.split_once(' ').expect(rt, line);
+    let (description, text) = rest.split_once(' ').expect(rt, line);
+    let fault = read(rt, alloc, text).err().expect(rt, line);
+    same_text(rt, fault.code(), code, text);
+    same_text(rt, fault.description(), description, text);
 }
 
 #[test]
-fn the_first_fault_is_named(rt: HostRuntime) -> Result<(), Fail> {
+fn the_first_fault_is_named(rt: HostRuntime) {
     for line in FAULTS.lines() {
-        let (code, rest) = line.split_once(' ').ok_or("no code")?;
-        let (description, text) = rest.split_once(' ').ok_or("no description")?;
-        let Err(fault) = read(rt.alloc(), text)? else {
-            return Err(Fail::new("no fault"));
-        };
-        assert_eq!(rt; fault.code(), code, "{text}");
-        assert_eq!(rt; fault.description(), description, "{text}");
+        assert_fault(&rt, rt.alloc(), line);
     }
-    Ok(())
 }
 
-/// The fields of a SetChargingProfile with so many periods, which start a second apart.
-fn profile_of(alloc: Global, periods: u32) -> Result<ProfileParts, Fail> {
-    let mut text = String::from_str(alloc, PROFILE_HEAD)?;
+/// A SetChargingProfile with so many periods, which start a second apart.
+fn profile_text(rt: &impl Abort, alloc: Global, periods: u32) -> String {
+    let mut text = String::from_str(alloc, PROFILE_HEAD).expect(rt, "error");
     for start in 0..periods {
-        if start > 0 {
-            text.push_str(",")?;
-        }
-        write!(text, r#"{{"limit":8.1,"startPeriod":{start}}}"#)?;
+        let comma = if start > 0 { "," } else { "" };
+        write!(&mut text, r#"{comma}{{"limit":8.1,"startPeriod":{start}}}"#).expect(rt, "error");
     }
-    text.push_str(PROFILE_TAIL)?;
-    match read(alloc, text.as_str())? {
-        Ok(Action::SetChargingProfile { profile, .. }) => Ok(profile),
-        _ => Err(Fail::new("no profile")),
+    text.push_str(PROFILE_TAIL).expect(rt, "error");
+    text
+}
+
+/// Its fields.
+fn profile_of(rt: &impl Abort, alloc: Global, periods: u32) -> ProfileParts {
+    let text = profile_text(rt, alloc, periods);
+    match read(rt, alloc, text.as_str()) {
+        Ok(Action::SetChargingProfile { profile, .. }) => profile,
+        _ => rt.panic("no profile"),
     }
 }
 
@@ -156,46 +162,46 @@ const PROFILE: &str =
     "ProfileParts { id: -1, transaction: Some(-7), stack_level: 5, purpose: TxProfile, kind: Recurring, recurrency: Some(Weekly), valid_from: Some(Instant { seconds: 1735689600 }), valid_to: Some(Instant { seconds: 1735776000 }), schedule: ScheduleParts { duration: Some(3600), start: Some(Instant { seconds: 1735689660 }), unit: W, periods: PeriodList { items: [Period { start: 0, limit: 81, number_phases: None }, Period { start: 1, limit: 81, number_phases: None }] }, min_charging_rate: Some(65) } }";
 
 #[test]
-fn a_profile_has_its_fields(rt: HostRuntime) -> Result<(), Fail> {
-    let profile = profile_of(rt.alloc(), 2)?;
-    let found = format!(in rt.alloc(); "{profile:?}")?;
-    assert_eq!(rt; found.as_str(), PROFILE);
-    Ok(())
+fn a_profile_has_its_fields(rt: HostRuntime) {
+    let profile = profile_of(&rt, rt.alloc(), 2);
+    let found = format!(in rt.alloc(); "{profile:?}").expect(&rt, "error");
+    same_text(&rt, found.as_str(), PROFILE, "a profile");
+}
+
+fn refusal_of(rt: &impl Abort, alloc: Global, periods: u32) -> Option<Refusal> {
+    match Profile::try_new(profile_of(rt, alloc, periods)) {
+        Ok(_) => None,
+        Err((refusal, _)) => Some(refusal),
+    }
 }
 
 #[test]
-fn too_many_periods_are_not_out_of_memory(rt: HostRuntime) -> Result<(), Fail> {
-    for (periods, refusal) in [
-        (200, None),
-        (201, Some(Refusal::TooManyPeriods)),
-        (1_001, Some(Refusal::TooManyPeriods)),
-    ] {
-        let made = Profile::try_new(profile_of(rt.alloc(), periods)?);
-        let refused = match made {
-            Ok(_) => None,
-            Err((refusal, _)) => Some(refusal),
-        };
-        assert_eq!(rt; refused, refusal);
+fn too_many_periods_are_not_out_of_memory(rt: HostRuntime) {
+    let most = refusal_of(&rt, rt.alloc(), 200);
+    holds(&rt, most.is_none(), "200 periods");
+    for periods in [201, 1_001] {
+        let refusal = refusal_of(&rt, rt.alloc(), periods);
+        holds(&rt, refusal == Some(Refusal::TooManyPeriods), "one more");
     }
-    Ok(())
 }
+
+/// Actions, each with who sends it.
+const SIDES: [(&str, Option<Side>); 3] = [
+    ("GetCompositeSchedule", Some(Side::Operator)),
+    ("DataTransfer", Some(Side::Point)),
+    ("RemoteStartTransaction", None),
+];
 
 #[test]
 fn an_action_comes_from_one_side(rt: HostRuntime) {
-    assert!(rt; side_of("GetCompositeSchedule") == Some(Side::Operator));
-    assert!(rt; side_of("DataTransfer") == Some(Side::Point));
-    assert!(rt; side_of("RemoteStartTransaction") == None);
+    for (action, side) in &SIDES {
+        holds(&rt, side_of(action) == *side, action);
+    }
 }
 
-fn assert_response(
-    rt: &impl Abort,
-    alloc: Global,
-    response: &Response,
-    want: &str,
-) -> Result<(), Fail> {
-    let text = write_response(alloc, "é\"", response)?;
-    assert_eq!(rt; text.as_str(), want);
-    Ok(())
+fn assert_response(rt: &impl Abort, alloc: Global, response: &Response, want: &str) {
+    let text = write_response(alloc, "é\"", response).expect(rt, "error");
+    same_text(rt, text.as_str(), want, "a response");
 }
 
 /// On each line the name of a response, and its text for the message id `é"`.
@@ -243,33 +249,42 @@ fn fault_named(name: &str) -> CallFault {
     }
 }
 
-#[test]
-fn responses_are_written(rt: HostRuntime) -> Result<(), Fail> {
-    let current_time = Instant::try_new(MIDNIGHT + 5).ok_or("past the last instant")?;
-    for line in RESPONSES.lines() {
-        let (name, want) = line.split_once(' ').ok_or("no name")?;
-        assert_response(&rt, rt.alloc(), &response_named(name, current_time), want)?;
-    }
-    Ok(())
+fn instant(rt: &impl Abort, seconds: u64) -> Instant {
+    Instant::try_new(seconds).expect(rt, "past the last instant")
 }
 
 #[test]
-fn a_composite_schedule_is_written(rt: HostRuntime) -> Result<(), Fail> {
-    let start = Instant::try_new(MIDNIGHT).ok_or("past the last instant")?;
+fn responses_are_written(rt: HostRuntime) {
+    let current_time = instant(&rt, MIDNIGHT + 5);
+    for line in RESPONSES.lines() {
+        let (name, want) = line.split_once(' ').expect(&rt, line);
+        let response = response_named(name, current_time);
+        assert_response(&rt, rt.alloc(), &response, want);
+    }
+}
+
+/// A minute from midnight on, of a point of one connector of 8.1 W.
+fn schedule(rt: &impl Abort, alloc: Global) -> Composite {
     let view = View {
         ceiling: 1_000_000_000,
         ceilings: &[81],
         starts: &[],
         rows: &[],
     };
-    let schedule = compile_plain(rt.alloc(), &view, &Ask::try_new(1, start, 60)?)?;
+    let ask = Ask::try_new(1, instant(rt, MIDNIGHT), 60).expect(rt, "error");
+    compile_plain(alloc, &view, &ask).expect(rt, "error")
+}
+
+const SCHEDULE: &str =
+    r#"[3,"é\"",{"status":"Accepted","connectorId":1,"scheduleStart":"2025-01-01T00:00:00Z","chargingSchedule":{"duration":60,"chargingRateUnit":"W","chargingSchedulePeriod":[{"startPeriod":0,"limit":8.1}]}}]"#;
+
+#[test]
+fn a_composite_schedule_is_written(rt: HostRuntime) {
     let response = Response::Schedule(ScheduleResponse {
         connector: 1,
-        start,
+        start: instant(&rt, MIDNIGHT),
         unit: Unit::W,
-        schedule,
+        schedule: schedule(&rt, rt.alloc()),
     });
-    let want =
-        r#"[3,"é\"",{"status":"Accepted","connectorId":1,"scheduleStart":"2025-01-01T00:00:00Z","chargingSchedule":{"duration":60,"chargingRateUnit":"W","chargingSchedulePeriod":[{"startPeriod":0,"limit":8.1}]}}]"#;
-    assert_response(&rt, rt.alloc(), &response, want)
+    assert_response(&rt, rt.alloc(), &response, SCHEDULE);
 }

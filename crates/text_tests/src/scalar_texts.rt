@@ -1,10 +1,12 @@
 //! What no contract can say: values from outside, and that memory suffices.
 
+use crate::same::{holds, same_text};
 use ocpp_scalars::{
     IdTag, Instant, InstantFault, NumberFault, is_number_text, read_instant, read_tenths,
     read_whole, write_instant, write_tenths,
 };
-use std::test::Fail;
+use std::alloc::Global;
+use std::process::Abort;
 
 // On each line a text, and the second that it is worth or the fault.
 const INSTANTS: &str = "\
@@ -82,17 +84,20 @@ const INSTANTS: &str = "\
 2025-01-01T00:00:00Z+01:00 = Form
 2025-01-01T00:00:00UTC = Form";
 
-#[test]
-fn instants_are_read(rt: HostRuntime) -> Result<(), Fail> {
-    for line in INSTANTS.lines() {
-        let (text, wanted) = line.split_once(" = ").ok_or("no instant's line")?;
-        match read_instant(text) {
-            Ok(instant) => assert_eq!(rt; wanted.parse(), Ok(instant.seconds()), "{text}"),
-            Err(InstantFault::Form) => assert_eq!(rt; wanted, "Form", "{text}"),
-            Err(InstantFault::Range) => assert_eq!(rt; wanted, "Range", "{text}"),
-        }
+fn assert_instant(rt: &impl Abort, text: &str, wanted: &str) {
+    match read_instant(text) {
+        Ok(instant) => holds(rt, wanted.parse() == Ok(instant.seconds()), text),
+        Err(InstantFault::Form) => same_text(rt, "Form", wanted, text),
+        Err(InstantFault::Range) => same_text(rt, "Range", wanted, text),
     }
-    Ok(())
+}
+
+#[test]
+fn instants_are_read(rt: HostRuntime) {
+    for line in INSTANTS.lines() {
+        let (text, wanted) = line.split_once(" = ").expect(&rt, line);
+        assert_instant(&rt, text, wanted);
+    }
 }
 
 // On each line a number's text, its tenths or the fault, and its whole number or the fault.
@@ -143,21 +148,24 @@ fn word(fault: NumberFault) -> &'static str {
     }
 }
 
-#[test]
-fn numbers_are_read(rt: HostRuntime) -> Result<(), Fail> {
-    for line in NUMBERS.lines() {
-        let (text, wanted) = line.split_once(" = ").ok_or("no number's line")?;
-        let (tenths, whole) = wanted.split_once(", ").ok_or("no number's line")?;
-        match read_tenths(text) {
-            Ok(value) => assert_eq!(rt; tenths.parse(), Ok(value), "{text}"),
-            Err(fault) => assert_eq!(rt; tenths, word(fault), "{text}"),
-        }
-        match read_whole(text) {
-            Ok(value) => assert_eq!(rt; whole.parse(), Ok(value), "{text}"),
-            Err(fault) => assert_eq!(rt; whole, word(fault), "{text}"),
-        }
+fn assert_number(rt: &impl Abort, text: &str, tenths: &str, whole: &str) {
+    match read_tenths(text) {
+        Ok(value) => holds(rt, tenths.parse() == Ok(value), text),
+        Err(fault) => same_text(rt, word(fault), tenths, text),
     }
-    Ok(())
+    match read_whole(text) {
+        Ok(value) => holds(rt, whole.parse() == Ok(value), text),
+        Err(fault) => same_text(rt, word(fault), whole, text),
+    }
+}
+
+#[test]
+fn numbers_are_read(rt: HostRuntime) {
+    for line in NUMBERS.lines() {
+        let (text, wanted) = line.split_once(" = ").expect(&rt, line);
+        let (tenths, whole) = wanted.split_once(", ").expect(&rt, line);
+        assert_number(&rt, text, tenths, whole);
+    }
 }
 
 // Between bars, texts that are no numbers.
@@ -168,50 +176,60 @@ e1|1e+-2|-|+|- 1|1-2|1+2|1 2| 1|1 |1\n|1,5|1_000|0x1|0x10|0b1|1a|1f|１|½|-a|Na
 #[test]
 fn other_texts_are_no_numbers(rt: HostRuntime) {
     for text in NO_NUMBERS.split('|') {
-        assert!(rt; !is_number_text(text), "{text}");
-        assert_eq!(rt; read_tenths(text), Err(NumberFault::Form), "{text}");
-        assert_eq!(rt; read_whole(text), Err(NumberFault::Form), "{text}");
+        holds(&rt, !is_number_text(text), text);
+        assert_number(&rt, text, "Form", "Form");
     }
-    assert!(rt; is_number_text("1000000000000000000000000000000000000000000"));
+    let long = "1000000000000000000000000000000000000000000";
+    holds(&rt, is_number_text(long), long);
+}
+
+const SECONDS: [(u64, &str); 3] = [
+    (0, "1970-01-01T00:00:00Z"),
+    (951_782_400, "2000-02-29T00:00:00Z"),
+    (253_402_300_799, "9999-12-31T23:59:59Z"),
+];
+
+const TENTHS: [(u32, &str); 4] = [
+    (0, "0.0"),
+    (81, "8.1"),
+    (1_000_000_000, "100000000.0"),
+    (u32::MAX, "429496729.5"),
+];
+
+#[test]
+fn scalars_are_written(rt: HostRuntime) {
+    for (seconds, wanted) in &SECONDS {
+        let instant = Instant::try_new(*seconds).expect(&rt, wanted);
+        let text = write_instant(rt.alloc(), instant).expect(&rt, "error");
+        same_text(&rt, text.as_str(), wanted, "an instant");
+    }
+    for (tenths, wanted) in &TENTHS {
+        let text = write_tenths(rt.alloc(), *tenths).expect(&rt, "error");
+        same_text(&rt, text.as_str(), wanted, "tenths");
+    }
+}
+
+/// Texts, and whether each is an idTag.
+const TAGS: [(&str, bool); 5] = [
+    ("", true),
+    ("twenty-characters-20", true),
+    ("twenty-characters-021", false),
+    ("ääääääääääääääääääää", true),
+    ("äääääääääääääääääääää", false),
+];
+
+fn assert_tag(rt: &impl Abort, alloc: Global, text: &str, is_tag: bool) {
+    let tag = IdTag::try_new(String::from_str(alloc, text).expect(rt, "error"));
+    holds(rt, tag.is_ok() == is_tag, text);
+    match IdTag::try_copy(alloc, text).expect(rt, "error") {
+        Some(tag) => same_text(rt, tag.as_str(), text, "a copied tag"),
+        None => holds(rt, !is_tag, text),
+    }
 }
 
 #[test]
-fn scalars_are_written(rt: HostRuntime) -> Result<(), Fail> {
-    for (seconds, wanted) in [
-        (0, "1970-01-01T00:00:00Z"),
-        (951_782_400, "2000-02-29T00:00:00Z"),
-        (253_402_300_799, "9999-12-31T23:59:59Z"),
-    ] {
-        let instant = Instant::try_new(seconds).ok_or("past the last instant")?;
-        let text = write_instant(rt.alloc(), instant)?;
-        assert_eq!(rt; text.as_str(), wanted);
+fn id_tags_are_bounded(rt: HostRuntime) {
+    for (text, is_tag) in &TAGS {
+        assert_tag(&rt, rt.alloc(), text, *is_tag);
     }
-    for (tenths, wanted) in [
-        (0, "0.0"),
-        (81, "8.1"),
-        (1_000_000_000, "100000000.0"),
-        (u32::MAX, "429496729.5"),
-    ] {
-        let text = write_tenths(rt.alloc(), tenths)?;
-        assert_eq!(rt; text.as_str(), wanted);
-    }
-    Ok(())
-}
-
-#[test]
-fn id_tags_are_bounded(rt: HostRuntime) -> Result<(), Fail> {
-    for (text, is_tag) in [
-        ("", true),
-        ("twenty-characters-20", true),
-        ("twenty-characters-021", false),
-        ("ääääääääääääääääääää", true),
-        ("äääääääääääääääääääää", false),
-    ] {
-        let tag = IdTag::try_new(String::from_str(rt.alloc(), text)?);
-        assert_eq!(rt; tag.is_ok(), is_tag, "{text}");
-        let copy = IdTag::try_copy(rt.alloc(), text)?;
-        let copied = copy.as_ref().map(|tag| tag.as_str());
-        assert_eq!(rt; copied, is_tag.then_some(text), "{text}");
-    }
-    Ok(())
 }
