@@ -95,6 +95,49 @@ fn names_the_first_of_equals(rt: HostRuntime) {
     play(&rt, rt.alloc(), EQUALS);
 }
 
+/// The k-th of 64 transactions began k seconds after midnight and has 16 A in its first minute. So from second 64
+/// on the sum changes with each second, until all have 32 A.
+#[test]
+fn shares_among_the_most_connectors(rt: HostRuntime) -> Result<(), Fail> {
+    let alloc = rt.alloc();
+    let mut book = point(alloc, 1_000_000, 64)?;
+    for connector in 1..65u32 {
+        begin(alloc, &mut book, connector, u64::from(connector))?;
+    }
+    install(alloc, &mut book, "kind=Relative duration=60 periods=0:160")?;
+    let ask = ask_of("0 64 120")?;
+    assert!(rt; ask.connector <= book.connectors());
+    let explanation = explain(alloc, &book, &ask, &mut Turns::new())?;
+    assert_eq!(rt; explanation.stretches().len(), 61);
+    for stretch in explanation.stretches() {
+        assert_eq!(rt; stretch.reason.shares.as_slice().len(), 64);
+    }
+    Ok(())
+}
+
+/// Each minute the highest of 100 levels ends.
+#[test]
+fn names_each_of_the_most_levels(rt: HostRuntime) -> Result<(), Fail> {
+    let alloc = rt.alloc();
+    let mut book = point(alloc, 630, 1)?;
+    let mut line = String::from_str(alloc, "1 0 6000 =")?;
+    for minute in 0..100u32 {
+        let (level, end) = (99 - minute, 60 * (1 + minute));
+        let words = format!(in alloc;
+            "id={level} level={level} start=0 to={end} periods=0:{}",
+            60 + level
+        )?;
+        install(alloc, &mut book, words.as_str())?;
+        write!(
+            &mut line,
+            " {}-{end}:{}:id={level}",
+            60 * minute,
+            60 + level
+        )?;
+    }
+    expect(&rt, alloc, &book, line.as_str())
+}
+
 /// The last second that may be asked is 9999-12-31T23:59:59Z, so many seconds after midnight.
 const LAST_SECOND: &str = "\
 row id=1 start=0 to=251666611199 periods=0:100

@@ -1,7 +1,7 @@
 -- That the row alone has changed, and the sum with it.
-use Rattle.std.proofs.Common.{◌<◌, ◌∙◌, ap, sym, subst, List, length, arith}
+use Rattle.std.proofs.Common.{rules, ◌≡◌, ◌<◌, ◌∙◌, ap, sym, subst, List, length, arith}
 use Rattle.std.specs.List.{slice_set}
-use Rattle.sweep_compiler.specs.ByCases.Running.{RunningBound, due_at}
+use Rattle.sweep_compiler.specs.ByCases.Running.{RunningBound, bound_now, due_at}
 use Rattle.sweep_compiler.specs.ByCases.Swept.{row_count}
 use Rattle.sweep_compiler.proofs.Passing.{length_kept, count_kept}
 use Rattle.sweep_compiler.proofs.PassedRows.{written, row_inside, due_of_bound, sum_after}
@@ -15,9 +15,13 @@ pass-requires c = record {
 
 pub overflow_add-sum : goal.overflow_add-sum
 overflow_add-sum c =
+    let less : c.from.result ≡ bound_now c.index.result.now = c.from.ensures ∙ c.limit-before.ensures in
+    let from = c.from-then-bound-gt0.ensures in
+    let limit = c.limit-after.ensures in
+    let more : c.from-then-bound-gt0.result ≡ bound_now c.index-2.result.now = search (rules, from, limit) in
     let after = sum_after c.args.bounds.now.items c.args.bound c.args.row c.pass.new.self c.index_mut.result.now c.index.result.now c.index-2.result.now
     c.from.result c.from-then-bound-gt0.result c.args.sum.now c.if-bound-gt0.true c.requires.has_bound c.requires.small c.requires.few c.requires.sum
-    c.in_ok-pass.ensures.passed c.index_mut.ensures.value c.index.ensures (c.from.ensures ∙ c.limit-before.ensures) c.index-2.ensures (c.from-then-bound-gt0.ensures ∙ c.limit-after.ensures) in
+    c.in_ok-pass.ensures.passed c.index_mut.ensures.value c.index.ensures less c.index-2.ensures more in
     let fits = after.fits in
     omega (arith, fits)
 

@@ -1,5 +1,6 @@
 -- That the row that waited is taken, passes its place where it is due, and waits again.
-use Rattle.std.proofs.Common.{◌≡◌, ◌∙◌, ap, sym, subst, refl, ℕ, List, Some, None, arith}
+use Rattle.std.proofs.Common.{◌≡◌, ◌∙◌, ◌==◌, not, ap, sym, subst, refl, ℕ, List, Some, None, arith}
+use Rattle.std.specs.Option.{option_eq}
 use Rattle.meaning.specs.View.{point_state}
 use Rattle.sweep_compiler.specs.ByCases.Running.{RunningBound, due_at}
 use Rattle.sweep_compiler.specs.ByCases.Swept.{due_in, passed_in, shared_now, IsSwept}
@@ -27,7 +28,8 @@ returns-then-ne-clause-swept c =
     let due = c.in-Some.due in
     let facts = taken_is (point_state self.view) self.connector self.asked self.last self.at self.bounds.items self.queue c.pop.new.self self.sum due c.requires.swept c.requires.here c.in-Some.ensures.taken c.in-Some.ensures.soonest in
     let found : c.due.result ≡ due_in self.bounds.items due.bound due.row = c.due.ensures ∙ (ap (λ (bound : RunningBound). due_at bound.runs due.row) c.index.ensures ∙ sym (due_of_bound self.bounds.items due.bound due.row c.index.result.now facts.has_bound)) in
-    let stale = is_stale c.due.result due.instant c.ne.result c.ne.ensures c.if-ne.true in
+    let ne : c.ne.result ≡ not (option_eq (λ (x y : ℕ). x == y) c.due.result (Some due.instant)) = search c.ne.ensures in
+    let stale = is_stale c.due.result due.instant c.ne.result ne c.if-ne.true in
     swept_stale (point_state self.view) self.connector self.asked self.last self.at self.bounds.items self.queue c.pop.new.self self.sum due.bound due.row c.requires.swept facts.taken
     (λ is. stale (found ∙ (is ∙ ap (λ (n : ℕ). Some n) (sym facts.at_is))))
 
@@ -51,7 +53,8 @@ returns-in_ok-push-clause-swept c =
     let due = c.in-Some.due in
     let facts = taken_is (point_state self.view) self.connector self.asked self.last self.at self.bounds.items self.queue c.pop.new.self self.sum due c.requires.swept c.requires.here c.in-Some.ensures.taken c.in-Some.ensures.soonest in
     let found : c.due.result ≡ due_in self.bounds.items due.bound due.row = c.due.ensures ∙ (ap (λ (bound : RunningBound). due_at bound.runs due.row) c.index.ensures ∙ sym (due_of_bound self.bounds.items due.bound due.row c.index.result.now facts.has_bound)) in
-    let is = sym found ∙ (is_due c.due.result due.instant c.ne.result c.ne.ensures c.if-ne.false ∙ ap (λ (n : ℕ). Some n) facts.at_is) in
+    let ne : c.ne.result ≡ not (option_eq (λ (x y : ℕ). x == y) c.due.result (Some due.instant)) = search c.ne.ensures in
+    let is = sym found ∙ (is_due c.due.result due.instant c.ne.result ne c.if-ne.false ∙ ap (λ (n : ℕ). Some n) facts.at_is) in
     let list = c.in_ok-next.ensures.passed in
     let next : Some c.in-Some-next.instant ≡ due_in (passed_in due.bound due.row self.bounds.items) due.bound due.row =
     sym c.in-Some-next.is ∙ (c.in_ok-next.ensures.next ∙ ap (λ (bounds : List RunningBound). due_in bounds due.bound due.row) list) in
@@ -65,7 +68,8 @@ returns-in_ok-push-clause-fewer c =
     let due = c.in-Some.due in
     let facts = taken_is (point_state self.view) self.connector self.asked self.last self.at self.bounds.items self.queue c.pop.new.self self.sum due c.requires.swept c.requires.here c.in-Some.ensures.taken c.in-Some.ensures.soonest in
     let found : c.due.result ≡ due_in self.bounds.items due.bound due.row = c.due.ensures ∙ (ap (λ (bound : RunningBound). due_at bound.runs due.row) c.index.ensures ∙ sym (due_of_bound self.bounds.items due.bound due.row c.index.result.now facts.has_bound)) in
-    let is = sym found ∙ (is_due c.due.result due.instant c.ne.result c.ne.ensures c.if-ne.false ∙ ap (λ (n : ℕ). Some n) facts.at_is) in
+    let ne : c.ne.result ≡ not (option_eq (λ (x y : ℕ). x == y) c.due.result (Some due.instant)) = search c.ne.ensures in
+    let is = sym found ∙ (is_due c.due.result due.instant c.ne.result ne c.if-ne.false ∙ ap (λ (n : ℕ). Some n) facts.at_is) in
     let next : Some c.in-Some-next.instant ≡ due_in (passed_in due.bound due.row self.bounds.items) due.bound due.row =
     sym c.in-Some-next.is ∙ (c.in_ok-next.ensures.next ∙ ap (λ (bounds : List RunningBound). due_in bounds due.bound due.row) c.in_ok-next.ensures.passed) in
     fewer_wait_again (point_state self.view) self.connector self.asked self.last self.at c.in-Some-next.instant due.bound due.row self.bounds.items self.queue c.pop.new.self c.push.new.self self.sum c.requires.swept facts.taken is next c.in_ok-push.ensures
@@ -76,7 +80,8 @@ returns-in_default-next-clause-swept c =
     let due = c.in-Some.due in
     let facts = taken_is (point_state self.view) self.connector self.asked self.last self.at self.bounds.items self.queue c.pop.new.self self.sum due c.requires.swept c.requires.here c.in-Some.ensures.taken c.in-Some.ensures.soonest in
     let found : c.due.result ≡ due_in self.bounds.items due.bound due.row = c.due.ensures ∙ (ap (λ (bound : RunningBound). due_at bound.runs due.row) c.index.ensures ∙ sym (due_of_bound self.bounds.items due.bound due.row c.index.result.now facts.has_bound)) in
-    let is = sym found ∙ (is_due c.due.result due.instant c.ne.result c.ne.ensures c.if-ne.false ∙ ap (λ (n : ℕ). Some n) facts.at_is) in
+    let ne : c.ne.result ≡ not (option_eq (λ (x y : ℕ). x == y) c.due.result (Some due.instant)) = search c.ne.ensures in
+    let is = sym found ∙ (is_due c.due.result due.instant c.ne.result ne c.if-ne.false ∙ ap (λ (n : ℕ). Some n) facts.at_is) in
     let list = c.in_ok-next.ensures.passed in
     let next : None ≡ due_in (passed_in due.bound due.row self.bounds.items) due.bound due.row =
     sym c.in_default-next.is ∙ (c.in_ok-next.ensures.next ∙ ap (λ (bounds : List RunningBound). due_in bounds due.bound due.row) list) in

@@ -10,4 +10,5 @@ invariant_of-self c =
     let self = c.self.inside in
     let run : Running = record { row = self.row.now; base = self.base; since = self.since; last = self.last } in
     let old = subst (λ (next : Option Place). IsRun run self.rate next self.later) c.in-Some.is c.self.invariant in
-    run_passed run self.rate c.in-Some.place c.next-self-inside.result self.later c.next-self-inside.new.self old c.next-self-inside.ensures.steps
+    let kept = run_passed run self.rate c.in-Some.place c.next-self-inside.result self.later c.next-self-inside.new.self old c.next-self-inside.ensures.steps in
+    search kept
