@@ -3,8 +3,10 @@
 ghost use Rattle.std.specs.Prelude.{◌<◌, length};
 
 use crate::entries::{telling_instant, told_by};
-use crate::explained::{NoPart, NotCounted, is_named};
-use meaning::{Ask, View, why_not};
+use crate::explained::{NoPart, NotCounted};
+use crate::named::named_profiles;
+use crate::prevailing::first_moments;
+use meaning::{Ask, PrevailingProfile, View, why_not};
 use ocpp_scalars::Instant;
 use profile::{Purpose, Row};
 use std::alloc::{AllocError, Global};
@@ -18,33 +20,75 @@ pub fn not_counted(
     ask: &Ask,
     stretches: &[Stretch],
 ) -> Result<Vec<NotCounted>, AllocError> {
+    let named = named_profiles(alloc, stretches)?;
+    let looked_at = looked_at(alloc, view, ask, named.as_slice())?;
+    let begins = begins_of(alloc, ask, stretches)?;
+    let moments = first_moments(
+        alloc,
+        view,
+        ask.start,
+        begins.as_slice(),
+        looked_at.as_slice(),
+    )?;
     let mut rest = Vec::new(alloc);
     for (place, row) in view.rows.iter().enumerate() {
         let profile = told_by(row);
-        if !is_named(stretches, profile) {
-            let reason = reason_of(view, ask, stretches, place, row);
+        if !named.as_slice().contains(&profile) {
+            let prevails = moments.as_slice().get(place).and_then(|moment| *moment);
+            let instant = prevails.unwrap_or_else(|| telling_instant(view, ask, row));
+            let reason = reason_at(view, ask, place, row, instant);
             rest.push(NotCounted { profile, reason })?;
         }
     }
     Ok(rest)
 }
 
-/// Why a row, at this place among those of a view, never sets the limit in some stretches.
-fn reason_of(view: &View<'_>, ask: &Ask, stretches: &[Stretch], place: usize, row: &Row) -> NoPart
+/// At which connector each row is looked at whose profile isn't among the named.
+fn looked_at(
+    alloc: Global,
+    view: &View<'_>,
+    ask: &Ask,
+    named: &[PrevailingProfile],
+) -> Result<Vec<Option<usize>>, AllocError> {
+    let mut connectors = Vec::new(alloc);
+    for row in view.rows {
+        let mut connector = None;
+        if !named.contains(&told_by(row)) {
+            connector = counted_at(view, ask.connector, row);
+        }
+        connectors.push(connector)?;
+    }
+    Ok(connectors)
+}
+
+/// The connector for which a row counts where it is looked at in an ask: 0 for a ChargePointMaxProfile.
+fn counted_at(view: &View<'_>, asked: u32, row: &Row) -> Option<usize> {
+    if row.profile.purpose == Purpose::ChargePointMaxProfile {
+        return Some(0);
+    }
+    let connector = connector_of(view, asked, row)?;
+    Some(connector as usize)
+}
+
+/// The first instants of some stretches of an ask.
+fn begins_of(alloc: Global, ask: &Ask, stretches: &[Stretch]) -> Result<Vec<Instant>, AllocError> {
+    let mut begins = Vec::new(alloc);
+    for stretch in stretches {
+        let second = ask.start.seconds().saturating_add(u64::from(stretch.start));
+        if let Some(instant) = Instant::try_new(second) {
+            begins.push(instant)?;
+        }
+    }
+    Ok(begins)
+}
+
+/// Why a row, at this place among those of a view, has no part at an instant.
+fn reason_at(view: &View<'_>, ask: &Ask, place: usize, row: &Row, instant: Instant) -> NoPart
     requires within { place < length view.now.rows.now }
 {
     let Some(connector) = connector_of(view, ask.connector, row) else {
         return NoPart::NoActiveConnector;
     };
-    for stretch in stretches {
-        let second = ask.start.seconds().saturating_add(u64::from(stretch.start));
-        if let Some(instant) = Instant::try_new(second) {
-            if why_not(view, connector, ask.start, instant, place).is_none() {
-                return NoPart::NotLeast;
-            }
-        }
-    }
-    let instant = telling_instant(view, ask, row);
     match why_not(view, connector, ask.start, instant, place) {
         Some(why) => NoPart::NotPrevailing(why),
         None => NoPart::NotLeast,
