@@ -13,7 +13,6 @@ mod legend;
 mod length;
 mod letters;
 mod markup;
-mod named;
 mod page;
 mod picture;
 mod prevailing;

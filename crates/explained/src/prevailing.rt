@@ -1,5 +1,7 @@
 //! At which moments rows prevail.
 
+ghost use Rattle.std.specs.Prelude.{◌≤◌, length};
+
 use meaning::{View, has_its_transaction};
 use ocpp_scalars::Instant;
 use profile::{Profile, Purpose, Row, is_candidate};
@@ -46,10 +48,13 @@ fn find_at(
         };
         let base = row.base(view.active_since(connector), asked);
         let taken = Taken::from(alloc, left.as_slice(), &row.profile, base)?;
-        if looked_at.get(*place) == Some(&Some(connector)) {
-            found[*place] = taken.first;
-        }
+        let first = taken.first;
         left = taken.left;
+        if looked_at.get(*place) == Some(&Some(connector)) {
+            if let Some(moment) = found.get_mut(*place) {
+                *moment = first;
+            }
+        }
     }
     Ok(())
 }
@@ -92,7 +97,9 @@ fn push_counted(
 }
 
 /// Where a row of a level comes among the places of others from one on, the highest level first.
-fn place_of(rows: &[Row], places: &[usize], from: usize, level: u32) -> usize {
+fn place_of(rows: &[Row], places: &[usize], from: usize, level: u32) -> usize
+    ensures { result ≤ length places.now }
+{
     for at in from..places.len() {
         let other = rows.get(places[at]);
         if other.is_some_and(|other| other.profile.stack_level < level) {
@@ -119,21 +126,20 @@ impl Taken {
         profile: &Profile,
         base: Instant,
     ) -> Result<Taken, AllocError> {
-        let mut taken = Taken {
-            first: None,
-            left: Vec::new(alloc),
-        };
+        let mut first = None;
+        let mut left = Vec::new(alloc);
         let mut spell = None;
         for moment in moments {
-            let here = spell_at(spell, profile, base, *moment);
-            spell = Some(here);
+            let moment = *moment;
+            let here = spell_at(spell, profile, base, moment);
             if !here.has_limit {
-                taken.left.push(*moment)?;
-            } else if taken.first.is_none() {
-                taken.first = Some(*moment);
+                left.push(moment)?;
+            } else if first.is_none() {
+                first = Some(moment);
             }
+            spell = Some(here);
         }
-        Ok(taken)
+        Ok(Taken { first, left })
     }
 }
 

@@ -1,12 +1,14 @@
 //! Why profiles have no part in an explained schedule.
 
-ghost use Rattle.std.specs.Prelude.{◌<◌, length};
+ghost use Rattle.std.specs.Prelude.{◌≡◌, ◌<◌, length, IfOk};
+ghost use Rattle.std.specs.List.{All};
+ghost use Rattle.meaning.specs.View.{point_state};
+ghost use Rattle.explained.specs.NotCounted.{IsTold, no_part};
 
 use crate::entries::{telling_instant, told_by};
-use crate::explained::{NoPart, NotCounted};
-use crate::named::named_profiles;
+use crate::explained::{NoPart, NotCounted, is_named};
 use crate::prevailing::first_moments;
-use meaning::{Ask, PrevailingProfile, View, why_not};
+use meaning::{Ask, View, WhyNot, why_not};
 use ocpp_scalars::Instant;
 use profile::{Purpose, Row};
 use std::alloc::{AllocError, Global};
@@ -19,9 +21,10 @@ pub fn not_counted(
     view: &View<'_>,
     ask: &Ask,
     stretches: &[Stretch],
-) -> Result<Vec<NotCounted>, AllocError> {
-    let named = named_profiles(alloc, stretches)?;
-    let looked_at = looked_at(alloc, view, ask, named.as_slice())?;
+) -> Result<Vec<NotCounted>, AllocError>
+    ensures { IfOk result (λ rest. All (IsTold (point_state view.now) ask.now.start) rest.items) }
+{
+    let looked_at = looked_at(alloc, view, ask, stretches)?;
     let begins = begins_of(alloc, ask, stretches)?;
     let moments = first_moments(
         alloc,
@@ -31,29 +34,26 @@ pub fn not_counted(
         looked_at.as_slice(),
     )?;
     let mut rest = Vec::new(alloc);
-    for (place, row) in view.rows.iter().enumerate() {
-        let profile = told_by(row);
-        if !named.as_slice().contains(&profile) {
+    for place in 0..view.rows.len() {
+        if !is_named(stretches, told_by(&view.rows[place])) {
             let prevails = moments.as_slice().get(place).and_then(|moment| *moment);
-            let instant = prevails.unwrap_or_else(|| telling_instant(view, ask, row));
-            let reason = reason_at(view, ask, place, row, instant);
-            rest.push(NotCounted { profile, reason })?;
+            rest.push(told_at(view, ask, place, prevails))?;
         }
     }
     Ok(rest)
 }
 
-/// At which connector each row is looked at whose profile isn't among the named.
+/// At which connector each row is looked at that sets no limit.
 fn looked_at(
     alloc: Global,
     view: &View<'_>,
     ask: &Ask,
-    named: &[PrevailingProfile],
+    stretches: &[Stretch],
 ) -> Result<Vec<Option<usize>>, AllocError> {
     let mut connectors = Vec::new(alloc);
     for row in view.rows {
         let mut connector = None;
-        if !named.contains(&told_by(row)) {
+        if !is_named(stretches, told_by(row)) {
             connector = counted_at(view, ask.connector, row);
         }
         connectors.push(connector)?;
@@ -82,14 +82,31 @@ fn begins_of(alloc: Global, ask: &Ask, stretches: &[Stretch]) -> Result<Vec<Inst
     Ok(begins)
 }
 
-/// Why a row, at this place among those of a view, has no part at an instant.
-fn reason_at(view: &View<'_>, ask: &Ask, place: usize, row: &Row, instant: Instant) -> NoPart
+/// What is told of the row at a place, which prevails at an instant if there is one.
+fn told_at(view: &View<'_>, ask: &Ask, place: usize, prevails: Option<Instant>) -> NotCounted
     requires within { place < length view.now.rows.now }
+    ensures { IsTold (point_state view.now) ask.now.start result }
 {
-    let Some(connector) = connector_of(view, ask.connector, row) else {
-        return NoPart::NoActiveConnector;
+    let row = &view.rows[place];
+    let instant = match prevails {
+        Some(instant) => instant,
+        None => telling_instant(view, ask, row),
     };
-    match why_not(view, connector, ask.start, instant, place) {
+    let reason = match connector_of(view, ask.connector, row) {
+        Some(connector) => no_part(why_not(view, connector, ask.start, instant, place)),
+        None => NoPart::NoActiveConnector,
+    };
+    NotCounted {
+        profile: told_by(row),
+        reason,
+    }
+}
+
+/// Why a profile has no part, by why it doesn't prevail.
+fn no_part(why: Option<WhyNot>) -> NoPart
+    ensures { result ≡ no_part why }
+{
+    match why {
         Some(why) => NoPart::NotPrevailing(why),
         None => NoPart::NotLeast,
     }
