@@ -1,5 +1,8 @@
 //! What a picture shows beside the limit: the profiles that have one in its time, and the ceilings.
 
+ghost use Rattle.std.specs.Prelude.{◌≡◌};
+ghost use Rattle.meaning.specs.Cause.{profile_of};
+
 use crate::explained::Explained;
 use crate::steps::{MAX_STRETCHES, Steps, first_limit, profile_steps};
 use meaning::{Ask, Cause, PrevailingProfile, View, has_its_transaction};
@@ -93,7 +96,9 @@ fn stepped_entry(row: &Row, steps: Steps) -> Option<Entry> {
 }
 
 /// What the profile of a row is told by.
-pub fn told_by(row: &Row) -> PrevailingProfile {
+pub fn told_by(row: &Row) -> PrevailingProfile
+    ensures { result ≡ profile_of row.now }
+{
     PrevailingProfile {
         id: row.profile.id,
         purpose: row.profile.purpose,

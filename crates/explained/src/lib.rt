@@ -15,6 +15,7 @@ mod letters;
 mod markup;
 mod page;
 mod picture;
+mod prevailing;
 mod scale;
 mod steps;
 mod styles;
