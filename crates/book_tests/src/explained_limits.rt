@@ -1,9 +1,9 @@
 //! Limits and schedules with what sets them, and why a profile doesn't prevail: worked by hand. The lines are
 //! those of `told_books.rt`, each stretch with its start, its end and its reason.
 
-use crate::fixtures::{instant_at, row_of};
+use crate::fixtures::instant_at;
 use crate::same::{holds, same_text};
-use crate::told_books::play;
+use crate::told_books::{play, rows_of};
 use crate::told_reasons::put_reason;
 use crate::words::Words;
 use meaning::{Reason, View, reason_at, why_not};
@@ -234,15 +234,6 @@ const CHARGING: &str = "\
 1 30 1 BeforeAnchor
 1 30 2 prevails
 2 110 4 prevails";
-
-fn rows_of(rt: &impl Abort, alloc: Global, lines: &str) -> Vec<Row> {
-    let mut rows = Vec::new(alloc);
-    for line in lines.lines() {
-        let row = row_of(alloc, line).expect(rt, line);
-        rows.push(row).ok().expect(rt, line);
-    }
-    rows
-}
 
 /// Of a point of two connectors, at the first of which a transaction began.
 fn expect_of(rt: &impl Abort, alloc: Global, rows: &[Row], began: Option<Instant>, lines: &str) {

@@ -4,7 +4,6 @@
 use crate::fixtures::profile_of;
 use crate::same::{holds, same_text};
 use crate::words::{MIDNIGHT, Words};
-use ocpp_scalars::Instant;
 use recurrence::Places;
 use stacking::InForce;
 use std::alloc::Global;
@@ -15,11 +14,11 @@ use std::process::Abort;
 /// too; a place at the first instant, which is left out, and one at the last, which is not; and one second
 /// less.
 const PLACES: &str = "\
-kind=Recurring recurrency=Daily start=0 duration=3600 from=7200 to=90000 | 0 | 0 | 200000 | 3600:- 7200:- 86400:160 90000:- 172800:- 176400:-
-start=0 duration=3600 periods=0:160,3600:80 | 0 | 0 | 7200 | 3600:-
-start=0 periods=0:160,60:80,120:40 | 0 | 60 | 120 | 120:40
-start=0 periods=0:160,60:80,120:40 | 0 | 59 | 119 | 60:80
-kind=Recurring recurrency=Daily start=0 periods=0:160,90000:80 | 0 | 200000000 | 200100000 | 200016000:160";
+kind=Recurring recurrency=Daily start=0 duration=3600 from=7200 to=90000 | 0 0 200000 | 3600:- 7200:- 86400:160 90000:- 172800:- 176400:-
+start=0 duration=3600 periods=0:160,3600:80 | 0 0 7200 | 3600:-
+start=0 periods=0:160,60:80,120:40 | 0 60 120 | 120:40
+start=0 periods=0:160,60:80,120:40 | 0 59 119 | 60:80
+kind=Recurring recurrency=Daily start=0 periods=0:160,90000:80 | 0 200000000 200100000 | 200016000:160";
 
 /// A number of tenths, or none.
 fn put_rate(rt: &impl Abort, text: &mut String, rate: Option<u32>) {
@@ -29,25 +28,23 @@ fn put_rate(rt: &impl Abort, text: &mut String, rate: Option<u32>) {
     }
 }
 
-/// The seconds of a part of a line: ` 7200 `.
-fn instant_of(rt: &impl Abort, part: Option<&str>) -> Instant {
-    let part = part.expect(rt, "no second");
-    Words::of(part).instant().expect(rt, part)
+fn put_places(rt: &impl Abort, text: &mut String, places: Places<'_>) {
+    for place in places {
+        let second = place.instant.seconds().saturating_sub(MIDNIGHT);
+        write!(text, " {second}:").expect(rt, "error");
+        put_rate(rt, text, place.rate);
+    }
 }
 
 fn places_in_words(rt: &impl Abort, alloc: Global, line: &str) -> String {
-    let mut parts = line.split(" | ");
-    let words = parts.next().expect(rt, line);
-    let profile = profile_of(alloc, words).expect(rt, words);
-    let base = instant_of(rt, parts.next());
-    let after = instant_of(rt, parts.next());
-    let last = instant_of(rt, parts.next());
+    let (told, rest) = line.split_once(" | ").expect(rt, line);
+    let profile = profile_of(alloc, told).expect(rt, told);
+    let mut words = Words::of(rest);
+    let base = words.instant().expect(rt, line);
+    let after = words.instant().expect(rt, line);
+    let last = words.instant().expect(rt, line);
     let mut text = String::new(alloc);
-    for place in Places::new(&profile, base, after, last) {
-        let second = place.instant.seconds().saturating_sub(MIDNIGHT);
-        write!(&mut text, " {second}:").expect(rt, "error");
-        put_rate(rt, &mut text, place.rate);
-    }
+    put_places(rt, &mut text, Places::new(&profile, base, after, last));
     text
 }
 

@@ -2,22 +2,13 @@
 
 use crate::fixtures::{instant_at, row_of};
 use crate::same::{holds, same, same_text};
+use crate::told_books::{periods_of, rows_of};
 use crate::words::Words;
-use meaning::{Ask, Composite, View, compile_plain, limit_at};
+use meaning::{Ask, View, compile_plain, limit_at};
 use ocpp_scalars::{Instant, Refusal};
-use profile::{Row, Schedule};
+use profile::Schedule;
 use std::alloc::Global;
 use std::process::Abort;
-
-/// The rows of lines.
-fn rows_of(rt: &impl Abort, alloc: Global, lines: &str) -> Vec<Row> {
-    let mut rows = Vec::new(alloc);
-    for line in lines.lines() {
-        let row = row_of(alloc, line).expect(rt, line);
-        rows.push(row).ok().expect(rt, line);
-    }
-    rows
-}
 
 /// The ask of `1 30 60`: connector 1, 30 seconds after midnight, for 60 seconds.
 fn ask_of(rt: &impl Abort, line: &str) -> Ask {
@@ -26,15 +17,6 @@ fn ask_of(rt: &impl Abort, line: &str) -> Ask {
     let start = words.instant().expect(rt, line);
     let duration = words.number().expect(rt, line);
     Ask::try_new(connector, start, duration).expect(rt, line)
-}
-
-/// Of each period its start and its limit.
-fn periods_of(rt: &impl Abort, alloc: Global, schedule: &Composite) -> String {
-    let mut text = String::new(alloc);
-    for period in schedule.periods() {
-        write!(&mut text, " {}:{}", period.start, period.limit).expect(rt, "error");
-    }
-    text
 }
 
 /// The schedule of an ask, against what is expected: `1 30 60 = 0:100 30:320`, of each period its start and

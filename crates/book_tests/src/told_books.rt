@@ -139,6 +139,16 @@ fn install(rt: &impl Abort, book: &mut PointBook, line: Line<'_>) -> String {
     text_of(rt, line.alloc, refusal)
 }
 
+/// The rows of lines, in no book.
+pub(crate) fn rows_of(rt: &impl Abort, alloc: Global, lines: &str) -> Vec<Row> {
+    let mut rows = Vec::new(alloc);
+    for line in lines.lines() {
+        let row = row_of(alloc, line).expect(rt, line);
+        rows.push(row).ok().expect(rt, line);
+    }
+    rows
+}
+
 /// A start by a tag at a connector that the book has.
 pub(crate) fn begin(
     rt: &impl Abort,
@@ -200,7 +210,7 @@ fn ask_of(rt: &impl Abort, book: &PointBook, line: &mut Line<'_>) -> Ask
 }
 
 /// Of each period its start and its limit.
-fn periods_of(rt: &impl Abort, alloc: Global, schedule: &Composite) -> String {
+pub(crate) fn periods_of(rt: &impl Abort, alloc: Global, schedule: &Composite) -> String {
     let mut text = String::new(alloc);
     for period in schedule.periods() {
         write!(&mut text, " {}:{}", period.start, period.limit).expect(rt, "error");
