@@ -6,11 +6,13 @@ use crate::same::{holds, same_text};
 use crate::told_books::{play, rows_of};
 use crate::told_reasons::put_reason;
 use crate::words::Words;
-use meaning::{Reason, View, reason_at, why_not};
+use meaning::{Ask, Reason, View, reason_at, why_not};
 use ocpp_scalars::Instant;
+use point_book::PointBook;
 use profile::Row;
 use std::alloc::Global;
 use std::process::Abort;
+use sweep_compiler::{Turns, explain};
 
 /// 6 A from 22:00 to 06:00, and 20 A below it.
 const NIGHT: &str = "\
@@ -98,44 +100,55 @@ fn names_the_first_of_equals(rt: HostRuntime) {
 /// The k-th of 64 transactions began k seconds after midnight and has 16 A in its first minute. So from second 64
 /// on the sum changes with each second, until all have 32 A.
 #[test]
-fn shares_among_the_most_connectors(rt: HostRuntime) -> Result<(), Fail> {
+fn shares_among_the_most_connectors(rt: HostRuntime) {
     let alloc = rt.alloc();
-    let mut book = point(alloc, 1_000_000, 64)?;
+    let mut lines = String::from_str(alloc, "point 1000000 64 320\n").expect(&rt, "error");
     for connector in 1..65u32 {
-        begin(alloc, &mut book, connector, u64::from(connector))?;
+        write!(
+            &mut lines,
+            "start {connector} ann {connector} {connector} = {connector}\n"
+        )
+        .expect(&rt, "error");
     }
-    install(alloc, &mut book, "kind=Relative duration=60 periods=0:160")?;
-    let ask = ask_of("0 64 120")?;
+    lines
+        .push_str("row kind=Relative duration=60 periods=0:160\nreasons 0 64 120 = 61 61")
+        .expect(&rt, "error");
+    let book = play(&rt, alloc, lines.as_str());
+    expect_64_shares(&rt, alloc, &book);
+}
+
+fn expect_64_shares(rt: &impl Abort, alloc: Global, book: &PointBook) {
+    let start = instant_at(64).expect(rt, "error");
+    let ask = Ask::try_new(0, start, 120).expect(rt, "error");
     assert!(rt; ask.connector <= book.connectors());
-    let explanation = explain(alloc, &book, &ask, &mut Turns::new())?;
-    assert_eq!(rt; explanation.stretches().len(), 61);
+    let explanation = explain(alloc, book, &ask, &mut Turns::new()).expect(rt, "error");
     for stretch in explanation.stretches() {
-        assert_eq!(rt; stretch.reason.shares.as_slice().len(), 64);
+        holds(
+            rt,
+            stretch.reason.shares.as_slice().len() == 64,
+            "64 shares",
+        );
     }
-    Ok(())
 }
 
 /// Each minute the highest of 100 levels ends.
 #[test]
-fn names_each_of_the_most_levels(rt: HostRuntime) -> Result<(), Fail> {
+fn names_each_of_the_most_levels(rt: HostRuntime) {
     let alloc = rt.alloc();
-    let mut book = point(alloc, 630, 1)?;
-    let mut line = String::from_str(alloc, "1 0 6000 =")?;
+    let mut lines = String::from_str(alloc, "point 630 1 320\n").expect(&rt, "error");
+    let mut stretches = String::from_str(alloc, "explain 1 0 6000 =").expect(&rt, "error");
     for minute in 0..100u32 {
-        let (level, end) = (99 - minute, 60 * (1 + minute));
-        let words = format!(in alloc;
-            "id={level} level={level} start=0 to={end} periods=0:{}",
-            60 + level
-        )?;
-        install(alloc, &mut book, words.as_str())?;
+        let (level, start, end) = (99 - minute, 60 * minute, 60 * (1 + minute));
+        let limit = 60 + level;
         write!(
-            &mut line,
-            " {}-{end}:{}:id={level}",
-            60 * minute,
-            60 + level
-        )?;
+            &mut lines,
+            "row id={level} level={level} start=0 to={end} periods=0:{limit}\n"
+        )
+        .expect(&rt, "error");
+        write!(&mut stretches, " {start}-{end}:{limit}:id={level}").expect(&rt, "error");
     }
-    expect(&rt, alloc, &book, line.as_str())
+    lines.push_str(stretches.as_str()).expect(&rt, "error");
+    play(&rt, alloc, lines.as_str());
 }
 
 /// The last second that may be asked is 9999-12-31T23:59:59Z, so many seconds after midnight.
