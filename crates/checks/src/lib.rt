@@ -39,7 +39,7 @@ pub use finding::{FaultName, Finding, Place, Severity, exit_status, sort_by_line
 pub use never::{NeverRated, never_rated};
 pub use printed_check::check_printed;
 pub use script_check::check_script;
-pub use sent_check::{SentCheck, check_sent, json_fault};
+pub use sent_check::{SentCheck, check_sent, json_break};
 pub use sentences::{call_sentence, line_sentence, never_sentence, sentence, site_sentence};
 pub use site_check::check_site;
 pub use standing_check::check_standing;

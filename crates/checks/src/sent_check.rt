@@ -69,7 +69,7 @@ fn check_message(
 }
 
 /// Where the JSON of a text breaks, if it does: the line and the column, and what is wanted there.
-pub fn json_fault(alloc: Global, text: &str) -> Result<Option<String>, AllocError> {
+pub fn json_break(alloc: Global, text: &str) -> Result<Option<String>, AllocError> {
     let Some(fault) = outline_of(alloc, text)?.fault else {
         return Ok(None);
     };

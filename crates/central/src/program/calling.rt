@@ -3,7 +3,7 @@
 use crate::program::command_line::Calling;
 use crate::program::payload_file::read_payload_file;
 use crate::program::program_fault::ProgramFault;
-use checks::{SentCheck, answer_sentence, check_sent, json_fault};
+use checks::{SentCheck, answer_sentence, check_sent, json_break};
 use client::{
     ClientFault, Lines, OperatorClient, Outcome, ask_call, clear_call, connect_operator,
     set_profile_call,
@@ -99,7 +99,7 @@ impl<R: Input + Print + Eprint + AllocGlobal + RandomSource + Wait + Drop> Calle
 
     /// Sends the CALL of an option with its payload, once that is JSON.
     fn send_with(&mut self, payload: &str, name: &str, text: &str) -> Result<(), ProgramFault> {
-        if let Some(fault) = json_fault(self.rt.alloc(), payload)? {
+        if let Some(fault) = json_break(self.rt.alloc(), payload)? {
             self.say(format!(in self.rt.alloc(); "{name}: {fault}")?);
             return self.report(name, "NotACall");
         }
