@@ -3,6 +3,7 @@
 mod left_undone;
 mod ordinary_day;
 mod two_points;
+mod validity;
 
 use replay::play_quietly;
 use shown::{ending_text, standing_json, standing_text, trace_script, trace_text};
