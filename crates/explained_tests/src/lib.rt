@@ -8,3 +8,5 @@ mod pictures;
 mod samples;
 #[cfg(test)]
 mod tables;
+#[cfg(test)]
+mod uncounted;

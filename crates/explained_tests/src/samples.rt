@@ -28,6 +28,20 @@ impl Point {
         Ok(point)
     }
 
+    /// The same with a transaction since midnight at `none` of the connectors, the `first`, the `second` or `both`.
+    pub fn with_transactions(alloc: Global, lines: &str, active: &str) -> Result<Point, Fail> {
+        let mut point = Point::with_rows(alloc, lines)?;
+        for place in ["first", "second"] {
+            let is_active = active == place || active == "both";
+            point.starts.push(if is_active {
+                Some(instant_at(0)?)
+            } else {
+                None
+            })?;
+        }
+        Ok(point)
+    }
+
     /// What it has.
     pub fn view(&self) -> View<'_> {
         View {

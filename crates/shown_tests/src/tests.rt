@@ -3,6 +3,7 @@
 mod left_undone;
 mod ordinary_day;
 mod two_points;
+mod validity;
 
 use shown::{ending_text, standing_json, standing_text, trace_script, trace_text};
 use site_rules::read_site;
