@@ -2,7 +2,6 @@
 #![tactic(auto)]
 
 mod answer;
-mod answer_sentence;
 mod call_check;
 mod change_check;
 mod field_fault;
@@ -17,6 +16,7 @@ mod never;
 mod payload_fields;
 mod printed_check;
 mod profile_check;
+mod refused_answer;
 mod report;
 mod requests;
 mod script_check;
@@ -33,11 +33,11 @@ mod text_place;
 mod together;
 mod zone_check;
 
-pub use answer_sentence::answer_sentence;
 pub use change_check::{Change, check_change};
 pub use finding::{FaultName, Finding, Place, Severity, exit_status, sort_by_line};
 pub use never::{NeverRated, never_rated};
 pub use printed_check::check_printed;
+pub use refused_answer::answer_sentence;
 pub use script_check::check_script;
 pub use sent_check::{SentCheck, check_sent, json_break};
 pub use sentences::{call_sentence, line_sentence, never_sentence, sentence, site_sentence};
