@@ -69,6 +69,7 @@ TxDefaultProfile | "chargingProfileKind":"Absolute","transactionId":1,"recurrenc
 TxDefaultProfile | "chargingProfileKind":"Relative" | "startSchedule":"2026-01-02T00:00:00Z","chargingSchedulePeriod":[{"startPeriod":0,"limit":16}] => startSchedule counts for nothing
 TxDefaultProfile | "chargingProfileKind":"Relative" | "chargingSchedulePeriod":[{"startPeriod":0,"limit":32.1}] => above the ceiling of the site file there, 32.0
 TxDefaultProfile | "chargingProfileKind":"Relative" | "chargingSchedulePeriod":[{"startPeriod":0,"limit":32}] => -
+TxDefaultProfile | "chargingProfileKind":"Relative" | "chargingSchedulePeriod":[{"startPeriod":0,"limit":40},{"startPeriod":60,"limit":16}] => -
 ChargePointMaxProfile | "chargingProfileKind":"Absolute" | "chargingSchedulePeriod":[{"startPeriod":0,"limit":63.1}] => above the ceiling of the site file there, 63.0
 ChargePointMaxProfile | "chargingProfileKind":"Absolute" | "chargingSchedulePeriod":[{"startPeriod":0,"limit":40}] => -
 TxProfile | "chargingProfileKind":"Relative","transactionId":1 | "chargingSchedulePeriod":[{"startPeriod":0,"limit":16}] => -

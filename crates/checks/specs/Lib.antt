@@ -1,2 +1,3 @@
+pub mod ExitStatus
 pub mod Hidden
 pub mod NeverRated

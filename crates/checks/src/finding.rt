@@ -1,5 +1,8 @@
 //! What is found wrong with a site file or a script.
 
+ghost use Rattle.std.specs.Prelude.{◌≡◌};
+ghost use Rattle.checks.specs.ExitStatus.{exit_status, has_fault, has_warning};
+
 use messages::CallFault;
 use ocpp_scalars::Refusal;
 use replay::LineFault;
@@ -146,14 +149,30 @@ fn line_of(place: &Place) -> u64 {
 
 /// The exit status of a check: 0 where all is well, 1 where there is a fault, 2 where there are warnings
 /// alone. A remark counts for nothing.
-pub fn exit_status(findings: &[Finding]) -> u8 {
-    let mut status = 0;
-    for finding in findings {
-        match finding.severity {
-            Severity::Fault => return 1,
-            Severity::Warning => status = 2,
-            Severity::Remark => {}
-        }
+pub fn exit_status(findings: &[Finding]) -> u8
+    ensures { result ≡ exit_status findings.now }
+{
+    if has_fault(findings) {
+        1
+    } else if has_warning(findings) {
+        2
+    } else {
+        0
     }
-    status
+}
+
+fn has_fault(findings: &[Finding]) -> bool
+    ensures { result ≡ has_fault findings.now }
+{
+    findings
+        .iter()
+        .any(|finding| matches!(finding.severity, Severity::Fault))
+}
+
+fn has_warning(findings: &[Finding]) -> bool
+    ensures { result ≡ has_warning findings.now }
+{
+    findings
+        .iter()
+        .any(|finding| matches!(finding.severity, Severity::Warning))
 }

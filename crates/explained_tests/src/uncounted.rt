@@ -12,6 +12,8 @@ use std::test::Fail;
 /// the limit of either.
 const TOLD: &str = "\
 1 none | id=1 start=0; id=2 level=1 start=0 duration=43200 | NotLeast NotLeast
+1 none | id=2 level=1 start=0 duration=43200; id=1 start=0 | NotLeast NotLeast
+1 none | id=1 start=0; id=2 level=1 start=0 duration=43200; id=3 purpose=TxProfile connector=1 start=0 | NotLeast NotLeast NoTransaction
 1 none | id=1 start=0; id=2 level=1 start=0 duration=43200; id=3 level=2 start=0 | BelowHigherLevel BelowHigherLevel NotLeast
 1 first | id=1 level=3 start=0; id=2 purpose=TxProfile connector=1 start=0 duration=43200 | NotLeast NotLeast
 1 first | id=1 level=3 start=0; id=2 purpose=TxProfile connector=1 start=0 | BehindTxProfile NotLeast
@@ -21,6 +23,7 @@ const TOLD: &str = "\
 1 none | id=1 purpose=ChargePointMaxProfile start=0; id=2 purpose=ChargePointMaxProfile level=1 start=50000 | NotLeast NotLeast
 0 second | id=1 start=0; id=2 connector=1; id=3 connector=2 level=1 start=0 | BelowHigherLevel NoActiveConnector NotLeast
 0 both | id=1 start=0; id=2 connector=1 start=0; id=3 purpose=ChargePointMaxProfile start=0 | Hidden NotLeast NotLeast
+0 both | id=1 start=0; id=2 connector=1 level=1 start=0 duration=43200; id=3 connector=2 level=1 start=90000 | NotLeast NotLeast BeforeAnchor
 0 none | id=1 start=0 | NoActiveConnector";
 
 #[test]
