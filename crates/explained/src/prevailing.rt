@@ -8,92 +8,92 @@ use profile::{Profile, Purpose, Row, is_candidate};
 use recurrence::{next_change, rate_at};
 use std::alloc::{AllocError, Global};
 
-/// For each row that is looked at at a connector, 0 being the whole point, the first of some rising moments at
-/// which it prevails there, if there is one, in a schedule asked from `asked` on.
-pub(crate) fn first_moments(
-    alloc: Global,
-    view: &View<'_>,
-    asked: Instant,
-    moments: &[Instant],
-    looked_at: &[Option<usize>],
-) -> Result<Vec<Option<Instant>>, AllocError> {
-    let mut found = vec![in alloc; None; view.rows.len()]?;
-    for place in 0..looked_at.len() {
-        if let Some(connector) = looked_at[place] {
-            if !looked_at[..place].contains(&Some(connector)) {
-                find_at(
-                    alloc, view, asked, moments, connector, looked_at, &mut found,
-                )?;
+/// Moments at which rows of a view may prevail, in rising order, in a schedule asked from `asked` on.
+#[derive(Clone, Copy)]
+pub(crate) struct Moments<'a> {
+    pub alloc: Global,
+    pub view: View<'a>,
+    pub asked: Instant,
+    pub moments: &'a [Instant],
+}
+
+impl Moments<'_> {
+    /// For each row that is looked at at a connector, 0 being the whole point, the first moment at which it
+    /// prevails there, if there is one.
+    pub(crate) fn first_of_each(
+        &self,
+        looked_at: &[Option<usize>],
+    ) -> Result<Vec<Option<Instant>>, AllocError> {
+        let mut found = vec![in self.alloc; None; self.view.rows.len()]?;
+        for place in 0..looked_at.len() {
+            if let Some(connector) = looked_at[place] {
+                if !looked_at[..place].contains(&Some(connector)) {
+                    self.find_at(connector, looked_at, &mut found)?;
+                }
             }
         }
+        Ok(found)
     }
-    Ok(found)
-}
 
-/// The same of the rows that are looked at at one connector. Those that count there come one after the other, in the
-/// order in which they prevail; each takes the moments at which it has a limit, and leaves the others to the next.
-fn find_at(
-    alloc: Global,
-    view: &View<'_>,
-    asked: Instant,
-    moments: &[Instant],
-    connector: usize,
-    looked_at: &[Option<usize>],
-    found: &mut [Option<Instant>],
-) -> Result<(), AllocError> {
-    let mut left = Vec::from_slice(alloc, moments)?;
-    for place in &counted(alloc, view, connector)? {
-        let Some(row) = view.rows.get(*place) else {
-            continue;
-        };
-        let base = row.base(view.active_since(connector), asked);
-        let taken = Taken::from(alloc, left.as_slice(), &row.profile, base)?;
-        let first = taken.first;
-        left = taken.left;
-        if looked_at.get(*place) == Some(&Some(connector)) {
-            if let Some(moment) = found.get_mut(*place) {
-                *moment = first;
+    /// The same of the rows that are looked at at one connector. Those that count there come one after the other, in
+    /// the order in which they prevail; each takes the moments at which it has a limit, and leaves the others to the
+    /// next.
+    fn find_at(
+        &self,
+        connector: usize,
+        looked_at: &[Option<usize>],
+        found: &mut [Option<Instant>],
+    ) -> Result<(), AllocError> {
+        let mut left = Vec::from_slice(self.alloc, self.moments)?;
+        for place in &self.counted(connector)? {
+            let Some(row) = self.view.rows.get(*place) else {
+                continue;
+            };
+            let base = row.base(self.view.active_since(connector), self.asked);
+            let taken = Taken::from(self.alloc, left.as_slice(), &row.profile, base)?;
+            let first = taken.first;
+            left = taken.left;
+            if looked_at.get(*place) == Some(&Some(connector)) {
+                if let Some(moment) = found.get_mut(*place) {
+                    *moment = first;
+                }
             }
         }
+        Ok(())
     }
-    Ok(())
-}
 
-/// The places of the rows that count for a connector, 0 being the whole point, in the order in which they prevail.
-fn counted(alloc: Global, view: &View<'_>, connector: usize) -> Result<Vec<usize>, AllocError> {
-    let mut places = Vec::new(alloc);
-    if connector == 0 {
-        push_counted(&mut places, view, Purpose::ChargePointMaxProfile, 0)?;
-    } else {
-        push_counted(&mut places, view, Purpose::TxProfile, connector)?;
-        push_counted(&mut places, view, Purpose::TxDefaultProfile, connector)?;
-    }
-    Ok(places)
-}
-
-/// Adds the places of the rows of a purpose that count for a connector, the highest stack level first.
-fn push_counted(
-    places: &mut Vec<usize>,
-    view: &View<'_>,
-    purpose: Purpose,
-    connector: usize,
-) -> Result<(), AllocError> {
-    if !has_its_transaction(purpose, view.active_since(connector)) {
-        return Ok(());
-    }
-    let before = places.len();
-    for (place, row) in view.rows.iter().enumerate() {
-        if is_candidate(purpose, view.rows, connector, row) {
-            let at = place_of(
-                view.rows,
-                places.as_slice(),
-                before,
-                row.profile.stack_level,
-            );
-            places.insert(at, place)?;
+    /// The places of the rows that count for a connector, 0 being the whole point, in the order in which they prevail.
+    fn counted(&self, connector: usize) -> Result<Vec<usize>, AllocError> {
+        let mut places = Vec::new(self.alloc);
+        if connector == 0 {
+            self.push_counted(&mut places, Purpose::ChargePointMaxProfile, 0)?;
+        } else {
+            self.push_counted(&mut places, Purpose::TxProfile, connector)?;
+            self.push_counted(&mut places, Purpose::TxDefaultProfile, connector)?;
         }
+        Ok(places)
     }
-    Ok(())
+
+    /// Adds the places of the rows of a purpose that count for a connector, the highest stack level first.
+    fn push_counted(
+        &self,
+        places: &mut Vec<usize>,
+        purpose: Purpose,
+        connector: usize,
+    ) -> Result<(), AllocError> {
+        let rows = self.view.rows;
+        if !has_its_transaction(purpose, self.view.active_since(connector)) {
+            return Ok(());
+        }
+        let before = places.len();
+        for (place, row) in rows.iter().enumerate() {
+            if is_candidate(purpose, rows, connector, row) {
+                let at = place_of(rows, places.as_slice(), before, row.profile.stack_level);
+                places.insert(at, place)?;
+            }
+        }
+        Ok(())
+    }
 }
 
 /// Where a row of a level comes among the places of others from one on, the highest level first.

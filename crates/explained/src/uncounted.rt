@@ -7,7 +7,7 @@ ghost use Rattle.explained.specs.NotCounted.{IsTold, no_part};
 
 use crate::entries::{telling_instant, told_by};
 use crate::explained::{NoPart, NotCounted, is_named};
-use crate::prevailing::first_moments;
+use crate::prevailing::Moments;
 use meaning::{Ask, View, WhyNot, why_not};
 use ocpp_scalars::Instant;
 use profile::{Purpose, Row};
@@ -26,17 +26,17 @@ pub fn not_counted(
 {
     let looked_at = looked_at(alloc, view, ask, stretches)?;
     let begins = begins_of(alloc, ask, stretches)?;
-    let moments = first_moments(
+    let moments = Moments {
         alloc,
-        view,
-        ask.start,
-        begins.as_slice(),
-        looked_at.as_slice(),
-    )?;
+        view: *view,
+        asked: ask.start,
+        moments: begins.as_slice(),
+    };
+    let firsts = moments.first_of_each(looked_at.as_slice())?;
     let mut rest = Vec::new(alloc);
     for place in 0..view.rows.len() {
         if !is_named(stretches, told_by(&view.rows[place])) {
-            let prevails = moments.as_slice().get(place).and_then(|moment| *moment);
+            let prevails = firsts.as_slice().get(place).and_then(|moment| *moment);
             rest.push(told_at(view, ask, place, prevails))?;
         }
     }
