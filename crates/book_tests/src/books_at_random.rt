@@ -4,6 +4,7 @@ use crate::fixtures::{instant_at, row_of};
 use crate::same::holds;
 use crate::told_books::{begin, point};
 use meaning::{Ask, compile_plain, reason_at};
+use ocpp_scalars::Instant;
 use point_book::PointBook;
 use profile::Row;
 use std::alloc::Global;
@@ -126,7 +127,8 @@ fn expect_reason(
     let view = book.view();
     assert!(rt; ask.connector as usize <= view.ceilings.len());
     assert!(rt; view.ceilings.len() == 2);
-    let instant = ask.start.plus(u64::from(second));
+    let instant = ask.start.seconds().saturating_add(u64::from(second));
+    let instant = Instant::try_new(instant).expect(rt, "error");
     let reason = reason_at(alloc, &view, ask.connector, ask.start, instant).expect(rt, "error");
     holds(rt, reason.same(&stretch.reason), "a reason");
 }
