@@ -6,7 +6,7 @@ use crate::finding::{Finding, Place};
 use meaning::PrevailingProfile;
 use messages::{Action, ActionKind, CallFault, read_fields};
 use ocpp_scalars::Refusal;
-use ocppj_frame::{Frame, FrameFault, ReadingMemory, read_frame};
+use ocppj_frame::{Frame, FrameFault, Node, ReadingMemory, read_frame};
 use page_parts::purpose_name;
 use profile::{Criteria, Purpose};
 use std::alloc::{AllocError, Global};
@@ -84,25 +84,34 @@ fn named(alloc: Global, profile: PrevailingProfile) -> Result<String, AllocError
     format!(in alloc; "{purpose} {id} (stack level {level}, at connector {connector})")
 }
 
-/// Whether a frame is a ClearChargingProfile with criteria, but none that says which profile or purpose is meant.
-fn clears_at_large(alloc: Global, frame: &str) -> Result<bool, AllocError> {
+/// Whether a text is a ClearChargingProfile with criteria, but none that says which profile or purpose is meant.
+fn clears_at_large(alloc: Global, text: &str) -> Result<bool, AllocError> {
     let mut memory = ReadingMemory::new(alloc);
-    match read_frame(&mut memory, frame) {
-        Ok(
-            Frame::Call {
-                action,
-                payload,
-                ..
-            },
-        ) if ActionKind::named(action.as_str()) == Some(ActionKind::ClearChargingProfile) => {
-            let kind = ActionKind::ClearChargingProfile;
-            match read_fields(alloc, kind, payload.root()) {
-                Ok(Action::ClearChargingProfile(criteria)) => Ok(is_at_large(&criteria)),
-                Err(CallFault::Refused(Refusal::OutOfMemory)) => Err(AllocError),
-                _ => Ok(false),
-            }
-        }
+    match read_frame(&mut memory, text) {
+        Ok(frame) => is_clear_at_large(alloc, frame),
         Err(FrameFault::OutOfMemory) => Err(AllocError),
+        Err(_) => Ok(false),
+    }
+}
+
+fn is_clear_at_large(alloc: Global, frame: Frame<'_>) -> Result<bool, AllocError> {
+    match frame {
+        Frame::Call {
+            action,
+            payload,
+            ..
+        } => match ActionKind::named(action.as_str()) {
+            Some(ActionKind::ClearChargingProfile) => has_large_criteria(alloc, payload.root()),
+            _ => Ok(false),
+        },
+        _ => Ok(false),
+    }
+}
+
+fn has_large_criteria(alloc: Global, payload: Node<'_, '_>) -> Result<bool, AllocError> {
+    match read_fields(alloc, ActionKind::ClearChargingProfile, payload) {
+        Ok(Action::ClearChargingProfile(criteria)) => Ok(is_at_large(&criteria)),
+        Err(CallFault::Refused(Refusal::OutOfMemory)) => Err(AllocError),
         _ => Ok(false),
     }
 }

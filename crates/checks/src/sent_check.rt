@@ -46,26 +46,29 @@ fn check_message(
     memory: &mut ReadingMemory,
     text: &str,
 ) -> Result<Option<SentCheck>, AllocError> {
-    let checked = match read_frame(memory, text) {
-        Ok(
-            Frame::Call {
-                action,
-                payload,
-                ..
-            },
-        ) => match operators_action(action.as_str()) {
-            Some(kind) => check_fields(alloc, text, kind, payload.root())?,
-            None => nothing_said(alloc, None)?,
+    match read_frame(memory, text) {
+        Ok(frame) => Ok(Some(check_frame(alloc, text, frame)?)),
+        Err(FrameFault::Formation { id: _id }) => Ok(Some(nothing_said(alloc, None)?)),
+        Err(FrameFault::Dropped) => Ok(None),
+        Err(FrameFault::OutOfMemory) => Err(AllocError),
+    }
+}
+
+fn check_frame(alloc: Global, text: &str, frame: Frame<'_>) -> Result<SentCheck, AllocError> {
+    match frame {
+        Frame::Call {
+            action,
+            payload,
+            ..
+        } => match operators_action(action.as_str()) {
+            Some(kind) => check_fields(alloc, text, kind, payload.root()),
+            None => nothing_said(alloc, None),
         },
-        Ok(_) => {
+        _ => {
             let why = "an operator sends CALLs, which begin with [2,";
-            nothing_said(alloc, Some(String::from_str(alloc, why)?))?
+            nothing_said(alloc, Some(String::from_str(alloc, why)?))
         }
-        Err(FrameFault::Formation { id: _id }) => nothing_said(alloc, None)?,
-        Err(FrameFault::Dropped) => return Ok(None),
-        Err(FrameFault::OutOfMemory) => return Err(AllocError),
-    };
-    Ok(Some(checked))
+    }
 }
 
 /// Where the JSON of a text breaks, if it does: the line and the column, and what is wanted there.
