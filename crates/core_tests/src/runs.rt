@@ -111,12 +111,6 @@ CP1 start 1 = TransactionsExhausted
 CP1 take = VersionsExhausted
 CP1 install 100 = Accepted";
 
-/// Runs steps from the last numbers that were drawn.
-fn run_at(rt: &impl Abort, alloc: Global, numbers: Numbers, lines: &str) {
-    let mut machine = Machine::new_at(alloc, site(rt, alloc), numbers).expect(rt, "error");
-    run(rt, alloc, &mut machine, lines);
-}
-
 #[test]
 fn numbers_end(rt: HostRuntime) {
     let last_version = Numbers {
@@ -125,14 +119,20 @@ fn numbers_end(rt: HostRuntime) {
         transaction: 0,
         link: 0,
     };
-    run_at(&rt, rt.alloc(), last_version, AT_THE_LAST_VERSION);
+    let mut machine = Machine::new_at(rt.alloc(), site(&rt, rt.alloc()), last_version).expect(
+        &rt, "error",
+    );
+    run(&rt, rt.alloc(), &mut machine, AT_THE_LAST_VERSION);
     let last_transaction = Numbers {
         version: 0,
         request: MAX_NUMBER,
         transaction: 2_147_483_647,
         link: 0,
     };
-    run_at(&rt, rt.alloc(), last_transaction, AT_THE_LAST_TRANSACTION);
+    let mut machine = Machine::new_at(rt.alloc(), site(&rt, rt.alloc()), last_transaction).expect(
+        &rt, "error",
+    );
+    run(&rt, rt.alloc(), &mut machine, AT_THE_LAST_TRANSACTION);
 }
 
 #[test]
@@ -280,7 +280,10 @@ fn links_end(rt: HostRuntime) {
         transaction: 0,
         link: MAX_NUMBER - 1,
     };
-    run_at(&rt, rt.alloc(), one_left, LAST_LINKS);
+    let mut machine = Machine::new_at(rt.alloc(), site(&rt, rt.alloc()), one_left).expect(
+        &rt, "error",
+    );
+    run(&rt, rt.alloc(), &mut machine, LAST_LINKS);
 }
 
 /// What comes of a step that has to be made: else the test fails with these words and the refusal.

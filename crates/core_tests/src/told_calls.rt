@@ -245,26 +245,51 @@ impl<C: Ledger, A: Ledger> Desk<C, A> {
     }
 }
 
-/// Makes the calls of lines on a new book, after which its version is this.
+/// The lines that are played, each on a new book.
+#[derive(Clone, Copy)]
+enum Play {
+    OfTheTakenBook,
+    OfLinks,
+    OfTheEnd,
+}
+
+impl Play {
+    fn lines(self) -> &'static str {
+        match self {
+            Play::OfTheTakenBook => OF_THE_TAKEN_BOOK,
+            Play::OfLinks => OF_LINKS,
+            Play::OfTheEnd => OF_THE_END,
+        }
+    }
+
+    /// The version of the book behind the last line.
+    fn version(self) -> u64 {
+        match self {
+            Play::OfTheTakenBook => 5,
+            Play::OfLinks | Play::OfTheEnd => 0,
+        }
+    }
+}
+
+/// Makes the calls of some lines on a new book.
 fn run_at<C: Ledger, A: Ledger>(
     rt: &impl Abort,
     alloc: Global,
     changes: Blank,
     answers: Blank,
-    lines: &str,
-    version: u64,
+    play: Play,
 )
     requires changes { (changes.name ≡ C.name) × (changes.parts ≡ C.parts) × (changes.parts ≡ 1) }
     requires answers { (answers.name ≡ A.name) × (answers.parts ≡ A.parts) × (answers.parts ≡ 1) }
 {
     let mut desk: Desk<C, A> = Desk::new(rt, alloc, changes, answers);
-    desk.run(rt, lines);
-    same(rt, desk.book.version(), version, "version");
-    same(rt, desk.pass.totals().changes, version, "changes");
+    desk.run(rt, play.lines());
+    same(rt, desk.book.version(), play.version(), "version");
+    same(rt, desk.pass.totals().changes, play.version(), "changes");
 }
 
-fn run_on_a_book(rt: &impl Abort, alloc: Global, lines: &str, version: u64) {
-    run_at::<Brand, Brand>(rt, alloc, Blank::new(1), Blank::new(1), lines, version);
+fn run_on_a_book(rt: &impl Abort, alloc: Global, play: Play) {
+    run_at::<Brand, Brand>(rt, alloc, Blank::new(1), Blank::new(1), play);
 }
 
 const OF_THE_TAKEN_BOOK: &str = "\
@@ -289,7 +314,7 @@ CP9 install 70 = UnknownPoint";
 /// Two installs, a clear, a start and a stop are changes.
 #[test]
 fn a_session_changes_what_a_point_has(rt: HostRuntime) {
-    run_on_a_book(&rt, rt.alloc(), OF_THE_TAKEN_BOOK, 5);
+    run_on_a_book(&rt, rt.alloc(), Play::OfTheTakenBook);
 }
 
 const OF_LINKS: &str = "\
@@ -314,7 +339,7 @@ CP9 send 5 = Superseded";
 /// A call that is in flight waits again over a new link.
 #[test]
 fn a_session_sends_over_the_present_link(rt: HostRuntime) {
-    run_on_a_book(&rt, rt.alloc(), OF_LINKS, 0);
+    run_on_a_book(&rt, rt.alloc(), Play::OfLinks);
 }
 
 const OF_THE_END: &str = "\
@@ -342,5 +367,5 @@ CP1 attach = Stopped";
 /// Finishing answers `Stopped`, and then only collecting goes on.
 #[test]
 fn a_session_collects_after_the_end(rt: HostRuntime) {
-    run_on_a_book(&rt, rt.alloc(), OF_THE_END, 0);
+    run_on_a_book(&rt, rt.alloc(), Play::OfTheEnd);
 }
