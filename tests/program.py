@@ -439,7 +439,8 @@ def allocations(library, test):
         number = (made + too_many) // 2
         environment = {**os.environ, "LD_PRELOAD": library, "REFUSED_ALLOCATION": str(number), "REPORT_REFUSED": ""}
         done = subprocess.run(test, capture_output=True, timeout=120, env=environment)
-        if b"an allocation was refused\n" in done.stderr:
+        # A test that is ended for want of memory aborts, and then nothing is reported.
+        if done.returncode or b"an allocation was refused\n" in done.stderr:
             made = number
         else:
             too_many = number
