@@ -62,7 +62,7 @@ TxDefaultProfile | "chargingProfileKind":"Absolute" | "duration":60,"chargingSch
 TxDefaultProfile | "chargingProfileKind":"Recurring","recurrencyKind":"Daily" | "chargingSchedulePeriod":[{"startPeriod":86400,"limit":16}] => first period starts when the day or week is over
 TxDefaultProfile | "chargingProfileKind":"Recurring","recurrencyKind":"Daily" | "chargingSchedulePeriod":[{"startPeriod":0,"limit":16},{"startPeriod":86400,"limit":6}] => chargingSchedulePeriod[1] starts at 86400 s
 TxDefaultProfile | "chargingProfileKind":"Recurring","recurrencyKind":"Weekly" | "duration":604801,"chargingSchedulePeriod":[{"startPeriod":0,"limit":16}] => longer than the week of 604800 s
-TxDefaultProfile | "chargingProfileKind":"Recurring","recurrencyKind":"Daily" | "duration":36000,"chargingSchedulePeriod":[{"startPeriod":60,"limit":16}] => no limit from 36000 s to 86400 s; no limit in the first 60 s
+TxDefaultProfile | "chargingProfileKind":"Recurring","recurrencyKind":"Daily" | "duration":36000,"chargingSchedulePeriod":[{"startPeriod":60,"limit":16}] => no limit from 36000 s to 86400 s; no limit from 0 s to 60 s
 TxDefaultProfile | "chargingProfileKind":"Absolute" | "duration":60,"chargingSchedulePeriod":[{"startPeriod":0,"limit":16},{"startPeriod":60,"limit":6}] => chargingSchedulePeriod[1] starts at 60 s, when the duration of 60 s is over
 TxDefaultProfile | "chargingProfileKind":"Absolute","validTo":"2024-01-02T00:00:00Z" | "chargingSchedulePeriod":[{"startPeriod":0,"limit":16}] => validTo, 2024-01-02T00:00:00Z, is over
 TxDefaultProfile | "chargingProfileKind":"Absolute","transactionId":1,"recurrencyKind":"Daily" | "chargingSchedulePeriod":[{"startPeriod":0,"limit":16}] => transactionId counts for nothing; recurrencyKind counts for nothing
