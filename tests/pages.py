@@ -1,7 +1,7 @@
 #!/usr/bin/env python3
 """pages.py PROGRAM [write]: runs the commands of the pages on the built program, and prints 'N passed, M failed'.
 
-A command is a code block that calls `dist/out/central`; a block of `text` that follows it is what it has to print, but for
+A command is a code block that calls `dist/out/central`, or `curl` on what it serves; a block of `text` that follows it is what it has to print, but for
 moments, which are those of the clock. `serve` and `point` run beside the commands behind them, up to the end of the page,
 and have to print a line. With `write` the blocks of text are written anew, to be read before they are kept.
 """
@@ -16,12 +16,15 @@ import sys
 import textwrap
 
 TOP = os.path.dirname(os.path.dirname(os.path.realpath(__file__)))
-PAGES = ("README.md", "examples/README.md", "docs/OPERATING.md")
+PAGES = ("README.md", "examples/README.md", "docs/OPERATING.md", "docs/PROTOCOL.md")
 PROGRAM = re.compile(r"\bdist/out/central (?=\w)")
+COMMAND = re.compile(rf"{PROGRAM.pattern}|^ *curl ")
 BESIDE = re.compile(r"\bdist/out/central (serve|point) ")
 MOMENTS = re.compile(r'"(scheduleStart|currentTime|timestamp)":"[^"]*"')
 FENCE = re.compile(r"^( *)```(\w*)$")
 PATIENCE = 60
+# Those of the program, and that of `curl` where the time is over that it was told.
+STATUSES = (0, 1, 2, 28)
 
 
 def blocks_of(lines):
@@ -40,7 +43,7 @@ def commands_of(lines):
     """Each command of a page with its line, and the place of the block of text behind it, if one follows at once."""
     blocks = list(blocks_of(lines))
     for (first, language, block), follower in zip(blocks, [*blocks[1:], None]):
-        if language in ("sh", "") and any(PROGRAM.search(line) for line in block):
+        if language in ("sh", "") and any(COMMAND.search(line) for line in block):
             behind = first + len(block) + 1
             follows = follower and follower[1] == "text" and not any(line.strip() for line in lines[behind:follower[0] - 1])
             yield first, "\n".join(block), (follower[0], follower[0] + len(follower[2])) if follows else None
@@ -98,7 +101,7 @@ def run_page(page, program, is_written):
             if differs and is_written:
                 indent = FENCE.match(lines[place[0] - 1]).group(1)
                 changes.append((place, [(indent + line).rstrip() for line in printed.split("\n")]))
-            fault = [f"status {run.returncode}"] if run.returncode not in (0, 1, 2) else []
+            fault = [f"status {run.returncode}"] if run.returncode not in STATUSES else []
             yield name, [*fault, *([f"it prints\n{printed}"] if differs and not is_written else [])]
     finally:
         for process in beside:
