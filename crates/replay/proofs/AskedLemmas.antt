@@ -8,7 +8,7 @@ use Rattle.session.specs.declared.asked.Asked.{Asked}
 use Rattle.session.specs.declared.asked.Asked.TheVariants as asks
 use Rattle.session.specs.SentText.{Sent}
 use Rattle.session.specs.Asked.{asked_of, hold_of, IsOfCall, is_schedule, AsksByCall}
-use Rattle.session.proofs.AskedLemmas.{asks_by_call, hold_asks_by_call}
+use Rattle.session.specs.Theory.Asked.{asks_by_call, hold_asks_by_call}
 use Rattle.replay.specs.PrintedLine as lines
 use Rattle.replay.specs.ScriptRun.{schedules_on}
 use Rattle.replay.specs.ByCases.MachineSteps.{IsAsked}

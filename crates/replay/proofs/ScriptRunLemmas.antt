@@ -52,7 +52,7 @@ use Rattle.replay.proofs.StepRunLemmas.{outcome_for, steps_run, HandsOutNone}
 use Rattle.replay.proofs.StepRunLemmas.{calls_hand_out_none, IsNoAnswer, IsNoSend}
 use Rattle.replay.proofs.StepRunLemmas.{of_call_no_answer}
 use Rattle.session.specs.Asked.{IsOfCall, AsksByCall}
-use Rattle.session.proofs.AskedLemmas.{asks_by_call}
+use Rattle.session.specs.Theory.Asked.{asks_by_call}
 use Rattle.replay.proofs.AskedLemmas.{no_schedule}
 
 -- the laws that are cited

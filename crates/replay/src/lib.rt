@@ -6,8 +6,6 @@
 mod player;
 mod script;
 mod script_laws;
-#[cfg(test)]
-mod tests;
 
 pub use player::held::Held;
 pub use script::input::{InputFault, read_all};

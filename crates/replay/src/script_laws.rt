@@ -29,6 +29,7 @@ pub fn scripts_are_runs()
     ensures obeying { (site : SiteState) (script : List ℕ) (run : ScriptRun site script)
         → PrintedCallsKeepPointsInStep site script run }
 {
+    // Laws that this one stands on: nothing runs.
     exact_schedules();
     runs_join();
     runs_keep_the_site();

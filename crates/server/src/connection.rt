@@ -4,7 +4,7 @@ use crate::handshake::{ClientRequest, shake_hands};
 use crate::path::{PathPeer, peer_of_path};
 use crossbeam_channel::Sender;
 use ocpp_scalars::Moments;
-use session::{SessionCore, serve_socket};
+use session::{Journal, SessionCore, serve_noted_socket};
 use std::alloc::{AllocError, Global};
 use std::io::{Read, Write};
 use std::sync::Wait;
@@ -13,7 +13,14 @@ use tungstenite::{CloseCode, CloseFrame, NoMask, Utf8Bytes, WebSocket};
 use version_store::{Job, Pass, Shared};
 
 /// Serves a connection from its handshake until it ends. Gives back the pass.
-pub(crate) fn serve_connection<S: Read + Write + Drop, C: Ledger, A: Ledger, R: Wait, M: Moments>(
+pub(crate) fn serve_connection<
+    S: Read + Write + Drop,
+    C: Ledger,
+    A: Ledger,
+    R: Wait,
+    M: Moments,
+    J: Journal,
+>(
     rt: &R,
     alloc: Global,
     stream: S,
@@ -21,13 +28,16 @@ pub(crate) fn serve_connection<S: Read + Write + Drop, C: Ledger, A: Ledger, R: 
     jobs: &Sender<Job>,
     pass: Pass<C, A>,
     clock: &M,
+    journal: &J,
 ) -> Pass<C, A> {
     let Some((socket, asked)) = shake_hands(alloc, stream) else {
         return pass;
     };
     match core_of(rt, alloc, shared, &asked) {
         Ok(Some(core)) => {
-            let (_, pass) = serve_socket(rt, alloc, socket, shared, jobs, core, pass, clock);
+            let (_, pass) = serve_noted_socket(
+                rt, alloc, socket, shared, jobs, core, pass, clock, journal,
+            );
             pass
         }
         Ok(None) => {

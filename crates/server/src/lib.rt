@@ -8,4 +8,4 @@ mod path;
 mod sites;
 
 pub use path::{PathPeer, peer_of_path};
-pub use sites::{MAX_SESSIONS, MAX_WORKERS, ServeFault, serve};
+pub use sites::{MAX_SESSIONS, MAX_WORKERS, ServeFault, serve, serve_noted};

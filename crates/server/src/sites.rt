@@ -6,6 +6,7 @@ use crate::connection::serve_connection;
 use compile_pool::{MAX_JOBS, Open, run_pool};
 use crossbeam_channel::{Receiver, Sender, bounded};
 use ocpp_scalars::Moments;
+use session::{Journal, NoJournal};
 use site_rules::Site;
 use std::alloc::Global;
 use std::marker::{Brand, Send, Sync};
@@ -48,13 +49,33 @@ pub fn serve<R: Threads + Wait + Sync, M: Moments + Sync>(
     requires workers { 1 ≤ workers }
     requires sessions { 1 ≤ sessions }
 {
+    serve_noted(
+        rt, alloc, site, listener, workers, sessions, clock, &NoJournal,
+    )
+}
+
+/// Does what `serve` does, and notes the texts that change or ask something, in the order in which their steps are made.
+pub fn serve_noted<R: Threads + Wait + Sync, M: Moments + Sync, J: Journal + Sync>(
+    rt: &R,
+    alloc: Global,
+    site: Site,
+    listener: TcpListener,
+    workers: usize,
+    sessions: u64,
+    clock: &M,
+    journal: &J,
+) -> Result<Totals, ServeFault>
+    requires workers { 1 ≤ workers }
+    requires sessions { 1 ≤ sessions }
+{
     let plan = Plan {
         alloc,
         workers,
         sessions,
     };
     let (changes, answers) = (Blank::new(sessions), Blank::new(sessions));
-    serve_counted::<Brand, Brand, R, M>(rt, plan, site, listener, clock, (changes, answers))
+    let beside = Beside { clock, journal };
+    serve_counted::<Brand, Brand, R, M, J>(rt, plan, site, listener, beside, (changes, answers))
 }
 
 /// How a site is served.
@@ -65,18 +86,26 @@ struct Plan {
     sessions: u64,
 }
 
+/// What all sessions share beside the book.
+#[derive(Drop)]
+struct Beside<'a, M, J> {
+    clock: &'a M,
+    journal: &'a J,
+}
+
 /// Serves a site, whose changes and answers these two ledgers count.
 fn serve_counted<
     C: Ledger + Send + Sync,
     A: Ledger + Send + Sync,
     R: Threads + Wait + Sync,
     M: Moments + Sync,
+    J: Journal + Sync,
 >(
     rt: &R,
     plan: Plan,
     site: Site,
     listener: TcpListener,
-    clock: &M,
+    beside: Beside<'_, M, J>,
     blanks: (Blank, Blank),
 ) -> Result<Totals, ServeFault>
     requires workers { 1 ≤ plan.workers }
@@ -97,7 +126,7 @@ fn serve_counted<
     let (Ok((shared, passes)), Ok((jobs, queue))) = (made, bounded(plan.alloc, MAX_JOBS)) else {
         return Err(ServeFault::OutOfMemory);
     };
-    let served = serve_beside_workers(rt, plan, listener, clock, &shared, (jobs, queue), passes)?;
+    let served = serve_beside_workers(rt, plan, listener, beside, &shared, (jobs, queue), passes)?;
     let Ok(totals) = shared.settle(served.passes) else {
         return Err(ServeFault::OutOfMemory);
     };
@@ -123,11 +152,12 @@ fn serve_beside_workers<
     A: Ledger + Send + Sync,
     R: Threads + Wait + Sync,
     M: Moments + Sync,
+    J: Journal + Sync,
 >(
     rt: &R,
     plan: Plan,
     listener: TcpListener,
-    clock: &M,
+    beside: Beside<'_, M, J>,
     shared: &Shared<C, A>,
     channel: (Sender<Job>, Receiver<Job>),
     passes: Vec<Pass<C, A>>,
@@ -153,7 +183,7 @@ fn serve_beside_workers<
                 alloc,
                 shared,
                 jobs: &jobs,
-                clock,
+                beside,
             };
             let served = serve_connections(context, listener, passes);
             shared.lock(rt).finish();
@@ -166,12 +196,12 @@ fn serve_beside_workers<
 
 /// What each connection has at hand.
 #[derive(Drop)]
-struct Context<'a, C: Ledger, A: Ledger, R: Wait, M: Moments> {
+struct Context<'a, C: Ledger, A: Ledger, R: Wait, M: Moments, J: Journal> {
     rt: &'a R,
     alloc: Global,
     shared: &'a Shared<C, A>,
     jobs: &'a Sender<Job>,
-    clock: &'a M,
+    beside: Beside<'a, M, J>,
 }
 
 /// Accepts a connection for each pass, and serves it on a thread of its own, or on this one where no thread can be
@@ -181,8 +211,9 @@ fn serve_connections<
     A: Ledger + Send + Sync,
     R: Threads + Wait + Sync,
     M: Moments + Sync,
+    J: Journal + Sync,
 >(
-    context: Context<'_, C, A, R, M>,
+    context: Context<'_, C, A, R, M, J>,
     listener: TcpListener,
     passes: Vec<Pass<C, A>>,
 ) -> Result<Served<C, A>, ServeFault> {
@@ -191,8 +222,9 @@ fn serve_connections<
         alloc,
         shared,
         jobs,
-        clock,
+        beside,
     } = context;
+    let Beside { clock, journal } = beside;
     let sessions = passes.len();
     let (Ok(ended), Ok(running)) = (
         Vec::with_capacity(alloc, sessions),
@@ -215,7 +247,7 @@ fn serve_connections<
             // An answer leaves at once. Where that can't be set, it leaves later.
             let _ = stream.set_nodelay(true);
             match scope.spawn(move || {
-                serve_connection(rt, alloc, stream, shared, jobs, pass, clock)
+                serve_connection(rt, alloc, stream, shared, jobs, pass, clock, journal)
             }) {
                 Ok(session) => {
                     let _ = running.push(session);

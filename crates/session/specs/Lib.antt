@@ -9,3 +9,4 @@ pub mod Session
 pub mod Todo
 pub mod Perform
 pub mod Serving
+pub mod Theory

@@ -3,6 +3,7 @@
 #![tactic(auto)]
 
 mod asked;
+mod journal;
 mod number;
 mod outcome;
 mod response;
@@ -14,11 +15,12 @@ mod todo;
 mod unread;
 
 pub use asked::{Asked, asked_of, hold_of};
+pub use journal::{Journal, NoJournal};
 pub use number::number_of;
 pub use outcome::{Outcome, Performed};
 pub use response::response_of;
 pub use sent_text::SentText;
-pub use serving::{Ended, serve_socket};
+pub use serving::{Ended, serve_noted_socket, serve_socket};
 pub use session_core::{Peer, SessionCore};
 pub use step::perform;
 pub use todo::{Owed, Todo};

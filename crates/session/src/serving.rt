@@ -7,6 +7,7 @@ mod ended;
 mod sockets;
 mod texts;
 
+use crate::journal::{Journal, NoJournal};
 use crate::session_core::SessionCore;
 use calls::{attach, lose};
 use crossbeam_channel::Sender;
@@ -23,13 +24,14 @@ use version_store::{Job, Pass, Shared};
 
 /// What each session has at hand.
 #[derive(Drop)]
-pub(crate) struct Context<'a, C: Ledger, A: Ledger, R: Wait, M: Moments> {
+pub(crate) struct Context<'a, C: Ledger, A: Ledger, R: Wait, M: Moments, J: Journal> {
     pub(crate) rt: &'a R,
     pub(crate) alloc: Global,
     pub(crate) shared: &'a Shared<C, A>,
     /// The way to those who compile.
     pub(crate) jobs: &'a Sender<Job>,
     pub(crate) clock: &'a M,
+    pub(crate) journal: &'a J,
 }
 
 /// Serves a session over its socket, after its handshake, until that is closed or fails: makes the step of each
@@ -55,12 +57,41 @@ pub fn serve_socket<
 ) -> (Ended, Pass<C, A>)
     ensures { KeepsPass pass result.1 }
 {
+    serve_noted_socket(
+        rt, alloc, socket, shared, jobs, core, pass, clock, &NoJournal,
+    )
+}
+
+/// Does what `serve_socket` does, and notes each text that has a step, and each that is followed by a call to its point,
+/// before it is answered. A text that is neither, as most Heartbeats, isn't noted.
+pub fn serve_noted_socket<
+    S: Read + Write + Drop,
+    K: MaskKeys + Drop,
+    C: Ledger,
+    A: Ledger,
+    R: Wait,
+    M: Moments,
+    J: Journal,
+>(
+    rt: &R,
+    alloc: Global,
+    socket: WebSocket<S, K>,
+    shared: &Shared<C, A>,
+    jobs: &Sender<Job>,
+    core: SessionCore,
+    pass: Pass<C, A>,
+    clock: &M,
+    journal: &J,
+) -> (Ended, Pass<C, A>)
+    ensures { KeepsPass pass result.1 }
+{
     let context = Context {
         rt,
         alloc,
         shared,
         jobs,
         clock,
+        journal,
     };
     let (mut socket, mut core, mut pass) = (socket, core, pass);
     let ended = match attach(&context, &mut core, &mut pass) {
@@ -71,6 +102,7 @@ pub fn serve_socket<
         }
     };
     lose(&context, core);
+    journal.write_out();
     (ended, pass)
 }
 
@@ -82,8 +114,9 @@ fn serve_texts<
     A: Ledger,
     R: Wait,
     M: Moments,
+    J: Journal,
 >(
-    context: &Context<'_, C, A, R, M>,
+    context: &Context<'_, C, A, R, M, J>,
     socket: &mut WebSocket<S, K>,
     core: &SessionCore,
     pass: &mut Pass<C, A>,

@@ -143,7 +143,7 @@ impl SessionCore {
     }
 
     /// Who sends its texts.
-    fn side(&self) -> Side
+    pub(crate) fn side(&self) -> Side
         ensures { result ≡ side_of self.now.peer }
     {
         match self.peer {

@@ -2,8 +2,12 @@
 #![tactic(auto)]
 
 #[cfg(test)]
+mod same;
+#[cfg(test)]
 mod sessions_on_a_book;
 #[cfg(test)]
 mod sessions_over_memory;
 #[cfg(test)]
 mod streams;
+#[cfg(test)]
+mod texts;

@@ -3,7 +3,7 @@
 
 use std::alloc::Global;
 use std::io::{self, ErrorKind, Read, Write};
-use std::test::Fail;
+use std::process::Abort;
 use tungstenite::{Duplex, MaskKeys, Message, NoMask, Role, WebSocket};
 
 /// A client's masking keys, which are all the same.
@@ -17,7 +17,7 @@ impl MaskKeys for OneKey {
 }
 
 /// The bytes of a client that sends these messages.
-pub(crate) fn client_bytes(alloc: Global, messages: Vec<Message>) -> Result<Vec<u8>, Fail> {
+pub(crate) fn client_bytes(rt: &impl Abort, alloc: Global, messages: Vec<Message>) -> Vec<u8> {
     let nothing: &[u8] = &[];
     let stream = Duplex {
         reader: nothing,
@@ -25,13 +25,13 @@ pub(crate) fn client_bytes(alloc: Global, messages: Vec<Message>) -> Result<Vec<
     };
     let mut socket = WebSocket::from_raw_socket(alloc, stream, OneKey, Role::Client, None);
     for message in messages {
-        socket.send(message)?;
+        socket.send(message).expect(rt, "error");
     }
-    Ok(socket.into_inner().writer)
+    socket.into_inner().writer
 }
 
 /// The texts that a client reads from a server's bytes, and whether the server closed.
-pub(crate) fn client_texts(alloc: Global, bytes: &[u8]) -> Result<(Vec<String>, bool), Fail> {
+pub(crate) fn client_texts(rt: &impl Abort, alloc: Global, bytes: &[u8]) -> (Vec<String>, bool) {
     let stream = Duplex {
         reader: bytes,
         writer: Vec::new(alloc),
@@ -40,30 +40,35 @@ pub(crate) fn client_texts(alloc: Global, bytes: &[u8]) -> Result<(Vec<String>, 
     let (mut texts, mut is_closed) = (Vec::new(alloc), false);
     for _message in 0..1_000u32 {
         match socket.read() {
-            Ok(Message::Text(text)) => {
-                texts.push(String::from_str(alloc, text.as_str())?)?;
-            }
+            Ok(Message::Text(text)) => push_text(rt, alloc, &mut texts, text.as_str()),
             Ok(message) => is_closed = message.is_close(),
             Err(_) => break,
         }
     }
-    Ok((texts, is_closed))
+    (texts, is_closed)
+}
+
+fn push_text(rt: &impl Abort, alloc: Global, texts: &mut Vec<String>, text: &str) {
+    let text = String::from_str(alloc, text).expect(rt, "error");
+    texts.push(text).ok().expect(rt, "error");
 }
 
 /// A client's texts, with a close frame behind them where it closes.
 pub(crate) fn messages_of(
+    rt: &impl Abort,
     alloc: Global,
     texts: &[&str],
     closes: bool,
-) -> Result<Vec<Message>, Fail> {
+) -> Vec<Message> {
     let mut messages = Vec::new(alloc);
     for text in texts {
-        messages.push(Message::text(alloc, *text)?)?;
+        let message = Message::text(alloc, text).expect(rt, "error");
+        messages.push(message).ok().expect(rt, "error");
     }
     if closes {
-        messages.push(Message::Close(None))?;
+        messages.push(Message::Close(None)).ok().expect(rt, "error");
     }
-    Ok(messages)
+    messages
 }
 
 /// A stream whose call of one number fails, and each later one.

@@ -39,6 +39,7 @@ pub fn hand_out(machine: &mut Machine, number: u64) -> Result<StepOutcome, Alloc
     ensures { IfOk result (λ outcome. handed_out machine.old number
         ≡ record { outcome = outcome; after = machine.new }) }
 {
+    // A law: nothing runs.
     exact_schedules();
     // Where it can't be compiled, the answer says why.
     let _ = make_step(machine, Step::Compile(number))?;
@@ -72,6 +73,7 @@ pub fn send_first(
     ensures { IfOk result (λ call. sent_first machine.old point.now
         ≡ record { call = call; after = machine.new }) }
 {
+    // A law: nothing runs.
     skipped_sends_send_nothing();
     // Most often there is nothing to send, and then no step is made.
     match machine.link_to_send(point) {

@@ -2,6 +2,8 @@
 
 ghost use Rattle.session.specs.Serving.{KeepsPass};
 
+use crate::journal::Journal;
+use crate::sent_text::SentText;
 use crate::serving::Context;
 use crate::serving::ended::Ended;
 use crate::serving::sockets::send_text;
@@ -17,8 +19,8 @@ use tungstenite::{MaskKeys, WebSocket};
 use version_store::Pass;
 
 /// Gives a point's session its link, before its first text. Without one it ends.
-pub(crate) fn attach<C: Ledger, A: Ledger, R: Wait, M: Moments>(
-    context: &Context<'_, C, A, R, M>,
+pub(crate) fn attach<C: Ledger, A: Ledger, R: Wait, M: Moments, J: Journal>(
+    context: &Context<'_, C, A, R, M, J>,
     core: &mut SessionCore,
     pass: &mut Pass<C, A>,
 ) -> Result<(), Ended>
@@ -43,7 +45,8 @@ pub(crate) fn attach<C: Ledger, A: Ledger, R: Wait, M: Moments>(
     }
 }
 
-/// Sends the call that waits for a point over its link, if one does and none is in flight.
+/// Sends the call that waits for a point over its link, if one does and none is in flight. The text that it follows is
+/// noted, where it isn't yet.
 pub(crate) fn send_call<
     S: Read + Write + Drop,
     K: MaskKeys + Drop,
@@ -51,17 +54,21 @@ pub(crate) fn send_call<
     A: Ledger,
     R: Wait,
     M: Moments,
+    J: Journal,
 >(
-    context: &Context<'_, C, A, R, M>,
+    context: &Context<'_, C, A, R, M, J>,
     socket: &mut WebSocket<S, K>,
     core: &SessionCore,
+    sent: &SentText<'_>,
+    is_noted: bool,
 ) -> Result<(), Ended> {
     let Peer::Point { link: Some(link) } = core.peer() else {
         return Ok(());
     };
-    let Some(call) = next_call(context, core.point_id(), link)? else {
+    let Some(call) = next_call(context, core.point_id(), link, sent, is_noted)? else {
         return Ok(());
     };
+    context.journal.write_out();
     match text_of_call(context.alloc, &call) {
         Ok(text) => send_text(context.alloc, socket, text.as_str()),
         Err(AllocError) => Err(Ended::OutOfMemory),
@@ -69,10 +76,12 @@ pub(crate) fn send_call<
 }
 
 /// The first call that waits for a point, which is in flight from then on.
-fn next_call<C: Ledger, A: Ledger, R: Wait, M: Moments>(
-    context: &Context<'_, C, A, R, M>,
+fn next_call<C: Ledger, A: Ledger, R: Wait, M: Moments, J: Journal>(
+    context: &Context<'_, C, A, R, M, J>,
     point: &PointId,
     link: u64,
+    sent: &SentText<'_>,
+    is_noted: bool,
 ) -> Result<Option<Call>, Ended> {
     let mut book = context.shared.lock(context.rt);
     // Most often there is nothing to send, or the point has a later link.
@@ -82,6 +91,9 @@ fn next_call<C: Ledger, A: Ledger, R: Wait, M: Moments>(
     let Ok(point) = point.copy(context.alloc) else {
         return Err(Ended::OutOfMemory);
     };
+    if !is_noted {
+        context.journal.note(sent);
+    }
     match book.send(point, link) {
         Ok(call) => Ok(call),
         Err(Refusal::OutOfMemory) => Err(Ended::OutOfMemory),
@@ -97,8 +109,8 @@ fn text_of_call(alloc: Global, call: &Call) -> Result<String, AllocError> {
 
 /// The link of a point's session is lost: a call that was in flight over it waits again. What the book refuses
 /// is dropped: the point has a later link.
-pub(crate) fn lose<C: Ledger, A: Ledger, R: Wait, M: Moments>(
-    context: &Context<'_, C, A, R, M>,
+pub(crate) fn lose<C: Ledger, A: Ledger, R: Wait, M: Moments, J: Journal>(
+    context: &Context<'_, C, A, R, M, J>,
     core: SessionCore,
 ) {
     if let Peer::Point { link: Some(link) } = core.peer() {

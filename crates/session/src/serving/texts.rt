@@ -4,7 +4,9 @@ ghost use Rattle.std.specs.Prelude.{◌≡◌};
 ghost use Rattle.session.specs.Perform.{IsOfText};
 ghost use Rattle.session.specs.Serving.{KeepsPass};
 
+use crate::journal::Journal;
 use crate::outcome::{Outcome, Performed};
+use crate::sent_text::SentText;
 use crate::serving::Context;
 use crate::serving::calls::send_call;
 use crate::serving::ended::Ended;
@@ -29,8 +31,9 @@ pub(crate) fn serve_text<
     A: Ledger,
     R: Wait,
     M: Moments,
+    J: Journal,
 >(
-    context: &Context<'_, C, A, R, M>,
+    context: &Context<'_, C, A, R, M, J>,
     socket: &mut WebSocket<S, K>,
     core: &SessionCore,
     memory: &mut ReadingMemory,
@@ -44,51 +47,90 @@ pub(crate) fn serve_text<
     let Some(now) = context.clock.now() else {
         return Err(Ended::Broken);
     };
-    if let Some(answer) = answer_text(context, core, memory, pass, now, text.as_str())? {
-        send_text(context.alloc, socket, answer.as_str())?;
-    }
-    send_call(context, socket, core)
+    serve_text_at(context, socket, core, memory, pass, now, text.as_str())
 }
 
-/// Makes the step of a text. The text that answers it, if one does.
-fn answer_text<C: Ledger, A: Ledger, R: Wait, M: Moments>(
-    context: &Context<'_, C, A, R, M>,
-    core: &SessionCore,
+/// Serves a text that comes at this moment. An error ends the session.
+fn serve_text_at<
+    'x,
+    S: Read + Write + Drop,
+    K: MaskKeys + Drop,
+    C: Ledger,
+    A: Ledger,
+    R: Wait,
+    M: Moments,
+    J: Journal,
+>(
+    context: &Context<'_, C, A, R, M, J>,
+    socket: &mut WebSocket<S, K>,
+    core: &'x SessionCore,
     memory: &mut ReadingMemory,
     pass: &mut Pass<C, A>,
     now: Instant,
-    text: &str,
-) -> Result<Option<String>, Ended>
+    text: &'x str,
+) -> Result<(), Ended>
     ensures { KeepsPass pass.old pass.new }
 {
-    let Ok(mut todo) = core.read_text(memory, now, text) else {
+    let sent = SentText::new(now, core.side(), core.point_id().as_str(), text);
+    let Served { answer, is_noted } = make_step(context, core, memory, pass, &sent)?;
+    if let Some(answer) = &answer {
+        send_text(context.alloc, socket, answer.as_str())?;
+    }
+    send_call(context, socket, core, &sent, is_noted)
+}
+
+/// What came of a text.
+#[derive(Drop)]
+struct Served {
+    /// The text that answers it, if one does.
+    answer: Option<String>,
+    /// Whether it had a step, and so is noted.
+    is_noted: bool,
+}
+
+/// Makes the step of a text, if it has one.
+fn make_step<C: Ledger, A: Ledger, R: Wait, M: Moments, J: Journal>(
+    context: &Context<'_, C, A, R, M, J>,
+    core: &SessionCore,
+    memory: &mut ReadingMemory,
+    pass: &mut Pass<C, A>,
+    sent: &SentText<'_>,
+) -> Result<Served, Ended>
+    ensures { KeepsPass pass.old pass.new }
+{
+    let Ok(mut todo) = core.read_text(memory, sent.moment(), sent.frame()) else {
         return Err(Ended::OutOfMemory);
     };
-    let outcome = match todo.take_step() {
-        Some(step) => Some(outcome_of(context, pass, step)),
+    let step = todo.take_step();
+    let is_noted = step.is_some();
+    let outcome = match step {
+        Some(step) => Some(outcome_of(context, pass, sent, step)),
         None => None,
     };
     let is_short = matches!(outcome, Some(Outcome::Refused(Refusal::OutOfMemory)));
     match core.answer(todo, outcome) {
-        Ok(Some(answer)) => Ok(Some(answer)),
         Ok(None) if is_short => Err(Ended::OutOfMemory),
-        Ok(None) => Ok(None),
+        Ok(answer) => Ok(Served { answer, is_noted }),
         Err(_) => Err(Ended::OutOfMemory),
     }
 }
 
-/// Makes a step on the shared book. A request for a schedule is compiled, and its answer collected.
-fn outcome_of<C: Ledger, A: Ledger, R: Wait, M: Moments>(
-    context: &Context<'_, C, A, R, M>,
+/// Makes the step of a text on the shared book, and notes the text. A request for a schedule is compiled, and its
+/// answer collected.
+fn outcome_of<C: Ledger, A: Ledger, R: Wait, M: Moments, J: Journal>(
+    context: &Context<'_, C, A, R, M, J>,
     pass: &mut Pass<C, A>,
+    sent: &SentText<'_>,
     step: Step,
 ) -> Outcome
     requires { IsOfText step }
     ensures { KeepsPass pass.old pass.new }
 {
     let mut book = context.shared.lock(context.rt);
+    context.journal.note(sent);
     let performed = perform(&mut book, pass, step);
     drop(book);
+    context.journal.write_out();
     match performed {
         Performed::Job(job) => answer_of(context, pass, job),
         Performed::Outcome(outcome) => outcome,
@@ -96,8 +138,8 @@ fn outcome_of<C: Ledger, A: Ledger, R: Wait, M: Moments>(
 }
 
 /// The answer to a request that is kept: compiled by a worker, or here where none takes it.
-fn answer_of<C: Ledger, A: Ledger, R: Wait, M: Moments>(
-    context: &Context<'_, C, A, R, M>,
+fn answer_of<C: Ledger, A: Ledger, R: Wait, M: Moments, J: Journal>(
+    context: &Context<'_, C, A, R, M, J>,
     pass: &mut Pass<C, A>,
     job: Job,
 ) -> Outcome

@@ -1,7 +1,7 @@
 -- What a message asks for is a step of a CALL, or an answer without a schedule.
 use Rattle.std.proofs.Common.{Ok}
 use Rattle.ocppj_frame.specs.Frame.{message_in}
-use Rattle.session.proofs.AskedLemmas.{if_asked}
+use Rattle.session.specs.Theory.Asked.{if_asked}
 use Rattle.session.proofs.asked.asked_of.Goals as goal
 
 pub returns-in-Ok-clause-by_call : goal.returns-in-Ok-clause-by_call

@@ -1,7 +1,7 @@
 -- A decimal text of a number is parsed, and what is parsed begins above 0 and is at most the highest.
 use Rattle.std.proofs.Common.{◌≡◌, sym, ◌∙◌, arith}
 use Rattle.std.proofs.lemmas.Fmt.{parse-decimal}
-use Rattle.session.proofs.NumberLemmas.{number_law, no_number, above_zero, parsed}
+use Rattle.session.specs.Theory.Number.{number_law, no_number, above_zero, parsed}
 use Rattle.session.proofs.number.number_of.Goals as goal
 
 pub returns-then-not-begins_above_zero-clause-value : goal.returns-then-not-begins_above_zero-clause-value

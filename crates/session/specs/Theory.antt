@@ -1,0 +1,3 @@
+-- Lemmas that crates above cite: nothing here has to be believed.
+pub mod Asked
+pub mod Number

@@ -1,0 +1,41 @@
+//! Texts of an operator and a point, with their answers.
+
+pub(crate) const SITE: &str =
+    r#"{"unit":"A","points":[{"id":"CP1","ceiling":63.0,"connectors":[32.0,32.0]}]}"#;
+
+pub(crate) const INSTALL: &str =
+    r#"[2,"a","SetChargingProfile",{"connectorId":0,"csChargingProfiles":{"chargingProfileId":1,"stackLevel":0,"chargingProfilePurpose":"TxDefaultProfile","chargingProfileKind":"Absolute","chargingSchedule":{"startSchedule":"2025-01-01T00:00:00Z","chargingRateUnit":"A","chargingSchedulePeriod":[{"startPeriod":0,"limit":16}]}}}]"#;
+
+pub(crate) const ACCEPTED: &str = r#"[3,"a",{"status":"Accepted"}]"#;
+
+pub(crate) const ASK: &str = r#"[2,"b","GetCompositeSchedule",{"connectorId":1,"duration":60}]"#;
+
+/// The answer ten seconds after midnight.
+pub(crate) const SCHEDULE: &str =
+    r#"[3,"b",{"status":"Accepted","connectorId":1,"scheduleStart":"2025-01-01T00:00:10Z","chargingSchedule":{"duration":60,"chargingRateUnit":"A","chargingSchedulePeriod":[{"startPeriod":0,"limit":16.0}]}}]"#;
+
+/// The call that the install becomes.
+pub(crate) const SET: &str =
+    r#"[2,"1","SetChargingProfile",{"connectorId":0,"csChargingProfiles":{"chargingProfileId":1,"stackLevel":0,"chargingProfilePurpose":"TxDefaultProfile","chargingProfileKind":"Absolute","chargingSchedule":{"startSchedule":"2025-01-01T00:00:00Z","chargingRateUnit":"A","chargingSchedulePeriod":[{"startPeriod":0,"limit":16.0}]}}}]"#;
+
+/// The first call to a point.
+pub(crate) const CLEAR: &str = r#"[2,"0","ClearChargingProfile",{}]"#;
+
+pub(crate) const HEARTBEAT: &str = r#"[2,"1","Heartbeat",{}]"#;
+
+/// Its answer ten seconds after midnight.
+pub(crate) const MOMENT: &str = r#"[3,"1",{"currentTime":"2025-01-01T00:00:10Z"}]"#;
+
+/// The point's reply to the first call.
+pub(crate) const CLEARED: &str = r#"[3,"0",{"status":"Unknown"}]"#;
+
+/// What is noted of an operator who installs and asks.
+pub(crate) const NOTED_OF_OPERATOR: &str =
+    r#"[2,"a","SetChargingProfile",{"connectorId":0,"csChargingProfiles":{"chargingProfileId":1,"stackLevel":0,"chargingProfilePurpose":"TxDefaultProfile","chargingProfileKind":"Absolute","chargingSchedule":{"startSchedule":"2025-01-01T00:00:00Z","chargingRateUnit":"A","chargingSchedulePeriod":[{"startPeriod":0,"limit":16}]}}}]
+[2,"b","GetCompositeSchedule",{"connectorId":1,"duration":60}]
+"#;
+
+/// What is noted of a point that sends two Heartbeats, of which a call follows the first, and then its reply.
+pub(crate) const NOTED_OF_POINT: &str = r#"[2,"1","Heartbeat",{}]
+[3,"0",{"status":"Unknown"}]
+"#;
