@@ -50,14 +50,15 @@ flag name = record (new_rule name) { long = Some name; action = Some SetTrue }
 abbrev pub replay_command : App
 replay_command = with_rule (new_app (codes "replay")) (needed (codes "site"))
 
--- `serve --site F --listen A --workers N --sessions K`
+-- `serve --site F --listen A --workers N --sessions K [--journal FILE]`
 abbrev pub serve_command : App
 serve_command =
-    with_rule (with_rule (with_rule (with_rule (new_app (codes "serve"))
+    with_rule (with_rule (with_rule (with_rule (with_rule (new_app (codes "serve"))
     (needed (codes "site")))
     (needed (codes "listen")))
     (numbered 1 max_workers (needed (codes "workers"))))
-    (numbered 1 max_sessions (needed (codes "sessions")))
+    (numbered 1 max_sessions (needed (codes "sessions"))))
+    (optional (codes "journal"))
 
 -- an option that takes two whole numbers, for which the help has names
 abbrev pub optional_numbers : Text → ℕ → Rule
@@ -162,6 +163,7 @@ pub record IsServing (rows : List Row) (serving : Serving) : Type 0 where
   pub some_workers : 1 ≤ serving.workers
   pub sessions : IsNumber (codes "sessions") rows serving.sessions
   pub some_sessions : 1 ≤ serving.sessions
+  pub journal : first_of (codes "journal") rows ≡ option_map (λ text. text.now) serving.journal
 
 -- what is to be asked: the texts of the connector and the seconds
 abbrev pub IsAsking : Option (List Text) → Option Asking → Type 0

@@ -7,7 +7,7 @@ use Rattle.replay.specs.declared.script.run.Summary.{Summary}
 use Rattle.client.specs.declared.fault.ClientFault.{ClientFault}
 use Rattle.client.specs.declared.fault.ClientFault.TheVariants as client_fault
 use Rattle.central.specs.declared.program.program_fault.ProgramFault.{ProgramFault}
-use Rattle.central.specs.declared.program.program_fault.ProgramFault.TheVariants.{Words, Site, SiteFile, Write, Replay, Serve, Client, File, NoSuchPoint, NoSuchConnector, NoInstant, PastCalendar, NoPicture, OutOfMemory}
+use Rattle.central.specs.declared.program.program_fault.ProgramFault.TheVariants.{Words, Site, SiteFile, Write, Replay, Serve, JournalExists, Journal, Client, File, NoSuchPoint, NoSuchConnector, NoInstant, PastCalendar, NoPicture, OutOfMemory}
 
 abbrev pub replay_status : ReplayFault → ℕ
 replay_status replay_fault.Read = 3
@@ -28,6 +28,8 @@ fault_status SiteFile = 3
 fault_status Write = 3
 fault_status (Replay fault) = replay_status fault
 fault_status (Serve fault) = 3
+fault_status JournalExists = 4
+fault_status Journal = 3
 fault_status (Client fault) = client_status fault
 fault_status File = 3
 fault_status NoSuchPoint = 4

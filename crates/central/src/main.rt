@@ -18,12 +18,13 @@ use crate::program::serving::serve_file;
 use crate::program::showing::show_file;
 use clap::error::ErrorKind;
 use std::alloc::AllocGlobal;
+use std::fs::File;
 use std::io::IsTerminal;
 use std::marker::Sync;
 use std::net::{Net, TcpListener, TcpStream};
 use std::process::ExitCode;
 use std::random::RandomSource;
-use std::rt::{Env, Runtime};
+use std::rt::{Env, Files, Runtime};
 use std::sync::Wait;
 use std::thread::Threads;
 use std::{env, io};
@@ -38,6 +39,7 @@ fn main(rt: HostRuntime) -> ExitCode {
 /// Does what the command line says. Returns the exit status.
 fn run<
     R: Runtime
+        + Files<File = File>
         + AllocGlobal
         + Net<Listener = TcpListener, Stream = TcpStream>
         + RandomSource
@@ -59,6 +61,7 @@ fn run<
 /// Does the job of the command line, or prints why it has none.
 fn do_job<
     R: Runtime
+        + Files<File = File>
         + AllocGlobal
         + Net<Listener = TcpListener, Stream = TcpStream>
         + RandomSource
@@ -75,19 +78,47 @@ fn do_job<
             serve_file(rt, serving)?;
             Ok(0)
         }
-        Ok(Job::Call(calling)) => call_site(rt, calling),
-        Ok(Job::Point(pointing)) => run_point(rt, pointing),
+        Ok(Job::Call(calling)) => {
+            let status = call_site(rt, calling);
+            naming(rt, calling.set_profile.unwrap_or(""), status)
+        }
+        Ok(Job::Point(pointing)) => {
+            let status = run_point(rt, pointing);
+            naming(rt, pointing.site, status)
+        }
         Ok(Job::Explain(explaining)) => {
-            explain_file(rt, screen, explaining)?;
+            let explained = explain_file(rt, screen, explaining);
+            naming(rt, explaining.site, explained)?;
             Ok(0)
         }
-        Ok(Job::Check(checking)) => check_file(rt, checking),
+        Ok(Job::Check(checking)) => {
+            let status = check_file(rt, checking);
+            naming(rt, checking.site, status)
+        }
         Ok(Job::Show(showing)) => {
-            show_file(rt, showing)?;
+            let shown = show_file(rt, showing);
+            naming(rt, showing.site, shown)?;
             Ok(0)
         }
         Err(error) => refuse(rt, error),
     }
+}
+
+/// Names the file that a job couldn't read, if that is why it stopped.
+fn naming<T, R: Eprint>(
+    rt: &R,
+    path: &str,
+    done: Result<T, ProgramFault>,
+) -> Result<T, ProgramFault> {
+    let why = match &done {
+        Err(ProgramFault::SiteFile) => "it isn't there, is a folder, or may not be read",
+        Err(ProgramFault::File) => {
+            "it isn't there, may not be read, isn't UTF-8, or is longer than a text may be"
+        }
+        _ => return done,
+    };
+    let _ = eprintln!(rt; "central: {path}: {why}");
+    done
 }
 
 /// The words of the command line, the program's name first.

@@ -6,6 +6,7 @@ pub mod command_line;
 pub mod commands;
 pub mod explaining;
 pub mod help_text;
+pub mod journal_file;
 pub mod pages;
 pub mod payload_file;
 pub mod pointing;

@@ -83,13 +83,27 @@ fn check_not_implemented(
     call: &Call<'_, '_, '_>,
     is_known: bool,
 ) -> Result<(), AllocError> {
-    let alloc = report.alloc;
-    let (sender, actions): (&str, &[&str]) = match call.text.sender {
-        Sender::Operator | Sender::Hold => ("an operator", &OPERATOR_ACTIONS),
-        Sender::Point => ("a point", &POINT_ACTIONS),
+    let sender = match call.text.sender {
+        Sender::Operator | Sender::Hold => Side::Operator,
+        Sender::Point => Side::Point,
     };
-    let action = shown(alloc, call.action)?;
-    let message = match similar_name(alloc, call.action, actions)? {
+    refuse_action(report, sender, call.action, is_known)
+}
+
+/// That an action of this name is none of a side, and which one was probably meant.
+pub(crate) fn refuse_action(
+    report: &mut Report,
+    sender: Side,
+    name: &str,
+    is_known: bool,
+) -> Result<(), AllocError> {
+    let alloc = report.alloc;
+    let (sender, actions): (&str, &[&str]) = match sender {
+        Side::Operator => ("an operator", &OPERATOR_ACTIONS),
+        Side::Point => ("a point", &POINT_ACTIONS),
+    };
+    let action = shown(alloc, name)?;
+    let message = match similar_name(alloc, name, actions)? {
         Some(meant) => {
             format!(in alloc;
                 "NotImplemented: \"{action}\" is no action of {sender} (\"{meant}\" is one)"
@@ -211,18 +225,19 @@ fn check_clear(
         report.fault(FaultName::Call(fault), message)?;
     }
     let unknown = unknown_fields(alloc, call.text.frame, ActionKind::ClearChargingProfile)?;
-    warn_of_clear(report, criteria, &unknown)
+    warn_of_clear(report, call.payload, criteria, &unknown)
 }
 
 /// Warns of a clear that clears more than it seems to, by the fields that are no criteria.
 pub(crate) fn warn_of_clear(
     report: &mut Report,
+    payload: Node<'_, '_>,
     criteria: &Criteria,
     unknown: &Vec<UnknownField<'_>>,
 ) -> Result<(), AllocError> {
     let alloc = report.alloc;
     if has_no_criterion(criteria) {
-        let message = clears_all_message(alloc, unknown)?;
+        let message = clears_all_message(alloc, payload, unknown)?;
         return report.warn(message);
     }
     for field in unknown {
@@ -243,14 +258,35 @@ pub(crate) fn has_no_criterion(criteria: &Criteria) -> bool {
         && criteria.stack_level.is_none()
 }
 
+/// The fields of a clear without a criterion that are one by their name: they are null.
+fn null_criteria(alloc: Global, payload: Node<'_, '_>) -> Result<Vec<&'static str>, AllocError> {
+    let mut names = Vec::new(alloc);
+    for name in PayloadPart::Payload(ActionKind::ClearChargingProfile).fields() {
+        if payload.field(name).is_some() {
+            names.push(*name)?;
+        }
+    }
+    Ok(names)
+}
+
+/// Whether a clear without a criterion has fields all the same.
+pub(crate) fn has_fields(
+    alloc: Global,
+    payload: Node<'_, '_>,
+    unknown: &Vec<UnknownField<'_>>,
+) -> Result<bool, AllocError> {
+    Ok(!unknown.is_empty() || !null_criteria(alloc, payload)?.is_empty())
+}
+
 /// That a clear has no criterion, and what was probably meant to be one.
 fn clears_all_message(
     alloc: Global,
+    payload: Node<'_, '_>,
     unknown: &Vec<UnknownField<'_>>,
 ) -> Result<String, AllocError> {
     let mut message = String::from_str(
         alloc,
-        "this clears EVERYTHING that the point has, a fuse limit (ChargePointMaxProfile) too, since it names no criterion",
+        "a clear without a criterion clears EVERYTHING that the point has, a fuse limit (ChargePointMaxProfile) too",
     )?;
     for field in unknown {
         let name = shown(alloc, field.name)?;
@@ -259,6 +295,10 @@ fn clears_all_message(
             Some(meant) => format!(in alloc; "; \"{name}\" isn't one (\"{meant}\" is)")?,
             None => format!(in alloc; "; \"{name}\" isn't one")?,
         };
+        message.push_str(hint.as_str())?;
+    }
+    for name in &null_criteria(alloc, payload)? {
+        let hint = format!(in alloc; "; \"{name}\" is null, which is none")?;
         message.push_str(hint.as_str())?;
     }
     Ok(message)

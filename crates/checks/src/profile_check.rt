@@ -45,6 +45,23 @@ pub(crate) fn check_install(
     warn_rates(report, text.moment, &profile)
 }
 
+/// What is said of an install's profile by itself, whose fields are right: nothing is known of the site or of the moment.
+pub(crate) fn check_sent_profile(
+    report: &mut Report,
+    parts: ProfileParts,
+) -> Result<(), AllocError> {
+    warn_dropped(report, &parts)?;
+    let profile = match Profile::try_new(parts) {
+        Ok(profile) => profile,
+        Err((refusal, parts)) => return refuse_parts(report, refusal, &parts),
+    };
+    warn_transaction(report, &profile)?;
+    match never_rated(&profile) {
+        Some(why) => report.warn_text(never_sentence(why)),
+        None => Ok(()),
+    }
+}
+
 /// What was found where a profile may not stand.
 fn place_found(
     alloc: Global,

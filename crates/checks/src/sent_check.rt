@@ -1,11 +1,14 @@
 //! What is wrong with an operator's text by itself, before it is sent.
 
 use crate::call_check::{
-    has_no_criterion, unknown_fields, warn_of_clear, warn_repeated, warn_unknown,
+    has_fields, has_no_criterion, refuse_action, unknown_fields, warn_of_clear, warn_repeated,
+    warn_unknown,
 };
-use crate::finding::Finding;
+use crate::field_fault::field_fault_message;
+use crate::finding::{FaultName, Finding};
 use crate::json_fault::json_fault_text;
 use crate::json_outline::outline_of;
+use crate::profile_check::check_sent_profile;
 use crate::report::Report;
 use crate::text_check::why_dropped;
 use crate::text_place::place_in_text;
@@ -20,15 +23,16 @@ use std::alloc::{AllocError, Global};
 pub struct SentCheck {
     /// Why it is no CALL, where it isn't one.
     pub no_call: Option<String>,
-    /// The warnings: fields that count for nothing or stand twice, and a clear that clears more than it seems to.
-    pub warnings: Vec<Finding>,
+    /// What is wrong with its action, its fields and its profile by themselves; fields that count for nothing or
+    /// stand twice; and a clear that clears more than it seems to.
+    pub findings: Vec<Finding>,
     /// Whether it is a ClearChargingProfile that would clear everything by mistake: its payload has fields, and
-    /// none of them is a criterion.
+    /// none of them is a criterion, since they are others or null.
     pub clears_by_mistake: bool,
 }
 
 /// Checks an operator's text by itself: nothing is known of the site, or of what the point has. A text that is no
-/// CALL of an operator's has no warnings.
+/// CALL has no findings.
 pub fn check_sent(alloc: Global, text: &str) -> Result<SentCheck, AllocError> {
     let mut memory = ReadingMemory::new(alloc);
     match check_message(alloc, &mut memory, text)? {
@@ -62,7 +66,7 @@ fn check_frame(alloc: Global, text: &str, frame: Frame<'_>) -> Result<SentCheck,
             ..
         } => match operators_action(action.as_str()) {
             Some(kind) => check_fields(alloc, text, kind, payload.root()),
-            None => nothing_said(alloc, None),
+            None => no_operators_action(alloc, action.as_str()),
         },
         _ => {
             let why = "an operator sends CALLs, which begin with [2,";
@@ -81,11 +85,23 @@ pub fn json_break(alloc: Global, text: &str) -> Result<Option<String>, AllocErro
     Ok(Some(format!(in alloc; "{place}: {found}")?))
 }
 
-/// Of a text there is nothing to warn of.
+/// An action of this name is none of an operator's.
+fn no_operators_action(alloc: Global, name: &str) -> Result<SentCheck, AllocError> {
+    let mut report = Report::new(alloc);
+    let is_known = ActionKind::named(name).is_some();
+    refuse_action(&mut report, Side::Operator, name, is_known)?;
+    Ok(SentCheck {
+        no_call: None,
+        findings: report.into_findings(),
+        clears_by_mistake: false,
+    })
+}
+
+/// Of a text there is nothing to say.
 fn nothing_said(alloc: Global, no_call: Option<String>) -> Result<SentCheck, AllocError> {
     Ok(SentCheck {
         no_call,
-        warnings: Vec::new(alloc),
+        findings: Vec::new(alloc),
         clears_by_mistake: false,
     })
 }
@@ -109,23 +125,69 @@ fn check_fields(
     let mut report = Report::new(alloc);
     warn_repeated(&mut report, text, kind)?;
     let clears_by_mistake = match read_fields(alloc, kind, payload) {
-        Ok(Action::ClearChargingProfile(criteria)) => check_clear(&mut report, text, &criteria)?,
-        Err(CallFault::Refused(Refusal::OutOfMemory)) => return Err(AllocError),
-        _ => {
-            warn_unknown(&mut report, text, kind)?;
+        Ok(action) => check_read(&mut report, text, kind, payload, action)?,
+        Err(fault) => {
+            check_fault(&mut report, text, kind, payload, fault)?;
             false
         }
     };
     Ok(SentCheck {
         no_call: None,
-        warnings: report.into_findings(),
+        findings: report.into_findings(),
         clears_by_mistake,
     })
 }
 
+/// Checks what an action asks for. Returns whether it clears everything by mistake.
+fn check_read(
+    report: &mut Report,
+    text: &str,
+    kind: ActionKind,
+    payload: Node<'_, '_>,
+    action: Action,
+) -> Result<bool, AllocError> {
+    match action {
+        Action::ClearChargingProfile(criteria) => check_clear(report, text, payload, &criteria),
+        Action::SetChargingProfile {
+            connector: _connector,
+            profile,
+        } => {
+            warn_unknown(report, text, kind)?;
+            check_sent_profile(report, profile)?;
+            Ok(false)
+        }
+        _action => {
+            warn_unknown(report, text, kind)?;
+            Ok(false)
+        }
+    }
+}
+
+/// A field that isn't right.
+fn check_fault(
+    report: &mut Report,
+    text: &str,
+    kind: ActionKind,
+    payload: Node<'_, '_>,
+    fault: CallFault,
+) -> Result<(), AllocError> {
+    if matches!(fault, CallFault::Refused(Refusal::OutOfMemory)) {
+        return Err(AllocError);
+    }
+    let message = field_fault_message(report.alloc, payload, kind, fault)?;
+    report.fault(FaultName::Call(fault), message)?;
+    warn_unknown(report, text, kind)
+}
+
 /// Warns of a clear. Returns whether it clears everything by mistake.
-fn check_clear(report: &mut Report, text: &str, criteria: &Criteria) -> Result<bool, AllocError> {
-    let unknown = unknown_fields(report.alloc, text, ActionKind::ClearChargingProfile)?;
-    warn_of_clear(report, criteria, &unknown)?;
-    Ok(has_no_criterion(criteria) && !unknown.is_empty())
+fn check_clear(
+    report: &mut Report,
+    text: &str,
+    payload: Node<'_, '_>,
+    criteria: &Criteria,
+) -> Result<bool, AllocError> {
+    let alloc = report.alloc;
+    let unknown = unknown_fields(alloc, text, ActionKind::ClearChargingProfile)?;
+    warn_of_clear(report, payload, criteria, &unknown)?;
+    Ok(has_no_criterion(criteria) && has_fields(alloc, payload, &unknown)?)
 }

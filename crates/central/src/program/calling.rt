@@ -3,7 +3,7 @@
 use crate::program::command_line::Calling;
 use crate::program::payload_file::read_payload_file;
 use crate::program::program_fault::ProgramFault;
-use checks::{SentCheck, answer_sentence, check_sent, json_break};
+use checks::{SentCheck, Severity, answer_sentence, check_sent, json_break};
 use client::{
     ClientFault, Lines, OperatorClient, Outcome, ask_call, clear_call, connect_operator,
     set_profile_call,
@@ -130,10 +130,13 @@ impl<R: Input + Print + Eprint + AllocGlobal + RandomSource + Wait + Drop> Calle
         if let Some(why) = &checked.no_call {
             self.say(format!(in self.rt.alloc(); "{name}: {why}")?);
         }
-        for warning in &checked.warnings {
-            let severity = warning.severity;
-            let message = &warning.message;
-            self.say(format!(in self.rt.alloc(); "{name}: {severity}: {message}")?);
+        for finding in &checked.findings {
+            let message = &finding.message;
+            let words = match finding.severity {
+                Severity::Fault => format!(in self.rt.alloc(); "{name}: {message}")?,
+                severity => format!(in self.rt.alloc(); "{name}: {severity}: {message}")?,
+            };
+            self.say(words);
         }
         Ok(())
     }

@@ -9,8 +9,8 @@ use crate::program::program_fault::ProgramFault;
 use crate::program::script_input::read_script;
 use crate::program::site_file::read_site_bytes;
 use checks::{
-    Change, Finding, check_change, check_printed, check_script, check_site, check_standing,
-    exit_status, sort_by_line,
+    Change, Finding, Severity, check_change, check_printed, check_script, check_site,
+    check_standing, exit_status, sort_by_line,
 };
 use shown::{Trace, ending_text, trace_script, trace_text};
 use site_rules::{Site, SiteFault, read_site};
@@ -43,7 +43,10 @@ fn page_of(
 {
     let mut page = String::new(alloc);
     let mut findings = check_site(alloc, bytes)?;
-    push_findings(&mut page, checking.site, findings.as_slice())?;
+    // Faults first, which would be hard to find among the remarks on many points.
+    for severity in [Severity::Fault, Severity::Warning, Severity::Remark] {
+        push_of_severity(&mut page, checking.site, &findings, severity)?;
+    }
     match read_site(alloc, bytes) {
         Ok(site) => {
             let mut more = push_played(&mut page, site, script, checking.trace)?;
@@ -132,12 +135,32 @@ fn find_at_the_end(
     Ok(())
 }
 
-/// Appends a line for each finding, behind the name of where it was found.
-fn push_findings(page: &mut String, name: &str, findings: &[Finding]) -> Result<(), AllocError> {
+/// Appends a line for each finding that matters so much.
+fn push_of_severity(
+    page: &mut String,
+    name: &str,
+    findings: &[Finding],
+    severity: Severity,
+) -> Result<(), AllocError> {
     for finding in findings {
-        if writeln!(page, "{name}: {finding}").is_err() {
-            return Err(AllocError);
+        if finding.severity == severity {
+            push_finding(page, name, finding)?;
         }
     }
     Ok(())
+}
+
+/// Appends a line for each finding, behind the name of where it was found.
+fn push_findings(page: &mut String, name: &str, findings: &[Finding]) -> Result<(), AllocError> {
+    for finding in findings {
+        push_finding(page, name, finding)?;
+    }
+    Ok(())
+}
+
+fn push_finding(page: &mut String, name: &str, finding: &Finding) -> Result<(), AllocError> {
+    match writeln!(page, "{name}: {finding}") {
+        Ok(()) => Ok(()),
+        Err(_) => Err(AllocError),
+    }
 }

@@ -38,6 +38,8 @@ pub struct Serving<'a> {
     pub workers: u64,
     /// After so many connections the program ends.
     pub sessions: u64,
+    /// The file of the journal to write, which isn't there yet.
+    pub journal: Option<&'a str>,
 }
 
 /// What an operator's client sends: what is given here, or else the lines of standard input.
@@ -181,11 +183,13 @@ fn serving_of<'a>(given: &ArgMatches<'a>) -> Option<Serving<'a>>
     if workers < 1 || sessions < 1 {
         return None;
     }
+    let journal = text_of(given, "journal");
     Some(Serving {
         site,
         listen,
         workers,
         sessions,
+        journal,
     })
 }
 

@@ -6,8 +6,8 @@ ghost use Rattle.central.specs.CommandLine.{needed, numbered, option, optional, 
 
 use crate::program::help_text::{
     ABOUT, ASK_HELP, ASK_VALUES, AT_HELP, CALL_ABOUT, CALL_NOTES, CHECK_ABOUT, CHECK_NOTES,
-    CLEAR_HELP, CONNECTOR_HELP, DURATION_HELP, EXPLAIN_ABOUT, EXPLAIN_NOTES, ID_HELP, JSON_HELP,
-    LISTEN_HELP, OPERATOR_URL_HELP, PICTURE_HELP, POINT_ABOUT, POINT_HELP, POINT_NOTES,
+    CLEAR_HELP, CONNECTOR_HELP, DURATION_HELP, EXPLAIN_ABOUT, EXPLAIN_NOTES, ID_HELP, JOURNAL_HELP,
+    JSON_HELP, LISTEN_HELP, OPERATOR_URL_HELP, PICTURE_HELP, POINT_ABOUT, POINT_HELP, POINT_NOTES,
     POINT_URL_HELP, REPLAY_ABOUT, REPLAY_EXAMPLE, SERVE_ABOUT, SERVE_NOTES, SESSIONS_HELP,
     SET_PROFILE_HELP, SHOW_ABOUT, SHOW_NOTES, SITE_HELP, START_HELP, STATUSES, TRACE_HELP, VERSION,
     WORKERS_HELP,
@@ -58,7 +58,7 @@ fn replay<'a>(alloc: Global) -> Result<Command<'a>, AllocError>
         .arg(needed(alloc, "site", "F", SITE_HELP))
 }
 
-/// `serve --site F --listen A --workers N --sessions K`.
+/// `serve --site F --listen A --workers N --sessions K [--journal FILE]`.
 fn serve<'a>(alloc: Global) -> Result<Command<'a>, AllocError>
     ensures { IfOk result (λ command. app_of command ≡ serve_command) }
 {
@@ -76,7 +76,8 @@ fn serve<'a>(alloc: Global) -> Result<Command<'a>, AllocError>
             needed(alloc, "sessions", "K", SESSIONS_HELP),
             1,
             MAX_SESSIONS,
-        ))
+        ))?
+        .arg(optional(alloc, "journal", "FILE", JOURNAL_HELP))
 }
 
 /// `call --url U [--set-profile FILE] [--clear CRITERIA] [--ask CONNECTOR SECONDS]`.

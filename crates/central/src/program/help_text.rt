@@ -39,6 +39,10 @@ pub const WORKERS_HELP: &str = "How many workers compile schedules, from 1 to 8"
 /// What `--sessions` counts.
 pub const SESSIONS_HELP: &str = "After so many connections it ends, from 1 to 64";
 
+/// What `--journal` names.
+pub const JOURNAL_HELP: &str =
+    "Write each text that changes or asks something to FILE, a new one, as a script";
+
 /// Who connects to `serve`, and a call of it.
 pub const SERVE_NOTES: &str = "F is a site file; 'central replay --help' shows one. It prints
   listening A                    once clients may connect
@@ -48,6 +52,9 @@ and each client offers the subprotocol ocpp1.6 at one of these paths:
   /operator/ID                   an operator of the charge point ID
 A client with neither is closed at once, and counts as a connection. There is no encryption and no
 password: put it behind a proxy that has both, and let it listen at the loopback address.
+
+FILE is a script that 'central explain', 'show', 'check' and 'replay' read, while it is written too. It holds
+the texts in the order in which they were done. 'serve' doesn't read it: a restart begins empty.
 
 Example:
   central serve --site site.json --listen 127.0.0.1:9000 --workers 2 --sessions 64

@@ -30,6 +30,12 @@ pub enum ProgramFault {
     /// The sockets failed, or there was no memory for them.
     #[error("central: {0}")]
     Serve(ServeFault),
+    /// The file of the journal is there already.
+    #[error("central: command line: the file of --journal is there already")]
+    JournalExists,
+    /// The file of the journal can't be made.
+    #[error("central: device: write")]
+    Journal,
     /// A client stopped.
     #[error("central: {0}")]
     Client(ClientFault),
@@ -66,11 +72,12 @@ impl ProgramFault {
             ProgramFault::Replay(ReplayFault::ScriptTooLong) => 2,
             ProgramFault::Replay(_) => 3,
             ProgramFault::SiteFile | ProgramFault::Write | ProgramFault::OutOfMemory => 3,
-            ProgramFault::Serve(_) | ProgramFault::File => 3,
+            ProgramFault::Serve(_) | ProgramFault::File | ProgramFault::Journal => 3,
             ProgramFault::Client(ClientFault::Url | ClientFault::NotOperator) => 4,
             ProgramFault::Client(_) => 3,
             ProgramFault::Words | ProgramFault::NoSuchPoint | ProgramFault::NoSuchConnector => 4,
             ProgramFault::NoInstant | ProgramFault::PastCalendar | ProgramFault::NoPicture => 4,
+            ProgramFault::JournalExists => 4,
         }
     }
 }

@@ -3,11 +3,13 @@
 ghost use Rattle.std.specs.Prelude.{◌≤◌};
 
 use crate::program::command_line::Serving;
+use crate::program::journal_file::JournalFile;
 use crate::program::program_fault::ProgramFault;
 use crate::program::site_file::read_site_file;
 use crate::program::system_clock::SystemClock;
-use server::{ServeFault, serve};
+use server::{ServeFault, serve_noted};
 use std::alloc::AllocGlobal;
+use std::fs::File;
 use std::marker::Sync;
 use std::net::{TcpListener, TcpStream};
 use std::rt::{Clock, Files, Net};
@@ -18,8 +20,9 @@ use version_store::Totals;
 /// Serves the site of a file, and prints where it listens, and in the end how many changes were made and answers
 /// handed out.
 pub fn serve_file<
-    R: Files
+    R: Files<File = File>
         + Print
+        + Eprint
         + AllocGlobal
         + Clock
         + Net<Listener = TcpListener, Stream = TcpStream>
@@ -35,16 +38,18 @@ pub fn serve_file<
         listen,
         workers,
         sessions,
+        journal,
     } = serving;
     let site = read_site_file(rt, site)?;
     let Ok(listener) = TcpListener::bind(rt, listen) else {
         return Err(ProgramFault::Serve(ServeFault::Socket));
     };
+    let journal = JournalFile::make(rt, journal)?;
     if println!(rt; "listening {listen}").is_err() {
         return Err(ProgramFault::Write);
     }
     let clock = SystemClock { rt };
-    match serve(
+    match serve_noted(
         rt,
         rt.alloc(),
         site,
@@ -52,6 +57,7 @@ pub fn serve_file<
         workers as usize,
         sessions,
         &clock,
+        &journal,
     ) {
         Ok(totals) => print_totals(rt, totals),
         Err(fault) => Err(ProgramFault::Serve(fault)),
