@@ -16,6 +16,7 @@ TOP is the repository, by default the one that this file stands in. What is comp
   its heading;
 - that no document names a paper, a request or a row by a number.
 """
+import collections
 import os
 import re
 import subprocess
@@ -425,7 +426,8 @@ def told_limit_problems(top, files):
     known = {written(limit, value).replace(",", "") for limit, value in limits.items()}
     help_text = text_of(top, "crates/central/src/program/help_text.rt")
     options = re.findall(r"pub const (?:\w+_HELP|STATUSES): &str =\s*\"(?:[^\"\\]|\\.)*\";", help_text, re.DOTALL)
-    texts = {"crates/checks/src/sentences.rt": text_of(top, "crates/checks/src/sentences.rt"), "the help": "\n".join(options)}
+    sources = ("crates/checks/src/sentences.rt", "crates/checks/src/field_fault.rt")
+    texts = {**{source: text_of(top, source) for source in sources}, "the help": "\n".join(options)}
     for where, text in texts.items():
         found = list(told_numbers(text))
         if not found:
@@ -433,6 +435,30 @@ def told_limit_problems(top, files):
         for number in found:
             if number not in known:
                 yield f"{where}: {number} is no limit"
+
+
+# ---- edits
+
+def edit_problems(top, files):
+    """How many edits a crate has, in the gate and outside it, and all of them together."""
+    page = "docs/REVIEWING.md"
+    text = text_of(top, page)
+    found = collections.Counter()
+    for path in files:
+        gate, other = re.fullmatch(r"crates/(\w+)/must-fail/[^/]+\.edit", path), re.fullmatch(r"tests/edits/(\w+)/[^/]+\.edit", path)
+        if gate or other:
+            found[(gate or other)[1], "gate" if gate else "other"] += 1
+    table = re.search(r"^\| Crate \| In the gate \|.*?\n\n", text, re.DOTALL | re.MULTILINE)
+    told = {row[0]: row[1:] for row in re.findall(r"^\| `(\w+)` \| (\d+) \| (\d+) \|$", table[0] if table else "", re.MULTILINE)}
+    for crate in sorted({crate for crate, _ in found} | set(told)):
+        wanted = (str(found[crate, "gate"]), str(found[crate, "other"]))
+        if told.get(crate) != wanted:
+            yield f"{page}: {crate} has {wanted[0]} and {wanted[1]} edits, and the table says {told.get(crate)}"
+    for kind, words in (("gate", r"gate tries\s+(\d+) of them"), ("other", r"(\d+) more stand in `tests/edits/CRATE/`")):
+        count = sum(number for (_, where), number in found.items() if where == kind)
+        said = re.search(words, text)
+        if not said or int(said[1]) != count:
+            yield f"{page}: {count} edits of the kind '{kind}', and it says {said and said[1]}"
 
 
 # ---- numbers of papers
@@ -451,6 +477,7 @@ TESTS = {
     "refusals": refusal_problems,
     "sentences": sentence_problems,
     "limits in words": told_limit_problems,
+    "edits": edit_problems,
     "map": map_problems,
     "cases": case_problems,
     "version": version_problems,

@@ -2,8 +2,8 @@
 """pages.py PROGRAM [write]: runs the commands of the pages on the built program, and prints 'N passed, M failed'.
 
 A command is a code block that calls `dist/out/central`, or `curl` on what it serves; a block of `text` that follows it is what it has to print, but for
-moments, which are those of the clock. `serve` and `point` run beside the commands behind them, up to the end of the page,
-and have to print a line. With `write` the blocks of text are written anew, to be read before they are kept.
+moments, which are those of the clock. `serve` and `point` run beside the commands behind them, up to the end of the page:
+`serve` has to print where it listens, and `point` a line. With `write` the blocks of text are written anew, to be read before they are kept.
 """
 import os
 import re
@@ -20,6 +20,7 @@ PAGES = ("README.md", "examples/README.md", "docs/OPERATING.md", "docs/PROTOCOL.
 PROGRAM = re.compile(r"\bdist/out/central (?=\w)")
 COMMAND = re.compile(rf"{PROGRAM.pattern}|^ *curl ")
 BESIDE = re.compile(r"\bdist/out/central (serve|point) ")
+PORT = re.compile(r"(?<=127\.0\.0\.1):90\d\d\b")
 MOMENTS = re.compile(r'"(scheduleStart|currentTime|timestamp)":"[^"]*"')
 FENCE = re.compile(r"^( *)```(\w*)$")
 PATIENCE = 60
@@ -80,15 +81,17 @@ def run_page(page, program, is_written):
     path = os.path.join(TOP, page)
     with open(path, encoding="utf-8") as file:
         lines = file.read().split("\n")
-    port, beside, changes = str(free_port()), [], []
+    ports, beside, changes = {}, [], []
     try:
         for first, command, place in commands_of(lines):
             name = f"{page}:{first + 1}"
-            run = start(PROGRAM.sub(lambda _: shlex.quote(program) + " ", command).replace(":9000", f":{port}"))
-            if BESIDE.search(command):
+            command = PORT.sub(lambda found: f":{ports.setdefault(found[0], free_port())}", command)
+            run = start(PROGRAM.sub(lambda _: shlex.quote(program) + " ", command))
+            if found := BESIDE.search(command):
                 beside.append(run)
-                speaks = select.select([run.stdout], [], [], PATIENCE)[0] and run.stdout.readline()
-                yield name, [] if speaks else ["it prints nothing"]
+                line = select.select([run.stdout], [], [], PATIENCE)[0] and run.stdout.readline()
+                is_right = line and (found[1] != "serve" or line.startswith("listening "))
+                yield name, [] if is_right else [f"it prints {line!r}"]
                 continue
             try:
                 printed = run.communicate(timeout=PATIENCE)[0].rstrip("\n")

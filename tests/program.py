@@ -1,10 +1,10 @@
 #!/usr/bin/env python3
-"""program.py PROGRAM: runs the built program `central` on what no contract says, and prints 'N passed, M failed'.
+"""program.py PROGRAM [cases]: runs the built program `central` on what no contract says, and prints 'N passed, M failed'.
 
 It replays each folder of examples/ and tests/replay/ (site.json, script, stdout, status) and compares the bytes of
 standard output, standard error and the exit status; a folder without a site.json has that of tests/replay. The folders of
 tests/situations/ have a file `command` besides, for `explain`, `check` and `show`. Then it tries command lines, site
-files, devices that fail, how memory grows and memory that is refused.
+files, devices that fail, how memory grows and memory that is refused. With `cases` it stops behind the folders.
 """
 import json
 import os
@@ -516,15 +516,32 @@ def refusals(program, library, case, words):
     return refused, problems
 
 
+def case_problems(program, cases):
+    """Each case with a command line, standard input, and what is wanted."""
+    for name, arguments, given, *want in cases:
+        yield name, list(differences(run(program, arguments, given), *want))
+
+
 def main():
-    if len(sys.argv) != 2:
+    if len(sys.argv) not in (2, 3) or sys.argv[2:] not in ([], ["cases"]):
         sys.exit(__doc__)
     program = os.path.abspath(sys.argv[1])
+    results = [*case_problems(program, replay_cases()), *situation_problems(program)]
+    if len(sys.argv) == 2:
+        results.extend(all_problems(program))
+    for name, problems in results:
+        for problem in problems:
+            print(f"{name}: {problem}")
+    failed = sum(1 for _, problems in results if problems)
+    print(f"{len(results) - failed} passed, {failed} failed")
+    sys.exit(1 if failed else 0)
+
+
+def all_problems(program):
+    """All but the cases and situations."""
     results = []
     with tempfile.TemporaryDirectory() as folder:
-        for name, arguments, given, *want in [*replay_cases(), *fault_cases(folder)]:
-            results.append((name, list(differences(run(program, arguments, given), *want))))
-        results.extend(situation_problems(program))
+        results.extend(case_problems(program, fault_cases(folder)))
         results.extend(command_line_problems(program))
         results.extend(help_example_problems(program, folder))
         results.extend(device_problems(program, folder))
@@ -533,12 +550,7 @@ def main():
         results.extend(drawn_problems(program, folder))
         results.extend(growth_problems(program, folder))
         results.extend(memory_problems(program, folder))
-    for name, problems in results:
-        for problem in problems:
-            print(f"{name}: {problem}")
-    failed = sum(1 for _, problems in results if problems)
-    print(f"{len(results) - failed} passed, {failed} failed")
-    sys.exit(1 if failed else 0)
+    return results
 
 
 main()

@@ -16,7 +16,7 @@ PROFILE = '{"connectorId":0,"csChargingProfiles":{"chargingProfileId":1,"stackLe
     '{"startSchedule":"2025-01-01T00:00:00Z","chargingRateUnit":"A","chargingSchedulePeriod":[{"startPeriod":0,"limit":8}]}}}\n'
 
 
-CLEARS_ALL = b"clear: warning: this clears EVERYTHING that the point has, a fuse limit (ChargePointMaxProfile) too, since it names no criterion"
+CLEARS_ALL = b"clear: warning: a clear without a criterion clears EVERYTHING that the point has, a fuse limit (ChargePointMaxProfile) too"
 
 
 def without_moments(out):
@@ -98,8 +98,10 @@ def lines_of_call(program):
     why = (
         b"2: its JSON breaks at column 7, where `,` or `]` is wanted, and the text ends\n"
         b"4: an operator sends CALLs, which begin with [2,\n"
+        b'6: NotImplemented: "Reset" is no action of an operator that is known here\n'
         b"6: NotImplemented: the action isn't known here, or is one of the other side\n"
         b"7: FormationViolation: the CALL is malformed: its action is no text, or its payload no object\n"
+        b'8: TypeConstraintViolation: duration: "60" is a text; a whole number of seconds from 0 on is wanted\n'
         b"8: TypeConstraintViolation: duration: the field is of another kind of JSON than it has to be\n"
     )
     with Serving(program, SITE, 2) as serving:
@@ -118,7 +120,8 @@ def faults_of_call(program):
         for path in ("none", "/", binary.name):
             binary.write(b"\xff")
             binary.flush()
-            expect(f"the file {path}", operator(serving, "--set-profile", path), (3, b"", b"central: device: read\n"))
+            why = f"central: {path}: it isn't there, may not be read, isn't UTF-8, or is longer than a text may be\n".encode()
+            expect(f"the file {path}", operator(serving, "--set-profile", path), (3, b"", why + b"central: device: read\n"))
         expect("the totals", serving.totals(), (0, 0))
     no_url = (4, b"", b"central: url: not ws://HOST:PORT/PATH\n")
     for url in ("", "x", "http://127.0.0.1/", "wss://127.0.0.1/operator/P1"):
@@ -188,7 +191,8 @@ def faults_of_a_point(program):
         with_site = point(serving, b"heartbeat\n")
         expect("nobody", with_site, (3, b"", b"central: url: no connection\n"))
     arguments = ["point", "--url", "ws://127.0.0.1:1", "--site", "none", "--id", "P1"]
-    expect("no site file", run(program, arguments), (3, b"", b"central: device: read\n"))
+    words = b"central: none: it isn't there, is a folder, or may not be read\ncentral: device: read\n"
+    expect("no site file", run(program, arguments), (3, b"", words))
 
 
 def example(program):

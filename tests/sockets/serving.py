@@ -3,6 +3,7 @@ import os
 import re
 import resource
 import select
+import signal
 import socket
 import subprocess
 import tempfile
@@ -48,7 +49,8 @@ def expect_nobody_listens(port):
 
 
 def limit(limits):
-    """Gives this process limits, and those that it starts."""
+    """Gives this process limits, and those that it starts. Past that of a file's size a write fails, and no more."""
+    signal.signal(signal.SIGXFSZ, signal.SIG_IGN)
     for kind, most in limits.items():
         resource.setrlimit(kind, (most, most))
 
@@ -56,15 +58,16 @@ def limit(limits):
 class Serving:
     """`PROGRAM serve` of a site for so many connections. At the end of a `with` block it doesn't run any more.
 
-    `limits` are those of `resource.setrlimit` that the program has, by their kind.
+    `limits` are those of `resource.setrlimit` that the program has, by their kind. With a `journal` it writes one.
     """
 
-    def __init__(self, program, site, sessions, workers=2, limits=None):
+    def __init__(self, program, site, sessions, workers=2, limits=None, journal=None):
         self.program = program
         self.site = site
         self.sessions = sessions
         self.workers = workers
         self.limits = limits or {}
+        self.options = [] if journal is None else ["--journal", journal]
         self.port = None
         self.process = None
 
@@ -91,7 +94,7 @@ class Serving:
     def _started(self, path):
         address = f"127.0.0.1:{self.port}"
         numbers = ["--workers", str(self.workers), "--sessions", str(self.sessions)]
-        command = [self.program, "serve", "--site", path, "--listen", address, *numbers]
+        command = [self.program, "serve", "--site", path, "--listen", address, *numbers, *self.options]
         self.process = subprocess.Popen(
             command, stdout=subprocess.PIPE, stderr=subprocess.PIPE, env=ENVIRONMENT, preexec_fn=lambda: limit(self.limits)
         )

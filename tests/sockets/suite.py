@@ -9,6 +9,7 @@ import crowds
 import days
 import endings
 import handshakes
+import journals
 import messages
 import node_clients
 import programs
@@ -26,6 +27,7 @@ SUBJECTS = {
     "node_clients": node_clients,
     "endings": endings,
     "programs": programs,
+    "journals": journals,
 }
 
 # No test takes a tenth of it on a machine that is busy.

@@ -1,6 +1,13 @@
-//! Tests of `checks`. They stand here, since a crate with tests of its own is proved twice.
+//! Tests of `checks`, and of devices that fail at a replay (`replay`). They stand here, since a crate with tests of its own
+//! is proved twice.
 #![tactic(auto)]
 
+#[cfg(test)]
+mod failing_devices;
+#[cfg(test)]
+mod pieces;
+#[cfg(test)]
+mod same;
 #[cfg(test)]
 mod scripts;
 #[cfg(test)]

@@ -1,24 +1,26 @@
 //! Scripts and what is found in them.
 
+use crate::pieces::{are, joined, row_of};
+use crate::same::{holds, same_text};
 use checks::{
     FaultName, Finding, Place, answer_sentence, check_printed, check_script, check_sent,
     sort_by_line,
 };
 use replay::replay;
 use site_rules::{Site, read_site};
-use std::alloc::{AllocError, Global};
-use std::test::Fail;
+use std::alloc::Global;
+use std::process::Abort;
 
 const SITE: &str =
     r#"{"unit":"A","points":[{"id":"CP1","ceiling":63.0,"connectors":[32.0,32.0]},{"id":"garage","ceiling":40.0,"connectors":[32.0]}]}"#;
 
 /// On each line what an operator sends to CP1 at the beginning of 2025, and behind the mark a piece of each
-/// finding, with `; ` between them, or `-` for none.
+/// finding, with ` + ` between them, or `-` for none.
 const OPERATOR_TEXTS: &str = r#"[2,"a","ClearChargingProfile",{"id":9}] => -
-[2,"a","ClearChargingProfile",{"chargingProfileId":9}] => warning: this clears EVERYTHING
+[2,"a","ClearChargingProfile",{"chargingProfileId":9}] => warning: a clear without a criterion clears EVERYTHING
 [2,"a","ClearChargingProfile",{"chargingProfileId":9}] => "chargingProfileId" isn't one ("id" is)
 [2,"a","ClearChargingProfile",{}] => EVERYTHING
-[2,"a","ClearChargingProfile",{"id":null}] => EVERYTHING
+[2,"a","ClearChargingProfile",{"id":null}] => EVERYTHING that the point has, a fuse limit (ChargePointMaxProfile) too; "id" is null, which is none
 [2,"a","ClearChargingProfile"] => EVERYTHING
 [2,"a","ClearChargingProfile",{"id":9,"stacklevel":1}] => "stacklevel" is no criterion
 [2,"a","ClearChargingProfile",{"id":"9"}] => TypeConstraintViolation: id: "9" is a text
@@ -42,7 +44,7 @@ const OPERATOR_TEXTS: &str = r#"[2,"a","ClearChargingProfile",{"id":9}] => -
 [2,"a","GetCompositeSchedule",{"connectorId":1,"duration":604801}] => BadDuration
 [2,"a","GetCompositeSchedule",{"connectorId":1,"duration":0}] => BadDuration
 [2,"a","GetCompositeSchedule",{"connectorId":1,"duration":60,"chargingRateUnit":"W"}] => WrongUnit
-[2,"a","GetCompositeSchedule",{"connector":1,"duration":60}] => OccurenceConstraintViolation: connectorId: it is absent; "connector" is no field of OCPP there
+[2,"a","GetCompositeSchedule",{"connector":1,"duration":60}] => OccurenceConstraintViolation: connectorId: it is absent + "connector" is no field of OCPP there
 "#;
 
 /// On each line the chargingProfilePurpose, further fields of a profile and a schedule that are installed at
@@ -62,10 +64,10 @@ TxDefaultProfile | "chargingProfileKind":"Absolute" | "duration":60,"chargingSch
 TxDefaultProfile | "chargingProfileKind":"Recurring","recurrencyKind":"Daily" | "chargingSchedulePeriod":[{"startPeriod":86400,"limit":16}] => first period starts when the day or week is over
 TxDefaultProfile | "chargingProfileKind":"Recurring","recurrencyKind":"Daily" | "chargingSchedulePeriod":[{"startPeriod":0,"limit":16},{"startPeriod":86400,"limit":6}] => chargingSchedulePeriod[1] starts at 86400 s
 TxDefaultProfile | "chargingProfileKind":"Recurring","recurrencyKind":"Weekly" | "duration":604801,"chargingSchedulePeriod":[{"startPeriod":0,"limit":16}] => longer than the week of 604800 s
-TxDefaultProfile | "chargingProfileKind":"Recurring","recurrencyKind":"Daily" | "duration":36000,"chargingSchedulePeriod":[{"startPeriod":60,"limit":16}] => no limit from 36000 s to 86400 s; no limit from 0 s to 60 s
+TxDefaultProfile | "chargingProfileKind":"Recurring","recurrencyKind":"Daily" | "duration":36000,"chargingSchedulePeriod":[{"startPeriod":60,"limit":16}] => no limit from 36000 s to 86400 s + no limit from 0 s to 60 s
 TxDefaultProfile | "chargingProfileKind":"Absolute" | "duration":60,"chargingSchedulePeriod":[{"startPeriod":0,"limit":16},{"startPeriod":60,"limit":6}] => chargingSchedulePeriod[1] starts at 60 s, when the duration of 60 s is over
 TxDefaultProfile | "chargingProfileKind":"Absolute","validTo":"2024-01-02T00:00:00Z" | "chargingSchedulePeriod":[{"startPeriod":0,"limit":16}] => validTo, 2024-01-02T00:00:00Z, is over
-TxDefaultProfile | "chargingProfileKind":"Absolute","transactionId":1,"recurrencyKind":"Daily" | "chargingSchedulePeriod":[{"startPeriod":0,"limit":16}] => transactionId counts for nothing; recurrencyKind counts for nothing
+TxDefaultProfile | "chargingProfileKind":"Absolute","transactionId":1,"recurrencyKind":"Daily" | "chargingSchedulePeriod":[{"startPeriod":0,"limit":16}] => transactionId counts for nothing + recurrencyKind counts for nothing
 TxDefaultProfile | "chargingProfileKind":"Relative" | "startSchedule":"2026-01-02T00:00:00Z","chargingSchedulePeriod":[{"startPeriod":0,"limit":16}] => startSchedule counts for nothing
 TxDefaultProfile | "chargingProfileKind":"Relative" | "chargingSchedulePeriod":[{"startPeriod":0,"limit":32.1}] => above the ceiling of the site file there, 32.0
 TxDefaultProfile | "chargingProfileKind":"Relative" | "chargingSchedulePeriod":[{"startPeriod":0,"limit":32}] => -
@@ -129,124 +131,123 @@ const LINE_FAULTS: &str = "\
 ";
 
 /// The site of the tests.
-pub(crate) fn test_site(alloc: Global) -> Result<Site, Fail> {
-    Ok(read_site(alloc, SITE.as_bytes())?)
+pub(crate) fn test_site(rt: &impl Abort, alloc: Global) -> Site {
+    read_site(alloc, SITE.as_bytes()).expect(rt, "no site")
 }
 
-/// Whether each finding has its piece of the wanted ones.
-pub(crate) fn has_pieces(
-    alloc: Global,
-    findings: &[Finding],
-    wanted: &str,
-) -> Result<bool, AllocError> {
-    if wanted == "-" {
-        return Ok(findings.is_empty());
-    }
-    let mut pieces = wanted.split("; ");
-    for finding in findings {
-        let printed = format!(in alloc; "{finding}")?;
-        match pieces.next() {
-            Some(piece) if printed.as_str().contains(piece) => {}
-            _ => return Ok(false),
-        }
-    }
-    Ok(pieces.next().is_none())
+/// What is found in a script has these pieces.
+fn finds(rt: &impl Abort, alloc: Global, script: &str, wanted: &str) {
+    let site = test_site(rt, alloc);
+    let findings = check_script(alloc, &site, script.as_bytes()).expect(rt, "error");
+    are(rt, alloc, &findings, wanted, script);
+}
+
+fn operator_text(rt: &impl Abort, alloc: Global, row: &str) {
+    let (frame, wanted) = row_of(row);
+    let line = joined(rt, alloc, &["2025-01-01T00:00:00Z operator CP1 ", frame]);
+    finds(rt, alloc, line.as_str(), wanted);
 }
 
 #[test]
-fn texts_of_operators(rt: HostRuntime) -> Result<(), Fail> {
-    let alloc = rt.alloc();
-    let site = test_site(alloc)?;
+fn texts_of_operators(rt: HostRuntime) {
     for row in OPERATOR_TEXTS.lines() {
-        let (frame, wanted) = row.split_once(" => ").unwrap_or((row, "no mark"));
-        let line = format!(in alloc; "2025-01-01T00:00:00Z operator CP1 {frame}")?;
-        let findings = check_script(alloc, &site, line.as_bytes())?;
-        assert!(rt;
-            has_pieces(alloc, &findings, wanted)?,
-            "{frame}: {findings:?}"
-        );
+        operator_text(&rt, rt.alloc(), row);
     }
-    Ok(())
+}
+
+fn connector_of(purpose: &str) -> &str {
+    if purpose == "ChargePointMaxProfile" {
+        "0"
+    } else {
+        "1"
+    }
 }
 
 /// The line of an operator who installs a profile of a purpose, with further fields of it and of its schedule.
 fn install_line(
+    rt: &impl Abort,
     alloc: Global,
     purpose: &str,
     fields: &str,
     schedule: &str,
-) -> Result<String, AllocError> {
-    let connector = if purpose == "ChargePointMaxProfile" {
-        "0"
-    } else {
-        "1"
-    };
-    let mut line = String::from_str(alloc, "2025-01-01T00:00:00Z operator CP1 ")?;
-    line.push_str(r#"[2,"s","SetChargingProfile",{"connectorId":"#)?;
-    line.push_str(connector)?;
-    line.push_str(r#","csChargingProfiles":{"chargingProfileId":1,"#)?;
-    line.push_str(r#""stackLevel":1,"chargingProfilePurpose":""#)?;
-    line.push_str(purpose)?;
-    line.push_str("\",")?;
-    line.push_str(fields)?;
-    line.push_str(r#","chargingSchedule":{"chargingRateUnit":"A","#)?;
-    line.push_str(schedule)?;
-    line.push_str("}}}]")?;
-    Ok(line)
+) -> String {
+    let parts = [
+        "2025-01-01T00:00:00Z operator CP1 ",
+        r#"[2,"s","SetChargingProfile",{"connectorId":"#,
+        connector_of(purpose),
+        r#","csChargingProfiles":{"chargingProfileId":1,"#,
+        r#""stackLevel":1,"chargingProfilePurpose":""#,
+        purpose,
+        "\",",
+        fields,
+        r#","chargingSchedule":{"chargingRateUnit":"A","#,
+        schedule,
+        "}}}]",
+    ];
+    joined(rt, alloc, &parts)
+}
+
+fn profile(rt: &impl Abort, alloc: Global, row: &str) {
+    let (words, wanted) = row_of(row);
+    let (purpose, words) = words.split_once(" | ").unwrap_or((words, ""));
+    let (fields, schedule) = words.split_once(" | ").unwrap_or((words, ""));
+    let line = install_line(rt, alloc, purpose, fields, schedule);
+    finds(rt, alloc, line.as_str(), wanted);
 }
 
 #[test]
-fn profiles(rt: HostRuntime) -> Result<(), Fail> {
-    let alloc = rt.alloc();
-    let site = test_site(alloc)?;
+fn profiles(rt: HostRuntime) {
     for row in PROFILES.lines() {
-        let (words, wanted) = row.split_once(" => ").unwrap_or((row, "no mark"));
-        let (purpose, words) = words.split_once(" | ").unwrap_or((words, ""));
-        let (fields, schedule) = words.split_once(" | ").unwrap_or((words, ""));
-        let line = install_line(alloc, purpose, fields, schedule)?;
-        let findings = check_script(alloc, &site, line.as_bytes())?;
-        assert!(rt;
-            has_pieces(alloc, &findings, wanted)?,
-            "{row}: {findings:?}"
-        );
+        profile(&rt, rt.alloc(), row);
     }
-    Ok(())
 }
 
-/// The faults of lines that are found, as a replay prints them.
-fn line_faults(alloc: Global, findings: &[Finding]) -> Result<String, AllocError> {
-    let mut faults = String::new(alloc);
-    for finding in findings {
-        if let (Place::Line(line), Some(FaultName::Line(fault))) = (&finding.place, finding.name) {
-            let name = fault.name();
-            let printed = format!(in alloc; "! {line} {name}\n")?;
-            faults.push_str(printed.as_str())?;
-        }
+/// Appends the fault of a finding, as a replay prints it, if it is one of a line.
+fn push_line_fault(rt: &impl Abort, alloc: Global, faults: &mut String, finding: &Finding) {
+    if let (Place::Line(line), Some(FaultName::Line(fault))) = (&finding.place, finding.name) {
+        let name = fault.name();
+        let printed = format!(in alloc; "! {line} {name}\n").expect(rt, "error");
+        faults.push_str(printed.as_str()).expect(rt, "error");
     }
-    Ok(faults)
 }
 
 #[test]
-fn faults_of_lines_are_those_of_a_replay(rt: HostRuntime) -> Result<(), Fail> {
-    let alloc = rt.alloc();
-    let site = test_site(alloc)?;
-    let findings = check_script(alloc, &site, SCRIPT.as_bytes())?;
-    assert_eq!(rt; line_faults(alloc, &findings)?.as_str(), LINE_FAULTS);
-    let mut printed: Vec<u8> = Vec::new(alloc);
-    let mut script = SCRIPT.as_bytes();
-    let Ok(_) = replay(alloc, &mut script, &mut printed, site) else {
-        return Err(Fail::from("no replay"));
-    };
+fn faults_of_lines_are_found(rt: HostRuntime) {
+    let (alloc, site) = (rt.alloc(), test_site(&rt, rt.alloc()));
+    let findings = check_script(alloc, &site, SCRIPT.as_bytes()).expect(&rt, "error");
     let mut faults = String::new(alloc);
-    let printed = std::str::from_utf8(printed.as_slice())?;
-    for line in printed.lines() {
-        if line.starts_with('!') {
-            faults.push_str(line)?;
-            faults.push_str("\n")?;
-        }
+    for finding in &findings {
+        push_line_fault(&rt, alloc, &mut faults, finding);
     }
-    assert_eq!(rt; faults.as_str(), LINE_FAULTS);
-    Ok(())
+    same_text(&rt, faults.as_str(), LINE_FAULTS, "the faults of the lines");
+}
+
+/// What a replay prints of the test's script.
+fn replayed(rt: &impl Abort, alloc: Global) -> Vec<u8> {
+    let mut printed = Vec::new(alloc);
+    let mut script = SCRIPT.as_bytes();
+    let outcome = replay(alloc, &mut script, &mut printed, test_site(rt, alloc));
+    holds(rt, outcome.is_ok(), "replayed");
+    printed
+}
+
+/// Appends a line that tells a fault.
+fn push_if_fault(rt: &impl Abort, faults: &mut String, line: &str) {
+    if line.starts_with('!') {
+        faults.push_str(line).expect(rt, "error");
+        faults.push_str("\n").expect(rt, "error");
+    }
+}
+
+#[test]
+fn faults_of_lines_are_those_of_a_replay(rt: HostRuntime) {
+    let printed = replayed(&rt, rt.alloc());
+    let printed = std::str::from_utf8(printed.as_slice()).expect(&rt, "no text");
+    let mut faults = String::new(rt.alloc());
+    for line in printed.lines() {
+        push_if_fault(&rt, &mut faults, line);
+    }
+    same_text(&rt, faults.as_str(), LINE_FAULTS, "the faults of the lines");
 }
 
 /// On each line what a replay prints, and what is found in it.
@@ -260,18 +261,17 @@ held 1 => -
 ! 7 BadLine => -
 "#;
 
+fn printed_line(rt: &impl Abort, alloc: Global, row: &str) {
+    let (printed, wanted) = row_of(row);
+    let findings = check_printed(alloc, 7, printed).expect(rt, "error");
+    are(rt, alloc, &findings, wanted, printed);
+}
+
 #[test]
-fn printed_lines(rt: HostRuntime) -> Result<(), Fail> {
-    let alloc = rt.alloc();
+fn printed_lines(rt: HostRuntime) {
     for row in PRINTED.lines() {
-        let (printed, wanted) = row.split_once(" => ").unwrap_or((row, "no mark"));
-        let findings = check_printed(alloc, 7, printed)?;
-        assert!(rt;
-            has_pieces(alloc, &findings, wanted)?,
-            "{printed}: {findings:?}"
-        );
+        printed_line(&rt, rt.alloc(), row);
     }
-    Ok(())
 }
 
 /// On each line an answer, and how the sentence of its refusal begins, if it has one.
@@ -288,86 +288,80 @@ const ANSWERS: &str = r#"[3,"a",{"status":"Accepted"}] => -
 [3,"a" => -
 "#;
 
+fn answer(rt: &impl Abort, alloc: Global, row: &str) {
+    let (answer, wanted) = row_of(row);
+    let sentence = answer_sentence(alloc, answer).expect(rt, "error");
+    let told = sentence.as_deref().unwrap_or("-");
+    holds(rt, told.starts_with(wanted), answer);
+}
+
 #[test]
-fn sentences_of_answers(rt: HostRuntime) -> Result<(), Fail> {
-    let alloc = rt.alloc();
+fn sentences_of_answers(rt: HostRuntime) {
     for row in ANSWERS.lines() {
-        let (answer, wanted) = row.split_once(" => ").unwrap_or((row, "no mark"));
-        let told = match answer_sentence(alloc, answer)? {
-            Some(sentence) => sentence,
-            None => String::from_str(alloc, "-")?,
-        };
-        assert!(rt; told.as_str().starts_with(wanted), "{answer}: {told}");
+        answer(&rt, rt.alloc(), row);
     }
-    Ok(())
 }
 
 /// On each line an operator's text, whether it is a clear by mistake, and pieces of its warnings.
 const SENT_TEXTS: &str = r#"[2,"a","ClearChargingProfile",{}] => false => clears EVERYTHING
+[2,"a","ClearChargingProfile"] => false => clears EVERYTHING
+[2,"a","ClearChargingProfile",{"id":null}] => true => "id" is null, which is none
+[2,"a","ClearChargingProfile",{"id":null,"stackLevel":0}] => false => -
 [2,"a","ClearChargingProfile",{"chargingProfileId":1}] => true => "chargingProfileId" isn't one ("id" is)
 [2,"a","ClearChargingProfile",{"id":1,"level":0}] => false => "level" is no criterion
 [2,"a","ClearChargingProfile",{"id":1}] => false => -
-[2,"a","ClearChargingProfile",{"id":"1","x":2}] => false => "x" is no field
-[2,"a","GetCompositeSchedule",{"connectorId":1,"durations":1}] => false => "durations" is no field
+[2,"a","ClearChargingProfile",{"id":"1","x":2}] => false => TypeConstraintViolation: id: "1" is a text + "x" is no field
+[2,"a","GetCompositeSchedule",{"connectorId":1,"durations":1}] => false => OccurenceConstraintViolation: duration: it is absent + "durations" is no field
 [2,"a","GetCompositeSchedule",{"connectorId":1,"duration":1,"duration":2}] => false => "duration" stands twice
-[2,"a","Heartbeat",{"x":1}] => false => -
+[2,"a","Heartbeat",{"x":1}] => false => NotImplemented: "Heartbeat" is an action of the other side
+[2,"a","GetCompositeSchedul",{}] => false => NotImplemented: "GetCompositeSchedul" is no action of an operator ("GetCompositeSchedule" is one)
+[2,"s","SetChargingProfile",{"connectorId":1,"csChargingProfiles":{"chargingProfileId":1,"stackLevel":1,"chargingProfilePurpose":"TxProfile","chargingProfileKind":"Relative","chargingSchedule":{"chargingRateUnit":"A","chargingSchedulePeriod":[{"startPeriod":0,"limit":16}]}}}] => false => no transactionId
+[2,"s","SetChargingProfile",{"connectorId":1,"csChargingProfiles":{"chargingProfileId":1,"stackLevel":1,"chargingProfilePurpose":"TxProfile","transactionId":1,"chargingProfileKind":"Relative","chargingSchedule":{"chargingRateUnit":"A","chargingSchedulePeriod":[{"startPeriod":0,"limit":16}]}}}] => false => -
+[2,"s","SetChargingProfile",{"connectorId":1,"csChargingProfiles":{"chargingProfileId":1,"stackLevel":1,"chargingProfilePurpose":"TxDefaultProfile","chargingProfileKind":"Absolute","validFrom":"2026-01-02T00:00:00Z","validTo":"2026-01-01T00:00:00Z","chargingSchedule":{"chargingRateUnit":"A","chargingSchedulePeriod":[{"startPeriod":0,"limit":16}]}}}] => false => never counts: its v
+[2,"s","SetChargingProfile",{"connectorId":1,"csChargingProfiles":{"chargingProfileId":1,"stackLevel":1,"chargingProfilePurpose":"TxDefaultProfile","chargingProfileKind":"Absolute","chargingSchedule":{"chargingRateUnit":"A","chargingSchedulePeriod":[{"startPeriod":0,"limit":16},{"startPeriod":60,"limit":32.05}]}}}] => false => csChargingProfiles.chargingSchedule.chargingSchedulePeriod[1].limit: 32.05 is a number
+[2,"s","SetChargingProfile",{"connectorId":1,"csChargingProfiles":{"chargingProfileId":1,"stackLevel":1,"chargingProfilePurpose":"TxDefaultProfile","chargingProfileKind":"Absolute","chargingSchedule":{"chargingRateUnit":"A","chargingSchedulePeriod":[{"startPeriod":9,"limit":16},{"startPeriod":9,"limit":6}]}}}] => false => PeriodsOutOfOrder: a period's startPeriod isn't later
 [2,"a" => false => -
 "#;
 
+fn sent_text(rt: &impl Abort, alloc: Global, row: &str) {
+    let (text, rest) = row_of(row);
+    let (by_mistake, wanted) = row_of(rest);
+    let sent = check_sent(alloc, text).expect(rt, "error");
+    let is_told_so = sent.clears_by_mistake == (by_mistake == "true");
+    holds(rt, is_told_so, text);
+    are(rt, alloc, &sent.findings, wanted, text);
+}
+
 #[test]
-fn texts_before_they_are_sent(rt: HostRuntime) -> Result<(), Fail> {
-    let alloc = rt.alloc();
+fn texts_before_they_are_sent(rt: HostRuntime) {
     for row in SENT_TEXTS.lines() {
-        let (text, rest) = row.split_once(" => ").unwrap_or((row, "no mark"));
-        let (by_mistake, wanted) = rest.split_once(" => ").unwrap_or((rest, "no mark"));
-        let sent = check_sent(alloc, text)?;
-        assert_eq!(rt; sent.clears_by_mistake, by_mistake == "true", "{text}");
-        assert!(rt;
-            has_pieces(alloc, &sent.warnings, wanted)?,
-            "{text}: {sent:?}"
-        );
+        sent_text(&rt, rt.alloc(), row);
     }
-    Ok(())
+}
+
+/// What is found in a script, by its lines, has these pieces.
+fn finds_by_line(rt: &impl Abort, alloc: Global, script: &[u8], wanted: &str) {
+    let site = test_site(rt, alloc);
+    let mut findings = check_script(alloc, &site, script).expect(rt, "error");
+    sort_by_line(&mut findings).expect(rt, "error");
+    are(rt, alloc, &findings, wanted, wanted);
 }
 
 #[test]
-fn requests_that_stay_held(rt: HostRuntime) -> Result<(), Fail> {
-    let alloc = rt.alloc();
-    let site = test_site(alloc)?;
+fn requests_that_stay_held(rt: HostRuntime) {
     let script =
-        "\n2025-01-01T00:00:00Z hold CP1 [2,\"c\",\"GetCompositeSchedule\",{\"connectorId\":1,\"duration\":60}]\r\nx";
-    let mut findings = check_script(alloc, &site, script.as_bytes())?;
-    sort_by_line(&mut findings)?;
-    assert!(rt;
-        has_pieces(
-            alloc,
-            &findings,
-            "line 2: remark: request 1 is still held; line 3: BadLine: there is one word alone"
-        )?,
-        "{findings:?}"
-    );
-    Ok(())
+        b"\n2025-01-01T00:00:00Z hold CP1 [2,\"c\",\"GetCompositeSchedule\",{\"connectorId\":1,\"duration\":60}]\r\nx";
+    let wanted =
+        "line 2: remark: request 1 is still held + line 3: BadLine: there is one word alone";
+    finds_by_line(&rt, rt.alloc(), script, wanted);
 }
 
 #[test]
-fn tabs(rt: HostRuntime) -> Result<(), Fail> {
-    let alloc = rt.alloc();
-    let site = test_site(alloc)?;
-    let findings = check_script(alloc, &site, b"2025-01-01T00:00:00Z\toperator CP1 []")?;
-    assert!(rt;
-        has_pieces(
-            alloc,
-            &findings,
-            "line 1: BadLine: a tab stands where one blank is wanted"
-        )?
-    );
-    let broken = check_script(alloc, &site, b"\n2025-01-01T00:00:00Z operator CP\xff")?;
-    assert!(rt;
-        has_pieces(
-            alloc,
-            &broken,
-            "line 2: BadText: it isn't UTF-8 from its byte at offset 32 on"
-        )?
-    );
-    Ok(())
+fn bytes_that_break_a_line(rt: HostRuntime) {
+    let tab = b"2025-01-01T00:00:00Z\toperator CP1 []";
+    let wanted = "line 1: BadLine: a tab stands where one blank is wanted";
+    finds_by_line(&rt, rt.alloc(), tab, wanted);
+    let broken = b"\n2025-01-01T00:00:00Z operator CP\xff";
+    let wanted = "line 2: BadText: it isn't UTF-8 from its byte at offset 32 on";
+    finds_by_line(&rt, rt.alloc(), broken, wanted);
 }

@@ -1,9 +1,11 @@
 //! Site files and what is found in them.
 
+use crate::pieces::{are, row_of};
+use crate::same::{holds, same_text};
 use checks::{FaultName, Finding, Severity, check_site, exit_status};
 use site_rules::{SiteFault, read_site};
-use std::alloc::{AllocError, Global};
-use std::test::Fail;
+use std::alloc::Global;
+use std::process::Abort;
 
 /// On each line a site file, and its first fault or `-`.
 const SITES: &str =
@@ -69,153 +71,141 @@ const FOUND: &str =
 {"unit":"A","points":[{"id":"CP1","ceiling":1,"connectors":[1],"phases":3}],"name":"garage"} => column 64: warning: "phases" is no field that is looked at + column 77: warning: "name" is no field
 "#;
 
-/// The first fault that `check_site` finds.
-fn first_fault(alloc: Global, bytes: &[u8]) -> Result<Option<SiteFault>, AllocError> {
-    for finding in &check_site(alloc, bytes)? {
+/// What is found in a site file.
+fn found(rt: &impl Abort, alloc: Global, bytes: &[u8]) -> Vec<Finding> {
+    check_site(alloc, bytes).expect(rt, "error")
+}
+
+/// The first fault of what was found.
+fn first_fault(findings: &[Finding]) -> Option<SiteFault> {
+    for finding in findings {
         if let (Severity::Fault, Some(FaultName::Site(fault))) = (finding.severity, finding.name) {
-            return Ok(Some(fault));
+            return Some(fault);
         }
     }
-    Ok(None)
+    None
 }
 
 /// The fault that the reading of a site names.
 fn read_fault(alloc: Global, bytes: &[u8]) -> Option<SiteFault> {
-    match read_site(alloc, bytes) {
-        Ok(_) => None,
-        Err(fault) => Some(fault),
+    read_site(alloc, bytes).err()
+}
+
+/// The fault has this name, which is `-` where there is none.
+fn is_named(rt: &impl Abort, alloc: Global, fault: Option<SiteFault>, wanted: &str, told: &str) {
+    let Some(fault) = fault else {
+        return same_text(rt, "-", wanted, told);
+    };
+    let name = format!(in alloc; "{fault}").expect(rt, "error");
+    same_text(rt, name.as_str(), wanted, told);
+}
+
+fn first_and_read(rt: &impl Abort, alloc: Global, row: &str) {
+    let (text, wanted) = row.split_once(" = ").unwrap_or((row, "no mark"));
+    let findings = found(rt, alloc, text.as_bytes());
+    is_named(rt, alloc, first_fault(&findings), wanted, text);
+    is_named(rt, alloc, read_fault(alloc, text.as_bytes()), wanted, text);
+}
+
+#[test]
+fn first_faults_are_those_of_the_reading(rt: HostRuntime) {
+    for row in SITES.lines() {
+        first_and_read(&rt, rt.alloc(), row);
     }
 }
 
-fn name_of(alloc: Global, fault: Option<SiteFault>) -> Result<String, AllocError> {
-    match fault {
-        Some(fault) => format!(in alloc; "{fault}"),
-        None => String::from_str(alloc, "-"),
+/// What is found in a site file has these pieces.
+fn finds(rt: &impl Abort, alloc: Global, bytes: &[u8], wanted: &str) {
+    let findings = found(rt, alloc, bytes);
+    are(rt, alloc, &findings, wanted, wanted);
+}
+
+fn all_are_found(rt: &impl Abort, alloc: Global, row: &str) {
+    let (text, wanted) = row_of(row);
+    finds(rt, alloc, text.as_bytes(), wanted);
+}
+
+#[test]
+fn all_faults_are_found(rt: HostRuntime) {
+    for row in FOUND.lines() {
+        all_are_found(&rt, rt.alloc(), row);
     }
 }
 
 #[test]
-fn first_faults_are_those_of_the_reading(rt: HostRuntime) -> Result<(), Fail> {
+fn files_that_are_no_text(rt: HostRuntime) {
     let alloc = rt.alloc();
-    for line in SITES.lines() {
-        let (text, wanted) = line.split_once(" = ").unwrap_or((line, "no mark"));
-        let found = name_of(alloc, first_fault(alloc, text.as_bytes())?)?;
-        let read = name_of(alloc, read_fault(alloc, text.as_bytes()))?;
-        assert_eq!(rt; found.as_str(), wanted, "{text}");
-        assert_eq!(rt; read.as_str(), wanted, "{text}");
-    }
-    Ok(())
+    let broken = b"{\"unit\":\"\xff\"}";
+    let wanted = "it isn't UTF-8 from the byte at offset 9 on";
+    finds(&rt, alloc, broken, wanted);
+    has_status(&rt, alloc, broken, 1);
+    let marked = b"\xef\xbb\xbf{}";
+    let wanted = "U+FEFF stands there: a byte order mark";
+    finds(&rt, alloc, marked, wanted);
+    let lines = b"{\"unit\":\"A\",\r\n \"points\":[}\r\n";
+    let wanted = "line 2, column 12: a value or `]` is wanted";
+    finds(&rt, alloc, lines, wanted);
 }
 
-/// Whether each finding has its piece of the wanted ones.
-fn has_pieces(alloc: Global, findings: &[Finding], wanted: &str) -> Result<bool, AllocError> {
-    if wanted == "-" {
-        return Ok(findings.is_empty());
-    }
-    let mut pieces = wanted.split(" + ");
-    for finding in findings {
-        let printed = format!(in alloc; "{finding}")?;
-        match pieces.next() {
-            Some(piece) if printed.as_str().contains(piece) => {}
-            _ => return Ok(false),
-        }
-    }
-    Ok(pieces.next().is_none())
+/// What is found in a site file ends the program with this status.
+fn has_status(rt: &impl Abort, alloc: Global, bytes: &[u8], wanted: u8) {
+    let findings = found(rt, alloc, bytes);
+    holds(rt, exit_status(&findings) == wanted, "the status");
 }
 
 #[test]
-fn all_faults_are_found(rt: HostRuntime) -> Result<(), Fail> {
-    let alloc = rt.alloc();
-    for line in FOUND.lines() {
-        let (text, wanted) = line.split_once(" => ").unwrap_or((line, "no mark"));
-        let findings = check_site(alloc, text.as_bytes())?;
-        assert!(rt;
-            has_pieces(alloc, &findings, wanted)?,
-            "{text}: {findings:?}"
-        );
+fn statuses(rt: HostRuntime) {
+    let remarked = br#"{"unit":"A","points":[{"id":"CP1","ceiling":1,"connectors":[2]}]}"#;
+    has_status(&rt, rt.alloc(), remarked, 0);
+    let warned = br#"{"x":1,"unit":"A","points":[{"id":"CP1","ceiling":1,"connectors":[1]}]}"#;
+    has_status(&rt, rt.alloc(), warned, 2);
+}
+
+/// Appends a point with so many connectors.
+fn push_point(rt: &impl Abort, alloc: Global, text: &mut String, number: u32, connectors: u32) {
+    let comma = if number == 0 { "" } else { "," };
+    let head = format!(in alloc; "{comma}{{\"id\":\"CP{number}\",\"ceiling\":64,\"connectors\":[1");
+    text.push_str(head.expect(rt, "error").as_str())
+        .expect(rt, "error");
+    for _ in 1..connectors {
+        text.push_str(",1").expect(rt, "error");
     }
-    Ok(())
-}
-
-#[test]
-fn files_that_are_no_text(rt: HostRuntime) -> Result<(), Fail> {
-    let alloc = rt.alloc();
-    let findings = check_site(alloc, b"{\"unit\":\"\xff\"}")?;
-    assert!(rt;
-        has_pieces(
-            alloc,
-            &findings,
-            "it isn't UTF-8 from the byte at offset 9 on"
-        )?
-    );
-    assert_eq!(rt; exit_status(&findings), 1);
-    let marked = check_site(alloc, b"\xef\xbb\xbf{}")?;
-    assert!(rt; has_pieces(alloc, &marked, "U+FEFF stands there: a byte order mark")?);
-    let lines = check_site(alloc, b"{\"unit\":\"A\",\r\n \"points\":[}\r\n")?;
-    assert!(rt; has_pieces(alloc, &lines, "line 2, column 12: a value or `]` is wanted")?);
-    Ok(())
-}
-
-#[test]
-fn statuses(rt: HostRuntime) -> Result<(), Fail> {
-    let alloc = rt.alloc();
-    let clean = r#"{"unit":"A","points":[{"id":"CP1","ceiling":1,"connectors":[2]}]}"#;
-    let warned = r#"{"x":1,"unit":"A","points":[{"id":"CP1","ceiling":1,"connectors":[1]}]}"#;
-    assert_eq!(rt;
-        exit_status(&check_site(alloc, clean.as_bytes())?),
-        0,
-        "a remark alone"
-    );
-    assert_eq!(rt; exit_status(&check_site(alloc, warned.as_bytes())?), 2);
-    Ok(())
+    text.push_str("]}").expect(rt, "error");
 }
 
 /// A site file with so many points, each with so many connectors.
-fn large_site(alloc: Global, points: u32, connectors: u32) -> Result<String, AllocError> {
-    let mut text = String::from_str(alloc, r#"{"unit":"A","points":["#)?;
+fn large_site(rt: &impl Abort, alloc: Global, points: u32, connectors: u32) -> String {
+    let mut text = String::from_str(alloc, r#"{"unit":"A","points":["#).expect(rt, "error");
     for number in 0..points {
-        let comma = if number == 0 { "" } else { "," };
-        let head = format!(in alloc;
-            "{comma}{{\"id\":\"CP{number}\",\"ceiling\":64,\"connectors\":[1"
-        )?;
-        text.push_str(head.as_str())?;
-        for _ in 1..connectors {
-            text.push_str(",1")?;
-        }
-        text.push_str("]}")?;
+        push_point(rt, alloc, &mut text, number, connectors);
     }
-    text.push_str("]}")?;
-    Ok(text)
+    text.push_str("]}").expect(rt, "error");
+    text
+}
+
+fn large_file(rt: &impl Abort, alloc: Global, points: u32, connectors: u32, wanted: &str) {
+    let text = large_site(rt, alloc, points, connectors);
+    let findings = found(rt, alloc, text.as_bytes());
+    are(rt, alloc, &findings, wanted, "a large file");
+    let is_read_so = first_fault(&findings) == read_fault(alloc, text.as_bytes());
+    holds(rt, is_read_so, "a large file is read so");
 }
 
 #[test]
-fn large_files(rt: HostRuntime) -> Result<(), Fail> {
+fn large_files(rt: HostRuntime) {
     let alloc = rt.alloc();
-    for (points, connectors, wanted) in [
-        (1_000, 1, "-"),
-        (1_001, 1, "points: 1001 entries; 1 to 1000 are wanted"),
-        (1, 64, "-"),
-        (1, 65, "connectors: 65 entries; 1 to 64 are wanted + remark"),
-    ] {
-        let text = large_site(alloc, points, connectors)?;
-        let findings = check_site(alloc, text.as_bytes())?;
-        assert!(rt;
-            has_pieces(alloc, &findings, wanted)?,
-            "{points} points: {findings:?}"
-        );
-        assert_eq!(rt;
-            first_fault(alloc, text.as_bytes())?,
-            read_fault(alloc, text.as_bytes())
-        );
-    }
-    let spaces = vec![in alloc; b' '; 16_777_217]?;
-    let findings = check_site(alloc, &spaces)?;
-    assert!(rt;
-        has_pieces(
-            alloc,
-            &findings,
-            "16777217 bytes; at most 16777216 are wanted"
-        )?
+    large_file(&rt, alloc, 1_000, 1, "-");
+    large_file(
+        &rt,
+        alloc,
+        1_001,
+        1,
+        "points: 1001 entries; 1 to 1000 are wanted",
     );
-    Ok(())
+    large_file(&rt, alloc, 1, 64, "-");
+    let wanted = "connectors: 65 entries; 1 to 64 are wanted + remark";
+    large_file(&rt, alloc, 1, 65, wanted);
+    let spaces = vec![in alloc; b' '; 16_777_217].expect(&rt, "error");
+    let wanted = "16777217 bytes; at most 16777216 are wanted";
+    finds(&rt, alloc, &spaces, wanted);
 }

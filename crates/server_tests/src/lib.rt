@@ -5,3 +5,5 @@
 mod loopback;
 #[cfg(test)]
 mod paths;
+#[cfg(test)]
+mod same;

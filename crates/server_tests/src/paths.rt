@@ -1,11 +1,16 @@
 //! Whom the paths of URLs name.
 
+use crate::same::holds;
 use server::{PathPeer, peer_of_path};
-use std::test::Fail;
+use std::process::Abort;
+
+fn names(rt: &impl Abort, path: &str, peer: PathPeer<'_>) {
+    holds(rt, peer_of_path(path) == peer, path);
+}
 
 #[test]
-fn an_operators_path_has_exactly_two_segments(rt: HostRuntime) -> Result<(), Fail> {
-    assert_eq!(rt; peer_of_path("/operator/CP1"), PathPeer::Operator("CP1"));
+fn an_operators_path_has_exactly_two_segments(rt: HostRuntime) {
+    names(&rt, "/operator/CP1", PathPeer::Operator("CP1"));
     for path in [
         "/CP1",
         "/ocpp/CP1",
@@ -14,10 +19,9 @@ fn an_operators_path_has_exactly_two_segments(rt: HostRuntime) -> Result<(), Fai
         "/Operator/CP1",
         "CP1",
     ] {
-        assert_eq!(rt; peer_of_path(path), PathPeer::Point("CP1"));
+        names(&rt, path, PathPeer::Point("CP1"));
     }
-    assert_eq!(rt; peer_of_path("/operator"), PathPeer::Point("operator"));
-    assert_eq!(rt; peer_of_path("/operator/"), PathPeer::Operator(""));
-    assert_eq!(rt; peer_of_path("/CP1/"), PathPeer::Point(""));
-    Ok(())
+    names(&rt, "/operator", PathPeer::Point("operator"));
+    names(&rt, "/operator/", PathPeer::Operator(""));
+    names(&rt, "/CP1/", PathPeer::Point(""));
 }

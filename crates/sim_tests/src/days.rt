@@ -6,59 +6,104 @@
 //! call | TEXT           the next call
 //! < TEXT | ANSWER       a text comes, and is answered
 //! ```
+use crate::same::{holds, same_text};
 use ocpp_scalars::{IdTag, Instant};
 use profile::Unit;
 use sim_point::{SimPoint, SimStep};
 use std::alloc::Global;
 use std::process::Abort;
-use std::test::Fail;
 
 /// 2025-01-01T00:00:00Z.
 pub(crate) const MIDNIGHT: u64 = 1_735_689_600;
 
-pub(crate) fn instant_at(seconds: u64) -> Result<Instant, Fail> {
+pub(crate) fn instant_at(rt: &impl Abort, seconds: u64) -> Instant {
     let second = MIDNIGHT.saturating_add(seconds);
-    Ok(Instant::try_new(second).ok_or("past the calendar")?)
+    Instant::try_new(second).expect(rt, "past the calendar")
 }
 
-pub(crate) fn start(alloc: Global, connector: u32, tag: &str, meter: i32) -> Result<SimStep, Fail> {
-    let tag = IdTag::try_copy(alloc, tag)?.ok_or("too long a tag")?;
-    Ok(SimStep::Start {
-        connector,
-        tag,
-        meter,
-    })
+fn tag_of(rt: &impl Abort, alloc: Global, tag: &str) -> IdTag {
+    let tag = IdTag::try_copy(alloc, tag).expect(rt, "error");
+    tag.expect(rt, "too long a tag")
 }
 
-/// A point of 32.0 A with two connectors of 16.0 A.
-pub(crate) fn point_with(alloc: Global, steps: Vec<SimStep>) -> Result<SimPoint, Fail> {
-    let connectors = Vec::from_slice(alloc, &[160, 160])?;
-    Ok(SimPoint::try_new(alloc, Unit::A, 320, connectors, steps)?)
+fn number(rt: &impl Abort, word: &str) -> u32 {
+    word.parse::<u32>().expect(rt, word)
 }
 
-fn text_or_nothing(text: &Option<String>) -> &str {
-    match text {
-        Some(text) => text.as_str(),
-        None => "-",
+/// A start: its connector, its idTag, which has no blank, and its meter.
+fn start(rt: &impl Abort, alloc: Global, words: &str) -> SimStep {
+    let (connector, words) = words.split_once(' ').expect(rt, words);
+    let (tag, meter) = words.split_once(' ').expect(rt, words);
+    SimStep::Start {
+        connector: number(rt, connector),
+        tag: tag_of(rt, alloc, tag),
+        meter: meter.parse::<i32>().expect(rt, meter),
     }
 }
 
-fn plays(rt: &impl Abort, point: &mut SimPoint, day: &str) -> Result<(), Fail> {
-    let mut now = instant_at(0)?;
-    for line in day.lines() {
-        let (what, wanted) = line.split_once(" | ").ok_or("a line without a bar")?;
+fn step_of(rt: &impl Abort, alloc: Global, line: &str) -> SimStep {
+    let (step, words) = line.split_once(' ').unwrap_or((line, ""));
+    match step {
+        "start" => start(rt, alloc, words),
+        "stop" => SimStep::Stop {
+            connector: number(rt, words),
+        },
+        "heartbeat" => SimStep::Heartbeat,
+        step => rt.panic(step),
+    }
+}
+
+/// A point of 32.0 A with two connectors of 16.0 A, and its steps, a line each: `start CONNECTOR TAG METER`,
+/// `stop CONNECTOR` or `heartbeat`.
+pub(crate) fn point_with(rt: &impl Abort, alloc: Global, lines: &str) -> SimPoint {
+    let mut steps = Vec::new(alloc);
+    for line in lines.lines() {
+        steps
+            .push(step_of(rt, alloc, line))
+            .ok()
+            .expect(rt, "error");
+    }
+    let connectors = Vec::from_slice(alloc, &[160, 160]).expect(rt, "error");
+    SimPoint::try_new(alloc, Unit::A, 320, connectors, steps).expect(rt, "error")
+}
+
+/// A point and the moment that it is.
+#[derive(Drop)]
+struct Day {
+    point: SimPoint,
+    now: Instant,
+}
+
+impl Day {
+    /// What comes of a line's word and text.
+    fn found(&mut self, rt: &impl Abort, what: &str) -> Option<String> {
         let (word, text) = what.split_once(' ').unwrap_or((what, ""));
-        let found = match word {
+        match word {
             "at" => {
-                now = instant_at(text.parse::<u64>()?)?;
+                self.now = instant_at(rt, text.parse::<u64>().expect(rt, text));
                 None
             }
-            "call" => point.next_call(now)?,
-            _ => point.on_text(now, text)?,
-        };
-        assert_eq!(rt; text_or_nothing(&found), wanted, "{line}");
+            "call" => self.point.next_call(self.now).expect(rt, "error"),
+            _ => self.point.on_text(self.now, text).expect(rt, "error"),
+        }
     }
-    Ok(())
+
+    fn line(&mut self, rt: &impl Abort, line: &str) {
+        let (what, wanted) = line.split_once(" | ").expect(rt, line);
+        let found = self.found(rt, what);
+        same_text(rt, found.as_deref().unwrap_or("-"), wanted, line);
+    }
+}
+
+/// Plays a day of a point with these steps.
+fn plays(rt: &impl Abort, alloc: Global, steps: &str, day: &str) {
+    let mut played = Day {
+        point: point_with(rt, alloc, steps),
+        now: instant_at(rt, 0),
+    };
+    for line in day.lines() {
+        played.line(rt, line);
+    }
 }
 
 /// Every step, with the replies of a central system, good and bad.
@@ -86,27 +131,25 @@ call | [2,"5","Heartbeat",{}]
 call | -
 < [3,"5"] | -"#;
 
+/// The second stop is of a start that the central system refused, the fourth of a transaction that has ended, though
+/// the central system answered its stop with an error, and the fifth of a start whose reply has no whole number.
+const ALL_STEPS: &str = r#"stop 1
+heartbeat
+start 0 x 1
+start 3 x 1
+start 1 a"b -100
+start 2  0
+stop 2
+stop 1
+stop 1
+start 2 c 5
+stop 2
+heartbeat
+stop 0"#;
+
 #[test]
-fn steps_are_called_one_after_another(rt: HostRuntime) -> Result<(), Fail> {
-    let alloc = rt.alloc();
-    let mut steps = Vec::new(alloc);
-    steps.push(SimStep::Stop { connector: 1 })?;
-    steps.push(SimStep::Heartbeat)?;
-    steps.push(start(alloc, 0, "x", 1)?)?;
-    steps.push(start(alloc, 3, "x", 1)?)?;
-    steps.push(start(alloc, 1, "a\"b", -100)?)?;
-    steps.push(start(alloc, 2, "", 0)?)?;
-    // The central system refused the start before it.
-    steps.push(SimStep::Stop { connector: 2 })?;
-    steps.push(SimStep::Stop { connector: 1 })?;
-    // Its transaction has ended, though the central system answered with an error.
-    steps.push(SimStep::Stop { connector: 1 })?;
-    steps.push(start(alloc, 2, "c", 5)?)?;
-    // No whole number came.
-    steps.push(SimStep::Stop { connector: 2 })?;
-    steps.push(SimStep::Heartbeat)?;
-    steps.push(SimStep::Stop { connector: 0 })?;
-    plays(&rt, &mut point_with(alloc, steps)?, STEPS)
+fn steps_are_called_one_after_another(rt: HostRuntime) {
+    plays(&rt, rt.alloc(), ALL_STEPS, STEPS);
 }
 
 /// A transaction with its profile, which ends with it; and another that takes its place.
@@ -127,13 +170,13 @@ call | [2,"2","StopTransaction",{"transactionId":9,"timestamp":"2025-01-01T00:01
 call | -"#;
 
 #[test]
-fn transactions_are_those_of_the_replies(rt: HostRuntime) -> Result<(), Fail> {
-    let alloc = rt.alloc();
-    let mut steps = Vec::new(alloc);
-    steps.push(start(alloc, 1, "a", 1)?)?;
-    steps.push(start(alloc, 1, "b", 2)?)?;
-    steps.push(SimStep::Stop { connector: 1 })?;
-    plays(&rt, &mut point_with(alloc, steps)?, TRANSACTIONS)
+fn transactions_are_those_of_the_replies(rt: HostRuntime) {
+    plays(
+        &rt,
+        rt.alloc(),
+        "start 1 a 1\nstart 1 b 2\nstop 1",
+        TRANSACTIONS,
+    );
 }
 
 /// Installs, clears and asks, with each refusal and fault that needs no transaction. Where two causes hold, the
@@ -166,80 +209,92 @@ at 0 | -
 < [2,"w"] | [4,"w","FormationViolation","",{}]"#;
 
 #[test]
-fn calls_are_answered_from_its_own_book(rt: HostRuntime) -> Result<(), Fail> {
-    let steps = Vec::new(rt.alloc());
-    plays(&rt, &mut point_with(rt.alloc(), steps)?, CALLS)
+fn calls_are_answered_from_its_own_book(rt: HostRuntime) {
+    plays(&rt, rt.alloc(), "", CALLS);
 }
 
-/// Sends a SetChargingProfile of a TxDefaultProfile with periods of a second each, and returns the answer.
-fn set_default(
-    alloc: Global,
-    point: &mut SimPoint,
-    connector: u32,
-    level: u32,
-    periods: u32,
-) -> Result<Option<String>, Fail> {
-    let first = level.saturating_mul(200);
-    let mut text = format!(in alloc;
-        r#"[2,"x","SetChargingProfile",{{"connectorId":{connector},"csChargingProfiles":{{"chargingProfileId":{connector}{level},"stackLevel":{level},"chargingProfilePurpose":"TxDefaultProfile","chargingProfileKind":"Relative","chargingSchedule":{{"chargingRateUnit":"A","chargingSchedulePeriod":["#
-    )?;
+/// Appends so many periods of a second each from this one on, of 1 A and 2 A in turn.
+fn push_periods(rt: &impl Abort, alloc: Global, text: &mut String, first: u32, periods: u32) {
     for place in 0..periods {
         let begin = first.saturating_add(place);
         let limit = 1_u32.saturating_add(begin % 2);
         let comma = if place == 0 { "" } else { "," };
-        let period = format!(in alloc; r#"{comma}{{"startPeriod":{begin},"limit":{limit}}}"#)?;
-        text.push_str(period.as_str())?;
+        let period = format!(in alloc; r#"{comma}{{"startPeriod":{begin},"limit":{limit}}}"#);
+        text.push_str(period.expect(rt, "error").as_str())
+            .expect(rt, "error");
     }
-    text.push_str("]}}}]")?;
-    Ok(point.on_text(instant_at(0)?, text.as_str())?)
+}
+
+/// A SetChargingProfile of a TxDefaultProfile with periods of a second each.
+fn default_text(
+    rt: &impl Abort,
+    alloc: Global,
+    connector: u32,
+    level: u32,
+    periods: u32,
+) -> String {
+    let text = format!(in alloc;
+        r#"[2,"x","SetChargingProfile",{{"connectorId":{connector},"csChargingProfiles":{{"chargingProfileId":{connector}{level},"stackLevel":{level},"chargingProfilePurpose":"TxDefaultProfile","chargingProfileKind":"Relative","chargingSchedule":{{"chargingRateUnit":"A","chargingSchedulePeriod":["#
+    );
+    let mut text = text.expect(rt, "error");
+    push_periods(rt, alloc, &mut text, level.saturating_mul(200), periods);
+    text.push_str("]}}}]").expect(rt, "error");
+    text
+}
+
+/// What a text at midnight is answered.
+fn answer_of(rt: &impl Abort, point: &mut SimPoint, text: &str) -> String {
+    let answer = point.on_text(instant_at(rt, 0), text).expect(rt, "error");
+    answer.expect(rt, "no answer")
+}
+
+/// Sends such a SetChargingProfile, which is answered so.
+fn set_default(
+    rt: &impl Abort,
+    alloc: Global,
+    point: &mut SimPoint,
+    (connector, level, periods): (u32, u32, u32),
+    wanted: &str,
+) {
+    let text = default_text(rt, alloc, connector, level, periods);
+    let answer = answer_of(rt, point, text.as_str());
+    same_text(rt, answer.as_str(), wanted, "an install");
 }
 
 const ACCEPTED: &str = r#"[3,"x",{"status":"Accepted"}]"#;
 
 #[test]
-fn a_point_has_at_most_100_profiles(rt: HostRuntime) -> Result<(), Fail> {
+fn a_point_has_at_most_100_profiles(rt: HostRuntime) {
     let alloc = rt.alloc();
-    let mut point = point_with(alloc, Vec::new(alloc))?;
+    let mut point = point_with(&rt, alloc, "");
     for level in 0..100 {
-        let answer = set_default(alloc, &mut point, 1, level, 1)?;
-        assert_eq!(rt; text_or_nothing(&answer), ACCEPTED);
+        set_default(&rt, alloc, &mut point, (1, level, 1), ACCEPTED);
     }
-    let full = set_default(alloc, &mut point, 2, 0, 1)?;
-    assert_eq!(rt;
-        text_or_nothing(&full),
-        r#"[3,"x",{"status":"Rejected","reason":"TooManyProfiles"}]"#
-    );
+    let full = r#"[3,"x",{"status":"Rejected","reason":"TooManyProfiles"}]"#;
+    set_default(&rt, alloc, &mut point, (2, 0, 1), full);
     // It takes the place of another.
-    let replaced = set_default(alloc, &mut point, 1, 0, 1)?;
-    assert_eq!(rt; text_or_nothing(&replaced), ACCEPTED);
-    Ok(())
+    set_default(&rt, alloc, &mut point, (1, 0, 1), ACCEPTED);
 }
 
 #[test]
-fn a_schedule_has_at_most_1000_periods(rt: HostRuntime) -> Result<(), Fail> {
+fn a_schedule_has_at_most_1000_periods(rt: HostRuntime) {
     let alloc = rt.alloc();
-    let mut point = point_with(alloc, Vec::new(alloc))?;
+    let mut point = point_with(&rt, alloc, "");
     for level in 0..6 {
-        let answer = set_default(alloc, &mut point, 1, level, 200)?;
-        assert_eq!(rt; text_or_nothing(&answer), ACCEPTED);
+        set_default(&rt, alloc, &mut point, (1, level, 200), ACCEPTED);
     }
-    let now = instant_at(0)?;
-    let long = point.on_text(
-        now,
+    let long = answer_of(
+        &rt,
+        &mut point,
         r#"[2,"x","GetCompositeSchedule",{"connectorId":1,"duration":1001}]"#,
-    )?;
-    assert_eq!(rt;
-        text_or_nothing(&long),
-        r#"[3,"x",{"status":"Rejected","reason":"ResultTooLong"}]"#
     );
-    let most = point.on_text(
-        now,
+    let wanted = r#"[3,"x",{"status":"Rejected","reason":"ResultTooLong"}]"#;
+    same_text(&rt, long.as_str(), wanted, "1,001 periods");
+    let most = answer_of(
+        &rt,
+        &mut point,
         r#"[2,"x","GetCompositeSchedule",{"connectorId":1,"duration":1000}]"#,
-    )?;
-    assert!(rt;
-        text_or_nothing(&most).ends_with(
-            r#"{"startPeriod":998,"limit":1.0},{"startPeriod":999,"limit":2.0}]}}]"#
-        )
     );
-    Ok(())
+    let end = r#"{"startPeriod":998,"limit":1.0},{"startPeriod":999,"limit":2.0}]}}]"#;
+    holds(&rt, most.ends_with(end), "1,000 periods");
 }

@@ -5,4 +5,6 @@
 #[cfg(test)]
 mod days;
 #[cfg(test)]
+mod same;
+#[cfg(test)]
 mod sockets;

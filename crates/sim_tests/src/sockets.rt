@@ -1,14 +1,14 @@
 //! A simulated point at a WebSocket over bytes in memory: what it sends, and how it ends where a device fails.
-use crate::days::{instant_at, point_with, start};
+use crate::days::{instant_at, point_with};
+use crate::same::{holds, same_text};
 use ocpp_scalars::{Instant, Moments};
-use sim_point::{Ended, SimPoint, SimStep, run_client};
+use sim_point::{Ended, SimPoint, run_client};
 use std::alloc::Global;
 use std::io;
 use std::io::{ErrorKind, Read, Write};
 use std::process::Abort;
 use std::sync::Wait;
-use std::test::Fail;
-use tungstenite::{Duplex, Error, MaskKeys, Message, NoMask, Role, WebSocket};
+use tungstenite::{Duplex, MaskKeys, Message, NoMask, Role, WebSocket};
 
 /// A clock that stands still, or tells nothing.
 #[derive(Clone, Copy)]
@@ -82,72 +82,69 @@ const POINT: &str = r#"[2,"0","Heartbeat",{}]
 [2,"2","StopTransaction",{"transactionId":7,"timestamp":"2025-01-01T00:00:00Z","meterStop":3}]
 [3,"b",{"status":"Accepted","connectorId":1,"scheduleStart":"2025-01-01T00:00:00Z","chargingSchedule":{"duration":60,"chargingRateUnit":"A","chargingSchedulePeriod":[{"startPeriod":0,"limit":16.0}]}}]"#;
 
-fn simulated(alloc: Global) -> Result<SimPoint, Fail> {
-    let mut steps = Vec::new(alloc);
-    steps.push(SimStep::Heartbeat)?;
-    steps.push(start(alloc, 1, "a", 3)?)?;
-    steps.push(SimStep::Stop { connector: 1 })?;
-    point_with(alloc, steps)
+fn simulated(rt: &impl Abort, alloc: Global) -> SimPoint {
+    point_with(rt, alloc, "heartbeat\nstart 1 a 3\nstop 1")
 }
 
 /// The bytes of these texts as a server sends them, behind a binary message, and then of its close.
-fn sent_by_central(alloc: Global, texts: &str, closes: bool) -> Result<Vec<u8>, Fail> {
+fn sent_by_central(rt: &impl Abort, alloc: Global, texts: &str, closes: bool) -> Vec<u8> {
     let stream = Duplex {
         reader: [].as_slice(),
         writer: Vec::new(alloc),
     };
     let mut socket = WebSocket::from_raw_socket(alloc, stream, NoMask, Role::Server, None);
-    socket.send(Message::binary(alloc, &[1, 2, 3])?)?;
+    let binary = Message::binary(alloc, &[1, 2, 3]).expect(rt, "error");
+    socket.send(binary).expect(rt, "error");
     for text in texts.lines() {
-        socket.send(Message::text(alloc, text)?)?;
+        let message = Message::text(alloc, text).expect(rt, "error");
+        socket.send(message).expect(rt, "error");
     }
     if closes {
-        socket.close(None)?;
+        socket.close(None).expect(rt, "error");
     }
-    Ok(socket.into_inner().writer)
+    socket.into_inner().writer
 }
 
-fn expect_texts(rt: &impl Abort, alloc: Global, bytes: &[u8], texts: &str) -> Result<(), Fail> {
+/// The message is this text.
+fn is_text(rt: &impl Abort, message: &Message, wanted: &str) {
+    match message {
+        Message::Text(text) => same_text(rt, text.as_str(), wanted, "a text"),
+        _ => rt.panic(wanted),
+    }
+}
+
+/// The point sent these texts, and then its close.
+fn are_texts(rt: &impl Abort, alloc: Global, bytes: &[u8], texts: &str) {
     let stream = Duplex {
         reader: bytes,
         writer: Vec::new(alloc),
     };
     let mut socket = WebSocket::from_raw_socket(alloc, stream, NoMask, Role::Server, None);
     for wanted in texts.lines() {
-        match socket.read()? {
-            Message::Text(text) => assert_eq!(rt; text.as_str(), wanted),
-            _ => assert!(rt; false, "no text, but {wanted} is wanted"),
-        }
+        is_text(rt, &socket.read().expect(rt, wanted), wanted);
     }
-    let last = socket.read()?;
-    assert!(rt; last.is_close());
-    Ok(())
+    let last = socket.read().expect(rt, "no close");
+    holds(rt, last.is_close(), "a close");
 }
 
 #[test]
-fn a_day_at_a_socket(rt: HostRuntime) -> Result<(), Fail> {
+fn a_day_at_a_socket(rt: HostRuntime) {
     let alloc = rt.alloc();
-    let bytes = sent_by_central(alloc, CENTRAL, true)?;
+    let bytes = sent_by_central(&rt, alloc, CENTRAL, true);
     let mut output = Vec::new(alloc);
     let stream = Duplex {
         reader: bytes.as_slice(),
         writer: &mut output,
     };
     let socket = WebSocket::from_raw_socket(alloc, stream, OneKey, Role::Client, None);
-    let clock = Fixed(Some(instant_at(0)?));
-    let ended = run_client(&rt, alloc, socket, simulated(alloc)?, &clock);
-    assert_eq!(rt; ended, Ended::Closed);
-    expect_texts(&rt, alloc, output.as_slice(), POINT)
+    let clock = Fixed(Some(instant_at(&rt, 0)));
+    let ended = run_client(&rt, alloc, socket, simulated(&rt, alloc), &clock);
+    holds(&rt, ended == Ended::Closed, "closed");
+    are_texts(&rt, alloc, output.as_slice(), POINT);
 }
 
 /// How a point ends at these bytes, with a device that fails at the call of a number.
-fn end_at<R: Wait>(
-    rt: &R,
-    alloc: Global,
-    bytes: &[u8],
-    at: usize,
-    clock: &Fixed,
-) -> Result<Ended, Fail> {
+fn end_at<R: Abort + Wait>(rt: &R, alloc: Global, bytes: &[u8], at: usize, clock: &Fixed) -> Ended {
     let mut output = Vec::new(alloc);
     let inner = Duplex {
         reader: bytes,
@@ -159,46 +156,41 @@ fn end_at<R: Wait>(
         at,
     };
     let socket = WebSocket::from_raw_socket(alloc, stream, OneKey, Role::Client, None);
-    Ok(run_client(rt, alloc, socket, simulated(alloc)?, clock))
+    run_client(rt, alloc, socket, simulated(rt, alloc), clock)
 }
 
 #[test]
-fn a_device_that_fails_ends_it(rt: HostRuntime) -> Result<(), Fail> {
-    let bytes = sent_by_central(rt.alloc(), CENTRAL, true)?;
-    let clock = Fixed(Some(instant_at(0)?));
+fn a_device_that_fails_ends_it(rt: HostRuntime) {
+    let bytes = sent_by_central(&rt, rt.alloc(), CENTRAL, true);
+    let clock = Fixed(Some(instant_at(&rt, 0)));
     let mut failed = 0;
     for at in 0..40 {
-        let ended = end_at(&rt, rt.alloc(), bytes.as_slice(), at, &clock)?;
-        match ended {
+        match end_at(&rt, rt.alloc(), bytes.as_slice(), at, &clock) {
             Ended::Broken => failed = at,
             Ended::Closed => {}
-            Ended::OutOfMemory => assert!(rt; false),
+            Ended::OutOfMemory => rt.panic("out of memory"),
         }
     }
     // Each call before the close may fail: five texts and a close written, each flushed.
-    assert!(rt; failed >= 10);
-    Ok(())
+    holds(&rt, failed >= 10, "each call before the close may fail");
+}
+
+/// With these bytes and this clock the point ends so, where no call fails.
+fn ends(rt: &(impl Abort + Wait), alloc: Global, bytes: &[u8], clock: &Fixed, wanted: Ended) {
+    let ended = end_at(rt, alloc, bytes, 100, clock);
+    holds(rt, ended == wanted, "how it ends");
 }
 
 #[test]
-fn a_connection_without_a_close_is_broken(rt: HostRuntime) -> Result<(), Fail> {
-    let clock = Fixed(Some(instant_at(0)?));
-    let whole = sent_by_central(rt.alloc(), CENTRAL, false)?;
-    assert_eq!(rt;
-        end_at(&rt, rt.alloc(), whole.as_slice(), 100, &clock)?,
-        Ended::Broken
-    );
-    assert_eq!(rt; end_at(&rt, rt.alloc(), &[], 100, &clock)?, Ended::Broken);
+fn a_connection_without_a_close_is_broken(rt: HostRuntime) {
+    let alloc = rt.alloc();
+    let clock = Fixed(Some(instant_at(&rt, 0)));
+    let whole = sent_by_central(&rt, alloc, CENTRAL, false);
+    ends(&rt, alloc, whole.as_slice(), &clock, Ended::Broken);
+    ends(&rt, alloc, &[], &clock, Ended::Broken);
     // A clock that tells nothing.
-    assert_eq!(rt;
-        end_at(&rt, rt.alloc(), whole.as_slice(), 100, &Fixed(None))?,
-        Ended::Broken
-    );
+    ends(&rt, alloc, whole.as_slice(), &Fixed(None), Ended::Broken);
     // The central system closes first.
-    let closing = sent_by_central(rt.alloc(), "", true)?;
-    assert_eq!(rt;
-        end_at(&rt, rt.alloc(), closing.as_slice(), 100, &clock)?,
-        Ended::Closed
-    );
-    Ok(())
+    let closing = sent_by_central(&rt, alloc, "", true);
+    ends(&rt, alloc, closing.as_slice(), &clock, Ended::Closed);
 }
