@@ -9,11 +9,15 @@ import tempfile
 from days import replay
 from python_client import PythonClient
 from serving import PATIENCE, Serving, expect
-from texts import accepted, ask, call, clear, heartbeat, install, plain_site, profile, start
+from texts import CALL_0, accepted, ask, call, clear, heartbeat, install, plain_site, profile, start
 
 SITE = plain_site(2)
 ROUNDS = 60
 LAST_WORDS = b"central: the journal ends here; the site is served on\n"
+
+
+# The longest text that stands in a journal, whatever its point is called.
+LONGEST_NOTED = 1_048_576 - 128
 
 
 class Journal:
@@ -69,6 +73,21 @@ async def what_is_noted(program):
         await operator.close()
         await point.close()
         expect("the totals", serving.totals(), (3, 1))
+
+
+async def the_longest_text(program):
+    """A text that just has room on a line of a script is replayed; one byte more, and `[]` stands in its place."""
+    with Journal() as journal, Serving(program, SITE, 2, journal=journal.path) as serving:
+        for name, length, noted in (("P1", LONGEST_NOTED, None), ("P2", LONGEST_NOTED + 1, "[]")):
+            text = heartbeat("h").ljust(length)
+            point = await PythonClient.connected(serving, f"/{name}")
+            texts = await point.texts_of(text)
+            expect("the answer and the first call", [texts[0][:7], texts[1:]], ['[3,"h",', [CALL_0]])
+            await point.close()
+            expect("what is noted", journal.texts()[-1], f"point {name} {noted or text}")
+        serving.totals()
+        printed = replay(program, SITE, journal.text()).splitlines()
+    expect("what is replayed", [line[:9] for line in printed], ['> [3,"h",', "* P1 [2,\"", "* P2 [2,\""])
 
 
 async def operator_of_a_crowd(serving, name, answers):
@@ -158,6 +177,7 @@ async def a_journal_that_cant_be_written_ends(program):
 
 def tests():
     yield "what is noted", what_is_noted
+    yield "the longest text", the_longest_text
     yield "a replay gives the same answers", a_replay_gives_the_same_answers
     yield "a file that is there is kept", a_file_that_is_there_is_kept
     yield "a journal that can't be written ends", a_journal_that_cant_be_written_ends
