@@ -191,11 +191,10 @@ def repeated_limit_problems(top, files):
 
 def action_problems(top, files):
     definition = text_of(top, "crates/messages/specs/ActionKind.antt")
-    known = {side: set(re.findall(rf"^side_of_kind (\w+) = {side}$", definition, re.MULTILINE))
-             for side in ("Operator", "Point")}
-    named = set(re.findall(r'codes "(\w+)"', definition))
-    if named != known["Operator"] | known["Point"]:
-        yield f"ActionKind.antt: {sorted(named ^ (known['Operator'] | known['Point']))} has a name or a side alone"
+    rows = re.findall(r'^row_of (\w+) = (?:with_fields|answered) (\w+) \(codes "(\w+)"\)', definition, re.MULTILINE)
+    known = {side: {name for kind, sender, name in rows if sender == side} for side in ("Operator", "Point")}
+    if any(kind != name for kind, sender, name in rows) or len(rows) != definition.count("\nrow_of "):
+        yield "ActionKind.antt: a row isn't read, or has another name than its action"
     protocol = text_of(top, "docs/PROTOCOL.md")
     headings = re.findall(r"^### (\w+) \(OCPP 1\.6", section_of(protocol, "An operator's actions"), re.MULTILINE)
     cells = [row[0] for row in rows_of(section_of(protocol, "A point's actions").split("\nNOW is")[0])]

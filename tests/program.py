@@ -385,6 +385,9 @@ def explain_problems(program, folder):
         ("a picture of another kind", DAY, ["--picture", "p.png"], words + b"the name of a picture's file ends in .svg or .html\n"),
     ):
         yield f"explain: {name}", list(differences(explain(*more, day=day), b"", error, 4))
+    error = words + b"the name of a picture's file ends in .svg or .html\n"
+    done = run(program, ["explain", "--site", os.path.join(folder, "none"), *DAY, "--picture", "p.png"], b"")
+    yield "explain: a picture of another kind, and no site file", list(differences(done, b"", error, 4))
     done = explain("--picture", os.path.join(folder, "none", "p.svg"))
     yield "explain: a picture that can't be written", list(differences(done, b"", b"central: device: write\n", 3))
 

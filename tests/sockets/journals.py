@@ -3,6 +3,7 @@ import asyncio
 import json
 import os
 import resource
+import socket
 import subprocess
 import tempfile
 
@@ -175,9 +176,86 @@ async def a_journal_that_cant_be_written_ends(program):
         expect("what is written", len(journal.text()), 300)
 
 
+def full_pipe():
+    """A pipe into which nothing more can be written until somebody reads. Its two ends, and what is in it."""
+    reading, writing = os.pipe()
+    os.set_blocking(writing, False)
+    filled = 0
+    for size in (65_536, 1):
+        try:
+            while True:
+                filled += os.write(writing, b"x" * size)
+        except BlockingIOError:
+            pass
+    os.set_blocking(writing, True)
+    return reading, writing, filled
+
+
+async def an_end_that_nobody_reads(program):
+    """Where standard error isn't read the session that says it waits, and no other does."""
+    reading, writing, filled = full_pipe()
+    most = len(install("1", profile(1, [9]))) + 100  # the first text has room, and no second one
+    limits = {resource.RLIMIT_FSIZE: most}
+    with Journal() as journal, Serving(program, SITE, 2, journal=journal.path, limits=limits, error=writing) as serving:
+        os.close(writing)
+        first = await PythonClient.connected(serving, "/operator/P1")
+        other = await PythonClient.connected(serving, "/operator/P2")
+        expect("an install", await first.texts_of(install("1", profile(1, [9]))), [accepted("1")])
+        waiting = asyncio.ensure_future(first.texts_of(install("2", profile(1, [10]))))
+        until_written = asyncio.get_running_loop().time() + PATIENCE
+        while len(journal.text()) < most and asyncio.get_running_loop().time() < until_written:
+            await asyncio.sleep(0.01)
+        for number in range(3):
+            name = f"other-{number}"
+            expect("an install of another", await other.texts_of(install(name, profile(1, [9 + number]))), [accepted(name)])
+        expect("whether the first has its answer", waiting.done(), False)
+        said = b""
+        while len(said) < filled + len(LAST_WORDS):
+            said += await asyncio.to_thread(os.read, reading, 65_536)
+        expect("what is said", said[filled:], LAST_WORDS)
+        expect("the answer of the first", await waiting, [accepted("2")])
+        await first.close()
+        await other.close()
+        expect("its end", serving.fault(), (0, b"done changes 5 answers 0\n", None))
+    os.close(reading)
+
+
+def faults_in_their_order(program):
+    """A journal that is there already is a fault of the command line, which comes before the site and the socket."""
+    there = (4, b"", b"central: command line: the file of --journal is there already\n")
+    with Journal() as journal, tempfile.NamedTemporaryFile("w", suffix=".json") as site, socket.socket() as other:
+        site.write(SITE)
+        site.flush()
+        other.bind(("127.0.0.1", 0))
+        other.listen()
+        taken = "127.0.0.1:%d" % other.getsockname()[1]
+        no_site = os.path.join(journal.folder.name, "none")
+        for name, listen, wanted in (
+            (no_site, "127.0.0.1:0", (3, b"", b"central: device: read\n")),
+            (site.name, taken, (3, b"", b"central: device: socket\n")),
+        ):
+            numbers = ["--workers", "1", "--sessions", "1"]
+            command = [program, "serve", "--site", name, "--listen", listen, *numbers, "--journal", journal.path]
+            done = subprocess.run(command, capture_output=True, timeout=PATIENCE, check=False)
+            expect("its end", (done.returncode, done.stdout, done.stderr), wanted)
+            expect("whether a journal stays", os.path.exists(journal.path), False)
+            with open(journal.path, "w", encoding="utf-8"):
+                pass
+            done = subprocess.run(command, capture_output=True, timeout=PATIENCE, check=False)
+            expect("its end with a journal", (done.returncode, done.stdout, done.stderr), there)
+            os.remove(journal.path)
+        with open("/dev/full", "wb") as full:
+            command = [program, "serve", "--site", site.name, "--listen", "127.0.0.1:0", *numbers, "--journal", journal.path]
+            done = subprocess.run(command, stdout=full, stderr=subprocess.PIPE, timeout=PATIENCE, check=False)
+        expect("its end with a full device", (done.returncode, done.stderr), (3, b"central: device: write\n"))
+        expect("whether its journal stays", os.path.exists(journal.path), False)
+
+
 def tests():
     yield "what is noted", what_is_noted
     yield "the longest text", the_longest_text
     yield "a replay gives the same answers", a_replay_gives_the_same_answers
     yield "a file that is there is kept", a_file_that_is_there_is_kept
     yield "a journal that can't be written ends", a_journal_that_cant_be_written_ends
+    yield "an end that nobody reads", an_end_that_nobody_reads
+    yield "faults in their order", faults_in_their_order

@@ -1,10 +1,15 @@
 """The programs for people at the other end, `central call` and `central point`, and the example that uses them all."""
+import base64
+import hashlib
 import os
 import re
+import signal
+import socket
 import subprocess
 import tempfile
+import threading
 
-from serving import ENVIRONMENT, PATIENCE, Serving, expect, free_port
+from serving import ENVIRONMENT, PATIENCE, Serving, expect, free_port, until
 
 TOP = os.path.dirname(os.path.dirname(os.path.dirname(os.path.abspath(__file__))))
 SITE = '{"unit":"A","points":[{"id":"P1","ceiling":63.0,"connectors":[32.0,16.0]}]}'
@@ -126,6 +131,9 @@ def faults_of_call(program):
     no_url = (4, b"", b"central: url: not ws://HOST:PORT/PATH\n")
     for url in ("", "x", "http://127.0.0.1/", "wss://127.0.0.1/operator/P1"):
         expect(f"the URL {url!r}", run(program, ["call", "--url", url, "--ask", "1", "60"]), no_url)
+    # The command line comes before the file that it names.
+    expect("the URL before the file", run(program, ["call", "--url", "http://x", "--set-profile", "/none"]), no_url)
+    expect("a point's URL before its site", run(program, ["point", "--url", "http://x", "--site", "none", "--id", "P1"]), no_url)
     for path in ("/P1", "/operators/P1", "/operator/", "/operator", "/"):
         points = ["call", "--url", f"ws://127.0.0.1:9{path}", "--ask", "1", "60"]
         expect(f"the path {path}", run(program, points), (4, b"", b"central: url: an operator's URL ends in /operator/ID\n"))
@@ -181,6 +189,66 @@ def pause_of_a_point(program):
         expect("the totals", serving.totals(), (0, 0))
 
 
+def state_of(process):
+    """`S` where it waits, `T` where it is stopped."""
+    with open(f"/proc/{process.pid}/stat", encoding="ascii") as file:
+        return file.read().rpartition(")")[2].split()[0]
+
+
+def point_stopped_in_its_pause(program):
+    """A point that is stopped in a pause (Ctrl-Z) and goes on later (`fg`) makes its next step."""
+    with Serving(program, SITE, 1) as serving, tempfile.NamedTemporaryFile("w", suffix=".json") as site:
+        site.write(serving.site)
+        site.flush()
+        words = ["point", "--url", f"ws://127.0.0.1:{serving.port}", "--site", site.name, "--id", "P1"]
+        with subprocess.Popen(
+            [program, *words], stdin=subprocess.PIPE, stdout=subprocess.PIPE, stderr=subprocess.PIPE, env=ENVIRONMENT
+        ) as process:
+            process.stdin.write(b"heartbeat\npause 3\nheartbeat\n")
+            process.stdin.close()
+            # The call is answered in the pause, which goes on.
+            for wanted in (b"sent [2,", b"got [3,", b'got [2,"0"', b'sent [3,"0"'):
+                expect("a line", process.stdout.readline()[: len(wanted)], wanted)
+            until("it waits", lambda: state_of(process) == "S")
+            process.send_signal(signal.SIGSTOP)
+            until("it is stopped", lambda: state_of(process) == "T")
+            process.send_signal(signal.SIGCONT)
+            lines = process.stdout.read().splitlines()
+            expect("the next step", [line[:8] for line in lines], [b"sent [2,", b"got [3,\""])
+            expect("its end", (process.wait(PATIENCE), process.stderr.read()), (0, b""))
+        expect("the totals", serving.totals(), (0, 0))
+
+
+def answer_and_stay(listener):
+    """A central system that answers one text, and then nothing any more, a close neither."""
+    peer, _ = listener.accept()
+    head = b""
+    while b"\r\n\r\n" not in head:
+        head += peer.recv(4_096)
+    key = re.search(rb"(?i)sec-websocket-key: *(\S+)", head)[1]
+    accept = base64.b64encode(hashlib.sha1(key + b"258EAFA5-E914-47DA-95CA-C5AB0DC85B11").digest())
+    lines = (b"HTTP/1.1 101 Switching Protocols", b"Upgrade: websocket", b"Connection: Upgrade", b"Sec-WebSocket-Protocol: ocpp1.6")
+    peer.sendall(b"\r\n".join((*lines, b"Sec-WebSocket-Accept: " + accept, b"", b"")))
+    peer.recv(4_096)
+    text = b'[3,"ask",{}]'
+    peer.sendall(b"\x81" + bytes([len(text)]) + text)
+    while peer.recv(4_096):
+        pass
+    peer.close()
+
+
+def server_that_never_closes(program):
+    """A call that was answered ends, though the central system doesn't close the connection."""
+    with socket.socket() as listener:
+        listener.bind(("127.0.0.1", 0))
+        listener.listen()
+        serving = threading.Thread(target=answer_and_stay, args=(listener,))
+        serving.start()
+        url = f"ws://127.0.0.1:{listener.getsockname()[1]}/operator/P1"
+        expect("its end", run(program, ["call", "--url", url, "--ask", "1", "60"]), (0, b'[3,"ask",{}]\n', b""))
+        serving.join(PATIENCE)
+
+
 def faults_of_a_point(program):
     """What ends `point` before its time."""
     no_point = b"central: command line: no such point in the site file\n"
@@ -225,6 +293,8 @@ def tests():
     yield "command lines", command_lines
     yield "a point's day", day_of_a_point
     yield "a point's pause", pause_of_a_point
+    yield "a point that is stopped in its pause", point_stopped_in_its_pause
+    yield "a server that never closes", server_that_never_closes
     yield "the faults of a point", faults_of_a_point
     yield "the example", example
     yield "the example of a back office", back_office

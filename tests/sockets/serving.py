@@ -58,16 +58,18 @@ def limit(limits):
 class Serving:
     """`PROGRAM serve` of a site for so many connections. At the end of a `with` block it doesn't run any more.
 
-    `limits` are those of `resource.setrlimit` that the program has, by their kind. With a `journal` it writes one.
+    `limits` are those of `resource.setrlimit` that the program has, by their kind. With a `journal` it writes one. Its
+    standard error is a pipe, or `error`.
     """
 
-    def __init__(self, program, site, sessions, workers=2, limits=None, journal=None):
+    def __init__(self, program, site, sessions, workers=2, limits=None, journal=None, error=subprocess.PIPE):
         self.program = program
         self.site = site
         self.sessions = sessions
         self.workers = workers
         self.limits = limits or {}
         self.options = [] if journal is None else ["--journal", journal]
+        self.error = error
         self.port = None
         self.process = None
 
@@ -88,7 +90,8 @@ class Serving:
             self.process.kill()
         self.process.wait(PATIENCE)
         for pipe in (self.process.stdout, self.process.stderr):
-            pipe.close()
+            if pipe is not None:
+                pipe.close()
         self.folder.cleanup()
 
     def _started(self, path):
@@ -96,7 +99,7 @@ class Serving:
         numbers = ["--workers", str(self.workers), "--sessions", str(self.sessions)]
         command = [self.program, "serve", "--site", path, "--listen", address, *numbers, *self.options]
         self.process = subprocess.Popen(
-            command, stdout=subprocess.PIPE, stderr=subprocess.PIPE, env=ENVIRONMENT, preexec_fn=lambda: limit(self.limits)
+            command, stdout=subprocess.PIPE, stderr=self.error, env=ENVIRONMENT, preexec_fn=lambda: limit(self.limits)
         )
         select.select([self.process.stdout], [], [], PATIENCE)
         line = self.process.stdout.readline() if self.process.poll() is None else b""

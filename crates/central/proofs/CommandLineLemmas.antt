@@ -1,5 +1,5 @@
 -- What clap says of a command line, said of this program's command.
-use Rattle.std.proofs.Common.{◌≡◌, ℕ, Bool, not, List, Option, Some, None, IfSome, Result, Ok, Err, IfOk, option_map, true, false, refl, sym, ap, ◌∙◌, subst}
+use Rattle.std.proofs.Common.{◌≡◌, ℕ, ◌<◌, ◌^◌, Bool, not, List, Option, Some, None, IfSome, Result, Ok, Err, IfOk, option_map, true, false, refl, sym, ap, ◌∙◌, subst}
 use Rattle.std.specs.Prelude.{IsSomeAnd}
 use Rattle.std.specs.Str.Parse.{IsNumeral, ParsesUnsigned, digits_value, without_leading_plus}
 use Rattle.clap.specs.Words.{AddsArg, AddsSubcommand, App, HasMatchesOf, Kinds, Row, Rule, Text, app_of, fault_of, is_simple, is_simple_and_free, rule_of, shape_of, subcommand_of, subcommand_rows_of, with_rule, with_subcommand}
@@ -64,6 +64,16 @@ number_read gives unsigned None text (Some n) same none value =
 number_read gives unsigned (Some t) text (Some n) same none value =
     let read = unsigned t (Ok n) (value t refl) in
     (t, sym same, read.0.0, read.1)
+
+-- a numeral that fits is read, and its number is that of the option's text
+pub number_given : {E : Type 0} (gives : Text → Result ℕ E → Type 0) → ((text : Text) (r : Result ℕ E) → gives text r → ParsesUnsigned 64 10 text r)
+    → (found text : Option Text) (number : Option ℕ) → found ≡ text → ((t : Text) → found ≡ Some t → ReadsOne gives t number)
+    → (t : Text) → text ≡ Some t → IsNumeral 10 (without_leading_plus t) → digits_value 10 (without_leading_plus t) < 2 ^ 64
+    → number ≡ Some (digits_value 10 (without_leading_plus t))
+number_given gives unsigned found text None same value t is numeral fits =
+    let read = value t (same ∙ is) in
+    absurd (unsigned t (Err read.0) read.1 (numeral, fits))
+number_given gives unsigned found text (Some n) same value t is numeral fits = ap Some (unsigned t (Ok n) (value t (same ∙ is))).1
 
 -- ---- commands
 

@@ -1,5 +1,5 @@
 -- What a command line says, by clap's definition of how words are read.
-use Rattle.std.specs.Prelude.{◌≡◌, ◌≤◌, Bool, true, false, ℕ, List, [], ◌∷◌, codes, Option, None, Some, IfSome, option_map}
+use Rattle.std.specs.Prelude.{◌≡◌, ◌<◌, ◌≤◌, ◌^◌, Bool, true, false, ℕ, List, [], ◌∷◌, codes, Option, None, Some, IfSome, option_map}
 use Rattle.std.specs.Str.Parse.{IsNumeral, digits_value, without_leading_plus}
 use Rattle.meaning.specs.Limits.{max_duration}
 use Rattle.site_rules.specs.Limits.{max_connectors}
@@ -117,7 +117,9 @@ show_command =
 -- a command that prints its version, and needs one of its subcommands
 abbrev pub top_command : Text → App
 top_command name =
-    record (new_app name) { top = record (new_app name).top { has_version = true; subcommand_required = true } }
+    record (new_app name) {
+      top = record (new_app name).top { has_version = true; subcommand_required = true };
+    }
 
 -- the program's commands
 unfoldable pub central_app : App
@@ -144,9 +146,15 @@ IsNumber option rows number =
     × IsNumeral 10 (without_leading_plus text)
     × (number ≡ digits_value 10 (without_leading_plus text))
 
--- the value of an option, where it is given, is a numeral of this number
+-- the value of an option, where it is given, is a numeral of this number, and each that fits 64 bits
+-- is read
 pub record IsOptionalNumber (option : Text) (rows : List Row) (number : Option ℕ) : Type 0 where
   pub value : IfSome number (IsNumber option rows)
+  pub given :
+      (text : Text) → one_of option rows ≡ Some text
+      → IsNumeral 10 (without_leading_plus text)
+      → digits_value 10 (without_leading_plus text) < 2 ^ 64
+      → number ≡ Some (digits_value 10 (without_leading_plus text))
   pub absent : one_of option rows ≡ None → number ≡ None
 
 -- whether an option without a value is given
@@ -173,7 +181,8 @@ IsAsking given (Some asking) = given ≡ Some (asking.connector.now ∷ asking.s
 -- what an operator's client is to send, where that isn't read from standard input
 pub record IsCalling (rows : List Row) (calling : Calling) : Type 0 where
   pub url : first_of (codes "url") rows ≡ Some calling.url.now
-  pub set_profile : first_of (codes "set-profile") rows ≡ option_map (λ text. text.now) calling.set_profile
+  pub set_profile :
+      first_of (codes "set-profile") rows ≡ option_map (λ text. text.now) calling.set_profile
   pub clear : first_of (codes "clear") rows ≡ option_map (λ text. text.now) calling.clear
   pub ask : IsAsking (all_of (codes "ask") rows) calling.ask
 
@@ -207,7 +216,8 @@ pub record IsShowing (rows : List Row) (showing : Showing) : Type 0 where
 
 -- what a subcommand with its options asks for
 abbrev pub IsJob : Text → List Row → Job → Type 0
-IsJob name rows (Replay site) = (name ≡ codes "replay") × (first_of (codes "site") rows ≡ Some site.now)
+IsJob name rows (Replay site) =
+    (name ≡ codes "replay") × (first_of (codes "site") rows ≡ Some site.now)
 IsJob name rows (Serve serving) = (name ≡ codes "serve") × IsServing rows serving
 IsJob name rows (Call calling) = (name ≡ codes "call") × IsCalling rows calling
 IsJob name rows (Point pointing) = (name ≡ codes "point") × IsPointing rows pointing

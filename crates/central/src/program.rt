@@ -9,6 +9,7 @@ pub mod help_text;
 pub mod journal_file;
 pub mod pages;
 pub mod payload_file;
+pub mod picture_name;
 pub mod pointing;
 pub mod program_fault;
 pub mod replaying;

@@ -6,7 +6,7 @@ use checks::{
     FaultName, Finding, Place, answer_sentence, check_printed, check_script, check_sent,
     sort_by_line,
 };
-use replay::replay;
+use replay::{Playing, replay};
 use site_rules::{Site, read_site};
 use std::alloc::Global;
 use std::process::Abort;
@@ -138,7 +138,7 @@ pub(crate) fn test_site(rt: &impl Abort, alloc: Global) -> Site {
 /// What is found in a script has these pieces.
 fn finds(rt: &impl Abort, alloc: Global, script: &str, wanted: &str) {
     let site = test_site(rt, alloc);
-    let findings = check_script(alloc, &site, script.as_bytes()).expect(rt, "error");
+    let findings = check_script(alloc, site, script.as_bytes()).expect(rt, "error");
     are(rt, alloc, &findings, wanted, script);
 }
 
@@ -214,7 +214,7 @@ fn push_line_fault(rt: &impl Abort, alloc: Global, faults: &mut String, finding:
 #[test]
 fn faults_of_lines_are_found(rt: HostRuntime) {
     let (alloc, site) = (rt.alloc(), test_site(&rt, rt.alloc()));
-    let findings = check_script(alloc, &site, SCRIPT.as_bytes()).expect(&rt, "error");
+    let findings = check_script(alloc, site, SCRIPT.as_bytes()).expect(&rt, "error");
     let mut faults = String::new(alloc);
     for finding in &findings {
         push_line_fault(&rt, alloc, &mut faults, finding);
@@ -250,21 +250,44 @@ fn faults_of_lines_are_those_of_a_replay(rt: HostRuntime) {
     same_text(&rt, faults.as_str(), LINE_FAULTS, "the faults of the lines");
 }
 
-/// On each line what a replay prints, and what is found in it.
-const PRINTED: &str = r#"> [3,"a",{"status":"Accepted"}] => -
-> [3,"a",{"status":"Rejected","reason":"WrongUnit"}] => -
-> [3,"a",{"status":"Rejected","reason":"NoTransaction"}] => line 7: NoTransaction: a TxProfile needs an active transaction
-> [4,"a","InternalError","OutboxFull",{}] => line 7: OutboxFull: 256 calls wait
-> [3,"a",{"status":"Unknown"}] => line 7: warning: this clears nothing
-* CP1 [2,"0","ClearChargingProfile",{}] => -
-held 1 => -
-! 7 BadLine => -
+/// On each line the first of a script, and what is found in what it prints.
+const PRINTED: &str =
+    r#"2025-01-01T00:00:00Z operator CP1 [2,"a","SetChargingProfile",{"connectorId":1,"csChargingProfiles":{"chargingProfileId":1,"stackLevel":1,"chargingProfilePurpose":"TxDefaultProfile","chargingProfileKind":"Absolute","chargingSchedule":{"chargingRateUnit":"A","chargingSchedulePeriod":[{"startPeriod":0,"limit":16}]}}}] => -
+2025-01-01T00:00:00Z operator CP1 [2,"a","SetChargingProfile",{"connectorId":1,"csChargingProfiles":{"chargingProfileId":1,"stackLevel":1,"chargingProfilePurpose":"TxDefaultProfile","chargingProfileKind":"Absolute","chargingSchedule":{"chargingRateUnit":"W","chargingSchedulePeriod":[{"startPeriod":0,"limit":16}]}}}] => -
+2025-01-01T00:00:00Z operator CP1 [2,"a","SetChargingProfile",{"connectorId":1,"csChargingProfiles":{"chargingProfileId":1,"stackLevel":1,"chargingProfilePurpose":"TxProfile","chargingProfileKind":"Relative","chargingSchedule":{"chargingRateUnit":"A","chargingSchedulePeriod":[{"startPeriod":0,"limit":16}]}}}] => line 1: NoTransaction: a TxProfile needs an active transaction
+2025-01-01T00:00:00Z operator CP1 [2,"a","ClearChargingProfile",{"id":1}] => line 1: warning: this clears nothing
+2025-01-01T00:00:00Z operator CP2 [2,"a","ClearChargingProfile",{"id":1}] => -
+2025-01-01T00:00:00Z operator CP1 [2,"a","GetCompositeSchedule",{"connectorId":1,"duration":60}] => -
+2025-01-01T00:00:00Z point CP1 [2,"a","DataTransfer",{"vendorId":"a"}] => -
+2025-01-01T00:00:00Z hold CP1 [2,"a","GetCompositeSchedule",{"connectorId":1,"duration":60}] => -
+2025-01-01T00:00:00Z release 1 => -
+2025-01-01T00:00:00Z => -
 "#;
 
+/// What is found in what the last line of a script prints.
+fn found_in_last(rt: &impl Abort, alloc: Global, script: &str, count: usize) -> Vec<Finding> {
+    let bytes = script.as_bytes();
+    if bytes.len() > 16_777_216 {
+        holds(rt, false, "a script is short enough");
+        return Vec::new(alloc);
+    }
+    let mut playing = Playing::new(alloc, bytes, test_site(rt, alloc)).expect(rt, "error");
+    let mut findings = Vec::new(alloc);
+    for _line in 0..count {
+        let played = playing
+            .play_next()
+            .expect(rt, "error")
+            .expect(rt, "no line");
+        let printed = played.outcome.printed.as_slice();
+        findings = check_printed(alloc, played.number, printed).expect(rt, "error");
+    }
+    findings
+}
+
 fn printed_line(rt: &impl Abort, alloc: Global, row: &str) {
-    let (printed, wanted) = row_of(row);
-    let findings = check_printed(alloc, 7, printed).expect(rt, "error");
-    are(rt, alloc, &findings, wanted, printed);
+    let (line, wanted) = row_of(row);
+    let findings = found_in_last(rt, alloc, line, 1);
+    are(rt, alloc, &findings, wanted, line);
 }
 
 #[test]
@@ -272,6 +295,29 @@ fn printed_lines(rt: HostRuntime) {
     for row in PRINTED.lines() {
         printed_line(&rt, rt.alloc(), row);
     }
+}
+
+/// The same line so often, and another behind it.
+fn repeated(rt: &impl Abort, alloc: Global, line: &str, count: usize, last: &str) -> String {
+    let mut script = String::new(alloc);
+    for _ in 0..count {
+        script.push_str(line).expect(rt, "error");
+        script.push_str("\n").expect(rt, "error");
+    }
+    script.push_str(last).expect(rt, "error");
+    script
+}
+
+#[test]
+fn calls_that_are_too_many(rt: HostRuntime) {
+    let install = PRINTED.lines().next().unwrap_or("");
+    let (install, _) = row_of(install);
+    let clear =
+        r#"2025-01-01T00:00:00Z operator CP1 [2,"a","ClearChargingProfile",{"connectorId":1}]"#;
+    let wanted = "line 256: OutboxFull: 256 calls wait";
+    let script = repeated(&rt, rt.alloc(), install, 255, clear);
+    let findings = found_in_last(&rt, rt.alloc(), script.as_str(), 256);
+    are(&rt, rt.alloc(), &findings, wanted, clear);
 }
 
 /// On each line an answer, and how the sentence of its refusal begins, if it has one.
@@ -342,7 +388,7 @@ fn texts_before_they_are_sent(rt: HostRuntime) {
 /// What is found in a script, by its lines, has these pieces.
 fn finds_by_line(rt: &impl Abort, alloc: Global, script: &[u8], wanted: &str) {
     let site = test_site(rt, alloc);
-    let mut findings = check_script(alloc, &site, script).expect(rt, "error");
+    let mut findings = check_script(alloc, site, script).expect(rt, "error");
     sort_by_line(&mut findings).expect(rt, "error");
     are(rt, alloc, &findings, wanted, wanted);
 }

@@ -10,8 +10,8 @@ use std::process::Abort;
 
 /// On each line what an operator installs at CP1 (63 A, two connectors of 32 A) at the beginning of 2025, with ` & `
 /// between the profiles, each as its connector, id, stack level, purpose and periods; and behind the mark a piece
-/// of each finding. The sums, by hand: 32 + 32 = 64, 20 + 20 = 40, 20.1 + 20.1 = 40.2, 6 + 32 = 38, and 10 + 10 where
-/// both connectors lie below 10.
+/// of each finding. The sums, by hand: 32 + 32 = 64, 20 + 20 = 40, 20.1 + 20.1 = 40.2, 25 + 25 = 50, 20.3 + 20.2 = 40.5, 6 + 32 = 38, and 10 + 10
+/// where both connectors lie below 10.
 const STANDING: &str = r#"0 1 1 TxDefaultProfile [{"startPeriod":0,"limit":16}] => -
 0 1 1 TxDefaultProfile [{"startPeriod":0,"limit":16}] & 1 2 1 TxDefaultProfile [{"startPeriod":0,"limit":6}] => -
 0 1 1 TxDefaultProfile [{"startPeriod":0,"limit":16}] & 1 2 1 TxDefaultProfile [{"startPeriod":9,"limit":6}] & 2 3 1 TxDefaultProfile [{"startPeriod":0,"limit":8}] => CP1, at the end: warning: TxDefaultProfile 1 at connector 0 never counts
@@ -19,6 +19,8 @@ const STANDING: &str = r#"0 1 1 TxDefaultProfile [{"startPeriod":0,"limit":16}] 
 0 9 0 ChargePointMaxProfile [{"startPeriod":0,"limit":40}] => CP1, at the end: remark: if all connectors charge, their ceilings let them draw 64.0 A together from 2025-01-01T00:00:00Z on, more than the 40.0 A of ChargePointMaxProfile 9
 0 9 0 ChargePointMaxProfile [{"startPeriod":0,"limit":40}] & 0 1 0 TxDefaultProfile [{"startPeriod":0,"limit":20}] => -
 0 9 0 ChargePointMaxProfile [{"startPeriod":0,"limit":40}] & 0 1 0 TxDefaultProfile [{"startPeriod":0,"limit":20},{"startPeriod":3600,"limit":20.1}] => warning: if all connectors charge, their schedules let them draw 40.2 A together from 2025-01-01T01:00:00Z on
+0 9 0 ChargePointMaxProfile [{"startPeriod":0,"limit":40}] & 0 1 0 TxDefaultProfile [{"startPeriod":0,"limit":20},{"startPeriod":3600,"limit":20.1},{"startPeriod":7200,"limit":25},{"startPeriod":10800,"limit":22}] => warning: if all connectors charge, their schedules let them draw 50.0 A together from 2025-01-01T02:00:00Z on
+0 9 0 ChargePointMaxProfile [{"startPeriod":0,"limit":40},{"startPeriod":7200,"limit":64}] & 0 1 0 TxDefaultProfile [{"startPeriod":0,"limit":20.1},{"startPeriod":3600,"limit":20.2}] & 1 2 0 TxDefaultProfile [{"startPeriod":0,"limit":20},{"startPeriod":3600,"limit":20.3}] => warning: if all connectors charge, their schedules let them draw 40.5 A together from 2025-01-01T01:00:00Z on
 0 9 0 ChargePointMaxProfile [{"startPeriod":0,"limit":40}] & 1 1 0 TxDefaultProfile [{"startPeriod":0,"limit":6}] => -
 0 9 0 ChargePointMaxProfile [{"startPeriod":0,"limit":64}] => -
 0 9 0 ChargePointMaxProfile [{"startPeriod":0,"limit":64},{"startPeriod":604799,"limit":10}] => let them draw 20.0 A together from 2025-01-07T23:59:59Z on, more than the 10.0 A
@@ -73,7 +75,7 @@ fn stands(rt: &impl Abort, alloc: Global, row: &str) {
     let machine = playing.machine();
     let book = machine.book_of("CP1").expect(rt, "no book");
     let unit = machine.site().unit();
-    let findings = check_standing(alloc, unit, "CP1", &book.view()).expect(rt, "error");
+    let findings = check_standing(alloc, unit, "CP1", book).expect(rt, "error");
     are(rt, alloc, &findings, wanted, row);
 }
 

@@ -8,15 +8,14 @@ use crate::line_text::{LineText, Sender};
 use crate::payload_fields::{
     PayloadPart, UnknownField, repeated_payload_fields, unknown_payload_fields,
 };
+use crate::printed_check::depends_on_state;
 use crate::profile_check::check_install;
-use crate::report::{CheckedScript, Report};
-use crate::requests::Requests;
+use crate::report::Report;
 use crate::sentences::sentence;
 use crate::shown::shown;
 use crate::similar::similar_name;
 use crate::text_check::not_composite;
 use crate::zone_check::remark_unzoned;
-use meaning::Ask;
 use messages::{Action, ActionKind, CallFault, ScheduleRequest, Side, read_fields};
 use ocpp_scalars::Refusal;
 use ocppj_frame::Node;
@@ -54,17 +53,13 @@ const POINT_ACTIONS: [&str; 10] = [
 ];
 
 /// Checks a CALL.
-pub(crate) fn check_call(
-    checked: &mut CheckedScript<'_>,
-    call: &Call<'_, '_, '_>,
-) -> Result<(), AllocError> {
-    let report = &mut checked.report;
+pub(crate) fn check_call(report: &mut Report, call: &Call<'_, '_, '_>) -> Result<(), AllocError> {
     let kind = ActionKind::named(call.action);
     if call.text.sender == Sender::Hold && kind != Some(ActionKind::GetCompositeSchedule) {
         return not_composite(report, call.text, "it is a CALL of another action");
     }
     match kind {
-        Some(kind) if is_of_sender(kind, call.text.sender) => { check_action(checked, call, kind) }
+        Some(kind) if is_of_sender(kind, call.text.sender) => { check_action(report, call, kind) }
         _ => check_not_implemented(report, call, kind.is_some()),
     }
 }
@@ -123,12 +118,11 @@ pub(crate) fn refuse_action(
 
 /// Checks the fields of an action, and what it asks for.
 fn check_action(
-    checked: &mut CheckedScript<'_>,
+    report: &mut Report,
     call: &Call<'_, '_, '_>,
     kind: ActionKind,
 ) -> Result<(), AllocError> {
-    let site = checked.site;
-    let report = &mut checked.report;
+    let site = call.text.site;
     let alloc = report.alloc;
     if matches!(kind.side(), Side::Operator) {
         warn_repeated(report, call.text.frame, kind)?;
@@ -137,12 +131,12 @@ fn check_action(
         Ok(Action::SetChargingProfile { connector, profile }) => {
             warn_unknown(report, call.text.frame, kind)?;
             remark_unzoned(report, call.payload)?;
-            check_install(checked, call.text, connector, profile)
+            check_install(report, call.text, connector, profile)
         }
         Ok(Action::ClearChargingProfile(criteria)) => check_clear(report, site, call, &criteria),
         Ok(Action::GetCompositeSchedule(request)) => {
             warn_unknown(report, call.text.frame, kind)?;
-            check_ask(checked, call.text, &request)
+            check_ask(report, call.text, &request)
         }
         Ok(Action::StartTransaction(start)) => {
             check_start(report, site, call.text, start.connector)
@@ -335,48 +329,41 @@ pub(crate) fn point_of<'a>(site: &'a Site, text: &LineText<'_>) -> Option<SitePo
     site.point(site.place_of(text.point)?)
 }
 
-/// A GetCompositeSchedule, as far as the point's book has no part in it.
+/// A GetCompositeSchedule, by its answer, as far as the point's book has no part in it.
 fn check_ask(
-    checked: &mut CheckedScript<'_>,
+    report: &mut Report,
     text: &LineText<'_>,
     request: &ScheduleRequest,
 ) -> Result<(), AllocError> {
-    let site = checked.site;
-    match ask_refusal(site, &checked.requests, text, request) {
-        None if text.sender == Sender::Hold => checked.requests.hold(checked.report.line()),
-        None => {
-            checked.requests.take();
-            Ok(())
-        }
+    match text.rejection() {
+        None => Ok(()),
+        Some(refusal) if depends_on_state(refusal) => Ok(()),
         Some(Refusal::UnknownPoint) => {
-            let message = unknown_point_message(&mut checked.report, site, text.point)?;
-            checked
-                .report
-                .fault(FaultName::Rejected(Refusal::UnknownPoint), message)
+            let message = unknown_point_message(report, text.site, text.point)?;
+            report.fault(FaultName::Rejected(Refusal::UnknownPoint), message)
         }
         Some(refusal) => {
-            let found = ask_found(checked, text, request, refusal)?;
-            reject(&mut checked.report, refusal, Some(found.as_str()))
+            let found = ask_found(report.alloc, text, request, refusal)?;
+            reject(report, refusal, Some(found.as_str()))
         }
     }
 }
 
 /// What was found where a request for a schedule is refused.
 fn ask_found(
-    checked: &CheckedScript<'_>,
+    alloc: Global,
     text: &LineText<'_>,
     request: &ScheduleRequest,
     refusal: Refusal,
 ) -> Result<String, AllocError> {
-    let alloc = checked.report.alloc;
     let connector = request.connector;
     let duration = request.duration;
     match refusal {
-        Refusal::UnknownConnector => connector_found(alloc, checked.site, text, connector),
+        Refusal::UnknownConnector => connector_found(alloc, text.site, text, connector),
         Refusal::BadDuration | Refusal::PastCalendar => {
             format!(in alloc; "duration is {duration}")
         }
-        Refusal::WrongUnit => String::from_str(alloc, unit_found(checked.site)),
+        Refusal::WrongUnit => String::from_str(alloc, unit_found(text.site)),
         _ => format!(in alloc; "connectorId is {connector}"),
     }
 }
@@ -418,31 +405,6 @@ pub(crate) fn reject(
         None => format!(in report.alloc; "{name}: {why}")?,
     };
     report.fault(FaultName::Rejected(refusal), message)
-}
-
-/// Why a request for a schedule is refused, in the order of the checks.
-fn ask_refusal(
-    site: &Site,
-    requests: &Requests,
-    text: &LineText<'_>,
-    request: &ScheduleRequest,
-) -> Option<Refusal> {
-    let Some(point) = point_of(site, text) else {
-        return Some(Refusal::UnknownPoint);
-    };
-    if request.connector as usize > point.ceilings.len() {
-        return Some(Refusal::UnknownConnector);
-    }
-    if let Some(unit) = request.unit {
-        if !unit.is_same(site.unit()) {
-            return Some(Refusal::WrongUnit);
-        }
-    }
-    match Ask::try_new(request.connector, text.moment, request.duration) {
-        Err(refusal) => Some(refusal),
-        Ok(_) if requests.is_full() => Some(Refusal::TooManyOpen),
-        Ok(_) => None,
-    }
 }
 
 /// A StartTransaction at a connector that the point lacks.

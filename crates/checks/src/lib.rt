@@ -18,7 +18,6 @@ mod printed_check;
 mod profile_check;
 mod refused_answer;
 mod report;
-mod requests;
 mod script_check;
 mod sent_check;
 mod sentences;
@@ -38,7 +37,7 @@ pub use finding::{FaultName, Finding, Place, Severity, exit_status, sort_by_line
 pub use never::{NeverRated, never_rated};
 pub use printed_check::check_printed;
 pub use refused_answer::answer_sentence;
-pub use script_check::check_script;
+pub use script_check::{ScriptCheck, check_script};
 pub use sent_check::{SentCheck, check_sent, json_break};
 pub use sentences::{call_sentence, line_sentence, never_sentence, sentence, site_sentence};
 pub use site_check::check_site;

@@ -1,8 +1,10 @@
 //! The text that a line of a script brings, as it is checked.
 
-use messages::Side;
-use ocpp_scalars::Instant;
-use session::SentText;
+use messages::{Response, Side};
+use ocpp_scalars::{Instant, Refusal};
+use replay::{PlayedLine, PrintedLine};
+use site_rules::Site;
+use texts::SentText;
 
 /// The second word of a line that brings a text.
 #[derive(Clone, Copy, Debug, PartialEq, Eq)]
@@ -15,9 +17,10 @@ pub(crate) enum Sender {
     Hold,
 }
 
-/// A text that a line brings.
+/// A text that a line brings, and what came of it.
 #[derive(Clone, Copy)]
 pub(crate) struct LineText<'a> {
+    pub site: &'a Site,
     pub moment: Instant,
     pub sender: Sender,
     /// The identity of the point.
@@ -25,23 +28,56 @@ pub(crate) struct LineText<'a> {
     pub frame: &'a str,
     /// The whole line.
     pub line: &'a str,
+    /// What the line prints.
+    pub printed: &'a [PrintedLine],
 }
 
 impl<'a> LineText<'a> {
-    /// The text that a line brings. `is_held` where its second word is `hold`.
-    pub(crate) fn new(line: &'a [u8], sent: &'a SentText<'_>, is_held: bool) -> LineText<'a> {
+    /// The text that a line brings on a site, where its second word is `hold`.
+    pub(crate) fn held(
+        site: &'a Site,
+        played: &'a PlayedLine<'_>,
+        sent: &'a SentText<'_>,
+    ) -> LineText<'a> {
+        LineText {
+            sender: Sender::Hold,
+            ..LineText::new(site, played, sent)
+        }
+    }
+
+    /// The text that a line brings on a site.
+    pub(crate) fn new(
+        site: &'a Site,
+        played: &'a PlayedLine<'_>,
+        sent: &'a SentText<'_>,
+    ) -> LineText<'a> {
         let sender = match sent.sender() {
-            Side::Operator if is_held => Sender::Hold,
             Side::Operator => Sender::Operator,
             Side::Point => Sender::Point,
         };
         LineText {
+            site,
             moment: sent.moment(),
             sender,
             point: sent.point(),
             frame: sent.frame(),
-            line: utf8_of(line).0,
+            line: utf8_of(played.line).0,
+            printed: played.outcome.printed.as_slice(),
         }
+    }
+
+    /// Why the text is rejected, if it is.
+    pub(crate) fn rejection(&self) -> Option<Refusal> {
+        for line in self.printed {
+            if let PrintedLine::Answer {
+                response: Response::Rejected(refusal),
+                ..
+            } = line
+            {
+                return Some(*refusal);
+            }
+        }
+        None
     }
 }
 

@@ -1,89 +1,73 @@
 //! What a replay prints at a line, where only the state of the point by then can tell it.
 
-use crate::answer::{Answer, answer_of, refusal_of};
 use crate::finding::{FaultName, Finding, Place};
 use crate::sentences::sentence;
-use messages::CallFault;
+use messages::{CallFault, Response};
 use ocpp_scalars::Refusal;
-use ocppj_frame::{FrameFault, ReadingMemory, read_tree};
+use replay::PrintedLine;
 use std::alloc::{AllocError, Global};
 
-/// The refusals that depend on what the point has by then, or on how long a schedule gets.
-const REFUSALS_OF_STATE: [Refusal; 7] = [
-    Refusal::NoTransaction,
-    Refusal::OtherTransaction,
-    Refusal::TooManyProfiles,
-    Refusal::OutboxFull,
-    Refusal::ResultTooLong,
-    Refusal::VersionsExhausted,
-    Refusal::TransactionsExhausted,
-];
+/// Whether a refusal depends on what the point has by then, or on how long a schedule gets.
+pub(crate) fn depends_on_state(refusal: Refusal) -> bool {
+    matches!(
+        refusal,
+        Refusal::NoTransaction
+            | Refusal::OtherTransaction
+            | Refusal::TooManyProfiles
+            | Refusal::OutboxFull
+            | Refusal::ResultTooLong
+            | Refusal::VersionsExhausted
+            | Refusal::TransactionsExhausted
+    )
+}
 
 /// What is wrong by what a replay prints at the line of this number, beside what `check_script` finds in the
-/// line itself: the refusals that depend on the point's state, and clears that match nothing. `printed` has
-/// whole lines of a replay's output.
-pub fn check_printed(alloc: Global, line: u64, printed: &str) -> Result<Vec<Finding>, AllocError> {
+/// line itself: the refusals that depend on the point's state, and clears that match nothing.
+pub fn check_printed(
+    alloc: Global,
+    line: u64,
+    printed: &[PrintedLine],
+) -> Result<Vec<Finding>, AllocError> {
     let mut findings = Vec::new(alloc);
-    let mut memory = ReadingMemory::new(alloc);
-    for output in printed.lines() {
-        let Some(frame) = output.strip_prefix("> ") else {
-            continue;
-        };
-        if let Some(finding) = finding_in(alloc, &mut memory, line, frame)? {
-            findings.push(finding)?;
+    for output in printed {
+        if let PrintedLine::Answer { response, .. } = output {
+            if let Some(finding) = finding_of(alloc, line, response)? {
+                findings.push(finding)?;
+            }
         }
     }
     Ok(findings)
 }
 
-/// What is found in a frame, if it is an answer that tells of the point's state.
-fn finding_in(
-    alloc: Global,
-    memory: &mut ReadingMemory,
-    line: u64,
-    frame: &str,
-) -> Result<Option<Finding>, AllocError> {
-    match read_tree(memory, frame) {
-        Ok(tree) => finding_of(alloc, line, answer_of(tree.root())),
-        Err(FrameFault::OutOfMemory) => Err(AllocError),
-        Err(_) => Ok(None),
-    }
-}
-
+/// What is found in an answer, if it tells of the point's state.
 fn finding_of(
     alloc: Global,
     line: u64,
-    answer: Option<Answer<'_>>,
+    response: &Response,
 ) -> Result<Option<Finding>, AllocError> {
-    match answer {
-        Some(Answer::Rejected(reason)) => match refusal_of_state(reason) {
-            Some(refusal) => refused(alloc, line, refusal, FaultName::Rejected(refusal)),
-            None => Ok(None),
-        },
-        Some(Answer::Error { description, .. }) => match refusal_of_state(description) {
-            Some(refusal) => {
-                let name = FaultName::Call(CallFault::Refused(refusal));
-                refused(alloc, line, refusal, name)
-            }
-            None => Ok(None),
-        },
-        Some(Answer::Unknown) => cleared_nothing(alloc, line),
-        None => Ok(None),
+    match response {
+        Response::Rejected(refusal) => {
+            refused(alloc, line, *refusal, FaultName::Rejected(*refusal))
+        }
+        Response::Error(CallFault::Refused(refusal)) => {
+            let name = FaultName::Call(CallFault::Refused(*refusal));
+            refused(alloc, line, *refusal, name)
+        }
+        Response::Unknown => cleared_nothing(alloc, line),
+        _ => Ok(None),
     }
 }
 
-/// The refusal of this name, if it depends on the point's state.
-fn refusal_of_state(name: &str) -> Option<Refusal> {
-    let refusal = refusal_of(name)?;
-    REFUSALS_OF_STATE.contains(&refusal).then_some(refusal)
-}
-
+/// That a text is refused, if that depends on the point's state.
 fn refused(
     alloc: Global,
     line: u64,
     refusal: Refusal,
     name: FaultName,
 ) -> Result<Option<Finding>, AllocError> {
+    if !depends_on_state(refusal) {
+        return Ok(None);
+    }
     let why = sentence(refusal);
     let message = format!(in alloc; "{refusal}: {why}")?;
     Ok(Some(Finding::fault(Place::Line(line), name, message)))

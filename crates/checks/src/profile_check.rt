@@ -4,7 +4,7 @@ use crate::call_check::{connector_found, point_of, reject, unit_found, unknown_p
 use crate::finding::FaultName;
 use crate::line_text::LineText;
 use crate::never::never_rated;
-use crate::report::{CheckedScript, Report};
+use crate::report::Report;
 use crate::sentences::never_sentence;
 use ocpp_scalars::{Instant, Refusal};
 use page_parts::{instant_text, tenths_text};
@@ -14,13 +14,12 @@ use std::alloc::{AllocError, Global};
 
 /// Checks a SetChargingProfile whose fields are right.
 pub(crate) fn check_install(
-    checked: &mut CheckedScript<'_>,
+    report: &mut Report,
     text: &LineText<'_>,
     connector: u32,
     parts: ProfileParts,
 ) -> Result<(), AllocError> {
-    let site = checked.site;
-    let report = &mut checked.report;
+    let site = text.site;
     warn_dropped(report, &parts)?;
     let profile = match Profile::try_new(parts) {
         Ok(profile) => profile,

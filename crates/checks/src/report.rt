@@ -1,20 +1,10 @@
 //! The findings in a script, gathered line by line.
 
 use crate::finding::{FaultName, Finding, Place};
-use crate::requests::Requests;
-use site_rules::Site;
 use std::alloc::{AllocError, Global};
 
 /// How often an identity is compared with all those of the site.
 const MAX_HINTS: u32 = 1_000;
-
-/// A script that is checked on a site, up to the line that is looked at.
-#[derive(Drop)]
-pub(crate) struct CheckedScript<'a> {
-    pub site: &'a Site,
-    pub report: Report,
-    pub requests: Requests,
-}
 
 /// The findings so far, and the line that is looked at.
 #[derive(Drop)]
@@ -41,9 +31,9 @@ impl Report {
         self.findings
     }
 
-    /// Goes on to the next line.
-    pub(crate) fn next_line(&mut self) {
-        self.line = self.line.saturating_add(1);
+    /// Goes on to the line of a number.
+    pub(crate) fn go_to(&mut self, line: u64) {
+        self.line = line;
     }
 
     /// Whether an identity may be compared with all those of the site once more.

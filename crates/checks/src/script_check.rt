@@ -3,76 +3,120 @@
 use crate::finding::{FaultName, Finding, Place};
 use crate::line_hints::mistake_message;
 use crate::line_text::LineText;
-use crate::report::{CheckedScript, Report};
-use crate::requests::Requests;
+use crate::report::Report;
 use crate::sentences::line_sentence;
 use crate::text_check::check_text;
 use ocppj_frame::ReadingMemory;
-use replay::{LineFault, MAX_SCRIPT_BYTES, ScriptLine, read_line, split_line};
+use replay::{Held, LineFault, MAX_SCRIPT_BYTES, PlayedLine, Playing, PrintedLine, ScriptLine};
 use site_rules::Site;
 use std::alloc::{AllocError, Global};
 
 /// What is wrong with a script on a site, line by line: faults of lines, texts that are refused, and warnings
 /// of texts that do something else than they say. A refusal that depends on what the point has by then
 /// (`NoTransaction`, `OtherTransaction`, `TooManyProfiles`, `OutboxFull`, `ResultTooLong`) isn't found.
-pub fn check_script(alloc: Global, site: &Site, script: &[u8]) -> Result<Vec<Finding>, AllocError> {
+pub fn check_script(alloc: Global, site: Site, script: &[u8]) -> Result<Vec<Finding>, AllocError> {
     if script.len() > MAX_SCRIPT_BYTES {
         return too_long(alloc, script.len());
     }
-    let mut checked = CheckedScript {
-        site,
-        report: Report::new(alloc),
-        requests: Requests::new(alloc),
-    };
-    let mut memory = ReadingMemory::new(alloc);
-    let mut rest = script;
+    let mut check = ScriptCheck::new(alloc);
+    let mut playing = Playing::new(alloc, script, site)?;
     // Each line has a byte at least.
     for _ in 0..script.len() {
-        if rest.is_empty() {
-            break;
-        }
-        let (line, others) = split_line(rest);
-        rest = others;
-        checked.report.next_line();
-        if !line.is_empty() {
-            check_line(&mut checked, &mut memory, line)?;
+        match playing.skim_next()? {
+            Some(played) => check.take_in(playing.machine().site(), &played)?,
+            None => break,
         }
     }
-    remark_held(&mut checked)?;
-    Ok(checked.report.into_findings())
+    check.finish(playing.held())
 }
 
-/// Checks a line that isn't empty.
-fn check_line(
-    checked: &mut CheckedScript<'_>,
-    memory: &mut ReadingMemory,
-    line: &[u8],
-) -> Result<(), AllocError> {
-    match read_line(line, checked.site) {
-        Ok(ScriptLine::Text(sent)) => {
-            check_text(checked, memory, &LineText::new(line, &sent, false))
-        }
-        Ok(ScriptLine::Hold(sent)) => {
-            check_text(checked, memory, &LineText::new(line, &sent, true))
-        }
-        Ok(ScriptLine::Release(number)) => check_release(checked, number),
-        Err(fault) => {
-            let message = mistake_message(&mut checked.report, checked.site, line, fault)?;
-            checked.report.fault(FaultName::Line(fault), message)
-        }
-    }
+/// What is found in a script, line by line as it is played.
+#[derive(Drop)]
+pub struct ScriptCheck {
+    report: Report,
+    memory: ReadingMemory,
+    held: Vec<HeldLine>,
 }
 
-/// The requests that are still held when the script ends.
-fn remark_held(checked: &mut CheckedScript<'_>) -> Result<(), AllocError> {
-    for held in checked.requests.held() {
-        let number = held.number;
-        let message = format!(in checked.report.alloc;
-            "request {number} is still held when the script ends, and isn't answered"
-        )?;
-        checked.report.remark_at(held.line, message)?;
+/// A request that a line held.
+#[derive(Clone, Copy)]
+struct HeldLine {
+    request: u64,
+    /// The line's number.
+    line: u64,
+}
+
+impl ScriptCheck {
+    /// Before the first line.
+    pub fn new(alloc: Global) -> ScriptCheck {
+        ScriptCheck {
+            report: Report::new(alloc),
+            memory: ReadingMemory::new(alloc),
+            held: Vec::new(alloc),
+        }
     }
-    Ok(())
+
+    /// Checks a line that was played on a site.
+    pub fn take_in(&mut self, site: &Site, played: &PlayedLine<'_>) -> Result<(), AllocError> {
+        self.report.go_to(played.number);
+        for line in &played.outcome.printed {
+            if let PrintedLine::Held(request) = line {
+                self.held.push(HeldLine {
+                    request: *request,
+                    line: played.number,
+                })?;
+            }
+        }
+        self.check_line(site, played)
+    }
+
+    fn check_line(&mut self, site: &Site, played: &PlayedLine<'_>) -> Result<(), AllocError> {
+        let report = &mut self.report;
+        match &played.said {
+            None => Ok(()),
+            Some(Ok(ScriptLine::Text(sent))) => {
+                check_text(report, &mut self.memory, &LineText::new(site, played, sent))
+            }
+            Some(Ok(ScriptLine::Hold(sent))) => {
+                check_text(
+                    report,
+                    &mut self.memory,
+                    &LineText::held(site, played, sent),
+                )
+            }
+            Some(Ok(ScriptLine::Release(number))) => {
+                if played.outcome.is_fault {
+                    return unknown_request(report, *number);
+                }
+                Ok(())
+            }
+            Some(Err(fault)) => {
+                let message = mistake_message(report, site, played.line, *fault)?;
+                report.fault(FaultName::Line(*fault), message)
+            }
+        }
+    }
+
+    /// What was found, with a remark for each request that is still held when the script ends.
+    pub fn finish(mut self, held: &[Held]) -> Result<Vec<Finding>, AllocError> {
+        for held in held {
+            self.remark_held(held.number)?;
+        }
+        Ok(self.report.into_findings())
+    }
+
+    /// A remark for each line that took a request of this number, which is still held.
+    fn remark_held(&mut self, number: u64) -> Result<(), AllocError> {
+        for line in &self.held {
+            if line.request == number {
+                let message = format!(in self.report.alloc;
+                    "request {number} is still held when the script ends, and isn't answered"
+                )?;
+                self.report.remark_at(line.line, message)?;
+            }
+        }
+        Ok(())
+    }
 }
 
 fn too_long(alloc: Global, count: usize) -> Result<Vec<Finding>, AllocError> {
@@ -84,16 +128,11 @@ fn too_long(alloc: Global, count: usize) -> Result<Vec<Finding>, AllocError> {
     Ok(findings)
 }
 
-/// The answer of a request that a line held.
-fn check_release(checked: &mut CheckedScript<'_>, number: u64) -> Result<(), AllocError> {
-    if checked.requests.release(number) {
-        return Ok(());
-    }
+/// That no line holds a request of this number.
+fn unknown_request(report: &mut Report, number: u64) -> Result<(), AllocError> {
     let sentence = line_sentence(LineFault::UnknownRequest);
-    let message = format!(in checked.report.alloc;
+    let message = format!(in report.alloc;
         "UnknownRequest: release {number}: {sentence}; a hold line that takes one prints its number"
     )?;
-    checked
-        .report
-        .fault(FaultName::Line(LineFault::UnknownRequest), message)
+    report.fault(FaultName::Line(LineFault::UnknownRequest), message)
 }

@@ -3,18 +3,32 @@
 use crate::finding::{Finding, Place, Severity};
 use crate::hidden::is_hidden_everywhere;
 use crate::shown::sum_text;
-use crate::together::{Excess, first_excess};
+use crate::together::{Excess, worst_excess};
 use meaning::View;
 use page_parts::{instant_text, tenths_text, unit_name};
+use point_book::PointBook;
 use profile::{Row, Unit};
 use std::alloc::{AllocError, Global};
 
 /// What is amiss with what the point of an identity has: TxDefaultProfiles for all connectors that each connector's
-/// own one hides, and schedules of connectors that together go beyond the ChargePointMaxProfile. Where no profile of
-/// a connector prevails, so that the ceilings of the site file alone go beyond it, that is a remark.
+/// own one hides, and where the schedules of connectors together go furthest beyond the ChargePointMaxProfile. Where no
+/// profile of a connector prevails there, so that the ceilings of the site file alone go beyond it, that is a remark.
 pub fn check_standing(
     alloc: Global,
     unit: Unit,
+    point: &str,
+    book: &PointBook,
+) -> Result<Vec<Finding>, AllocError> {
+    let mut findings = hidden_defaults(alloc, point, &book.view())?;
+    if let Some(finding) = excess_finding(alloc, unit, point, book)? {
+        findings.push(finding)?;
+    }
+    Ok(findings)
+}
+
+/// Of each TxDefaultProfile for all connectors that it speaks for none.
+fn hidden_defaults(
+    alloc: Global,
     point: &str,
     view: &View<'_>,
 ) -> Result<Vec<Finding>, AllocError> {
@@ -25,16 +39,28 @@ pub fn check_standing(
             findings.push(finding_at_end(alloc, Severity::Warning, point, message)?)?;
         }
     }
-    if let Some(excess) = first_excess(view) {
-        let severity = if excess.is_scheduled {
-            Severity::Warning
-        } else {
-            Severity::Remark
-        };
-        let message = excess_message(alloc, unit, &excess)?;
-        findings.push(finding_at_end(alloc, severity, point, message)?)?;
-    }
     Ok(findings)
+}
+
+/// That connectors may draw more together than their point.
+fn excess_finding(
+    alloc: Global,
+    unit: Unit,
+    point: &str,
+    book: &PointBook,
+) -> Result<Option<Finding>, AllocError> {
+    let excess = match worst_excess(alloc, book) {
+        Ok(Some(excess)) => excess,
+        Ok(None) => return Ok(None),
+        Err(error) => return Err(error),
+    };
+    let severity = if excess.is_scheduled {
+        Severity::Warning
+    } else {
+        Severity::Remark
+    };
+    let message = excess_message(alloc, unit, &excess)?;
+    Ok(Some(finding_at_end(alloc, severity, point, message)?))
 }
 
 fn finding_at_end(

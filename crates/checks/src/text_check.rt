@@ -5,7 +5,7 @@ use crate::finding::FaultName;
 use crate::json_fault::{JsonFault, json_fault_text};
 use crate::json_outline::outline_of;
 use crate::line_text::{LineText, Sender};
-use crate::report::{CheckedScript, Report};
+use crate::report::Report;
 use crate::sentences::{call_sentence, line_sentence};
 use crate::shown::shown;
 use messages::CallFault;
@@ -28,25 +28,25 @@ enum Reading {
 
 /// Checks the text of a line.
 pub(crate) fn check_text(
-    checked: &mut CheckedScript<'_>,
+    report: &mut Report,
     memory: &mut ReadingMemory,
     text: &LineText<'_>,
 ) -> Result<(), AllocError> {
-    match check_message(checked, memory, text)? {
+    match check_message(report, memory, text)? {
         Reading::Checked => Ok(()),
-        Reading::Dropped => check_dropped(&mut checked.report, memory, text),
+        Reading::Dropped => check_dropped(report, memory, text),
     }
 }
 
 /// Checks a text as a message, if it is one.
 fn check_message(
-    checked: &mut CheckedScript<'_>,
+    report: &mut Report,
     memory: &mut ReadingMemory,
     text: &LineText<'_>,
 ) -> Result<Reading, AllocError> {
     match read_frame(memory, text.frame) {
-        Ok(frame) => check_frame(checked, text, frame)?,
-        Err(FrameFault::Formation { id: _id }) => check_malformed(&mut checked.report, text)?,
+        Ok(frame) => check_frame(report, text, frame)?,
+        Err(FrameFault::Formation { id: _id }) => check_malformed(report, text)?,
         Err(FrameFault::Dropped) => return Ok(Reading::Dropped),
         Err(FrameFault::OutOfMemory) => return Err(AllocError),
     }
@@ -55,11 +55,10 @@ fn check_message(
 
 /// Checks a message.
 fn check_frame(
-    checked: &mut CheckedScript<'_>,
+    report: &mut Report,
     text: &LineText<'_>,
     frame: Frame<'_>,
 ) -> Result<(), AllocError> {
-    let report = &mut checked.report;
     match frame {
         Frame::Call {
             action,
@@ -71,7 +70,7 @@ fn check_frame(
                 action: action.as_str(),
                 payload: payload.root(),
             };
-            check_call(checked, &call)
+            check_call(report, &call)
         }
         _ if text.sender == Sender::Hold => not_composite(report, text, "it is no CALL"),
         Frame::Reply { id, payload } => {

@@ -1,16 +1,16 @@
 //! Schedules of connectors that together go beyond the ChargePointMaxProfile of their point.
 
-ghost use Rattle.std.specs.Prelude.{◌<◌, length};
+ghost use Rattle.std.specs.Prelude.{◌<◌, ◌≤◌, length};
 
-use meaning::{MAX_DURATION, View, limit_at, why_not};
-use ocpp_scalars::Instant;
+use meaning::{Ask, MAX_DURATION, View, why_not};
+use ocpp_scalars::{Instant, LAST_SECOND};
+use point_book::PointBook;
 use profile::{Purpose, Row};
-use recurrence::{next_change, rate_at};
+use recurrence::{next_change, rate_at, sooner};
+use std::alloc::{AllocError, Global};
+use sweep_compiler::{Turns, explain};
 
-/// At so many instants at the most the limits are added up.
-const MAX_ADDED: u32 = 2_000;
-
-/// An instant at which the connectors may draw more together than their point.
+/// Where the connectors may draw more together than their point.
 #[derive(Clone, Copy)]
 pub(crate) struct Excess<'a> {
     pub instant: Instant,
@@ -23,75 +23,270 @@ pub(crate) struct Excess<'a> {
     pub is_scheduled: bool,
 }
 
-/// The first instant at which the schedules of the connectors together say more than the prevailing
-/// ChargePointMaxProfile (chapter 3.13). A week from the last install on is looked at, and in it the first 2,000
-/// changes of a limit.
-pub(crate) fn first_excess<'a>(view: &View<'a>) -> Option<Excess<'a>> {
-    let asked = last_install(view)?;
-    let end = asked.seconds().saturating_add(u64::from(MAX_DURATION));
-    let mut instant = asked;
-    for _ in 0..MAX_ADDED {
-        if let Some(excess) = excess_at(view, asked, instant) {
-            return Some(excess);
-        }
-        instant = next_in_view(view, asked, instant)?;
-        if instant.seconds() >= end {
-            return None;
-        }
-    }
-    None
+/// What turns at a second of the week that is looked at.
+#[derive(Clone, Copy)]
+struct WeekTurn<'a> {
+    /// Counted from the last install.
+    second: u32,
+    what: Turning<'a>,
 }
 
-/// The last moment at which a profile was installed, where one is a ChargePointMaxProfile.
-fn last_install(view: &View<'_>) -> Option<Instant> {
+#[derive(Clone, Copy)]
+enum Turning<'a> {
+    /// What some connectors may draw together, in tenths.
+    Limit { was: u64, now: u64 },
+    /// The ChargePointMaxProfile that prevails.
+    Most(Option<Most<'a>>),
+}
+
+/// A ChargePointMaxProfile that prevails, with its limit in tenths.
+#[derive(Clone, Copy)]
+struct Most<'a> {
+    row: &'a Row,
+    limit: u32,
+}
+
+/// Where more is drawn together than the point may, by the second.
+#[derive(Clone, Copy)]
+struct Overrun<'a> {
+    second: u32,
+    together: u64,
+    most: Most<'a>,
+}
+
+/// The week that is looked at, from the last install of a point on.
+#[derive(Clone, Copy)]
+struct Week<'a> {
+    book: &'a PointBook,
+    asked: Instant,
+    /// Seconds.
+    duration: u32,
+}
+
+/// Where the schedules of the connectors together say most beyond the prevailing ChargePointMaxProfile (chapter 3.13),
+/// and of several such instants the first. A week from the last install on is looked at.
+pub(crate) fn worst_excess(
+    alloc: Global,
+    book: &PointBook,
+) -> Result<Option<Excess<'_>>, AllocError> {
+    let Some(week) = week_of(book) else {
+        return Ok(None);
+    };
+    let mut turns = Vec::new(alloc);
+    push_most_turns(&mut turns, &week)?;
+    push_limit_turns(alloc, &mut turns, &week)?;
+    turns.sort_by_key(|turn| turn.second)?;
+    let Some(overrun) = worst_of(turns.as_slice()) else {
+        return Ok(None);
+    };
+    Ok(excess_of(&week, overrun))
+}
+
+/// The week from the last moment on at which a profile was installed, where one is a ChargePointMaxProfile.
+fn week_of(book: &PointBook) -> Option<Week<'_>> {
     let mut last = None;
     let mut is_bounded = false;
-    for row in view.rows {
+    for row in book.view().rows {
         is_bounded = is_bounded || row.profile.purpose == Purpose::ChargePointMaxProfile;
         last = last.max(Some(row.moment));
     }
-    if is_bounded { last } else { None }
-}
-
-/// What the connectors may draw at an instant, where that is too much.
-fn excess_at<'a>(view: &View<'a>, asked: Instant, instant: Instant) -> Option<Excess<'a>> {
-    let most = prevailing_most(view, asked, instant)?;
-    let limit = rate_at(&most.profile, most.base(None, asked), instant)?;
-    let together = together_at(view, asked, instant);
-    if together <= u64::from(limit) {
+    if !is_bounded {
         return None;
     }
-    Some(Excess {
-        instant,
-        together,
-        most,
-        limit,
-        is_scheduled: is_scheduled(view, asked, instant),
+    let asked = last?;
+    let left = (LAST_SECOND + 1).saturating_sub(asked.seconds());
+    let duration = u32::try_from(left).unwrap_or(MAX_DURATION);
+    Some(Week {
+        book,
+        asked,
+        duration: duration.min(MAX_DURATION),
     })
 }
 
-/// The ChargePointMaxProfile that prevails at an instant.
-fn prevailing_most<'a>(view: &View<'a>, asked: Instant, instant: Instant) -> Option<&'a Row> {
-    for (place, row) in view.rows.iter().enumerate() {
-        if row.profile.purpose == Purpose::ChargePointMaxProfile
-            && why_not(view, 0, asked, instant, place).is_none()
-        {
-            return Some(row);
+/// Appends where the ChargePointMaxProfile that prevails turns.
+fn push_most_turns<'a>(turns: &mut Vec<WeekTurn<'a>>, week: &Week<'a>) -> Result<(), AllocError> {
+    let mut second = 0;
+    // Each turn is at least a second later than the one before.
+    for _ in 0..week.duration {
+        let Some(instant) = later_by(week.asked, second) else {
+            return Ok(());
+        };
+        let what = Turning::Most(most_at(week.book, week.asked, instant));
+        turns.push(WeekTurn { second, what })?;
+        match next_most_turn(week, instant) {
+            Some(next) if next < week.duration => second = next,
+            _ => return Ok(()),
+        }
+    }
+    Ok(())
+}
+
+/// The instant so many seconds later.
+fn later_by(asked: Instant, second: u32) -> Option<Instant> {
+    Instant::try_new(asked.seconds().saturating_add(u64::from(second)))
+}
+
+/// The ChargePointMaxProfile that prevails at an instant: of those with a limit the one of the highest level.
+fn most_at(book: &PointBook, asked: Instant, instant: Instant) -> Option<Most<'_>> {
+    for row in book.candidates(Purpose::ChargePointMaxProfile, 0) {
+        if let Some(limit) = rate_at(&row.profile, row.base(None, asked), instant) {
+            return Some(Most { row, limit });
         }
     }
     None
 }
 
-/// What the connectors may draw at an instant, each by its own schedule, in tenths.
-fn together_at(view: &View<'_>, asked: Instant, instant: Instant) -> u64 {
-    let mut together: u64 = 0;
-    for before in 0..view.ceilings.len() {
-        if let Ok(connector) = u32::try_from(before + 1) {
-            let limit = limit_at(view, connector, asked, instant);
-            together = together.saturating_add(u64::from(limit));
+/// The second of the next place of a ChargePointMaxProfile.
+fn next_most_turn(week: &Week<'_>, instant: Instant) -> Option<u32> {
+    let mut next = None;
+    for row in week.book.view().rows {
+        if row.profile.purpose == Purpose::ChargePointMaxProfile {
+            let base = row.base(None, week.asked);
+            next = sooner(next, next_change(&row.profile, base, instant));
         }
     }
-    together
+    let second = next?.seconds().saturating_sub(week.asked.seconds());
+    u32::try_from(second).ok()
+}
+
+/// Appends where the limits of connectors turn. Those of connectors that are alike turn together, and are found once.
+fn push_limit_turns<'a>(
+    alloc: Global,
+    turns: &mut Vec<WeekTurn<'a>>,
+    week: &Week<'a>,
+) -> Result<(), AllocError> {
+    let view = week.book.view();
+    for before in 0..week.book.connectors() {
+        let connector = before + 1;
+        if is_first_alike(&view, connector) {
+            let count = count_alike(&view, connector);
+            push_turns_of(alloc, turns, week, connector, count)?;
+        }
+    }
+    Ok(())
+}
+
+/// Whether no connector before this one is like it.
+fn is_first_alike(view: &View<'_>, connector: u32) -> bool {
+    for before in 1..connector {
+        if are_alike(view, before, connector) {
+            return false;
+        }
+    }
+    true
+}
+
+/// How many connectors are like this one, itself included.
+fn count_alike(view: &View<'_>, connector: u32) -> u64 {
+    let mut count: u64 = 0;
+    for before in 0..view.ceilings.len() {
+        if let Ok(other) = u32::try_from(before + 1) {
+            count = count.saturating_add(u64::from(are_alike(view, connector, other)));
+        }
+    }
+    count
+}
+
+/// Whether the limits of two connectors are the same: it is one connector, or they have the same ceiling, transactions
+/// that began at the same moment or none, and neither has a profile of its own.
+fn are_alike(view: &View<'_>, one: u32, other: u32) -> bool {
+    if one == other {
+        return true;
+    }
+    let (first, second) = (one as usize, other as usize);
+    view.ceilings.get(first.saturating_sub(1)) == view.ceilings.get(second.saturating_sub(1))
+        && view.active_since(first) == view.active_since(second)
+        && !view
+            .rows
+            .iter()
+            .any(|row| row.connector == one || row.connector == other)
+}
+
+/// Appends where the limit of a connector turns, with that of all that are like it.
+fn push_turns_of<'a>(
+    alloc: Global,
+    turns: &mut Vec<WeekTurn<'a>>,
+    week: &Week<'a>,
+    connector: u32,
+    count: u64,
+) -> Result<(), AllocError>
+    requires has_connector { connector ≤ length week.now.book.now.ceilings }
+{
+    let Ok(ask) = Ask::try_new(connector, week.asked, week.duration) else {
+        return Ok(());
+    };
+    let mut was = 0;
+    for stretch in explain(alloc, week.book, &ask, &mut Turns::new())?.stretches() {
+        let now = u64::from(stretch.reason.limit).saturating_mul(count);
+        turns.push(WeekTurn {
+            second: stretch.start,
+            what: Turning::Limit { was, now },
+        })?;
+        was = now;
+    }
+    Ok(())
+}
+
+/// The worst overrun on the way through these turns, which go by their seconds.
+fn worst_of<'a>(turns: &[WeekTurn<'a>]) -> Option<Overrun<'a>> {
+    let mut worst: Option<Overrun<'a>> = None;
+    let mut together: u64 = 0;
+    let mut most: Option<Most<'a>> = None;
+    for (place, turn) in turns.iter().enumerate() {
+        match turn.what {
+            Turning::Limit { was, now } => {
+                together = together.saturating_add(now).saturating_sub(was);
+            }
+            Turning::Most(prevailing) => most = prevailing,
+        }
+        // All that turns at a second counts for it.
+        let next = turns.get(place.saturating_add(1));
+        if next.is_none_or(|next| next.second > turn.second) {
+            worst = worse(worst, overrun_of(turn.second, together, most));
+        }
+    }
+    worst
+}
+
+/// The overrun at a second, if there is one.
+fn overrun_of(second: u32, together: u64, most: Option<Most<'_>>) -> Option<Overrun<'_>> {
+    let most = most?;
+    if together <= u64::from(most.limit) {
+        return None;
+    }
+    Some(Overrun {
+        second,
+        together,
+        most,
+    })
+}
+
+/// The worse of an overrun and a later one.
+fn worse<'a>(first: Option<Overrun<'a>>, later: Option<Overrun<'a>>) -> Option<Overrun<'a>> {
+    match (first, later) {
+        (Some(first), Some(later)) if later.beyond() <= first.beyond() => Some(first),
+        (first, None) => first,
+        (_, later) => later,
+    }
+}
+
+impl Overrun<'_> {
+    /// How much more is drawn than may be.
+    fn beyond(&self) -> u64 {
+        self.together.saturating_sub(u64::from(self.most.limit))
+    }
+}
+
+/// An overrun by its instant.
+fn excess_of<'a>(week: &Week<'a>, overrun: Overrun<'a>) -> Option<Excess<'a>> {
+    let instant = later_by(week.asked, overrun.second)?;
+    Some(Excess {
+        instant,
+        together: overrun.together,
+        most: overrun.most.row,
+        limit: overrun.most.limit,
+        is_scheduled: is_scheduled(&week.book.view(), week.asked, instant),
+    })
 }
 
 /// Whether a profile of a connector prevails at an instant.
@@ -118,32 +313,4 @@ fn prevails_somewhere(view: &View<'_>, asked: Instant, instant: Instant, place: 
         }
     }
     false
-}
-
-/// The next instant at which the limit of a profile may change.
-fn next_in_view(view: &View<'_>, asked: Instant, instant: Instant) -> Option<Instant> {
-    let mut next = None;
-    for row in view.rows {
-        next = earlier(next, next_of_row(view, asked, instant, row));
-    }
-    next
-}
-
-/// The next instant at which the limit of a row may change, at whatever connector.
-fn next_of_row(view: &View<'_>, asked: Instant, instant: Instant, row: &Row) -> Option<Instant> {
-    let mut next = next_change(&row.profile, row.base(None, asked), instant);
-    for started in view.starts {
-        let change = next_change(&row.profile, row.base(*started, asked), instant);
-        next = earlier(next, change);
-    }
-    next
-}
-
-/// The earlier of two instants, where there are any.
-fn earlier(first: Option<Instant>, second: Option<Instant>) -> Option<Instant> {
-    match (first, second) {
-        (Some(first), Some(second)) => Some(first.min(second)),
-        (Some(only), None) | (None, Some(only)) => Some(only),
-        (None, None) => None,
-    }
 }

@@ -14,26 +14,27 @@ pub type Connection<R> = WebSocket<TcpStream, RandomKeys<R>>;
 /// The port of a `ws` URL without one (RFC 6455, section 3).
 const DEFAULT_PORT: u16 = 80;
 
-/// Connects to an operator's URL, as `connect` does.
-pub fn connect_operator<R: Net<Stream = TcpStream> + RandomSource + Copy + Drop>(
-    rt: &R,
-    alloc: Global,
-    url: &str,
-) -> Result<Connection<R>, ClientFault> {
-    let request = request_to(alloc, url)?;
-    if !is_operators(request.uri().path()) {
-        return Err(ClientFault::NotOperator);
-    }
-    connect_by(rt, alloc, request)
+/// Where a client connects, with what it asks for there.
+#[derive(Drop)]
+pub struct Address {
+    request: Request<()>,
 }
 
-/// Connects to a URL, and shakes hands in the subprotocol of OCPP 1.6.
-pub fn connect<R: Net<Stream = TcpStream> + RandomSource + Copy + Drop>(
-    rt: &R,
-    alloc: Global,
-    url: &str,
-) -> Result<Connection<R>, ClientFault> {
-    connect_by(rt, alloc, request_to(alloc, url)?)
+impl Address {
+    /// The address of a URL.
+    pub fn of_url(alloc: Global, url: &str) -> Result<Address, ClientFault> {
+        let request = request_to(alloc, url)?;
+        Ok(Address { request })
+    }
+
+    /// The address of an operator's URL.
+    pub fn of_operator(alloc: Global, url: &str) -> Result<Address, ClientFault> {
+        let address = Address::of_url(alloc, url)?;
+        if !is_operators(address.request.uri().path()) {
+            return Err(ClientFault::NotOperator);
+        }
+        Ok(address)
+    }
 }
 
 /// Whether a path ends in `/operator/ID`.
@@ -44,12 +45,13 @@ fn is_operators(path: &str) -> bool {
     }
 }
 
-/// Connects and shakes hands by a request.
-fn connect_by<R: Net<Stream = TcpStream> + RandomSource + Copy + Drop>(
+/// Connects to an address, and shakes hands in the subprotocol of OCPP 1.6.
+pub fn connect<R: Net<Stream = TcpStream> + RandomSource + Copy + Drop>(
     rt: &R,
     alloc: Global,
-    request: Request<()>,
+    address: Address,
 ) -> Result<Connection<R>, ClientFault> {
+    let Address { request } = address;
     let Some(host) = request.uri().host() else {
         return Err(ClientFault::Url);
     };

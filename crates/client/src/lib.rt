@@ -11,7 +11,7 @@ mod point_lines;
 mod sockets;
 mod terminal_point;
 
-pub use connecting::{Connection, connect, connect_operator};
+pub use connecting::{Address, Connection, connect};
 pub use fault::ClientFault;
 pub use lines::Lines;
 pub use operator::{OperatorClient, Outcome};

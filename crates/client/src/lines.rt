@@ -2,7 +2,7 @@
 
 use crate::fault::ClientFault;
 use std::alloc::Global;
-use std::io::{BufRead, BufReader, Read};
+use std::io::{BufRead, BufReader, ErrorKind, Read};
 
 /// The lines of a reader, one after another. They end with LF; a CR before it is dropped.
 #[derive(Drop)]
@@ -31,6 +31,9 @@ impl<R: Read + Drop> Lines<R> {
             match self.reader.read_until(b'\n', &mut self.line) {
                 Ok(0) => return Ok(false),
                 Ok(_) => {}
+                Err(error) if error.kind() == ErrorKind::OutOfMemory => {
+                    return Err(ClientFault::OutOfMemory);
+                }
                 Err(_) => return Err(ClientFault::Read),
             }
             self.number = self.number.saturating_add(1);

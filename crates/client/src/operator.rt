@@ -7,6 +7,7 @@ use ocppj_frame::{
 };
 use std::alloc::Global;
 use std::io::{Read, Write};
+use std::net::OpenStream;
 use std::sync::Wait;
 use tungstenite::{MaskKeys, Utf8Bytes, WebSocket};
 
@@ -29,7 +30,7 @@ pub struct OperatorClient<S: Read + Write, K: MaskKeys> {
     memory: ReadingMemory,
 }
 
-impl<S: Read + Write + Drop, K: MaskKeys + Drop> OperatorClient<S, K> {
+impl<S: Read + Write + OpenStream + Drop, K: MaskKeys + Drop> OperatorClient<S, K> {
     pub fn new(alloc: Global, socket: WebSocket<S, K>) -> OperatorClient<S, K> {
         OperatorClient {
             alloc,

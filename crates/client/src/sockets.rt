@@ -3,7 +3,12 @@
 use crate::fault::ClientFault;
 use std::alloc::Global;
 use std::io::{ErrorKind, Read, Write};
+use std::net::OpenStream;
+use std::time::Duration;
 use tungstenite::{Error, MaskKeys, Message, Utf8Bytes, WebSocket};
+
+/// How many seconds a connection that is being closed waits for each message of the other side.
+const CLOSING_SECONDS: u64 = 5;
 
 /// What came over a socket.
 #[derive(Drop)]
@@ -31,7 +36,7 @@ pub(crate) fn receive<S: Read + Write + Drop, K: MaskKeys + Drop>(
 fn came_with(error: Error) -> Result<Came, ClientFault> {
     match error {
         Error::Io(error) => {
-            if is_time_out(error.kind()) {
+            if is_no_fault(error.kind()) {
                 Ok(Came::Nothing)
             } else {
                 Err(ClientFault::Socket)
@@ -43,9 +48,13 @@ fn came_with(error: Error) -> Result<Came, ClientFault> {
     }
 }
 
-/// The kinds of error by which a system says that the time to wait is over.
-fn is_time_out(kind: ErrorKind) -> bool {
-    matches!(kind, ErrorKind::WouldBlock | ErrorKind::TimedOut)
+/// The kinds of error by which a system says that the time to wait is over, or that waiting was interrupted: where it
+/// waits for a time, it is interrupted also by a stop of the program that goes on later.
+fn is_no_fault(kind: ErrorKind) -> bool {
+    matches!(
+        kind,
+        ErrorKind::WouldBlock | ErrorKind::TimedOut | ErrorKind::Interrupted
+    )
 }
 
 /// Sends a text.
@@ -62,9 +71,16 @@ pub(crate) fn send<S: Read + Write + Drop, K: MaskKeys + Drop>(
     }
 }
 
-/// Closes the connection, and waits until the other side has done so too. At most so many messages are still read.
-pub(crate) fn close<S: Read + Write + Drop, K: MaskKeys + Drop>(socket: &mut WebSocket<S, K>) {
+/// Closes the connection, and waits until the other side has done so too. At most so many messages are still read, and
+/// one that doesn't come for so long isn't waited for.
+pub(crate) fn close<S: Read + Write + OpenStream + Drop, K: MaskKeys + Drop>(
+    socket: &mut WebSocket<S, K>,
+) {
     if socket.close(None).is_err() {
+        return;
+    }
+    let time = Duration::from_secs(CLOSING_SECONDS);
+    if socket.get_ref().set_read_timeout(Some(time)).is_err() {
         return;
     }
     for _message in 0..1_000u32 {

@@ -1,2 +1,3 @@
+pub mod ByCases
 pub mod Limits
 pub mod NotCounted

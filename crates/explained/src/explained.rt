@@ -32,8 +32,12 @@ pub struct NotCounted {
 /// Why a profile never sets the limit.
 #[derive(Clone, Copy, Debug, PartialEq, Eq)]
 pub enum NoPart {
-    /// It doesn't prevail.
+    /// It doesn't prevail, for one reason at every second.
     NotPrevailing(WhyNot),
+    /// It has no limit at any second, for one reason after another.
+    NoLimit,
+    /// Wherever it has a limit, another profile comes first.
+    BehindOthers,
     /// It prevails, but another limit is as low or lower.
     NotLeast,
     /// The whole point is asked, and no connector for which it speaks has a transaction.

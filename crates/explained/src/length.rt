@@ -13,7 +13,8 @@ pub struct Length {
 
 /// The length of so many seconds.
 pub fn length_of(seconds: u32) -> Length
-    ensures whole { result.days * 86400 + result.hours * 3600 + result.minutes * 60 + result.seconds ≡ seconds }
+    ensures whole { result.days * 86400 + result.hours * 3600 + result.minutes * 60 + result.seconds
+        ≡ seconds }
     ensures hours { result.hours < 24 }
     ensures minutes { result.minutes < 60 }
     ensures seconds { result.seconds < 60 }

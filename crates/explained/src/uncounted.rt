@@ -3,127 +3,93 @@
 ghost use Rattle.std.specs.Prelude.{◌≡◌, ◌<◌, length, IfOk};
 ghost use Rattle.std.specs.List.{All};
 ghost use Rattle.meaning.specs.View.{point_state};
-ghost use Rattle.explained.specs.NotCounted.{IsTold, no_part};
+ghost use Rattle.explained.specs.NotCounted.{IsReason, IsTold};
+ghost use Rattle.explained.specs.ByCases.Throughout.{IsLookedAt};
 
 use crate::entries::{telling_instant, told_by};
 use crate::explained::{NoPart, NotCounted, is_named};
-use crate::prevailing::Moments;
+use crate::looked::RowAsked;
 use meaning::{Ask, View, WhyNot, why_not};
-use ocpp_scalars::Instant;
-use profile::{Purpose, Row};
 use std::alloc::{AllocError, Global};
 use sweep_compiler::Stretch;
 
-/// The profiles that never set the limit in the stretches of an ask, each with its reason: that it prevails
-/// where one of them begins and yet isn't the least, or else why it doesn't prevail where that says most.
+/// The profiles that never set the limit in the stretches of an ask, each with its reason: that it prevails at
+/// some second of the ask and yet isn't the least, or else what holds at every second.
 pub fn not_counted(
     alloc: Global,
     view: &View<'_>,
     ask: &Ask,
     stretches: &[Stretch],
 ) -> Result<Vec<NotCounted>, AllocError>
-    ensures { IfOk result (λ rest. All (IsTold (point_state view.now) ask.now.start) rest.items) }
+    ensures { IfOk result (λ rest. All (IsTold (point_state view.now) ask.now) rest.items) }
 {
-    let looked_at = looked_at(alloc, view, ask, stretches)?;
-    let begins = begins_of(alloc, ask, stretches)?;
-    let moments = Moments {
-        alloc,
-        view: *view,
-        asked: ask.start,
-        moments: begins.as_slice(),
-    };
-    let firsts = moments.first_of_each(looked_at.as_slice())?;
     let mut rest = Vec::new(alloc);
     for place in 0..view.rows.len() {
         if !is_named(stretches, told_by(&view.rows[place])) {
-            let prevails = firsts.as_slice().get(place).and_then(|moment| *moment);
-            rest.push(told_at(view, ask, place, prevails))?;
+            rest.push(told_at(view, ask, place))?;
         }
     }
     Ok(rest)
 }
 
-/// At which connector each row is looked at that sets no limit.
-fn looked_at(
-    alloc: Global,
-    view: &View<'_>,
-    ask: &Ask,
-    stretches: &[Stretch],
-) -> Result<Vec<Option<usize>>, AllocError> {
-    let mut connectors = Vec::new(alloc);
-    for row in view.rows {
-        let mut connector = None;
-        if !is_named(stretches, told_by(row)) {
-            connector = counted_at(view, ask.connector, row);
-        }
-        connectors.push(connector)?;
-    }
-    Ok(connectors)
-}
-
-/// The connector for which a row counts where it is looked at in an ask: 0 for a ChargePointMaxProfile.
-fn counted_at(view: &View<'_>, asked: u32, row: &Row) -> Option<usize> {
-    if row.profile.purpose == Purpose::ChargePointMaxProfile {
-        return Some(0);
-    }
-    let connector = connector_of(view, asked, row)?;
-    Some(connector as usize)
-}
-
-/// The first instants of some stretches of an ask.
-fn begins_of(alloc: Global, ask: &Ask, stretches: &[Stretch]) -> Result<Vec<Instant>, AllocError> {
-    let mut begins = Vec::new(alloc);
-    for stretch in stretches {
-        let second = ask.start.seconds().saturating_add(u64::from(stretch.start));
-        if let Some(instant) = Instant::try_new(second) {
-            begins.push(instant)?;
-        }
-    }
-    Ok(begins)
-}
-
-/// What is told of the row at a place, which prevails at an instant if there is one.
-fn told_at(view: &View<'_>, ask: &Ask, place: usize, prevails: Option<Instant>) -> NotCounted
+/// What is told of the row at a place.
+fn told_at(view: &View<'_>, ask: &Ask, place: usize) -> NotCounted
     requires within { place < length view.now.rows.now }
-    ensures { IsTold (point_state view.now) ask.now.start result }
+    ensures { IsTold (point_state view.now) ask.now result }
 {
     let row = &view.rows[place];
-    let instant = match prevails {
-        Some(instant) => instant,
-        None => telling_instant(view, ask, row),
-    };
-    let reason = match connector_of(view, ask.connector, row) {
-        Some(connector) => no_part(why_not(view, connector, ask.start, instant, place)),
-        None => NoPart::NoActiveConnector,
+    let asked = RowAsked {
+        view: *view,
+        ask: *ask,
+        place,
+        row,
     };
     NotCounted {
         profile: told_by(row),
-        reason,
+        reason: asked.reason(),
     }
 }
 
-/// Why a profile has no part, by why it doesn't prevail.
-fn no_part(why: Option<WhyNot>) -> NoPart
-    ensures { result ≡ no_part why }
-{
-    match why {
-        Some(why) => NoPart::NotPrevailing(why),
-        None => NoPart::NotLeast,
-    }
-}
-
-/// The connector at which a row is looked at in an ask: for the whole point the first one with an active
-/// transaction for which the row may speak.
-fn connector_of(view: &View<'_>, asked: u32, row: &Row) -> Option<u32> {
-    if asked > 0 || row.profile.purpose == Purpose::ChargePointMaxProfile {
-        return Some(asked);
-    }
-    let mut connector: u32 = 0;
-    for start in view.starts {
-        connector = connector.saturating_add(1);
-        if start.is_some() && (row.connector == 0 || row.connector == connector) {
-            return Some(connector);
+impl RowAsked<'_> {
+    /// Why the row never sets the limit.
+    fn reason(&self) -> NoPart
+        ensures { IsReason result (point_state self.now.view) self.now.ask self.now.row.now }
+    {
+        match self.first_connector() {
+            Some(connector) => self.reason_at(connector),
+            None => NoPart::NoActiveConnector,
         }
     }
-    None
+
+    /// The same, where the row is looked at at a connector: the reason that says most there, where it holds
+    /// throughout.
+    fn reason_at(&self, connector: u32) -> NoPart
+        requires looked { IsLookedAt self.now connector }
+        ensures { IsReason result (point_state self.now.view) self.now.ask self.now.row.now }
+    {
+        let instant = telling_instant(&self.view, &self.ask, self.row);
+        match why_not(&self.view, connector, self.ask.start, instant, self.place) {
+            Some(why) if self.is_throughout(NoPart::NotPrevailing(why)) => {
+                NoPart::NotPrevailing(why)
+            }
+            _ => self.reason_of_many(connector),
+        }
+    }
+
+    /// Why the row never sets the limit, where that isn't for one reason alone.
+    fn reason_of_many(&self, connector: u32) -> NoPart
+        requires looked { IsLookedAt self.now connector }
+        ensures { IsReason result (point_state self.now.view) self.now.ask self.now.row.now }
+    {
+        let behind_tx = NoPart::NotPrevailing(WhyNot::BehindTxProfile);
+        if !self.is_throughout(NoPart::BehindOthers) {
+            NoPart::NotLeast
+        } else if self.is_throughout(behind_tx) {
+            behind_tx
+        } else if self.is_throughout(NoPart::NoLimit) {
+            NoPart::NoLimit
+        } else {
+            NoPart::BehindOthers
+        }
+    }
 }

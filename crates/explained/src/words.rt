@@ -13,6 +13,8 @@ pub(crate) fn reason_name(reason: NoPart) -> &'static str {
     match reason {
         NoPart::NotLeast => "NotLeast",
         NoPart::NoActiveConnector => "NoActiveConnector",
+        NoPart::NoLimit => "NoLimit",
+        NoPart::BehindOthers => "BehindOthers",
         NoPart::NotPrevailing(why) => why_not_name(why),
     }
 }
@@ -39,6 +41,8 @@ pub fn sentence(reason: NoPart) -> &'static str {
         NoPart::NoActiveConnector => {
             "No connector for which it speaks has an active transaction."
         }
+        NoPart::NoLimit => "It has no limit in this time.",
+        NoPart::BehindOthers => "Whenever it has a limit, another profile comes before it.",
         NoPart::NotPrevailing(why) => why_not_sentence(why),
     }
 }

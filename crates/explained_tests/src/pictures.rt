@@ -135,17 +135,20 @@ fn too_many_stretches(rt: HostRuntime) -> Result<(), Fail> {
     Ok(())
 }
 
-const REASONS: [WhyNot; 10] = [
-    WhyNot::OtherConnector,
-    WhyNot::NoTransaction,
-    WhyNot::Hidden,
-    WhyNot::NotYetValid,
-    WhyNot::NoLongerValid,
-    WhyNot::BeforeAnchor,
-    WhyNot::PastDuration,
-    WhyNot::BeforeFirstPeriod,
-    WhyNot::BelowHigherLevel,
-    WhyNot::BehindTxProfile,
+const REASONS: [NoPart; 13] = [
+    NoPart::NotPrevailing(WhyNot::OtherConnector),
+    NoPart::NotPrevailing(WhyNot::NoTransaction),
+    NoPart::NotPrevailing(WhyNot::Hidden),
+    NoPart::NotPrevailing(WhyNot::NotYetValid),
+    NoPart::NotPrevailing(WhyNot::NoLongerValid),
+    NoPart::NotPrevailing(WhyNot::BeforeAnchor),
+    NoPart::NotPrevailing(WhyNot::PastDuration),
+    NoPart::NotPrevailing(WhyNot::BeforeFirstPeriod),
+    NoPart::NotPrevailing(WhyNot::BelowHigherLevel),
+    NoPart::NotPrevailing(WhyNot::BehindTxProfile),
+    NoPart::NoLimit,
+    NoPart::BehindOthers,
+    NoPart::NoActiveConnector,
 ];
 
 /// That each reason has a sentence of its own, and that it stands in table, JSON and page.
@@ -153,8 +156,7 @@ const REASONS: [WhyNot; 10] = [
 fn each_reason_has_its_sentence(rt: HostRuntime) -> Result<(), Fail> {
     let alloc = rt.alloc();
     let mut seen = String::from_str(alloc, sentence(NoPart::NotLeast))?;
-    for why in REASONS {
-        let reason = NoPart::NotPrevailing(why);
+    for reason in REASONS {
         let text = sentence(reason);
         assert!(rt;
             text.ends_with(".") && !seen.as_str().contains(text),

@@ -9,7 +9,7 @@ use std::test::Fail;
 
 /// A connector that is asked for a day, which of the two connectors have had a transaction since midnight, the rows of
 /// the point, and the reason of each row. One stretch begins at midnight and one at noon (43,200), and no profile sets
-/// the limit of either.
+/// the limit of either. A profile may prevail at one second alone, or for one of two connectors.
 const TOLD: &str = "\
 1 none | id=1 start=0; id=2 level=1 start=0 duration=43200 | NotLeast NotLeast
 1 none | id=2 level=1 start=0 duration=43200; id=1 start=0 | NotLeast NotLeast
@@ -22,9 +22,17 @@ const TOLD: &str = "\
 1 none | id=1 start=0 duration=0; id=2 level=1 start=0 periods=90000:160 | PastDuration BeforeFirstPeriod
 1 none | id=1 purpose=ChargePointMaxProfile start=0; id=2 purpose=ChargePointMaxProfile level=1 start=50000 | NotLeast NotLeast
 0 second | id=1 start=0; id=2 connector=1; id=3 connector=2 level=1 start=0 | BelowHigherLevel NoActiveConnector NotLeast
-0 both | id=1 start=0; id=2 connector=1 start=0; id=3 purpose=ChargePointMaxProfile start=0 | Hidden NotLeast NotLeast
+0 both | id=1 start=0; id=2 connector=1 start=0; id=3 purpose=ChargePointMaxProfile start=0 | NotLeast NotLeast NotLeast
 0 both | id=1 start=0; id=2 connector=1 level=1 start=0 duration=43200; id=3 connector=2 level=1 start=90000 | NotLeast NotLeast BeforeAnchor
-0 none | id=1 start=0 | NoActiveConnector";
+0 none | id=1 start=0 | NoActiveConnector
+1 none | id=1 start=0 duration=2; id=2 level=1 start=0 duration=1 | NotLeast NotLeast
+0 both | id=1 start=0; id=2 connector=1 start=0 | NotLeast NotLeast
+0 both | id=1 start=0; id=2 connector=1 start=0; id=3 connector=2 level=1 start=0 | BehindOthers NotLeast NotLeast
+1 none | id=1 start=0 duration=2; id=2 level=1 start=0 duration=3 | BehindOthers NotLeast
+1 first | id=1 start=0; id=2 level=1 start=0 duration=1; id=3 purpose=TxProfile connector=1 start=0 | BehindTxProfile BehindTxProfile NotLeast
+1 none | id=1 start=0 duration=1 from=2 | NoLimit
+1 none | id=1 kind=Recurring recurrency=Daily start=0 duration=0; id=2 level=1 kind=Recurring recurrency=Weekly start=0 periods=90000:160 | PastDuration BeforeFirstPeriod
+1 none | id=1 level=1 start=0 from=7200; id=2 start=0 duration=3600 | NotLeast NotLeast";
 
 #[test]
 fn each_row_has_its_reason(rt: HostRuntime) -> Result<(), Fail> {

@@ -66,6 +66,16 @@ pub object_of_two : (old : List ℕ) (middle : List (List ℕ × Option (List �
 unfolding later_fields_text
 object_of_two old middle key value name text s t u v x h i j k m = nested_object old [] middle [] key value name text s t u v v x h i j k (sym (append-nil v)) m
 
+-- Two fields, the second of them behind its key.
+pub fields_of_two : (old : List ℕ) (middle : List (List ℕ × Option (List ℕ)))
+    (key value name text s t u : List ℕ) → s ≡ old ++ fields_text ((key, Some value) ∷ middle)
+    → t ≡ s ++ (codes "," ++ string_text name ++ codes ":") → u ≡ t ++ text
+    → u ≡ old ++ fields_text ((key, Some value) ∷ (middle ++ ((name, Some text) ∷ [])))
+unfolding later_fields_text
+fields_of_two old middle key value name text s t u h i j =
+    fields_more old [] middle ((name, Some text) ∷ []) key value s u h
+    (later_field s name text [] t u u i j (sym (append-nil u)))
+
 -- An object's first field stands apart from what is written behind it.
 pub first_field : (key value : List ℕ) (fields : List (List ℕ × Option (List ℕ))) → object_text ((key, Some value) ∷ fields) ≡ first_field_text key value ++ (later_fields_text fields ++ codes "}")
 unfolding fields_text first_field_text later_fields_text object_text

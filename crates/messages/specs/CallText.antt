@@ -1,47 +1,22 @@
 -- What calls to a charge point look like, byte for byte: the keys in the order of OCPP 1.6,
 -- chapters 6 and 7, without those of absent fields, no blanks, limits with one decimal.
-use Rattle.std.specs.Prelude.{ℕ, List, [], ◌∷◌, ◌++◌, map, Option, Some, None, option_map, codes}
+use Rattle.std.specs.Prelude.{Bool, true, false, ℕ, ℤ, List, [], ◌∷◌, ◌++◌, map, Option, Some, option_map, codes}
+use Rattle.std.specs.List.{filter_map}
 use Rattle.std.specs.Fmt.{decimal, signed_decimal}
 use Rattle.ocpp_scalars.specs.Writing.{tenths_text}
 use Rattle.ocppj_frame.specs.Write as frames
 use Rattle.profile.specs.declared.charging_profile.Profile.{Profile}
 use Rattle.profile.specs.declared.criteria.Criteria.{Criteria}
-use Rattle.profile.specs.declared.kind.Kind.{Kind}
-use Rattle.profile.specs.declared.kind.Kind.TheVariants.{Absolute, Recurring, Relative}
-use Rattle.profile.specs.declared.kind.Recurrency.{Recurrency}
-use Rattle.profile.specs.declared.kind.Recurrency.TheVariants.{Daily, Weekly}
 use Rattle.profile.specs.declared.period.Period.{Period}
 use Rattle.profile.specs.declared.purpose.Purpose.{Purpose}
-use Rattle.profile.specs.declared.purpose.Purpose.TheVariants.{ChargePointMaxProfile, TxDefaultProfile, TxProfile}
 use Rattle.profile.specs.declared.schedule.Schedule.{Schedule}
 use Rattle.messages.specs.ObjectText.{list_text, object_text, string_text, time_text}
-use Rattle.messages.specs.ResponseText.{unit_text}
+use Rattle.messages.specs.Names.{kind_name, purpose_name, recurrency_name, recurrency_of, unit_text}
 use Rattle.messages.specs.declared.call.Call.{Call}
 use Rattle.messages.specs.declared.call.CallBody.{CallBody}
 use Rattle.messages.specs.declared.call.CallBody.TheVariants.{Clear, Set}
-
--- OCPP 1.6, chapter 7, ChargingProfilePurposeType
-abbrev pub purpose_name : Purpose → List ℕ
-purpose_name ChargePointMaxProfile = codes "ChargePointMaxProfile"
-purpose_name TxDefaultProfile = codes "TxDefaultProfile"
-purpose_name TxProfile = codes "TxProfile"
-
--- OCPP 1.6, chapter 7, ChargingProfileKindType
-abbrev pub kind_name : Kind → List ℕ
-kind_name Absolute = codes "Absolute"
-kind_name (Recurring recurrency) = codes "Recurring"
-kind_name Relative = codes "Relative"
-
--- a Recurring profile alone has one
-abbrev pub recurrency_of : Kind → Option Recurrency
-recurrency_of Absolute = None
-recurrency_of (Recurring recurrency) = Some recurrency
-recurrency_of Relative = None
-
--- OCPP 1.6, chapter 7, RecurrencyKindType
-abbrev pub recurrency_name : Recurrency → List ℕ
-recurrency_name Daily = codes "Daily"
-recurrency_name Weekly = codes "Weekly"
+use Rattle.messages.specs.declared.call_text.Criterion.{Criterion}
+use Rattle.messages.specs.declared.call_text.Criterion.TheVariants as criterion
 
 -- OCPP 1.6, chapter 7, ChargingSchedulePeriod
 unfoldable pub period_text : Period → List ℕ
@@ -79,30 +54,79 @@ profile_text profile =
     object_text (own_fields profile
     ++ ((codes "chargingSchedule", Some (schedule_text profile.schedule)) ∷ []))
 
--- OCPP 1.6, chapter 6, SetChargingProfile.req
-unfoldable pub set_text : ℕ → Profile → List ℕ
-set_text connector profile = object_text (
-    (codes "connectorId", Some (decimal connector))
-    ∷ (codes "csChargingProfiles", Some (profile_text profile))
-    ∷ [])
-
 -- OCPP 1.6, chapter 6, ClearChargingProfile.req: the criteria as they were given
-unfoldable pub clear_text : Criteria → List ℕ
-clear_text criteria = object_text (
+abbrev pub clear_fields : Criteria → List (List ℕ × Option (List ℕ))
+clear_fields criteria =
     (codes "id", option_map signed_decimal criteria.id)
     ∷ (codes "connectorId", option_map decimal criteria.connector)
     ∷ (codes "chargingProfilePurpose", option_map (λ p. string_text (purpose_name p)) criteria.purpose)
     ∷ (codes "stackLevel", option_map decimal criteria.stack_level)
-    ∷ [])
+    ∷ []
+
+-- OCPP 1.6, chapter 6, SetChargingProfile.req
+abbrev pub set_fields : ℕ → Profile → List (List ℕ × Option (List ℕ))
+set_fields connector profile =
+    (codes "connectorId", Some (decimal connector))
+    ∷ (codes "csChargingProfiles", Some (profile_text profile))
+    ∷ []
 
 abbrev pub action_name : CallBody → List ℕ
 action_name (Clear criteria) = codes "ClearChargingProfile"
 action_name (Set connector profile) = codes "SetChargingProfile"
 
+-- the fields of a call's payload
+abbrev pub payload_fields : CallBody → List (List ℕ × Option (List ℕ))
+payload_fields (Clear criteria) = clear_fields criteria
+payload_fields (Set connector profile) = set_fields connector profile
+
 abbrev pub payload_text : CallBody → List ℕ
-payload_text (Clear criteria) = clear_text criteria
-payload_text (Set connector profile) = set_text connector profile
+payload_text body = object_text (payload_fields body)
 
 -- the text of a CALL (OCPP-J 1.6, 4.2.1), whose message id is its number in decimal
 abbrev pub call_text : Call → List ℕ
-call_text call = frames.call_text (decimal call.number) (action_name call.body) (payload_text call.body)
+call_text call =
+    frames.call_text (decimal call.number) (action_name call.body) (payload_text call.body)
+
+-- ---- what a call is about, in words for people
+
+-- the criteria of a clear, where they are given
+abbrev pub criteria_given : Criteria → List (Option Criterion)
+criteria_given criteria =
+    option_map criterion.Id criteria.id
+    ∷ option_map criterion.Connector criteria.connector
+    ∷ option_map criterion.Purpose criteria.purpose
+    ∷ option_map criterion.StackLevel criteria.stack_level
+    ∷ []
+
+abbrev pub criterion_words : Criterion → List ℕ
+criterion_words (criterion.Id id) = codes "id " ++ signed_decimal id
+criterion_words (criterion.Connector connector) = codes "connector " ++ decimal connector
+criterion_words (criterion.Purpose purpose) = purpose_name purpose
+criterion_words (criterion.StackLevel level) = codes "stack level " ++ decimal level
+
+abbrev pub later_words : List Criterion → List ℕ
+later_words [] = []
+later_words (first ∷ rest) = codes ", " ++ criterion_words first ++ later_words rest
+
+-- a clear without a criterion is of every profile
+abbrev pub words_of : List Criterion → List ℕ
+words_of [] = codes "every profile"
+words_of (first ∷ rest) = criterion_words first ++ later_words rest
+
+-- what is left of the criteria, by whether some of them are written
+abbrev pub rest_of_words : Bool → List Criterion → List ℕ
+rest_of_words false criteria = words_of criteria
+rest_of_words true criteria = later_words criteria
+
+abbrev pub criteria_text : List (Option Criterion) → List ℕ
+criteria_text criteria = words_of (filter_map (λ given. given) criteria)
+
+-- a profile by its purpose and its id
+abbrev pub profile_words : Purpose → ℤ → List ℕ
+profile_words purpose id = purpose_name purpose ++ (codes " " ++ signed_decimal id)
+
+-- which profiles a call is about
+abbrev pub subject_text : CallBody → List ℕ
+subject_text (Clear criteria) = criteria_text (criteria_given criteria)
+subject_text (Set connector profile) =
+    profile_words profile.purpose profile.id ++ (codes " at connector " ++ decimal connector)

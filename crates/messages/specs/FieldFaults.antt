@@ -1,118 +1,114 @@
--- The fields of each action, in the order in which they are checked, each with its fault where it
--- has one (OCPP 1.6, chapters 6 and 7). By the law `first_faults` an action is read exactly where
--- none has one, and else its fault is the first.
-use Rattle.std.specs.Prelude.{◌≡◌, List, [], ◌∷◌, ◌++◌, Option, Some, None}
+-- The faults of fields, by the tables of fields in `ActionKind` and `FieldRow` (OCPP 1.6, chapters 6
+-- and 7). By the law `first_faults` an action is read exactly where no field of its table has a fault,
+-- and else its fault is the first: so what is read is what the tables say.
+use Rattle.std.specs.Prelude.{◌≡◌, ℕ, zero, suc, Bool, true, false, List, [], ◌∷◌, ◌++◌, Option, Some, None}
 use Rattle.std.specs.List.{AllByRecursion, flat_map}
 use Rattle.std.specs.Result.{result_err}
 use Rattle.ocppj_frame.specs.declared.field.Field.{Field}
 use Rattle.ocppj_frame.specs.declared.field.Field.TheVariants.{Value}
-use Rattle.ocppj_frame.specs.Tree.{Tree, null}
+use Rattle.ocppj_frame.specs.Tree.{Tree}
 use Rattle.profile.specs.Names.{purpose_named, kind_named, recurrency_named, unit_named}
 use Rattle.messages.specs.declared.action_kind.ActionKind.{ActionKind}
-use Rattle.messages.specs.declared.action_kind.ActionKind.TheVariants.{SetChargingProfile, ClearChargingProfile, GetCompositeSchedule, StartTransaction, StopTransaction}
 use Rattle.messages.specs.declared.field_name.FieldName.{FieldName}
-use Rattle.messages.specs.declared.field_name.FieldName.TheVariants.{ChargingProfileId, ChargingProfileKind, ChargingProfilePurpose, ChargingRateUnit, ChargingSchedule, ChargingSchedulePeriod, ConnectorId, CsChargingProfiles, Duration, Id, Limit, MeterStart, MinChargingRate, NumberPhases, RecurrencyKind, StackLevel, StartPeriod, StartSchedule, Timestamp, TransactionId, ValidFrom, ValidTo}
+use Rattle.messages.specs.declared.field_row.FieldKind.{FieldKind}
+use Rattle.messages.specs.declared.field_row.FieldKind.TheVariants.{Whole, WholeFromZero, Tenths, Time, IdToken, PurposeName, KindName, RecurrencyName, UnitName, Object, Objects}
+use Rattle.messages.specs.declared.field_row.ObjectKind.{ObjectKind}
+use Rattle.messages.specs.declared.field_row.FieldRow.{FieldRow}
+use Rattle.messages.specs.declared.field_row.FieldRow.TheVariants.{Required, Optional}
 use Rattle.messages.specs.declared.fields.NamedField.{NamedField}
 use Rattle.messages.specs.declared.call_fault.CallFault.{CallFault}
 use Rattle.messages.specs.declared.call_fault.CallFault.TheVariants.{OccurenceConstraintViolation}
-use Rattle.messages.specs.Fields.{required, optional, whole, whole_from_zero, tenths, instant, one_name_of, list, object}
-use Rattle.messages.specs.PointActions.{id_tag_of}
-use Rattle.messages.specs.ProfileFields.{as_period}
+use Rattle.messages.specs.ActionKind.{fields_of}
+use Rattle.messages.specs.FieldRow.{fields_in}
+use Rattle.messages.specs.Fields.{required, optional, whole, whole_from_zero, tenths, instant, one_name_of, list, object, text, as_object, as_id_tag}
 
--- The fault of a field that has to be there, if it has one.
-abbrev pub must_be : {A : Type 0} → NamedField A → Option CallFault
-must_be field = result_err (required field)
+-- The fields of an object in the order in which they are checked, each with its fault if it has one.
+abbrev pub Checked : Type 0
+Checked = List (Option CallFault)
 
--- The fault of a field that may be absent, if it has one.
-abbrev pub may_be : {A : Type 0} → NamedField A → Option CallFault
-may_be field = result_err (optional field)
+-- ---- a field
 
-abbrev pub value_or : {A : Type 0} → A → Field A → A
-value_or default (Value x) = x
-value_or default _ = default
+-- The fault of a field that has to be there, or that may be absent.
+abbrev pub fault_of : {A : Type 0} → Bool → NamedField A → Option CallFault
+fault_of true field = result_err (required field)
+fault_of false field = result_err (optional field)
 
--- The object and the entries of a field; where the field has a fault, that comes before those of
--- what stands in it.
-abbrev pub object_at : Tree → FieldName → Tree
-object_at fields name = value_or null (object fields name).field
+abbrev pub own_fault : Bool → FieldKind → Tree → FieldName → Option CallFault
+own_fault must Whole fields name = fault_of must (whole fields name)
+own_fault must WholeFromZero fields name = fault_of must (whole_from_zero fields name)
+own_fault must Tenths fields name = fault_of must (tenths fields name)
+own_fault must Time fields name = fault_of must (instant fields name)
+own_fault must IdToken fields name = fault_of must (text fields name)
+own_fault must PurposeName fields name = fault_of must (one_name_of purpose_named fields name)
+own_fault must KindName fields name = fault_of must (one_name_of kind_named fields name)
+own_fault must RecurrencyName fields name =
+    fault_of must (one_name_of recurrency_named fields name)
+own_fault must UnitName fields name = fault_of must (one_name_of unit_named fields name)
+own_fault must (Object kind) fields name = fault_of must (object fields name)
+own_fault must (Objects kind) fields name = fault_of must (list fields name)
 
-abbrev pub entries_at : Tree → FieldName → List Tree
-entries_at fields name = value_or [] (list fields name).field
+-- ---- what stands in a field
 
--- ---- chapter 7, ChargingProfile
+-- Where there is nothing, it has no fault.
+abbrev pub faults_of_value : {A : Type 0} → (A → Checked) → Field A → Checked
+faults_of_value inner (Value x) = inner x
+faults_of_value inner _ = []
 
-abbrev pub period_faults : Tree → List (Option CallFault)
-period_faults entry =
-    result_err (as_period entry)
-    ∷ must_be (whole_from_zero entry StartPeriod)
-    ∷ must_be (tenths entry Limit)
-    ∷ may_be (whole_from_zero entry NumberPhases)
-    ∷ []
+abbrev pub id_tag_faults : FieldName → List ℕ → Checked
+id_tag_faults name tag = result_err (as_id_tag name tag) ∷ []
 
--- A required list that is empty counts as absent.
-abbrev pub empty_fault : List Tree → Option CallFault
-empty_fault [] = Some (OccurenceConstraintViolation ChargingSchedulePeriod)
-empty_fault (entry ∷ entries) = None
+-- An entry of a list has to be an object.
+abbrev pub entry_faults : (Tree → Checked) → FieldName → Tree → Checked
+entry_faults inner name entry = result_err (as_object name entry) ∷ inner entry
 
-abbrev pub schedule_faults : Tree → List (Option CallFault)
-schedule_faults fields =
-    may_be (whole_from_zero fields Duration)
-    ∷ may_be (instant fields StartSchedule)
-    ∷ must_be (one_name_of unit_named fields ChargingRateUnit)
-    ∷ must_be (list fields ChargingSchedulePeriod)
-    ∷ (flat_map period_faults (entries_at fields ChargingSchedulePeriod)
-    ++ (empty_fault (entries_at fields ChargingSchedulePeriod)
-    ∷ may_be (tenths fields MinChargingRate)
-    ∷ []))
+-- A list that is empty counts as absent.
+abbrev pub empty_fault : FieldName → List Tree → Option CallFault
+empty_fault name [] = Some (OccurenceConstraintViolation name)
+empty_fault name (entry ∷ entries) = None
 
-abbrev pub profile_faults : Tree → List (Option CallFault)
-profile_faults fields =
-    must_be (whole fields ChargingProfileId)
-    ∷ may_be (whole fields TransactionId)
-    ∷ must_be (whole_from_zero fields StackLevel)
-    ∷ must_be (one_name_of purpose_named fields ChargingProfilePurpose)
-    ∷ must_be (one_name_of kind_named fields ChargingProfileKind)
-    ∷ may_be (one_name_of recurrency_named fields RecurrencyKind)
-    ∷ may_be (instant fields ValidFrom)
-    ∷ may_be (instant fields ValidTo)
-    ∷ must_be (object fields ChargingSchedule)
-    ∷ schedule_faults (object_at fields ChargingSchedule)
+abbrev pub entries_faults : (Tree → Checked) → FieldName → List Tree → Checked
+entries_faults inner name entries =
+    flat_map (entry_faults inner name) entries ++ (empty_fault name entries ∷ [])
 
--- ---- chapter 6, the .req payloads; the fields of the other actions aren't looked at
+-- The faults inside a field of a kind, of which objects have those that `inner` says.
+abbrev pub inside_faults : (ObjectKind → Tree → Checked) → FieldKind → Tree → FieldName → Checked
+inside_faults inner IdToken fields name =
+    faults_of_value (id_tag_faults name) (text fields name).field
+inside_faults inner (Object kind) fields name =
+    faults_of_value (inner kind) (object fields name).field
+inside_faults inner (Objects kind) fields name =
+    faults_of_value (entries_faults (inner kind) name) (list fields name).field
+inside_faults inner kind fields name = []
 
-abbrev pub field_faults : ActionKind → Tree → List (Option CallFault)
-field_faults SetChargingProfile payload =
-    must_be (whole_from_zero payload ConnectorId)
-    ∷ must_be (object payload CsChargingProfiles)
-    ∷ profile_faults (object_at payload CsChargingProfiles)
-field_faults ClearChargingProfile payload =
-    may_be (whole payload Id)
-    ∷ may_be (whole_from_zero payload ConnectorId)
-    ∷ may_be (one_name_of purpose_named payload ChargingProfilePurpose)
-    ∷ may_be (whole_from_zero payload StackLevel)
-    ∷ []
-field_faults GetCompositeSchedule payload =
-    must_be (whole_from_zero payload ConnectorId)
-    ∷ must_be (whole_from_zero payload Duration)
-    ∷ may_be (one_name_of unit_named payload ChargingRateUnit)
-    ∷ []
-field_faults StartTransaction payload =
-    must_be (whole_from_zero payload ConnectorId)
-    ∷ result_err (id_tag_of payload)
-    ∷ must_be (whole payload MeterStart)
-    ∷ must_be (instant payload Timestamp)
-    ∷ []
-field_faults StopTransaction payload = must_be (whole payload TransactionId) ∷ []
-field_faults _ payload = []
+-- ---- tables of fields
+
+abbrev pub row_faults : (ObjectKind → Tree → Checked) → Tree → FieldRow → Checked
+row_faults inner fields (Required name kind) =
+    own_fault true kind fields name ∷ inside_faults inner kind fields name
+row_faults inner fields (Optional name kind) =
+    own_fault false kind fields name ∷ inside_faults inner kind fields name
+
+-- The faults of the fields of a table, down to so many objects in one another.
+abbrev pub faults_down : ℕ → List FieldRow → Tree → Checked
+faults_down zero rows fields = []
+faults_down (suc depth) rows fields =
+    flat_map (row_faults (λ kind inside. faults_down depth (fields_in kind) inside) fields) rows
+
+-- a payload, in it a profile, in that its schedule, in that its periods
+abbrev pub deepest : ℕ
+deepest = 4
+
+abbrev pub field_faults : ActionKind → Tree → Checked
+field_faults kind payload = faults_down deepest (fields_of kind) payload
 
 -- ---- the first of them
 
-abbrev pub HaveNoFault : List (Option CallFault) → Type 0
+abbrev pub HaveNoFault : Checked → Type 0
 HaveNoFault fields = AllByRecursion (λ field. field ≡ None) fields
 
 -- A fault that a field has, where none before it has one.
-pub record IsFirstFault (fields : List (Option CallFault)) (fault : CallFault) : Type 0 where
-  pub before : List (Option CallFault)
-  pub after : List (Option CallFault)
+pub record IsFirstFault (fields : Checked) (fault : CallFault) : Type 0 where
+  pub before : Checked
+  pub after : Checked
   pub stands : fields ≡ before ++ (Some fault ∷ after)
   pub none_before : HaveNoFault before

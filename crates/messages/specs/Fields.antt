@@ -1,9 +1,11 @@
 -- The fields of an object: what stands at a field's name, and which fault it is where that won't do
 -- (OCPP-J 1.6, 4.2.3, for the three faults).
-use Rattle.std.specs.Prelude.{ℕ, ℤ, pos, negsuc, List, Option, Some, None, Result, Ok, Err}
+use Rattle.std.specs.Prelude.{ℕ, ℤ, pos, negsuc, nat_le, List, length, Option, Some, None, Result, Ok, Err, if◌then◌else◌}
+use Rattle.std.specs.Str.{chars}
+use Rattle.ocpp_scalars.specs.Limits.{max_id_tag_characters}
 use Rattle.ocppj_frame.specs.declared.field.Field.{Field}
 use Rattle.ocppj_frame.specs.declared.field.Field.TheVariants.{Absent, WrongKind, WrongValue, Value}
-use Rattle.ocppj_frame.specs.Tree.{Tree}
+use Rattle.ocppj_frame.specs.Tree.{Tree, is_object}
 use Rattle.ocppj_frame.specs.Field.{text_field_of, whole_field_of, tenths_field_of, instant_field_of, list_field_of, object_field_of}
 use Rattle.messages.specs.declared.field_name.FieldName.{FieldName}
 use Rattle.messages.specs.declared.fields.NamedField.{NamedField}
@@ -76,5 +78,15 @@ list fields name = record { name = name; field = list_field_of (field_name name)
 unfoldable pub object : Tree → FieldName → NamedField Tree
 object fields name = record { name = name; field = object_field_of (field_name name) fields }
 
+-- an entry of a list that has to be an object
+abbrev pub as_object : FieldName → Tree → Result Tree CallFault
+as_object name entry = if is_object entry then Ok entry else Err (TypeConstraintViolation name)
+
 unfoldable pub text : Tree → FieldName → NamedField (List ℕ)
 text fields name = record { name = name; field = text_field_of (field_name name) fields }
+
+-- an idTag is a text of at most so many characters (chapter 7, IdToken)
+abbrev pub as_id_tag : FieldName → List ℕ → Result (List ℕ) CallFault
+as_id_tag name tag =
+    if nat_le (length (chars tag)) max_id_tag_characters then Ok tag
+    else Err (PropertyConstraintViolation name)

@@ -1,13 +1,14 @@
 pub mod FieldName
 pub mod CallFault
+pub mod FixedAnswer
+pub mod FieldRow
 pub mod ActionKind
 pub mod Fields
 pub mod ProfileFields
-pub mod OperatorActions
-pub mod PointActions
 pub mod Action
 pub mod FieldFaults
-pub mod ResponseText
+pub mod Names
 pub mod ObjectText
+pub mod ResponseText
 pub mod CallText
 pub mod ByCases

@@ -1,24 +1,20 @@
 -- The fields of a charging profile, in the order in which they are checked (OCPP 1.6, chapter 7).
-use Rattle.std.specs.Prelude.{List, [], ◌∷◌, Result, Ok, Err, if◌then◌else◌}
+use Rattle.std.specs.Prelude.{List, [], ◌∷◌, Result, Ok, Err}
 use Rattle.ocpp_scalars.specs.ResultSteps.{◌>>=◌}
-use Rattle.ocppj_frame.specs.Tree.{Tree, is_object}
+use Rattle.ocppj_frame.specs.Tree.{Tree}
 use Rattle.profile.specs.declared.period.Period.{Period}
 use Rattle.profile.specs.declared.parts.ProfileParts.{ProfileParts}
 use Rattle.profile.specs.declared.parts.ScheduleParts.{ScheduleParts}
 use Rattle.messages.specs.declared.field_name.FieldName.TheVariants.{ChargingProfileId, ChargingProfileKind, ChargingProfilePurpose, ChargingRateUnit, ChargingSchedule, ChargingSchedulePeriod, Duration, Limit, MinChargingRate, NumberPhases, RecurrencyKind, StackLevel, StartPeriod, StartSchedule, TransactionId, ValidFrom, ValidTo}
 use Rattle.messages.specs.declared.call_fault.CallFault.{CallFault}
-use Rattle.messages.specs.declared.call_fault.CallFault.TheVariants.{OccurenceConstraintViolation, TypeConstraintViolation}
+use Rattle.messages.specs.declared.call_fault.CallFault.TheVariants.{OccurenceConstraintViolation}
 use Rattle.profile.specs.Names.{purpose_named, kind_named, recurrency_named, unit_named}
-use Rattle.messages.specs.Fields.{required, optional, whole, whole_from_zero, tenths, instant, one_name_of, list, object}
-
--- An entry of chargingSchedulePeriod has to be an object
-abbrev pub as_period : Tree → Result Tree CallFault
-as_period entry = if is_object entry then Ok entry else Err (TypeConstraintViolation ChargingSchedulePeriod)
+use Rattle.messages.specs.Fields.{required, optional, whole, whole_from_zero, tenths, instant, one_name_of, list, object, as_object}
 
 -- ChargingSchedulePeriod
 unfoldable pub period_of : Tree → Result Period CallFault
 period_of entry = do
-  fields ← as_period entry
+  fields ← as_object ChargingSchedulePeriod entry
   start ← required (whole_from_zero fields StartPeriod)
   limit ← required (tenths fields Limit)
   number_phases ← optional (whole_from_zero fields NumberPhases)

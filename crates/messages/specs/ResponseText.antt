@@ -5,7 +5,6 @@ use Rattle.ocpp_scalars.specs.declared.refusal.Refusal.{Refusal}
 use Rattle.ocpp_scalars.specs.Refusal.{refusal_name}
 use Rattle.ocpp_scalars.specs.Writing.{tenths_text}
 use Rattle.profile.specs.declared.unit.Unit.{Unit}
-use Rattle.profile.specs.declared.unit.Unit.TheVariants.{A, W}
 use Rattle.meaning.specs.Composite.{CompositeSchedule}
 use Rattle.meaning.specs.declared.composite.CompositePeriod.{CompositePeriod}
 use Rattle.ocpp_scalars.specs.declared.refusal.Refusal.TheVariants.{OutOfMemory}
@@ -15,6 +14,7 @@ use Rattle.messages.specs.declared.response.Response.TheVariants.{Accepted, Reje
 use Rattle.messages.specs.declared.response.Response.TheVariants as responses
 use Rattle.messages.specs.declared.response.ScheduleResponse.{ScheduleResponse}
 use Rattle.messages.specs.ObjectText.{list_text, object_text, string_text, time_text}
+use Rattle.messages.specs.Names.{unit_text}
 use Rattle.messages.specs.CallFault.{fault_code, fault_description}
 
 -- OCPP 1.6, chapter 6, SetChargingProfile.conf, ClearChargingProfile.conf, DataTransfer.conf, and
@@ -54,10 +54,6 @@ rejected_text refusal = object_text (
     (codes "status", Some (string_text (codes "Rejected")))
     ∷ (codes "reason", Some (string_text (refusal_name refusal)))
     ∷ [])
-
-abbrev pub unit_text : Unit → List ℕ
-unit_text A = codes "A"
-unit_text W = codes "W"
 
 -- OCPP 1.6, chapter 7, ChargingSchedulePeriod, of a composite schedule
 unfoldable pub composite_period_text : CompositePeriod → List ℕ

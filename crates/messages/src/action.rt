@@ -1,17 +1,22 @@
-//! What a CALL asks for, read from its action and its payload.
-ghost use Rattle.std.specs.Prelude.{◌≡◌, IfOk, Some};
+//! What a CALL asks for, read from its action and its payload: the fields of each action, in the order
+//! in which they are checked.
+ghost use Rattle.std.specs.Prelude.{◌≡◌, Some};
 ghost use Rattle.ocppj_frame.specs.Frame.{message_in};
 ghost use Rattle.ocppj_frame.specs.Payload.{tree_at};
-ghost use Rattle.messages.specs.Action.{action_of_kind, action_in, kind_asked, NeedsNoMemory};
+ghost use Rattle.messages.specs.Action.{action_answered, action_in, action_of_kind, kind_asked, NeedsNoMemory};
+ghost use Rattle.messages.specs.Action.{set_charging_profile_of, clear_charging_profile_of, get_composite_schedule_of, start_transaction_of, stop_transaction_of, id_tag_of};
 ghost use Rattle.ocpp_scalars.specs.Reading.{ReadsUnless};
 ghost use Rattle.messages.specs.CallFault.{is_memory};
 
 use crate::action_kind::ActionKind;
 use crate::call_fault::CallFault;
-use crate::operator_actions::{
-    read_clear_charging_profile, read_get_composite_schedule, read_set_charging_profile,
+use crate::field_name::FieldName::{
+    self, ChargingProfilePurpose, ChargingRateUnit, ConnectorId, CsChargingProfiles, Duration, Id,
+    MeterStart, StackLevel, Timestamp, TransactionId,
 };
-use crate::point_actions::{read_start_transaction, read_stop_transaction};
+use crate::fields::{instant, one_name_of, required_object, required_text, whole, whole_from_zero};
+use crate::fixed_answer::FixedAnswer;
+use crate::profile_fields::read_profile;
 use ocpp_scalars::{IdTag, Instant};
 use ocppj_frame::{Frame, Node};
 use profile::{Criteria, ProfileParts, Unit};
@@ -26,17 +31,11 @@ pub enum Action {
     },
     ClearChargingProfile(Criteria),
     GetCompositeSchedule(ScheduleRequest),
-    BootNotification,
-    Heartbeat,
-    Authorize,
     StartTransaction(StartTransaction),
     /// The transaction's number.
     StopTransaction(i32),
-    StatusNotification,
-    MeterValues,
-    FirmwareStatusNotification,
-    DiagnosticsStatusNotification,
-    DataTransfer,
+    /// An action whose fields aren't looked at, with what it is answered.
+    Answered(FixedAnswer),
     /// The message is no CALL, and so asks for nothing.
     NotACall,
 }
@@ -101,15 +100,101 @@ pub fn read_fields(
         ActionKind::SetChargingProfile => read_set_charging_profile(alloc, payload),
         ActionKind::ClearChargingProfile => read_clear_charging_profile(payload),
         ActionKind::GetCompositeSchedule => read_get_composite_schedule(payload),
-        ActionKind::BootNotification => Ok(Action::BootNotification),
-        ActionKind::Heartbeat => Ok(Action::Heartbeat),
-        ActionKind::Authorize => Ok(Action::Authorize),
         ActionKind::StartTransaction => read_start_transaction(alloc, payload),
         ActionKind::StopTransaction => read_stop_transaction(payload),
-        ActionKind::StatusNotification => Ok(Action::StatusNotification),
-        ActionKind::MeterValues => Ok(Action::MeterValues),
-        ActionKind::FirmwareStatusNotification => Ok(Action::FirmwareStatusNotification),
-        ActionKind::DiagnosticsStatusNotification => Ok(Action::DiagnosticsStatusNotification),
-        ActionKind::DataTransfer => Ok(Action::DataTransfer),
+        _ => answered(kind.fixed_answer()),
     }
+}
+
+/// An action whose fields aren't looked at.
+fn answered(answer: Option<FixedAnswer>) -> Result<Action, CallFault>
+    ensures { result ≡ action_answered answer }
+{
+    answer
+        .map(Action::Answered)
+        .ok_or(CallFault::NotImplemented)
+}
+
+// ---- the fields of operators' actions
+
+/// Chapter 6, SetChargingProfile.req.
+#[tactic(auto, unfolding(crate::specs::Action::set_charging_profile_of))]
+fn read_set_charging_profile(alloc: Global, payload: Node<'_, '_>) -> Result<Action, CallFault>
+    ensures { ReadsUnless is_memory (λ action. action) result
+        (set_charging_profile_of (tree_at payload.entry)) }
+{
+    let connector = whole_from_zero(payload, ConnectorId).required()?;
+    let fields = required_object(payload, CsChargingProfiles)?;
+    let profile = read_profile(alloc, fields)?;
+    Ok(Action::SetChargingProfile { connector, profile })
+}
+
+/// Chapter 6, ClearChargingProfile.req.
+#[tactic(auto, unfolding(crate::specs::Action::clear_charging_profile_of))]
+fn read_clear_charging_profile(payload: Node<'_, '_>) -> Result<Action, CallFault>
+    ensures { result ≡ clear_charging_profile_of (tree_at payload.entry) }
+{
+    let id = whole(payload, Id).optional()?;
+    let connector = whole_from_zero(payload, ConnectorId).optional()?;
+    let purpose = one_name_of(payload, ChargingProfilePurpose).optional()?;
+    let stack_level = whole_from_zero(payload, StackLevel).optional()?;
+    Ok(Action::ClearChargingProfile(Criteria {
+        id,
+        connector,
+        purpose,
+        stack_level,
+    }))
+}
+
+/// Chapter 6, GetCompositeSchedule.req.
+#[tactic(auto, unfolding(crate::specs::Action::get_composite_schedule_of))]
+fn read_get_composite_schedule(payload: Node<'_, '_>) -> Result<Action, CallFault>
+    ensures { result ≡ get_composite_schedule_of (tree_at payload.entry) }
+{
+    let connector = whole_from_zero(payload, ConnectorId).required()?;
+    let duration = whole_from_zero(payload, Duration).required()?;
+    let unit = one_name_of(payload, ChargingRateUnit).optional()?;
+    Ok(Action::GetCompositeSchedule(ScheduleRequest {
+        connector,
+        duration,
+        unit,
+    }))
+}
+
+// ---- the fields of points' actions
+
+/// Chapter 6, StartTransaction.req.
+#[tactic(auto, unfolding(crate::specs::Action::start_transaction_of))]
+fn read_start_transaction(alloc: Global, payload: Node<'_, '_>) -> Result<Action, CallFault>
+    ensures { ReadsUnless is_memory (λ action. action) result
+        (start_transaction_of (tree_at payload.entry)) }
+{
+    let connector = whole_from_zero(payload, ConnectorId).required()?;
+    let id_tag = read_id_tag(alloc, payload)?;
+    let meter_start = whole(payload, MeterStart).required()?;
+    let timestamp = instant(payload, Timestamp).required()?;
+    Ok(Action::StartTransaction(StartTransaction {
+        connector,
+        id_tag,
+        meter_start,
+        timestamp,
+    }))
+}
+
+/// The idTag: a text of at most 20 characters (chapter 7, IdToken).
+#[tactic(auto, unfolding(crate::specs::Action::id_tag_of))]
+fn read_id_tag(alloc: Global, payload: Node<'_, '_>) -> Result<IdTag, CallFault>
+    ensures { ReadsUnless is_memory (λ id_tag. id_tag) result (id_tag_of (tree_at payload.entry)) }
+{
+    let tag = required_text(payload, FieldName::IdTag)?;
+    IdTag::try_copy(alloc, tag)?.ok_or(CallFault::PropertyConstraintViolation(FieldName::IdTag))
+}
+
+/// Chapter 6, StopTransaction.req, of which the transaction alone is looked at.
+#[tactic(auto, unfolding(crate::specs::Action::stop_transaction_of))]
+fn read_stop_transaction(payload: Node<'_, '_>) -> Result<Action, CallFault>
+    ensures { result ≡ stop_transaction_of (tree_at payload.entry) }
+{
+    let transaction = whole(payload, TransactionId).required()?;
+    Ok(Action::StopTransaction(transaction))
 }

@@ -1,9 +1,20 @@
-//! The actions by name, and who sends each.
-ghost use Rattle.std.specs.Prelude.{◌≡◌};
-ghost use Rattle.messages.specs.ActionKind.{action_named, side_of_kind};
+//! The table of actions: of each its name, who sends it, what it is answered where its fields aren't
+//! looked at, and else its fields.
 
-use crate::side::Side;
-use profile::named_in;
+ghost use Rattle.std.specs.Prelude.{◌≡◌, [], Some, None};
+ghost use Rattle.messages.specs.ActionKind.{action_kinds, action_named, answer_of_kind, fields_of, kind_in, kind_of_sender, name_of_kind, row_of, side_of_kind};
+
+use crate::field_name::FieldName::{
+    ChargingProfilePurpose, ChargingRateUnit, ConnectorId, CsChargingProfiles, Duration, Id, IdTag,
+    MeterStart, StackLevel, Timestamp, TransactionId,
+};
+use crate::field_row::FieldKind::{
+    IdToken, Object, PurposeName, Time, UnitName, Whole, WholeFromZero,
+};
+use crate::field_row::FieldRow::{self, Optional, Required};
+use crate::field_row::ObjectKind;
+use crate::fixed_answer::FixedAnswer;
+use crate::side::Side::{self, Operator, Point};
 
 /// The actions that are known (chapters 4.1 to 4.10 and 5), without their fields.
 #[derive(Clone, Copy, Debug, PartialEq, Eq)]
@@ -23,56 +34,197 @@ pub enum ActionKind {
     DataTransfer,
 }
 
-/// The actions by their names.
-const ACTIONS: [(&str, ActionKind); 13] = [
-    ("SetChargingProfile", ActionKind::SetChargingProfile),
-    ("ClearChargingProfile", ActionKind::ClearChargingProfile),
-    ("GetCompositeSchedule", ActionKind::GetCompositeSchedule),
-    ("BootNotification", ActionKind::BootNotification),
-    ("Heartbeat", ActionKind::Heartbeat),
-    ("Authorize", ActionKind::Authorize),
-    ("StartTransaction", ActionKind::StartTransaction),
-    ("StopTransaction", ActionKind::StopTransaction),
-    ("StatusNotification", ActionKind::StatusNotification),
-    ("MeterValues", ActionKind::MeterValues),
-    (
-        "FirmwareStatusNotification",
-        ActionKind::FirmwareStatusNotification,
-    ),
-    (
-        "DiagnosticsStatusNotification",
-        ActionKind::DiagnosticsStatusNotification,
-    ),
-    ("DataTransfer", ActionKind::DataTransfer),
+/// SetChargingProfile.req (chapter 6). These are the fields that are looked at, in the order in which
+/// they are checked.
+const SET_FIELDS: &[FieldRow] = &[
+    Required(ConnectorId, WholeFromZero),
+    Required(CsChargingProfiles, Object(ObjectKind::Profile)),
 ];
 
+/// ClearChargingProfile.req.
+const CLEAR_FIELDS: &[FieldRow] = &[
+    Optional(Id, Whole),
+    Optional(ConnectorId, WholeFromZero),
+    Optional(ChargingProfilePurpose, PurposeName),
+    Optional(StackLevel, WholeFromZero),
+];
+
+/// GetCompositeSchedule.req.
+const GET_FIELDS: &[FieldRow] = &[
+    Required(ConnectorId, WholeFromZero),
+    Required(Duration, WholeFromZero),
+    Optional(ChargingRateUnit, UnitName),
+];
+
+/// StartTransaction.req.
+const START_FIELDS: &[FieldRow] = &[
+    Required(ConnectorId, WholeFromZero),
+    Required(IdTag, IdToken),
+    Required(MeterStart, Whole),
+    Required(Timestamp, Time),
+];
+
+/// StopTransaction.req.
+const STOP_FIELDS: &[FieldRow] = &[Required(TransactionId, Whole)];
+
+/// The row of an action in the table.
+#[derive(Clone, Copy)]
+struct ActionRow {
+    name: &'static str,
+    side: Side,
+    fixed_answer: Option<FixedAnswer>,
+    fields: &'static [FieldRow],
+}
+
+/// An action whose fields are looked at.
+fn with_fields(side: Side, name: &'static str, fields: &'static [FieldRow]) -> ActionRow
+    ensures name { result.name.now ≡ name.now }
+    ensures side { result.side ≡ side }
+    ensures fixed_answer { result.fixed_answer ≡ None }
+    ensures fields { result.fields.now ≡ fields.now }
+{
+    ActionRow {
+        name,
+        side,
+        fixed_answer: None,
+        fields,
+    }
+}
+
+/// An action whose fields aren't looked at.
+fn answered(side: Side, name: &'static str, answer: FixedAnswer) -> ActionRow
+    ensures name { result.name.now ≡ name.now }
+    ensures side { result.side ≡ side }
+    ensures fixed_answer { result.fixed_answer ≡ Some answer }
+    ensures fields { result.fields.now ≡ [] }
+{
+    ActionRow {
+        name,
+        side,
+        fixed_answer: Some(answer),
+        fields: &[],
+    }
+}
+
 impl ActionKind {
-    /// The action of this name, exactly as written. Needs no memory: a CALL's name is looked up
-    /// before its fields are read.
-    pub fn named(text: &str) -> Option<ActionKind>
-        ensures { result ≡ action_named text.now }
+    /// All that are known.
+    pub fn all() -> &'static [ActionKind]
+        ensures { result.now ≡ action_kinds }
     {
-        named_in(&ACTIONS, text)
+        &[
+            ActionKind::SetChargingProfile,
+            ActionKind::ClearChargingProfile,
+            ActionKind::GetCompositeSchedule,
+            ActionKind::BootNotification,
+            ActionKind::Heartbeat,
+            ActionKind::Authorize,
+            ActionKind::StartTransaction,
+            ActionKind::StopTransaction,
+            ActionKind::StatusNotification,
+            ActionKind::MeterValues,
+            ActionKind::FirmwareStatusNotification,
+            ActionKind::DiagnosticsStatusNotification,
+            ActionKind::DataTransfer,
+        ]
+    }
+
+    /// The table.
+    fn row(self) -> ActionRow
+        ensures name { result.name.now ≡ (row_of self).name }
+        ensures side { result.side ≡ (row_of self).side }
+        ensures fixed_answer { result.fixed_answer ≡ (row_of self).fixed_answer }
+        ensures fields { result.fields.now ≡ (row_of self).fields }
+    {
+        match self {
+            Self::SetChargingProfile => with_fields(Operator, "SetChargingProfile", SET_FIELDS),
+            Self::ClearChargingProfile => with_fields(
+                Operator,
+                "ClearChargingProfile",
+                CLEAR_FIELDS,
+            ),
+            Self::GetCompositeSchedule => with_fields(Operator, "GetCompositeSchedule", GET_FIELDS),
+            Self::BootNotification => answered(
+                Point,
+                "BootNotification",
+                FixedAnswer::BootNotification,
+            ),
+            Self::Heartbeat => answered(Point, "Heartbeat", FixedAnswer::Heartbeat),
+            Self::Authorize => answered(Point, "Authorize", FixedAnswer::Authorize),
+            Self::StartTransaction => with_fields(Point, "StartTransaction", START_FIELDS),
+            Self::StopTransaction => with_fields(Point, "StopTransaction", STOP_FIELDS),
+            Self::StatusNotification => answered(Point, "StatusNotification", FixedAnswer::Empty),
+            Self::MeterValues => answered(Point, "MeterValues", FixedAnswer::Empty),
+            Self::FirmwareStatusNotification => answered(
+                Point,
+                "FirmwareStatusNotification",
+                FixedAnswer::Empty,
+            ),
+            Self::DiagnosticsStatusNotification => answered(
+                Point,
+                "DiagnosticsStatusNotification",
+                FixedAnswer::Empty,
+            ),
+            Self::DataTransfer => answered(Point, "DataTransfer", FixedAnswer::UnknownVendorId),
+        }
+    }
+
+    /// Its name.
+    pub fn name(self) -> &'static str
+        ensures { result.now ≡ name_of_kind self }
+    {
+        self.row().name
     }
 
     /// Who sends it.
     pub fn side(self) -> Side
         ensures { result ≡ side_of_kind self }
     {
-        match self {
-            ActionKind::SetChargingProfile
-            | ActionKind::ClearChargingProfile
-            | ActionKind::GetCompositeSchedule => Side::Operator,
-            ActionKind::BootNotification
-            | ActionKind::Heartbeat
-            | ActionKind::Authorize
-            | ActionKind::StartTransaction
-            | ActionKind::StopTransaction
-            | ActionKind::StatusNotification
-            | ActionKind::MeterValues
-            | ActionKind::FirmwareStatusNotification
-            | ActionKind::DiagnosticsStatusNotification
-            | ActionKind::DataTransfer => Side::Point,
+        self.row().side
+    }
+
+    /// What it is answered where its fields aren't looked at.
+    pub fn fixed_answer(self) -> Option<FixedAnswer>
+        ensures { result ≡ answer_of_kind self }
+    {
+        self.row().fixed_answer
+    }
+
+    /// The action of this name, exactly as written. Needs no memory: a CALL's name is looked up
+    /// before its fields are read.
+    pub fn named(text: &str) -> Option<ActionKind>
+        ensures { result ≡ action_named text.now }
+    {
+        kind_in(ActionKind::all(), text)
+    }
+
+    /// The action of this name, where it is one that this side sends.
+    pub fn of_sender(sender: Side, name: &str) -> Option<ActionKind>
+        ensures { result ≡ kind_of_sender sender (action_named name.now) }
+    {
+        let kind = ActionKind::named(name)?;
+        if kind.side().is_same(sender) {
+            Some(kind)
+        } else {
+            None
         }
     }
+}
+
+/// The first of these actions that has this name.
+fn kind_in(kinds: &[ActionKind], text: &str) -> Option<ActionKind>
+    ensures { result ≡ kind_in kinds.now text.now }
+{
+    for kind in kinds {
+        if text == kind.name() {
+            return Some(*kind);
+        }
+    }
+    None
+}
+
+/// The fields of an action that are looked at, in the order in which they are checked.
+pub fn fields_of(kind: ActionKind) -> &'static [FieldRow]
+    ensures { result.now ≡ fields_of kind }
+{
+    kind.row().fields
 }

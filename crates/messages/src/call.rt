@@ -1,6 +1,7 @@
 //! The calls that go to a charge point.
 
 ghost use Rattle.std.specs.Prelude.{◌≡◌, IfOk};
+ghost use Rattle.messages.specs.CallText.{action_name};
 
 use profile::{Criteria, Profile};
 use std::alloc::AllocError;
@@ -35,6 +36,16 @@ impl Call {
 }
 
 impl CallBody {
+    /// Its action.
+    pub fn action(&self) -> &'static str
+        ensures { result.now ≡ action_name self.now }
+    {
+        match self {
+            CallBody::Clear(_) => "ClearChargingProfile",
+            CallBody::Set { .. } => "SetChargingProfile",
+        }
+    }
+
     /// A copy.
     pub fn copy(&self) -> Result<CallBody, AllocError>
         ensures { IfOk result (λ copy. copy ≡ self.now) }

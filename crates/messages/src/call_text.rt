@@ -1,17 +1,20 @@
 //! The texts of calls to a charge point, byte for byte.
-ghost use Rattle.std.specs.Prelude.{◌≡◌, Some, option_map, string_bytes};
-ghost use Rattle.std.specs.Fmt.{signed_decimal};
+ghost use Rattle.std.specs.Prelude.{◌≡◌, ◌++◌, Some, codes, option_map, string_bytes};
+ghost use Rattle.std.specs.Fmt.{decimal, signed_decimal};
 ghost use Rattle.ocpp_scalars.specs.Appending.{Appends};
-ghost use Rattle.messages.specs.CallText.{action_name, call_text, clear_text, own_fields, payload_text, period_text, profile_text, schedule_text, set_text};
+ghost use Rattle.messages.specs.CallText.{call_text, clear_fields, criteria_given, criteria_text, criterion_words, own_fields, payload_fields, payload_text, period_text, profile_text, profile_words, schedule_text, set_fields, subject_text};
 ghost use Rattle.messages.specs.ObjectText.{fields_text};
 ghost use Rattle.messages.specs.ByCases.FieldValue.{value_text};
 
 use crate::call::{Call, CallBody};
-use crate::field_value::{FieldValue, purpose, recurrency, signed, tenths, time, whole};
+use crate::field_value::{
+    FieldValue, purpose, push_value, recurrency, signed, tenths, time, whole,
+};
 use crate::list_text::{ListItem, push_list};
+use crate::names::purpose_name;
 use crate::object_text::{push_fields, push_later_fields, push_object};
 use ocppj_frame::{push_call_head, push_frame_end};
-use profile::{Criteria, Period, Profile, Schedule};
+use profile::{Criteria, Period, Profile, Purpose, Schedule};
 use std::alloc::AllocError;
 
 /// Appends the text of a call, a CALL whose message id is the call's number in decimal. Its keys
@@ -21,23 +24,26 @@ pub fn push_call(out: &mut String, call: &Call) -> Result<(), AllocError>
 {
     let mut digits = itoa::Buffer::new();
     let id = digits.format(call.number);
-    push_call_head(out, id, action_name(&call.body))?;
+    push_call_head(out, id, call.body.action())?;
     push_payload(out, &call.body)?;
     push_frame_end(out)
 }
 
-fn action_name(body: &CallBody) -> &'static str
-    ensures { result.now ≡ action_name body.now }
+/// Appends the payload of a call.
+#[tactic(auto, unfolding(crate::specs::ObjectText::object_text))]
+pub fn push_payload(out: &mut String, body: &CallBody) -> Result<(), AllocError>
+    ensures { Appends result (string_bytes out.old) (string_bytes out.new) (payload_text body.now) }
 {
-    match body {
-        CallBody::Clear(_) => "ClearChargingProfile",
-        CallBody::Set { .. } => "SetChargingProfile",
-    }
+    out.push_str("{")?;
+    push_payload_fields(out, body)?;
+    out.push_str("}")?;
+    Ok(())
 }
 
-/// Appends the payload of a call.
-fn push_payload(out: &mut String, body: &CallBody) -> Result<(), AllocError>
-    ensures { Appends result (string_bytes out.old) (string_bytes out.new) (payload_text body.now) }
+/// Appends the fields of a call's payload that are present, with commas between them.
+pub fn push_payload_fields(out: &mut String, body: &CallBody) -> Result<(), AllocError>
+    ensures { Appends result (string_bytes out.old) (string_bytes out.new)
+        (fields_text (payload_fields body.now)) }
 {
     match body {
         CallBody::Clear(criteria) => push_clear(out, criteria),
@@ -45,12 +51,12 @@ fn push_payload(out: &mut String, body: &CallBody) -> Result<(), AllocError>
     }
 }
 
-/// Appends ClearChargingProfile.req (chapter 6).
+/// Appends the fields of ClearChargingProfile.req (chapter 6).
 fn push_clear(out: &mut String, criteria: &Criteria) -> Result<(), AllocError>
     ensures { Appends result (string_bytes out.old) (string_bytes out.new)
-        (clear_text criteria.now) }
+        (fields_text (clear_fields criteria.now)) }
 {
-    push_object(
+    push_fields(
         out,
         &[
             ("id", signed(criteria.id)),
@@ -58,25 +64,22 @@ fn push_clear(out: &mut String, criteria: &Criteria) -> Result<(), AllocError>
             ("chargingProfilePurpose", purpose(criteria.purpose)),
             ("stackLevel", whole(criteria.stack_level)),
         ],
-    )?;
-    Ok(())
+    )
 }
 
-/// Appends SetChargingProfile.req (chapter 6).
+/// Appends the fields of SetChargingProfile.req (chapter 6).
 fn push_set(out: &mut String, connector: u32, profile: &Profile) -> Result<(), AllocError>
     ensures { Appends result (string_bytes out.old) (string_bytes out.new)
-        (set_text connector profile.now) }
+        (fields_text (set_fields connector profile.now)) }
 {
-    out.push_str("{")?;
     push_fields(out, &[("connectorId", Some(FieldValue::Whole(connector)))])?;
     out.push_str(r#","csChargingProfiles":"#)?;
     push_profile(out, profile)?;
-    out.push_str("}")?;
     Ok(())
 }
 
 /// Appends a profile (chapter 7, ChargingProfile).
-fn push_profile(out: &mut String, profile: &Profile) -> Result<(), AllocError>
+pub fn push_profile(out: &mut String, profile: &Profile) -> Result<(), AllocError>
     ensures { Appends result (string_bytes out.old) (string_bytes out.new)
         (profile_text profile.now) }
 {
@@ -170,4 +173,103 @@ fn push_period(out: &mut String, period: &Period) -> Result<(), AllocError>
         ],
     )?;
     Ok(())
+}
+
+// ---- what a call is about
+
+/// Appends which profiles a call is about, in words: `TxProfile 7 at connector 1`, or the criteria
+/// of a clear.
+pub fn push_subject(out: &mut String, body: &CallBody) -> Result<(), AllocError>
+    ensures { Appends result (string_bytes out.old) (string_bytes out.new) (subject_text body.now) }
+{
+    match body {
+        CallBody::Clear(criteria) => push_criteria(out, criteria),
+        CallBody::Set { connector, profile } => push_profile_at(out, *connector, profile),
+    }
+}
+
+/// A criterion of a clear that is given.
+#[derive(Clone, Copy)]
+enum Criterion {
+    Id(i32),
+    Connector(u32),
+    Purpose(Purpose),
+    StackLevel(u32),
+}
+
+/// Appends the criteria that are given, with commas between them, or that there is none.
+fn push_criteria(out: &mut String, criteria: &Criteria) -> Result<(), AllocError>
+    ensures { Appends result (string_bytes out.old) (string_bytes out.new)
+        (criteria_text (criteria_given criteria.now)) }
+{
+    push_given(
+        out,
+        &[
+            criteria.id.map(Criterion::Id),
+            criteria.connector.map(Criterion::Connector),
+            criteria.purpose.map(Criterion::Purpose),
+            criteria.stack_level.map(Criterion::StackLevel),
+        ],
+    )
+}
+
+fn push_given(out: &mut String, criteria: &[Option<Criterion>]) -> Result<(), AllocError>
+    ensures { Appends result (string_bytes out.old) (string_bytes out.new)
+        (criteria_text criteria.now) }
+{
+    let mut some_written = false;
+    for criterion in criteria {
+        if let Some(criterion) = criterion {
+            if some_written {
+                out.push_str(", ")?;
+            }
+            push_criterion(out, criterion)?;
+            some_written = true;
+        }
+    }
+    if !some_written {
+        out.push_str("every profile")?;
+    }
+    Ok(())
+}
+
+fn push_criterion(out: &mut String, criterion: &Criterion) -> Result<(), AllocError>
+    ensures { Appends result (string_bytes out.old) (string_bytes out.new)
+        (criterion_words criterion.now) }
+{
+    match criterion {
+        Criterion::Id(id) => push_words(out, "id ", FieldValue::Signed(*id)),
+        Criterion::Connector(connector) => {
+            push_words(out, "connector ", FieldValue::Whole(*connector))
+        }
+        Criterion::Purpose(purpose) => out.push_str(purpose_name(*purpose)),
+        Criterion::StackLevel(level) => push_words(out, "stack level ", FieldValue::Whole(*level)),
+    }
+}
+
+/// Appends words and a number.
+fn push_words(out: &mut String, words: &str, number: FieldValue) -> Result<(), AllocError>
+    ensures { Appends result (string_bytes out.old) (string_bytes out.new)
+        (words.now ++ value_text number) }
+{
+    out.push_str(words)?;
+    push_value(out, number)
+}
+
+/// Appends a profile by its purpose and id, and where it is installed.
+fn push_profile_at(out: &mut String, connector: u32, profile: &Profile) -> Result<(), AllocError>
+    ensures { Appends result (string_bytes out.old) (string_bytes out.new)
+        (profile_words profile.now.purpose profile.now.id
+        ++ (codes " at connector " ++ decimal connector)) }
+{
+    push_profile_words(out, profile)?;
+    push_words(out, " at connector ", FieldValue::Whole(connector))
+}
+
+fn push_profile_words(out: &mut String, profile: &Profile) -> Result<(), AllocError>
+    ensures { Appends result (string_bytes out.old) (string_bytes out.new)
+        (profile_words profile.now.purpose profile.now.id) }
+{
+    out.push_str(purpose_name(profile.purpose))?;
+    push_words(out, " ", FieldValue::Signed(profile.id))
 }

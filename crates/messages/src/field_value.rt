@@ -3,11 +3,11 @@ ghost use Rattle.std.specs.Prelude.{◌≡◌, option_map, string_bytes};
 ghost use Rattle.std.specs.Fmt.{decimal, signed_decimal};
 ghost use Rattle.ocpp_scalars.specs.Appending.{Appends};
 ghost use Rattle.ocpp_scalars.specs.Writing.{tenths_text};
-ghost use Rattle.messages.specs.CallText.{kind_name, purpose_name, recurrency_name, recurrency_of};
+ghost use Rattle.messages.specs.Names.{purpose_name, recurrency_name, recurrency_of};
 ghost use Rattle.messages.specs.ObjectText.{string_text, time_text};
 ghost use Rattle.messages.specs.ByCases.FieldValue.{value_text};
 
-use crate::response_text::unit_name;
+use crate::names::{kind_name, name_of_recurrency, purpose_name, unit_name};
 use ocpp_scalars::{Instant, push_instant, push_integer, push_tenths};
 use profile::{Kind, Purpose, Recurrency, Unit};
 use std::alloc::AllocError;
@@ -78,7 +78,7 @@ pub(crate) fn push_value(out: &mut String, value: FieldValue) -> Result<(), Allo
         FieldValue::Time(instant) => push_time(out, instant),
         FieldValue::PurposeName(purpose) => push_string(out, purpose_name(purpose)),
         FieldValue::KindName(kind) => push_string(out, kind_name(kind)),
-        FieldValue::RecurrencyName(recurrency) => push_string(out, recurrency_name(recurrency)),
+        FieldValue::RecurrencyName(recurrency) => push_string(out, name_of_recurrency(recurrency)),
         FieldValue::UnitName(unit) => push_string(out, unit_name(unit)),
     }
 }
@@ -101,33 +101,4 @@ pub(crate) fn push_string(out: &mut String, text: &str) -> Result<(), AllocError
     out.push_str(text)?;
     out.push_str(r#"""#)?;
     Ok(())
-}
-
-fn purpose_name(purpose: Purpose) -> &'static str
-    ensures { result.now ≡ purpose_name purpose }
-{
-    match purpose {
-        Purpose::ChargePointMaxProfile => "ChargePointMaxProfile",
-        Purpose::TxDefaultProfile => "TxDefaultProfile",
-        Purpose::TxProfile => "TxProfile",
-    }
-}
-
-fn kind_name(kind: Kind) -> &'static str
-    ensures { result.now ≡ kind_name kind }
-{
-    match kind {
-        Kind::Absolute => "Absolute",
-        Kind::Recurring(_) => "Recurring",
-        Kind::Relative => "Relative",
-    }
-}
-
-fn recurrency_name(recurrency: Recurrency) -> &'static str
-    ensures { result.now ≡ recurrency_name recurrency }
-{
-    match recurrency {
-        Recurrency::Daily => "Daily",
-        Recurrency::Weekly => "Weekly",
-    }
 }

@@ -4,9 +4,10 @@ ghost use Rattle.ocpp_scalars.specs.Appending.{Appends};
 ghost use Rattle.ocppj_frame.specs.Write.{call_result_text};
 ghost use Rattle.messages.specs.ByCases.ObjectText.{first_field_text};
 ghost use Rattle.messages.specs.ObjectText.{time_text};
-ghost use Rattle.messages.specs.ResponseText.{boot_notification_text, composite_period_text, composite_schedule_text, composite_text, heartbeat_text, is_out_of_memory, refusal_text, rejected_text, response_text, start_transaction_text, unit_text};
+ghost use Rattle.messages.specs.ResponseText.{boot_notification_text, composite_period_text, composite_schedule_text, composite_text, heartbeat_text, is_out_of_memory, refusal_text, rejected_text, response_text, start_transaction_text};
 
 use crate::list_text::{ListItem, push_list};
+use crate::names::unit_name;
 use crate::response::{Response, ScheduleResponse};
 use meaning::{Composite, CompositePeriod};
 use ocpp_scalars::{Instant, Refusal, push_instant, push_integer, push_tenths};
@@ -210,15 +211,6 @@ fn push_composite_schedule(
     push_list(out, schedule.periods())?;
     out.push_str("}")?;
     Ok(())
-}
-
-pub(crate) fn unit_name(unit: Unit) -> &'static str
-    ensures { result.now ≡ unit_text unit }
-{
-    match unit {
-        Unit::A => "A",
-        Unit::W => "W",
-    }
 }
 
 impl ListItem for CompositePeriod {

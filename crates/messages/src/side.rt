@@ -1,6 +1,6 @@
 //! Who sends an action.
 ghost use Rattle.std.specs.Prelude.{◌≡◌};
-ghost use Rattle.messages.specs.ActionKind.{side_of};
+ghost use Rattle.messages.specs.ActionKind.{side_eq, side_of};
 
 use crate::action_kind::ActionKind;
 
@@ -12,6 +12,18 @@ pub enum Side {
     Operator,
     /// A charge point.
     Point,
+}
+
+impl Side {
+    /// Whether two sides are the same.
+    pub fn is_same(self, other: Side) -> bool
+        ensures { result ≡ side_eq self other }
+    {
+        match (self, other) {
+            (Side::Operator, Side::Operator) | (Side::Point, Side::Point) => true,
+            (Side::Operator, Side::Point) | (Side::Point, Side::Operator) => false,
+        }
+    }
 }
 
 /// The side that the action of a name comes from, or `None` where it isn't known. Needs no memory.

@@ -28,6 +28,6 @@ pub use message_id::{MAX_ID_CHARACTERS, MessageId};
 pub use payload::{Entries, EntriesIter, Node, Payload, read_tree};
 pub use reading_memory::ReadingMemory;
 pub use write::{
-    push_call_head, push_error, push_frame_end, push_result_head, write_call, write_error,
-    write_result,
+    push_call_head, push_error, push_frame_end, push_result_head, push_string, write_call,
+    write_error, write_result,
 };

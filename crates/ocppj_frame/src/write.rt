@@ -100,8 +100,8 @@ pub fn push_error(
     out.push_str(",{}]")
 }
 
-/// Appends a JSON string.
-fn push_string(out: &mut String, text: &str) -> Result<(), AllocError>
+/// Appends a text as a JSON string (RFC 8259, section 7).
+pub fn push_string(out: &mut String, text: &str) -> Result<(), AllocError>
     ensures { Appends result (string_bytes out.old) (string_bytes out.new) (quoted text.now) }
 {
     // The library writes onto bytes that it owns: the text's own, so that nothing is copied.

@@ -4,18 +4,18 @@ use Rattle.messages.specs.declared.response.Response.{Response}
 use Rattle.messages.specs.declared.response.Response.TheVariants as responses
 use Rattle.site_core.specs.declared.step.Step.{Step}
 use Rattle.site_core.specs.declared.step.Step.TheVariants as acts
-use Rattle.session.specs.declared.asked.Asked.{Asked}
-use Rattle.session.specs.declared.asked.Asked.TheVariants as asks
-use Rattle.session.specs.SentText.{Sent}
-use Rattle.session.specs.Asked.{asked_of, hold_of, IsOfCall, is_schedule, AsksByCall}
-use Rattle.session.specs.Theory.Asked.{asks_by_call, hold_asks_by_call}
-use Rattle.replay.specs.PrintedLine as lines
+use Rattle.texts.specs.declared.asked.Asked.{Asked}
+use Rattle.texts.specs.declared.asked.Asked.TheVariants as asks
+use Rattle.texts.specs.SentText.{Sent}
+use Rattle.texts.specs.Asked.{asked_of, hold_of, IsOfCall, is_schedule, AsksByCall}
+use Rattle.texts.specs.Theory.Asked.{asks_by_call, hold_asks_by_call}
+use Rattle.replay.specs.declared.script.printed_line.PrintedLine.TheVariants as lines
 use Rattle.replay.specs.ScriptRun.{schedules_on}
 use Rattle.replay.specs.ByCases.MachineSteps.{IsAsked}
 use Rattle.replay.specs.ByCases.Asked.{AsksNoCompile}
 
 pub no_schedule : (id : List ℕ) (response : Response) → is_schedule response ≡ false
-    → schedules_on (lines.answer id response) ≡ []
+    → schedules_on (lines.Answer id response) ≡ []
 no_schedule id (responses.Schedule told) is = absurd (cc)
 no_schedule id responses.Accepted is = refl
 no_schedule id (responses.Rejected refusal) is = refl

@@ -12,8 +12,8 @@ use Rattle.std.specs.Fmt.{decimal}
 use Rattle.replay.specs.declared.script.form.LineWord.{LineWord}
 use Rattle.replay.specs.declared.script.form.LineWord.TheVariants.{Operator, Point, Hold}
 use Rattle.replay.specs.Form.{Form, text_line, release_line, spelled, IsWord, IsOfForm}
-use Rattle.session.specs.ByCases.Number.{number_of}
-use Rattle.session.specs.Theory.Number.{either, number_is, number_made}
+use Rattle.texts.specs.ByCases.Number.{number_of}
+use Rattle.texts.specs.Theory.Number.{either, number_is, number_made}
 use Rattle.ocpp_scalars.specs.OptionSteps.{◌>>=◌}
 use Rattle.replay.specs.ByCases.Form.{is_space, word_at, word_named, release_form, text_form, form_of}
 

@@ -6,6 +6,7 @@ pub mod MachineLemmas
 pub mod OutputLemmas
 pub mod PlayLemmas
 pub mod ScriptLemmas
+pub mod SkimLemmas
 pub mod StepRunLemmas
 pub mod ScriptRunLemmas
 pub mod PrintedLemmas

@@ -1,14 +1,14 @@
 -- What the text of a point prints, from what its parts print.
 use Rattle.std.proofs.Common.{◌≡◌, ℕ, List, ◌++◌, Option, sym, ap, ◌∙◌, append_assoc}
-use Rattle.std.proofs.lemmas.Grind.{flat_map-append}
 use Rattle.messages.specs.declared.call.Call.{Call}
 use Rattle.replay.specs.declared.player.held.Held.{Held}
-use Rattle.session.specs.SentText.{Sent}
-use Rattle.session.specs.Asked.{asked_of}
+use Rattle.texts.specs.SentText.{Sent}
+use Rattle.texts.specs.Asked.{asked_of}
 use Rattle.replay.specs.Player.{PlayerState, with_machine}
 use Rattle.replay.specs.MachineSteps.{Sending, attached_once, sent_first}
 use Rattle.replay.specs.ByCases.Player.{Sends}
-use Rattle.replay.specs.PrintedLine.{printed_text, printed_texts}
+use Rattle.replay.specs.PrintedLine.{PrintedLine}
+use Rattle.replay.specs.declared.script.played_line.LineOutcome.{LineOutcome}
 use Rattle.replay.specs.Play.{Handled, call_lines, asked_handled, call_handled, with_call, point_handled, IsHandled}
 
 -- five texts, one after another
@@ -20,32 +20,37 @@ five old a b c d e one two three four new first second third fourth last =
 
 -- a link, the answer, and a call
 pub point_made : (old linked answered new : PlayerState) (text : Sent)
-    (first second third line printed : List ℕ) (call : Option Call)
+    (first second third : List ℕ) (outcome whole : LineOutcome) (call : Option Call)
     → first ≡ text.point → second ≡ text.point → third ≡ text.point
     → linked ≡ with_machine old (attached_once old.machine first)
-    → IsHandled (asked_handled linked (asked_of text)) line answered
+    → IsHandled (asked_handled linked (asked_of text)) outcome answered
     → Sends answered (sent_first answered.machine second) call new
-    → printed ≡ line ++ printed_texts (call_lines third call)
-    → IsHandled (point_handled old text) printed new
-point_made old linked answered new text first second third line printed call one two three attach
-    answer send push =
+    → whole.printed.items ≡ outcome.printed.items ++ call_lines third call
+    → whole.is_fault ≡ outcome.is_fault → whole.change ≡ outcome.change
+    → IsHandled (point_handled old text) whole new
+point_made old linked answered new text first second third outcome whole call one two three attach
+    answer send push fault change =
     let start : linked ≡ with_machine old (attached_once old.machine text.point) =
     attach ∙ ap (λ p. with_machine old (attached_once old.machine p)) one in
     let handled : Handled = asked_handled linked (asked_of text) in
     let sending : Sending = record { call = call; after = new.machine } in
     let step : sent_first handled.after.machine text.point ≡ sending =
-    ap (λ (p : PlayerState). sent_first p.machine text.point) answer.1
+    ap (λ (p : PlayerState). sent_first p.machine text.point) answer.led.after
     ∙ (ap (sent_first answered.machine) (sym two) ∙ send.0) in
     let same : point_handled old text ≡ call_handled handled text.point sending =
     ap (λ (p : PlayerState). with_call text.point (asked_handled p (asked_of text))) (sym start)
     ∙ ap (call_handled handled text.point) step in
-    let texts : printed_texts (handled.printed ++ call_lines text.point call) ≡ printed =
-    flat_map-append printed_text handled.printed (call_lines text.point call)
-    ∙ (ap (λ l. l ++ printed_texts (call_lines text.point call)) answer.0
-    ∙ (ap (λ p. line ++ printed_texts (call_lines p call)) (sym three) ∙ sym push)) in
+    let lines : handled.printed ++ call_lines text.point call ≡ whole.printed.items =
+    ap (λ (l : List PrintedLine). l ++ call_lines text.point call) answer.printed
+    ∙ (ap (λ p. outcome.printed.items ++ call_lines p call) (sym three) ∙ sym push) in
     let kept : with_machine handled.after new.machine ≡ new =
-    ap (λ (p : PlayerState). with_machine p new.machine) answer.1
-    ∙ ap (λ (h : List Held). record { machine = new.machine; held = h }) (sym send.1) in (
-      ap (λ (h : Handled). printed_texts h.printed) same ∙ texts,
-      ap (λ (h : Handled). h.after) same ∙ kept,
-    )
+    ap (λ (p : PlayerState). with_machine p new.machine) answer.led.after
+    ∙ ap (λ (h : List Held). record { machine = new.machine; held = h }) (sym send.1) in
+    record {
+      printed = ap (λ (h : Handled). h.printed) same ∙ lines;
+      led = record {
+        is_fault = answer.led.is_fault ∙ sym fault;
+        change = ap (λ (h : Handled). h.change) same ∙ (answer.led.change ∙ sym change);
+        after = ap (λ (h : Handled). h.after) same ∙ kept;
+      };
+    }

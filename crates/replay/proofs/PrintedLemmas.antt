@@ -24,7 +24,7 @@ use Rattle.site_core.specs.Headline.{AnswersAreRight}
 use Rattle.site_core.specs.CallOrder.{is_at, names, events_at, calls_sent}
 use Rattle.site_core.specs.CallOrder as order
 use Rattle.replay.specs.PrintedLine.{PrintedLine}
-use Rattle.replay.specs.PrintedLine as lines
+use Rattle.replay.specs.declared.script.printed_line.PrintedLine.TheVariants as lines
 use Rattle.replay.specs.Run.{lines_of}
 use Rattle.replay.proofs.ScriptRunLemmas.{Laws, script_part}
 use Rattle.replay.specs.ScriptRun.{schedules_on, schedules_printed, schedule_told, schedules_by}
@@ -178,14 +178,14 @@ found unit (step ∷ steps) (Done reply ∷ outcomes) earlier told after is =
 pub printed_right : (site : SiteState) (script : List ℕ) (run : ScriptRun site script)
     → AnswersAreRight (opening site) run.steps run.outcomes
     → (earlier after : List PrintedLine) (id : List ℕ) (told : ScheduleResponse)
-    → lines_of site script ≡ earlier ++ lines.answer id (responses.Schedule told) ∷ after
+    → lines_of site script ≡ earlier ++ lines.Answer id (responses.Schedule told) ∷ after
     → IsPrintedRight site script run earlier told
 printed_right site script run are_right earlier after id told is =
     let at = found site.unit run.steps run.outcomes (schedules_printed earlier) told
     (schedules_printed after)
     (sym run.schedules ∙ (ap schedules_printed is
     ∙ flat_map-append schedules_on earlier
-    (lines.answer id (responses.Schedule told) ∷ after))) in
+    (lines.Answer id (responses.Schedule told) ∷ after))) in
     record {
       position = at.position;
       number = at.number;
@@ -211,11 +211,11 @@ for_place site place calls = flat_map (call_for_place site place) calls
 printed_for : (site : SiteState) (place : ℕ) (printed : List PrintedLine)
     → calls_printed_to site place printed ≡ for_place site place (calls_printed printed)
 printed_for site place [] = refl
-printed_for site place (lines.answer id response ∷ others) = printed_for site place others
-printed_for site place (lines.call point call ∷ others) =
+printed_for site place (lines.Answer id response ∷ others) = printed_for site place others
+printed_for site place (lines.Call point call ∷ others) =
     ap (λ l. cond (is_at site place point) (call ∷ []) [] ++ l) (printed_for site place others)
-printed_for site place (lines.held number ∷ others) = printed_for site place others
-printed_for site place (lines.fault number fault ∷ others) = printed_for site place others
+printed_for site place (lines.Held number ∷ others) = printed_for site place others
+printed_for site place (lines.Fault number fault ∷ others) = printed_for site place others
 
 -- an event that sends nothing, among those of a point or not
 no_call : (test : Bool) (event : Event) (others : List Event) → order.calls_by_event event ≡ []

@@ -1,10 +1,13 @@
 -- The lines that are left up to the last that is wanted, one line after another.
-use Rattle.std.proofs.Common.{◌≡◌, ℕ, ◌+◌, ◌-◌, ◌<◌, ◌≤◌, suc, zero, true, false, List, [], ◌∷◌, take, Option, Some, None, refl, ap, sym, ◌∙◌, arith}
+use Rattle.std.proofs.Common.{◌≡◌, ℕ, ◌+◌, ◌-◌, ◌<◌, ◌≤◌, suc, zero, true, false, cond, List, [], ◌∷◌, take, Option, Some, None, refl, ap, sym, ◌∙◌, arith}
 use Rattle.std.specs.List.{fold}
 use Rattle.std.proofs.lemmas.Bool.{leb-true, leb-false}
 use Rattle.replay.specs.Lines.{script_lines}
 use Rattle.replay.specs.Run.{Played, played_more}
-use Rattle.replay.specs.Quiet.{lines_up_to, is_up_to}
+use Rattle.replay.specs.Quiet.{lines_up_to, is_up_to, IsNextLine}
+use Rattle.replay.specs.Playing.{PlayingState}
+use Rattle.replay.specs.Play.{said_on, line_played, LeadsTo}
+use Rattle.replay.specs.declared.script.played_line.PlayedLine.{PlayedLine}
 use Rattle.replay.specs.ByCases.Quiet.{lines_left}
 
 -- at the first line all that are wanted are left
@@ -57,3 +60,28 @@ pub all_played : (last : Option ℕ) (before all : Played) (lines : List (List �
     → fold played_more before (lines_left last before.number lines) ≡ all
     → before ≡ all
 all_played last before all lines none whole = ap (fold played_more before) (sym none) ∙ whole
+
+-- a line was played or skimmed, and then passed
+pub went_on : (old mid new : PlayingState) (played : PlayedLine) (line others : List ℕ)
+    → script_lines old.rest ≡ line ∷ script_lines others
+    → mid.number ≡ old.number → mid.faults ≡ old.faults
+    → played.number ≡ old.number → played.line.now ≡ line
+    → played.said ≡ said_on old.state.machine.site line
+    → LeadsTo (line_played old.state old.number line) played.outcome mid.state
+    → new.rest ≡ others → new.state ≡ mid.state → new.number ≡ mid.number + 1
+    → new.faults ≡ mid.faults + cond played.outcome.is_fault 1 0
+    → IsNextLine old played new
+went_on old mid new played line others first same_number same_faults number here said led rest state
+    next faults = record {
+      first =
+          first ∙ (ap (λ l. l ∷ script_lines others) (sym here)
+          ∙ ap (λ r. played.line.now ∷ script_lines r) (sym rest));
+      number = number;
+      next = next ∙ ap (λ n. n + 1) same_number;
+      said = said ∙ ap (λ l. said_on old.state.machine.site l) (sym here);
+      led = rw (here, state) led;
+      faults =
+          faults ∙ (ap (λ n. n + cond played.outcome.is_fault 1 0) same_faults
+          ∙ (ap (λ b. old.faults + cond b 1 0) (sym led.is_fault)
+          ∙ ap (λ l. old.faults + cond (line_played old.state old.number l).is_fault 1 0) (sym here)));
+    }

@@ -1,5 +1,5 @@
 -- A script is a run of the machine, line after line, and prints what this run replied.
-use Rattle.std.proofs.Common.{◌≡◌, ℕ, ◌==◌, Bool, true, false, cond, List, [], ◌∷◌, ◌++◌, length}
+use Rattle.std.proofs.Common.{◌≡◌, ℕ, Bool, true, false, cond, List, [], ◌∷◌, ◌++◌}
 use Rattle.std.proofs.Common.{Option, Some, None, Result, Ok, Err, IfOk, refl, sym, ap, ◌∙◌, subst}
 use Rattle.std.specs.List.{fold}
 use Rattle.std.proofs.lemmas.Grind.{flat_map-append}
@@ -25,24 +25,23 @@ use Rattle.site_core.specs.History.{Event, history_of}
 use Rattle.replay.specs.declared.script.line.LineFault.{LineFault}
 use Rattle.replay.specs.declared.script.line.ScriptLine.{ScriptLine}
 use Rattle.replay.specs.declared.script.line.ScriptLine.TheVariants.{Text, Hold, Release}
-use Rattle.session.specs.declared.asked.Asked.{Asked}
-use Rattle.session.specs.declared.asked.Asked.TheVariants as asked
-use Rattle.session.specs.SentText as texts
+use Rattle.texts.specs.declared.asked.Asked.{Asked}
+use Rattle.texts.specs.declared.asked.Asked.TheVariants as asked
+use Rattle.texts.specs.SentText as texts
 use Rattle.replay.specs.Held.{id_held}
 use Rattle.replay.specs.Player.{PlayerState, with_machine}
 use Rattle.replay.specs.MachineSteps.{stepped_exactly, handed_out, at_once, stepped_at_once}
 use Rattle.replay.specs.MachineSteps.{attached_unless, attached_once, call_sent, sent_over}
 use Rattle.replay.specs.MachineSteps.{sent_first, confirmed_over, confirmed_by}
-use Rattle.session.specs.Asked.{asked_of, asks_schedule}
-use Rattle.session.specs.Response.{refused_response}
-use Rattle.replay.specs.Line.{line_of}
+use Rattle.texts.specs.Asked.{asked_of, asks_schedule}
+use Rattle.texts.specs.Response.{refused_response}
 use Rattle.replay.specs.Lines.{script_lines}
 use Rattle.replay.specs.PrintedLine.{PrintedLine}
-use Rattle.replay.specs.PrintedLine as lines
-use Rattle.replay.specs.Play.{Handled, PlayedLine, answer_if, outcome_lines, call_lines}
+use Rattle.replay.specs.declared.script.printed_line.PrintedLine.TheVariants as lines
+use Rattle.replay.specs.Play.{Handled, LineStep, answer_if, outcome_lines, call_lines}
 use Rattle.replay.specs.Play.{asked_handled, point_handled, text_handled, hold_answered}
 use Rattle.replay.specs.Play.{hold_stepped, hold_handled, fault_played, hold_played, release_played}
-use Rattle.replay.specs.Play.{said_played, read_played, line_played}
+use Rattle.replay.specs.Play.{said_played, read_played, said_on, played_as, line_played}
 use Rattle.replay.specs.Run.{Played, first_played, played_more, played, lines_of}
 use Rattle.replay.specs.ScriptRun.{schedules_on, schedules_printed, schedules_by_event}
 use Rattle.replay.specs.ScriptRun.{schedules_answered, calls_on, calls_printed, calls_of_event}
@@ -51,8 +50,8 @@ use Rattle.replay.proofs.MachineLemmas.{Law-answer, Law-too_long}
 use Rattle.replay.proofs.StepRunLemmas.{outcome_for, steps_run, HandsOutNone}
 use Rattle.replay.proofs.StepRunLemmas.{calls_hand_out_none, IsNoAnswer, IsNoSend}
 use Rattle.replay.proofs.StepRunLemmas.{of_call_no_answer}
-use Rattle.session.specs.Asked.{IsOfCall, AsksByCall}
-use Rattle.session.specs.Theory.Asked.{asks_by_call}
+use Rattle.texts.specs.Asked.{IsOfCall, AsksByCall}
+use Rattle.texts.specs.Theory.Asked.{asks_by_call}
 use Rattle.replay.proofs.AskedLemmas.{no_schedule}
 
 -- the laws that are cited
@@ -177,7 +176,7 @@ quiet_step laws old step lines no_answer no_send schedules calls =
 -- ---- answers
 
 refusal_told : (kind : ActionKind) (refusal : Refusal) (id : List ℕ)
-    → schedules_printed (lines.answer id (refused_response kind refusal) ∷ []) ≡ []
+    → schedules_printed (lines.Answer id (refused_response kind refusal) ∷ []) ≡ []
 refusal_told kinds.SetChargingProfile refusal id = refl
 refusal_told kinds.GetCompositeSchedule refusal id = refl
 refusal_told kind refusal id = refl
@@ -268,10 +267,10 @@ attached_part laws old point = unless (link_of old point)
     unless None = quiet_step laws old (acts.Attach point) [] tt tt refl refl
 
 confirmed_part : Laws → (old : MachineState) (point : List ℕ) (number : ℕ)
-    → Part old (confirmed_by old point number) []
+    → Part old (confirmed_by old point number).after []
 confirmed_part laws old point number = over (link_of old point)
   where
-    over : (link : Option ℕ) → Part old (confirmed_over link old point number) []
+    over : (link : Option ℕ) → Part old (confirmed_over link old point number).after []
     over (Some link) = quiet_step laws old (acts.Confirm point link number) [] tt tt refl refl
     over None = nothing old
 
@@ -311,7 +310,7 @@ asked_part : Laws → (old : PlayerState) (asked : Asked) → AsksByCall asked
     → HandledPart old (asked_handled old asked)
 asked_part laws old asked.Nothing is = nothing old.machine
 asked_part laws old (asked.Respond id response) is =
-    no_step old.machine (lines.answer id response ∷ []) (ap (λ l. l ++ []) (no_schedule id response is)) refl
+    no_step old.machine (lines.Answer id response ∷ []) (ap (λ l. l ++ []) (no_schedule id response is)) refl
 asked_part laws old (asked.Step id kind step) is = at_once_part laws old.machine id kind step is
 asked_part laws old (asked.Confirm point number) is = confirmed_part laws old.machine point number
 
@@ -346,7 +345,7 @@ hold_step_part laws old id kind step of_call = go (stepped_exactly old.machine s
         → HandledPart old (hold_answered old id kind outcome after)
     go (Ok (Taken number book ask)) is =
         let quiet = of_call_no_answer step of_call in
-        quiet_step laws old.machine step (lines.held number ∷ []) quiet.0 quiet.1 refl refl
+        quiet_step laws old.machine step (lines.Held number ∷ []) quiet.0 quiet.1 refl refl
     go (Ok reply) is = answered_part laws old.machine id kind step of_call (Ok reply) is
     go (Err refusal) is = answered_part laws old.machine id kind step of_call (Err refusal) is
 
@@ -361,12 +360,12 @@ hold_part laws old (asked.Confirm point number) is =
 
 -- ---- lines
 
-abbrev PlayedPart : PlayerState → PlayedLine → Type 0
+abbrev PlayedPart : PlayerState → LineStep → Type 0
 PlayedPart old line = Part old.machine line.after.machine line.printed
 
 fault_part : (old : PlayerState) (line : ℕ) (fault : LineFault)
     → PlayedPart old (fault_played old line fault)
-fault_part old line fault = no_step old.machine (lines.fault line fault ∷ []) refl refl
+fault_part old line fault = no_step old.machine (lines.Fault line fault ∷ []) refl refl
 
 hold_line_part : Laws → (old : PlayerState) (line : ℕ) (text : texts.Sent) (asks : Bool)
     → PlayedPart old (hold_played old line (cond asks (Some (asked_of text)) None))
@@ -394,16 +393,12 @@ read_part laws old line (Err fault) = fault_part old line fault
 
 line_part : Laws → (old : PlayerState) (number : ℕ) (line : List ℕ)
     → PlayedPart old (line_played old number line)
-line_part laws old number line = by_test (length line == 0)
+line_part laws old number line = by_said (said_on old.machine.site line)
   where
-    empty : PlayedLine
-    empty = record { printed = []; is_fault = false; after = old }
-
-    by_test : (is_empty : Bool)
-        → PlayedPart old
-        (cond is_empty empty (read_played old number (line_of old.machine.site line)))
-    by_test true = nothing old.machine
-    by_test false = read_part laws old number (line_of old.machine.site line)
+    by_said : (said : Option (Result ScriptLine LineFault))
+        → PlayedPart old (played_as old number said)
+    by_said None = nothing old.machine
+    by_said (Some read) = read_part laws old number read
 
 -- ---- scripts
 

@@ -3,6 +3,7 @@ use Rattle.std.proofs.Common.{◌≡◌, ℕ, ℤ, ◌<◌, nat_lt, Bool, true, 
 use Rattle.std.proofs.Common.{List, length, Option, Some, None, Result, Ok, Err, IfOk, refl, sym}
 use Rattle.std.proofs.Common.{ap, ◌∙◌, subst}
 use Rattle.std.specs.List.{list_any}
+use Rattle.ocpp_scalars.specs.ResultSteps.{◌>>=◌}
 use Rattle.ocpp_scalars.specs.declared.refusal.Refusal.{Refusal}
 use Rattle.ocpp_scalars.specs.declared.refusal.Refusal.TheVariants as refusals
 use Rattle.profile.specs.declared.criteria.Criteria.{Criteria}
@@ -17,7 +18,6 @@ use Rattle.meaning.specs.Compiled.{IsCompiled}
 use Rattle.meaning.specs.Limit.{limit_asked}
 use Rattle.meaning.specs.Limits.{max_composite_periods}
 use Rattle.meaning.specs.ByCases.Exact.{exact_periods, exact_schedule}
-use Rattle.site_rules.specs.Site.{place_of}
 use Rattle.point_book.specs.Book.{state_of}
 use Rattle.site_core.specs.declared.step.Step.{Step}
 use Rattle.site_core.specs.declared.step.Step.TheVariants as acts
@@ -27,18 +27,18 @@ use Rattle.site_core.specs.declared.reply.Reply.TheVariants.{Answered}
 use Rattle.site_core.specs.declared.outcome.Outcome.{Outcome}
 use Rattle.site_core.specs.declared.outcome.Outcome.TheVariants.{Done, Refused}
 use Rattle.site_core.specs.declared.numbers.Numbers.{Numbers}
-use Rattle.site_core.specs.ChargePoint.{ChargePointState}
+use Rattle.site_core.specs.ChargePoint.{ChargePointState, Deed}
 use Rattle.site_core.specs.State.{MachineState, Kept, point_at, book_at}
 use Rattle.site_core.specs.Requests.{request_of}
 use Rattle.site_core.specs.Ask.{ask_at}
 use Rattle.site_core.specs.Right.{IsCompiledFor}
 use Rattle.site_core.specs.Run.{HasOutcome}
-use Rattle.site_core.specs.Step.{Made, Steps, unless, at_place, at_point, installs, clears, starts}
-use Rattle.site_core.specs.Step.{Told, Answers, Does, done_at, told_at, is_at_no_connector}
-use Rattle.site_core.specs.Step.{starts_as, stops, takes, takes_ask, compiles_kept}
+use Rattle.site_core.specs.Step.{Made, Steps, PointStep, at_point, unless, installs, clears, starts}
+use Rattle.site_core.specs.Step.{place_for, deed, done_at, made_there, is_at_no_connector}
+use Rattle.site_core.specs.Step.{starts_as, stops, takes, compiles_kept}
 use Rattle.site_core.specs.Step.{stepped, no_answer, IsRefusalOf, IsRefused}
 use Rattle.site_core.specs.Theory.Steps.{CompileOrOther, is_compile, is_other, compile_or_other}
-use Rattle.session.specs.Asked.{IsOfCall}
+use Rattle.texts.specs.Asked.{IsOfCall}
 use Rattle.replay.specs.MachineSteps.{Stepped, made_or_refused, exact_answer, answer_given}
 use Rattle.replay.specs.MachineSteps.{stepped_exactly}
 use Rattle.replay.proofs.MachineLemmas.{Law-answer, Law-too_long, with_compiled, compiles_by}
@@ -163,66 +163,63 @@ either_holds : {X : Type 0} (P : X → Type 0) (test : Bool) (one other : Result
 either_holds P true one other first second = first
 either_holds P false one other first second = second
 
-place_none : (place : Option ℕ) (made_at : ℕ → Result Made Refusal)
-    → ((place : ℕ) → IsNone (made_at place)) → IsNone (at_place place made_at)
-place_none None made_at each = tt
-place_none (Some place) made_at each = each place
+then_holds : {X Y : Type 0} (P : X → Type 0) (Q : Y → Type 0) (one : Result X Refusal)
+    (next : X → Result Y Refusal) → IfOk one P → ((x : X) → P x → IfOk (next x) Q)
+    → IfOk (one >>= next) Q
+then_holds P Q (Ok x) next holds each = each x holds
+then_holds P Q (Err refusal) next holds each = tt
 
-point_none : (old : MachineState) (point : List ℕ) (made_at : ℕ → Result Made Refusal)
-    → ((place : ℕ) → IsNone (made_at place)) → IsNone (at_point old point made_at)
-point_none old point made_at each =
-    either_holds (λ (m : Made). HandsOutNone m.reply) old.is_stopped (Err refusals.Stopped)
-    (at_place (place_of old.site point) made_at)
-    tt (place_none (place_of old.site point) made_at each)
+-- of any
+always : {X : Type 0} (one : Result X Refusal) → IfOk one (λ _. Unit {0})
+always (Ok x) = tt
+always (Err refusal) = tt
+
+done_none : (old : MachineState) (place : ℕ) (reply : Reply) (does : Option Deed)
+    → HandsOutNone reply → HandsOutNone (done_at old place reply does).reply
+done_none old place reply None none = none
+done_none old place reply (Some deed) none = none
 
 -- what a step at a point comes to hands out none
-abbrev TellsNone : Told → Type 0
-TellsNone (Answers reply) = HandsOutNone reply
-TellsNone (Does reply effect) = HandsOutNone reply
-
-told_none : (old : MachineState) (place : ℕ) (told : Result Told Refusal) → IfOk told TellsNone
-    → IsNone (done_at old place told)
-told_none old place (Ok (Answers reply)) none = none
-told_none old place (Ok (Does reply effect)) none = none
-told_none old place (Err refusal) none = tt
-
-at_its_point : (old : MachineState) (point : List ℕ)
-    (told : ChargePointState → Result Told Refusal)
-    → ((kept : ChargePointState) → IfOk (told kept) TellsNone)
-    → IsNone (at_point old point (told_at old told))
-at_its_point old point told each =
-    point_none old point (told_at old told) (λ place.
-    told_none old place (told (point_at old place)) (each (point_at old place)))
+at_its_point : (old : MachineState) (step : Step) (at : PointStep)
+    → ((kept : ChargePointState) → IfOk (at.decided old.site old.numbers kept) HandsOutNone)
+    → IsNone (made_there old step at)
+at_its_point old step at each =
+    then_holds (λ _. Unit {0}) (λ (m : Made). HandsOutNone m.reply)
+    (place_for old at.point at.link) _ (always (place_for old at.point at.link)) (λ place always.
+    then_holds HandsOutNone (λ (m : Made). HandsOutNone m.reply)
+    (at.decided old.site old.numbers (point_at old place)) _ (each (point_at old place))
+    (λ reply none. done_none old place reply (deed (point_at old place) step reply) none))
 
 clears_none : (numbers : Numbers) (criteria : Criteria) (point : ChargePointState)
-    → IfOk (clears numbers criteria point) TellsNone
+    → IfOk (clears numbers criteria point) HandsOutNone
 clears_none numbers criteria point =
-    either_holds TellsNone (list_any (matches criteria) point.book.rows) _ _
-    (unless_holds TellsNone _ _ tt) tt
+    either_holds HandsOutNone (list_any (matches criteria) point.book.rows) _ _
+    (unless_holds HandsOutNone _ _ tt) tt
 
-start_none : (found : Began) (numbers : Numbers) (connector : ℕ) (begin : Begin)
-    → IfOk (starts_as found numbers connector begin) TellsNone
-start_none (Repeat number) numbers connector begin = tt
-start_none Fresh numbers connector begin = unless_holds TellsNone _ _ tt
+start_none : (found : Began) (numbers : Numbers) → IfOk (starts_as found numbers) HandsOutNone
+start_none (Repeat number) numbers = tt
+start_none Fresh numbers = unless_holds HandsOutNone _ _ tt
 
 starts_none : (numbers : Numbers) (connector : ℕ) (begin : Begin) (point : ChargePointState)
-    → IfOk (starts numbers connector begin point) TellsNone
+    → IfOk (starts numbers connector begin point) HandsOutNone
 starts_none numbers connector begin point =
-    either_holds TellsNone (is_at_no_connector point connector) _ _ tt
-    (start_none (began point.book.transactions connector begin) numbers connector begin)
+    either_holds HandsOutNone (is_at_no_connector point connector) _ _ tt
+    (start_none (began point.book.transactions connector begin) numbers)
 
 stops_none : (numbers : Numbers) (number : ℤ) (point : ChargePointState)
-    → IfOk (stops numbers number point) TellsNone
+    → IfOk (stops numbers number point) HandsOutNone
 stops_none numbers number point =
-    either_holds TellsNone (is_some (connector_of point.book.transactions number)) _ _
-    (unless_holds TellsNone _ _ tt) tt
+    either_holds HandsOutNone (is_some (connector_of point.book.transactions number)) _ _
+    (unless_holds HandsOutNone _ _ tt) tt
 
-takes_none : (old : MachineState) (take : Take) (place : ℕ) → IsNone (takes old take place)
-takes_none old take place = asked (ask_at old.site.unit (book_at old place) take)
-  where
-    asked : (ask : Result Ask Refusal) → IsNone (takes_ask old take place ask)
-    asked (Err refusal) = tt
-    asked (Ok ask) = unless_holds (λ (m : Made). HandsOutNone m.reply) _ _ tt
+takes_none : (old : MachineState) (take : Take) → IsNone (takes old take)
+takes_none old take =
+    then_holds (λ _. Unit {0}) (λ (m : Made). HandsOutNone m.reply)
+    (place_for old take.point None) _ (always (place_for old take.point None)) (λ place so.
+    then_holds (λ _. Unit {0}) (λ (m : Made). HandsOutNone m.reply)
+    (ask_at old.site.unit (book_at old place) take) _
+    (always (ask_at old.site.unit (book_at old place) take)) (λ ask so.
+    unless_holds (λ (m : Made). HandsOutNone m.reply) _ _ tt))
 
 outcome_none : (old : MachineState) (made : Result Made Refusal) → IsNone made
     → IfOk (made_or_refused old made).outcome HandsOutNone
@@ -234,21 +231,22 @@ pub calls_hand_out_none : (old : MachineState) (step : Step) → IsOfCall step
 unfolding stepped_exactly
 calls_hand_out_none old (acts.Install point row) is =
     outcome_none old (stepped no_answer old (acts.Install point row))
-    (at_its_point old point (installs old.site old.numbers point row)
-    (λ kept. unless_holds TellsNone _ _ tt))
+    (at_its_point old (acts.Install point row) (at_point point (λ site numbers.
+    installs site numbers point row)) (λ kept. unless_holds HandsOutNone _ _ tt))
 calls_hand_out_none old (acts.Clear point criteria) is =
     outcome_none old (stepped no_answer old (acts.Clear point criteria))
-    (at_its_point old point (clears old.numbers criteria) (clears_none old.numbers criteria))
+    (at_its_point old (acts.Clear point criteria) (at_point point (λ site numbers.
+    clears numbers criteria)) (clears_none old.numbers criteria))
 calls_hand_out_none old (acts.Start point connector begin) is =
     outcome_none old (stepped no_answer old (acts.Start point connector begin))
-    (at_its_point old point (starts old.numbers connector begin)
-    (starts_none old.numbers connector begin))
+    (at_its_point old (acts.Start point connector begin) (at_point point (λ site numbers.
+    starts numbers connector begin)) (starts_none old.numbers connector begin))
 calls_hand_out_none old (acts.Stop point number) is =
     outcome_none old (stepped no_answer old (acts.Stop point number))
-    (at_its_point old point (stops old.numbers number) (stops_none old.numbers number))
+    (at_its_point old (acts.Stop point number) (at_point point (λ site numbers.
+    stops numbers number)) (stops_none old.numbers number))
 calls_hand_out_none old (acts.Take take) is =
-    outcome_none old (stepped no_answer old (acts.Take take))
-    (point_none old take.point (takes old take) (takes_none old take))
+    outcome_none old (stepped no_answer old (acts.Take take)) (takes_none old take)
 calls_hand_out_none old step never = absurd never
 
 -- ---- the steps that are no Answer, and no Send

@@ -5,7 +5,7 @@ use Rattle.std.specs.List.{EachIndex}
 use Rattle.ocpp_scalars.specs.Ascii.{space}
 use Rattle.replay.specs.declared.script.form.LineWord.{LineWord}
 use Rattle.replay.specs.declared.script.form.LineWord.TheVariants.{Operator, Point, Hold}
-use Rattle.session.specs.Number.{IsNumber}
+use Rattle.texts.specs.Number.{IsNumber}
 
 pub data Form : Type 0 where
   -- `INSTANT operator ID FRAME`, `INSTANT point ID FRAME` and `INSTANT hold ID FRAME`

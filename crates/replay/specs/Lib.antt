@@ -7,6 +7,7 @@ pub mod Form
 pub mod Line
 pub mod Lines
 pub mod PrintedLine
+pub mod PointChange
 pub mod Play
 pub mod Run
 pub mod Playing

@@ -12,7 +12,7 @@ use Rattle.replay.specs.declared.script.line.ScriptLine.TheVariants as lines
 use Rattle.replay.specs.declared.script.line.LineFault.{LineFault}
 use Rattle.replay.specs.declared.script.line.LineFault.TheVariants.{TooLong, BadText, BadLine, BadInstant, UnknownPoint, NotComposite, UnknownRequest}
 use Rattle.replay.specs.Limits.{max_line_bytes}
-use Rattle.session.specs.SentText.{sent}
+use Rattle.texts.specs.SentText.{sent}
 use Rattle.replay.specs.Form.{Form, text_line, release_line}
 use Rattle.replay.specs.ByCases.Form.{form_of}
 

@@ -2,6 +2,7 @@
 -- ResultTooLong, and of those that its point's link and calls are for.
 use Rattle.std.specs.Prelude.{ℕ, List, Option, Some, None, Result, Ok, Err}
 use Rattle.ocpp_scalars.specs.declared.refusal.Refusal.{Refusal}
+use Rattle.ocpp_scalars.specs.declared.refusal.Refusal.TheVariants.{NothingInFlight}
 use Rattle.messages.specs.declared.call.Call.{Call}
 use Rattle.meaning.specs.Limit.{limit_asked}
 use Rattle.meaning.specs.ByCases.Exact.{exact_schedule}
@@ -83,11 +84,12 @@ sent_over (Some link) old point = sending_of (stepped_exactly old (steps.Send po
 abbrev pub sent_first : MachineState → List ℕ → Sending
 sent_first old point = sent_over (link_of old point) old point
 
--- a point has answered the call of a number; where that isn't in flight, nothing changes
-abbrev pub confirmed_over : Option ℕ → MachineState → List ℕ → ℕ → MachineState
-confirmed_over None old point number = old
+-- a point has answered the call of a number; where that isn't in flight, nothing changes, and none is
+-- in flight to a point without a link
+abbrev pub confirmed_over : Option ℕ → MachineState → List ℕ → ℕ → Stepped
+confirmed_over None old point number = record { outcome = Err NothingInFlight; after = old }
 confirmed_over (Some link) old point number =
-    (stepped_exactly old (steps.Confirm point link number)).after
+    stepped_exactly old (steps.Confirm point link number)
 
-abbrev pub confirmed_by : MachineState → List ℕ → ℕ → MachineState
+abbrev pub confirmed_by : MachineState → List ℕ → ℕ → Stepped
 confirmed_by old point number = confirmed_over (link_of old point) old point number

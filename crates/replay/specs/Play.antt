@@ -1,5 +1,5 @@
 -- What a line of a script prints, and what is known after it.
-use Rattle.std.specs.Prelude.{ℕ, ◌≡◌, ◌==◌, Bool, true, false, if◌then◌else◌, List, [], ◌∷◌, ◌++◌, length, string_bytes, Option, Some, None, Result, Ok, Err}
+use Rattle.std.specs.Prelude.{ℕ, ◌≡◌, ◌==◌, Bool, true, false, if◌then◌else◌, List, [], ◌∷◌, ◌++◌, length, Option, Some, None, Result, Ok, Err}
 use Rattle.ocpp_scalars.specs.declared.refusal.Refusal.{Refusal}
 use Rattle.profile.specs.declared.unit.Unit.{Unit}
 use Rattle.messages.specs.declared.action_kind.ActionKind.{ActionKind}
@@ -11,29 +11,33 @@ use Rattle.messages.specs.declared.side.Side.TheVariants as sides
 use Rattle.site_core.specs.declared.reply.Reply.{Reply}
 use Rattle.site_core.specs.declared.reply.Reply.TheVariants.{Taken}
 use Rattle.site_core.specs.State.{MachineState}
+use Rattle.site_rules.specs.Site.{SiteState}
 use Rattle.replay.specs.declared.script.line.LineFault.{LineFault}
 use Rattle.replay.specs.declared.script.line.LineFault.TheVariants.{NotComposite, UnknownRequest}
 use Rattle.replay.specs.declared.script.line.ScriptLine.{ScriptLine}
 use Rattle.replay.specs.declared.script.line.ScriptLine.TheVariants.{Text, Hold, Release}
-use Rattle.replay.specs.declared.script.play.Printed.{Printed}
-use Rattle.session.specs.declared.asked.Asked.{Asked}
-use Rattle.session.specs.declared.asked.Asked.TheVariants as asked
+use Rattle.replay.specs.declared.script.point_change.PointChange.{PointChange}
+use Rattle.replay.specs.declared.script.point_change.PointChange.TheVariants.{Nothing}
+use Rattle.replay.specs.declared.script.played_line.LineOutcome.{LineOutcome}
+use Rattle.texts.specs.declared.asked.Asked.{Asked}
+use Rattle.texts.specs.declared.asked.Asked.TheVariants as asked
 use Rattle.replay.specs.Held.{id_held, let_go}
 use Rattle.replay.specs.Player.{PlayerState, with_machine}
-use Rattle.session.specs.SentText as texts
+use Rattle.texts.specs.SentText as texts
 use Rattle.replay.specs.MachineSteps.{Stepped, Sending, stepped_exactly, handed_out, stepped_at_once, attached_once, sent_first, confirmed_by}
-use Rattle.session.specs.Asked.{asked_of, hold_of}
-use Rattle.session.specs.Response.{response_of}
+use Rattle.texts.specs.Asked.{asked_of, hold_of}
+use Rattle.texts.specs.Response.{response_of}
 use Rattle.replay.specs.Line.{line_of}
-use Rattle.replay.specs.PrintedLine.{PrintedLine, printed_texts}
-use Rattle.replay.specs.PrintedLine as lines
+use Rattle.replay.specs.PrintedLine.{PrintedLine}
+use Rattle.replay.specs.PointChange.{change_of}
+use Rattle.replay.specs.declared.script.printed_line.PrintedLine.TheVariants as lines
 
 -- ---- what is printed
 
 -- the answer to the CALL of this id, if there is one
 abbrev pub answer_if : List ℕ → Option Response → List PrintedLine
 answer_if id None = []
-answer_if id (Some response) = lines.answer id response ∷ []
+answer_if id (Some response) = lines.Answer id response ∷ []
 
 -- the answer to the CALL of this id, on a site of this unit
 abbrev pub outcome_lines : Unit → List ℕ → ActionKind → Result Reply Refusal → List PrintedLine
@@ -42,29 +46,39 @@ outcome_lines unit id kind outcome = answer_if id (response_of unit kind outcome
 -- the call that goes out to a point, if one does
 abbrev pub call_lines : List ℕ → Option Call → List PrintedLine
 call_lines point None = []
-call_lines point (Some call) = lines.call point call ∷ []
+call_lines point (Some call) = lines.Call point call ∷ []
 
 -- ---- texts
 
--- what is printed, and what is known then
+-- what is printed, what the text changes at its point, and what is known then
 pub record Handled : Type 0 where
   pub printed : List PrintedLine
+  pub change : PointChange
   pub after : PlayerState
 
 abbrev pub answered : PlayerState → List ℕ → ActionKind → Stepped → Handled
 answered old id kind step = record {
   printed = outcome_lines old.machine.site.unit id kind step.outcome;
+  change = change_of step.outcome;
   after = record old { machine = step.after };
+}
+
+-- a reply to a call isn't answered
+abbrev pub confirmed : PlayerState → Stepped → Handled
+confirmed old step = record {
+  printed = [];
+  change = change_of step.outcome;
+  after = with_machine old step.after;
 }
 
 -- a text is answered at once
 abbrev pub asked_handled : PlayerState → Asked → Handled
-asked_handled old asked.Nothing = record { printed = []; after = old }
+asked_handled old asked.Nothing = record { printed = []; change = Nothing; after = old }
 asked_handled old (asked.Respond id response) =
-    record { printed = lines.answer id response ∷ []; after = old }
+    record { printed = lines.Answer id response ∷ []; change = Nothing; after = old }
 asked_handled old (asked.Step id kind step) = answered old id kind (stepped_at_once old.machine step)
 asked_handled old (asked.Confirm point number) =
-    record { printed = []; after = with_machine old (confirmed_by old.machine point number) }
+    confirmed old (confirmed_by old.machine point number)
 
 -- ---- texts of points
 
@@ -72,6 +86,7 @@ asked_handled old (asked.Confirm point number) =
 abbrev pub call_handled : Handled → List ℕ → Sending → Handled
 call_handled text point sending = record {
   printed = text.printed ++ call_lines point sending.call;
+  change = text.change;
   after = with_machine text.after sending.after;
 }
 
@@ -100,8 +115,11 @@ with_held old taken number id = record {
 -- a request that is taken is held, and any other outcome is answered
 abbrev pub hold_answered : PlayerState → List ℕ → ActionKind → Result Reply Refusal → MachineState
     → Handled
-hold_answered old id kind (Ok (Taken number book ask)) taken =
-    record { printed = lines.held number ∷ []; after = with_held old taken number id }
+hold_answered old id kind (Ok (Taken number book ask)) taken = record {
+  printed = lines.Held number ∷ [];
+  change = Nothing;
+  after = with_held old taken number id;
+}
 hold_answered old id kind outcome after =
     answered old id kind (record { outcome = outcome; after = after })
 
@@ -121,49 +139,70 @@ release_handled old number id =
 
 -- ---- lines
 
--- what a line prints, whether it has a fault, and what is known after it
-pub record PlayedLine : Type 0 where
+-- what a line prints, whether it has a fault, what it changes at its point, and what is known after it
+pub record LineStep : Type 0 where
   pub printed : List PrintedLine
   pub is_fault : Bool
+  pub change : PointChange
   pub after : PlayerState
 
-abbrev pub text_played : Handled → PlayedLine
-text_played text = record { printed = text.printed; is_fault = false; after = text.after }
+abbrev pub text_played : Handled → LineStep
+text_played text = record {
+  printed = text.printed;
+  is_fault = false;
+  change = text.change;
+  after = text.after;
+}
 
-abbrev pub fault_played : PlayerState → ℕ → LineFault → PlayedLine
-fault_played old line fault =
-    record { printed = lines.fault line fault ∷ []; is_fault = true; after = old }
+abbrev pub fault_played : PlayerState → ℕ → LineFault → LineStep
+fault_played old line fault = record {
+  printed = lines.Fault line fault ∷ [];
+  is_fault = true;
+  change = Nothing;
+  after = old;
+}
 
-abbrev pub hold_played : PlayerState → ℕ → Option Asked → PlayedLine
+abbrev pub hold_played : PlayerState → ℕ → Option Asked → LineStep
 hold_played old line None = fault_played old line NotComposite
 hold_played old line (Some asked) = text_played (hold_handled old asked)
 
-abbrev pub release_played : PlayerState → ℕ → ℕ → Option (List ℕ) → PlayedLine
+abbrev pub release_played : PlayerState → ℕ → ℕ → Option (List ℕ) → LineStep
 release_played old line number None = fault_played old line UnknownRequest
 release_played old line number (Some id) = text_played (release_handled old number id)
 
 -- the line of this number in its script
-abbrev pub said_played : PlayerState → ℕ → ScriptLine → PlayedLine
+abbrev pub said_played : PlayerState → ℕ → ScriptLine → LineStep
 said_played old line (Text text) = text_played (text_handled old text.sender text)
 said_played old line (Hold text) = hold_played old line (hold_of text)
 said_played old line (Release number) = release_played old line number (id_held number old.held)
 
-abbrev pub read_played : PlayerState → ℕ → Result ScriptLine LineFault → PlayedLine
+abbrev pub read_played : PlayerState → ℕ → Result ScriptLine LineFault → LineStep
 read_played old line (Ok said) = said_played old line said
 read_played old line (Err fault) = fault_played old line fault
 
+-- what a line says on a site, or its fault; an empty line says nothing
+abbrev pub said_on : SiteState → List ℕ → Option (Result ScriptLine LineFault)
+said_on site line = if length line == 0 then None else Some (line_of site line)
+
 -- an empty line prints nothing
-abbrev pub line_played : PlayerState → ℕ → List ℕ → PlayedLine
-line_played old number line =
-    if length line == 0 then record { printed = []; is_fault = false; after = old }
-    else read_played old number (line_of old.machine.site line)
+abbrev pub played_as : PlayerState → ℕ → Option (Result ScriptLine LineFault) → LineStep
+played_as old number None = record { printed = []; is_fault = false; change = Nothing; after = old }
+played_as old number (Some read) = read_played old number read
+
+abbrev pub line_played : PlayerState → ℕ → List ℕ → LineStep
+line_played old number line = played_as old number (said_on old.machine.site line)
+
+-- a line led to this; what it printed is left open
+pub record LeadsTo (line : LineStep) (outcome : LineOutcome) (new : PlayerState) : Type 0 where
+  pub is_fault : line.is_fault ≡ outcome.is_fault
+  pub change : line.change ≡ outcome.change
+  pub after : line.after ≡ new
 
 -- a line was played so
-abbrev pub IsPlayed : PlayedLine → Printed → PlayerState → Type 0
-IsPlayed line printed new =
-    (printed_texts line.printed ≡ string_bytes printed.text)
-    × (line.is_fault ≡ printed.is_fault) × (line.after ≡ new)
+pub record IsPlayed (line : LineStep) (outcome : LineOutcome) (new : PlayerState) : Type 0 where
+  pub printed : line.printed ≡ outcome.printed.items
+  pub led : LeadsTo line outcome new
 
 -- a text was handled so
-abbrev pub IsHandled : Handled → List ℕ → PlayerState → Type 0
-IsHandled text printed new = (printed_texts text.printed ≡ printed) × (text.after ≡ new)
+abbrev pub IsHandled : Handled → LineOutcome → PlayerState → Type 0
+IsHandled text outcome new = IsPlayed (text_played text) outcome new

@@ -1,4 +1,4 @@
--- A line that a script prints: what it tells, and its text.
+-- The text of a line that a script prints.
 use Rattle.std.specs.Prelude.{ℕ, List, ◌++◌, codes}
 use Rattle.std.specs.Fmt.{decimal}
 use Rattle.std.specs.List.{flat_map}
@@ -7,17 +7,9 @@ use Rattle.messages.specs.declared.response.Response.{Response}
 use Rattle.messages.specs.CallText.{call_text}
 use Rattle.messages.specs.ResponseText.{response_text}
 use Rattle.replay.specs.declared.script.line.LineFault.{LineFault}
+pub use Rattle.replay.specs.declared.script.printed_line.PrintedLine.{PrintedLine}
+use Rattle.replay.specs.declared.script.printed_line.PrintedLine.TheVariants as lines
 use Rattle.replay.specs.Line.{fault_name}
-
-pub data PrintedLine : Type 0 where
-  -- the answer to the CALL of this id
-  answer : List ℕ → Response → PrintedLine
-  -- a call that goes out to the point of this identity
-  call : List ℕ → Call → PrintedLine
-  -- the request of this number is held
-  held : ℕ → PrintedLine
-  -- the script's line of this number has this fault
-  fault : ℕ → LineFault → PrintedLine
 
 -- `> ANSWER`
 abbrev pub response_line : List ℕ → Response → List ℕ
@@ -38,11 +30,11 @@ fault_line number why =
 
 -- the text of a line
 abbrev pub printed_text : PrintedLine → List ℕ
-printed_text (answer id response) = response_line id response
-printed_text (call point sent) = sent_line point sent
-printed_text (held number) = held_line number
-printed_text (fault number why) = fault_line number why
+printed_text (lines.Answer id response) = response_line id response
+printed_text (lines.Call point sent) = sent_line point sent
+printed_text (lines.Held number) = held_line number
+printed_text (lines.Fault number why) = fault_line number why
 
 -- the texts of lines, one after another
 abbrev pub printed_texts : List PrintedLine → List ℕ
-printed_texts lines = flat_map printed_text lines
+printed_texts printed = flat_map printed_text printed

@@ -3,10 +3,10 @@ use Rattle.std.specs.Prelude.{ℕ, ◌≡◌, ◌+◌, nat_le, Bool, true, if◌
 use Rattle.std.specs.List.{fold}
 use Rattle.site_rules.specs.Site.{SiteState}
 use Rattle.replay.specs.Lines.{script_lines}
-use Rattle.replay.specs.Play.{line_played, IsPlayed}
+use Rattle.replay.specs.Play.{said_on, line_played, LeadsTo}
 use Rattle.replay.specs.Run.{Played, first_played, played_more}
 use Rattle.replay.specs.Playing.{PlayingState}
-use Rattle.replay.specs.declared.script.quiet.PlayedLine.{PlayedLine}
+use Rattle.replay.specs.declared.script.played_line.PlayedLine.{PlayedLine}
 
 -- the lines up to the one of this number, the first having the number 1, or all of them
 abbrev pub lines_up_to : Option ℕ → List (List ℕ) → List (List ℕ)
@@ -23,21 +23,29 @@ abbrev pub is_up_to : Option ℕ → ℕ → Bool
 is_up_to None number = true
 is_up_to (Some last) number = nat_le number last
 
--- The next line was played:
+-- The next line was played, or skimmed, which leaves open what it printed:
 pub record IsNextLine (old : PlayingState) (line : PlayedLine) (new : PlayingState) : Type 0 where
   -- it is the first that was left,
   pub first : script_lines old.rest ≡ line.line.now ∷ script_lines new.rest
   pub number : line.number ≡ old.number
   pub next : new.number ≡ old.number + 1
-  -- printed what it prints then, and led to what it leads to,
-  pub played : IsPlayed (line_played old.state old.number line.line.now) line.printed new.state
+  -- says what it says on the site,
+  pub said : line.said ≡ said_on old.state.machine.site line.line.now
+  -- led to what it leads to,
+  pub led : LeadsTo (line_played old.state old.number line.line.now) line.outcome new.state
   -- and its fault counts.
   pub faults :
       new.faults
       ≡ old.faults
       + (if (line_played old.state old.number line.line.now).is_fault then 1 else 0)
 
--- the next line was played, or none was left
+-- the next line was played or skimmed, or none was left
 abbrev pub IsNext : PlayingState → Option PlayedLine → PlayingState → Type 0
 IsNext old None new = (script_lines old.rest ≡ []) × (new ≡ old)
 IsNext old (Some line) new = IsNextLine old line new
+
+-- the line printed what it prints
+abbrev pub HasPrinted : PlayingState → Option PlayedLine → Type 0
+HasPrinted old None = Unit {0}
+HasPrinted old (Some line) =
+    line.outcome.printed.items ≡ (line_played old.state old.number line.line.now).printed

@@ -9,7 +9,7 @@ use Rattle.replay.specs.Lines.{script_lines}
 use Rattle.site_rules.specs.Site.{SiteState}
 use Rattle.replay.specs.Player.{PlayerState, first_state}
 use Rattle.replay.specs.PrintedLine.{PrintedLine, printed_texts}
-use Rattle.replay.specs.Play.{PlayedLine, line_played}
+use Rattle.replay.specs.Play.{LineStep, line_played}
 
 -- how far a script was played
 pub record Played : Type 0 where
@@ -25,7 +25,7 @@ pub record Played : Type 0 where
 abbrev pub first_played : SiteState → Played
 first_played site = record { number = 1; faults = 0; lines = []; state = first_state site }
 
-abbrev pub with_line : Played → PlayedLine → Played
+abbrev pub with_line : Played → LineStep → Played
 with_line before line = record {
   number = before.number + 1;
   faults = before.faults + (if line.is_fault then 1 else 0);

@@ -26,14 +26,15 @@ use Rattle.site_core.specs.Obey.{Obeying, numbers_of, last_number, obeyed, lasti
 use Rattle.site_core.specs.ObeyOrder.{obeyed_numbers, IsObeyed}
 use Rattle.site_core.specs.CallOrder.{is_at, calls_sent, numbers_of_calls, calls_confirmed_at}
 use Rattle.site_core.specs.CallOrder.{bodies_of, Moment}
-use Rattle.replay.specs.PrintedLine.{PrintedLine, answer, call}
+use Rattle.replay.specs.PrintedLine.{PrintedLine}
+use Rattle.replay.specs.declared.script.printed_line.PrintedLine.TheVariants as printed
 use Rattle.replay.specs.Run.{played, lines_of}
 
 -- ---- schedules
 
 -- the schedule that a line prints, if it is the answer to a CALL with one
 abbrev pub schedules_on : PrintedLine → List ScheduleResponse
-schedules_on (answer id (responses.Schedule told)) = told ∷ []
+schedules_on (printed.Answer id (responses.Schedule told)) = told ∷ []
 schedules_on line = []
 
 -- the schedules that are printed, in the order of their lines
@@ -62,7 +63,7 @@ schedules_answered unit history = flat_map (schedules_by_event unit) history
 
 -- the call that a line prints, if it does, with the identity of the point that it goes out to
 abbrev pub calls_on : PrintedLine → List (List ℕ × Call)
-calls_on (call point sent) = (point, sent) ∷ []
+calls_on (printed.Call point sent) = (point, sent) ∷ []
 calls_on line = []
 
 -- the calls that are printed, in the order of their lines
@@ -83,7 +84,7 @@ calls_replied history = flat_map calls_of_event history
 
 -- the call that a line prints, if that goes out to the point at a place
 abbrev pub calls_to : SiteState → ℕ → PrintedLine → List Call
-calls_to site place (call point sent) = if is_at site place point then sent ∷ [] else []
+calls_to site place (printed.Call point sent) = if is_at site place point then sent ∷ [] else []
 calls_to site place line = []
 
 -- the calls that are printed for the point at a place, in the order of their lines
@@ -153,7 +154,7 @@ abbrev pub PrintedSchedulesAreRight : (site : SiteState) (script : List ℕ) →
     → Type 0
 PrintedSchedulesAreRight site script run =
     (earlier later : List PrintedLine) (id : List ℕ) (told : ScheduleResponse)
-    → lines_of site script ≡ earlier ++ answer id (responses.Schedule told) ∷ later
+    → lines_of site script ≡ earlier ++ printed.Answer id (responses.Schedule told) ∷ later
     → IsPrintedRight site script run earlier told
 
 -- the calls that are printed for a point are in sending order

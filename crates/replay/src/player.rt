@@ -2,4 +2,5 @@
 
 pub mod held;
 pub mod machine_steps;
+pub mod most_periods;
 pub mod player;

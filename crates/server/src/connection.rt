@@ -2,15 +2,14 @@
 
 use crate::handshake::{ClientRequest, shake_hands};
 use crate::path::{PathPeer, peer_of_path};
-use crossbeam_channel::Sender;
 use ocpp_scalars::Moments;
-use session::{Journal, SessionCore, serve_noted_socket};
-use std::alloc::{AllocError, Global};
+use session::{Context, Journal, SessionCore, serve_session};
+use std::alloc::AllocError;
 use std::io::{Read, Write};
 use std::sync::Wait;
 use std::sync::ledger::Ledger;
 use tungstenite::{CloseCode, CloseFrame, NoMask, Utf8Bytes, WebSocket};
-use version_store::{Job, Pass, Shared};
+use version_store::Pass;
 
 /// Serves a connection from its handshake until it ends. Gives back the pass.
 pub(crate) fn serve_connection<
@@ -20,24 +19,13 @@ pub(crate) fn serve_connection<
     R: Wait,
     M: Moments,
     J: Journal,
->(
-    rt: &R,
-    alloc: Global,
-    stream: S,
-    shared: &Shared<C, A>,
-    jobs: &Sender<Job>,
-    pass: Pass<C, A>,
-    clock: &M,
-    journal: &J,
-) -> Pass<C, A> {
-    let Some((socket, asked)) = shake_hands(alloc, stream) else {
+>(context: &Context<'_, C, A, R, M, J>, stream: S, pass: Pass<C, A>) -> Pass<C, A> {
+    let Some((socket, asked)) = shake_hands(context.alloc, stream) else {
         return pass;
     };
-    match core_of(rt, alloc, shared, &asked) {
+    match core_of(context, &asked) {
         Ok(Some(core)) => {
-            let (_, pass) = serve_noted_socket(
-                rt, alloc, socket, shared, jobs, core, pass, clock, journal,
-            );
+            let (_, pass) = serve_session(context, socket, core, pass);
             pass
         }
         Ok(None) => {
@@ -49,22 +37,20 @@ pub(crate) fn serve_connection<
 }
 
 /// The session that a client asks for, if it speaks OCPP 1.6 and names a point of the site.
-fn core_of<C: Ledger, A: Ledger, R: Wait>(
-    rt: &R,
-    alloc: Global,
-    shared: &Shared<C, A>,
+fn core_of<C: Ledger, A: Ledger, R: Wait, M: Moments, J: Journal>(
+    context: &Context<'_, C, A, R, M, J>,
     asked: &ClientRequest,
 ) -> Result<Option<SessionCore>, AllocError> {
     let peer = peer_of_path(asked.path.as_str());
     let (PathPeer::Operator(id) | PathPeer::Point(id)) = peer;
-    let book = shared.lock(rt);
+    let book = context.shared.lock(context.rt);
     let site = book.present().site();
     if !asked.offers_ocpp || site.place_of(id).is_none() {
         return Ok(None);
     }
     let core = match peer {
-        PathPeer::Operator(id) => SessionCore::operator(alloc, id, site.unit())?,
-        PathPeer::Point(id) => SessionCore::point(alloc, id)?,
+        PathPeer::Operator(id) => SessionCore::operator(context.alloc, id, site.unit())?,
+        PathPeer::Point(id) => SessionCore::point(context.alloc, id)?,
     };
     Ok(Some(core))
 }

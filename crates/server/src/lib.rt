@@ -3,6 +3,7 @@
 #![tactic(auto)]
 
 mod connection;
+mod connections;
 mod handshake;
 mod path;
 mod sites;

@@ -1,14 +1,14 @@
 //! The server: it accepts connections, and ends once so many have ended.
 
-ghost use Rattle.std.specs.Prelude.{◌≡◌, ◌≤◌};
+ghost use Rattle.std.specs.Prelude.{◌≡◌, ◌≤◌, IfOk, length};
 
-use crate::connection::serve_connection;
+use crate::connections::{Served, serve_connections};
 use compile_pool::{MAX_JOBS, Open, run_pool};
-use crossbeam_channel::{Receiver, Sender, bounded};
+use crossbeam_channel::bounded;
 use ocpp_scalars::Moments;
-use session::{Journal, NoJournal};
+use session::{Context, Journal, NoJournal};
 use site_rules::Site;
-use std::alloc::Global;
+use std::alloc::{AllocError, Global};
 use std::marker::{Brand, Send, Sync};
 use std::net::TcpListener;
 use std::sync::Wait;
@@ -16,7 +16,7 @@ use std::sync::ledger::{Blank, Ledger};
 use std::thread;
 use std::thread::Threads;
 use thiserror::Error;
-use version_store::{Job, Pass, Shared, Totals};
+use version_store::{Pass, Shared, Totals};
 
 /// The most workers.
 pub const MAX_WORKERS: usize = 8;
@@ -72,23 +72,19 @@ pub fn serve_noted<R: Threads + Wait + Sync, M: Moments + Sync, J: Journal + Syn
         alloc,
         workers,
         sessions,
+        clock,
+        journal,
     };
     let (changes, answers) = (Blank::new(sessions), Blank::new(sessions));
-    let beside = Beside { clock, journal };
-    serve_counted::<Brand, Brand, R, M, J>(rt, plan, site, listener, beside, (changes, answers))
+    serve_counted::<Brand, Brand, R, M, J>(rt, plan, site, listener, (changes, answers))
 }
 
 /// How a site is served.
-#[derive(Clone, Copy, Debug)]
-struct Plan {
+#[derive(Drop)]
+struct Plan<'a, M, J> {
     alloc: Global,
     workers: usize,
     sessions: u64,
-}
-
-/// What all sessions share beside the book.
-#[derive(Drop)]
-struct Beside<'a, M, J> {
     clock: &'a M,
     journal: &'a J,
 }
@@ -102,10 +98,9 @@ fn serve_counted<
     J: Journal + Sync,
 >(
     rt: &R,
-    plan: Plan,
+    plan: Plan<'_, M, J>,
     site: Site,
     listener: TcpListener,
-    beside: Beside<'_, M, J>,
     blanks: (Blank, Blank),
 ) -> Result<Totals, ServeFault>
     requires workers { 1 ≤ plan.workers }
@@ -123,26 +118,21 @@ fn serve_counted<
         site,
         plan.sessions,
     );
-    let (Ok((shared, passes)), Ok((jobs, queue))) = (made, bounded(plan.alloc, MAX_JOBS)) else {
+    let Ok((shared, passes)) = made else {
         return Err(ServeFault::OutOfMemory);
     };
-    let served = serve_beside_workers(rt, plan, listener, beside, &shared, (jobs, queue), passes)?;
-    let Ok(totals) = shared.settle(served.passes) else {
+    let Ok(served) = serve_beside_workers(rt, plan, listener, &shared, passes) else {
         return Err(ServeFault::OutOfMemory);
+    };
+    // Each session has given its pass back, so none is missing.
+    let Ok(totals) = shared.settle(served.passes) else {
+        unreachable!()
     };
     if served.is_accepting {
         Ok(totals)
     } else {
         Err(ServeFault::Socket)
     }
-}
-
-/// The passes of all sessions, once these have ended.
-#[derive(Drop)]
-struct Served<C: Ledger, A: Ledger> {
-    passes: Vec<Pass<C, A>>,
-    /// Whether each connection could be accepted.
-    is_accepting: bool,
 }
 
 /// Serves the connections while workers compile on threads of their own. Where no thread can be made for these, the
@@ -155,22 +145,28 @@ fn serve_beside_workers<
     J: Journal + Sync,
 >(
     rt: &R,
-    plan: Plan,
+    plan: Plan<'_, M, J>,
     listener: TcpListener,
-    beside: Beside<'_, M, J>,
     shared: &Shared<C, A>,
-    channel: (Sender<Job>, Receiver<Job>),
     passes: Vec<Pass<C, A>>,
-) -> Result<Served<C, A>, ServeFault>
+) -> Result<Served<C, A>, AllocError>
     requires { 1 ≤ plan.workers }
+    ensures { IfOk result (λ served. length served.passes.items ≡ length passes.items) }
 {
-    let (jobs, queue) = channel;
-    let Plan { alloc, workers, .. } = plan;
+    let Plan {
+        alloc,
+        workers,
+        clock,
+        journal,
+        ..
+    } = plan;
+    let (jobs, queue) = bounded(alloc, MAX_JOBS)?;
     thread::scope(
         thread::scope_env(),
         rt,
-        |scope| -> Result<Served<C, A>, ServeFault>
+        |scope| -> Result<Served<C, A>, AllocError>
             requires { 1 ≤ workers }
+            ensures { IfOk result (λ served. length served.passes.items ≡ length passes.items) }
         {
             let pool = scope.spawn(
                 move || -> usize
@@ -183,88 +179,14 @@ fn serve_beside_workers<
                 alloc,
                 shared,
                 jobs: &jobs,
-                beside,
+                clock,
+                journal,
             };
-            let served = serve_connections(context, listener, passes);
+            let served = serve_connections(&context, listener, passes);
             shared.lock(rt).finish();
             shared.wake();
             drop(jobs);
             served
         },
     )
-}
-
-/// What each connection has at hand.
-#[derive(Drop)]
-struct Context<'a, C: Ledger, A: Ledger, R: Wait, M: Moments, J: Journal> {
-    rt: &'a R,
-    alloc: Global,
-    shared: &'a Shared<C, A>,
-    jobs: &'a Sender<Job>,
-    beside: Beside<'a, M, J>,
-}
-
-/// Accepts a connection for each pass, and serves it on a thread of its own, or on this one where no thread can be
-/// made. Ends when all have ended.
-fn serve_connections<
-    C: Ledger + Send + Sync,
-    A: Ledger + Send + Sync,
-    R: Threads + Wait + Sync,
-    M: Moments + Sync,
-    J: Journal + Sync,
->(
-    context: Context<'_, C, A, R, M, J>,
-    listener: TcpListener,
-    passes: Vec<Pass<C, A>>,
-) -> Result<Served<C, A>, ServeFault> {
-    let Context {
-        rt,
-        alloc,
-        shared,
-        jobs,
-        beside,
-    } = context;
-    let Beside { clock, journal } = beside;
-    let sessions = passes.len();
-    let (Ok(ended), Ok(running)) = (
-        Vec::with_capacity(alloc, sessions),
-        Vec::with_capacity(alloc, sessions),
-    ) else {
-        return Err(ServeFault::OutOfMemory);
-    };
-    Ok(thread::scope(thread::scope_env(), rt, |scope| -> Served<C, A> {
-        let (mut ended, mut running, mut is_accepting) = (ended, running, true);
-        for pass in passes {
-            if !is_accepting {
-                let _ = ended.push(pass);
-                continue;
-            }
-            let Ok((stream, _)) = listener.accept() else {
-                is_accepting = false;
-                let _ = ended.push(pass);
-                continue;
-            };
-            // An answer leaves at once. Where that can't be set, it leaves later.
-            let _ = stream.set_nodelay(true);
-            match scope.spawn(move || {
-                serve_connection(rt, alloc, stream, shared, jobs, pass, clock, journal)
-            }) {
-                Ok(session) => {
-                    let _ = running.push(session);
-                }
-                Err(unmade) => {
-                    let _ = ended.push((unmade.value)());
-                }
-            }
-        }
-        // Nobody is to wait for a connection that is never accepted.
-        drop(listener);
-        for session in running {
-            let _ = ended.push(session.join(rt));
-        }
-        Served {
-            passes: ended,
-            is_accepting,
-        }
-    }))
 }

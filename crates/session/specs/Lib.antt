@@ -1,12 +1,6 @@
-pub mod SentText
-pub mod ByCases
-pub mod Number
-pub mod Unread
-pub mod Asked
-pub mod Response
 pub mod Outcome
 pub mod Session
 pub mod Todo
 pub mod Perform
 pub mod Serving
-pub mod Theory
+pub mod Served

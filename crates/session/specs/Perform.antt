@@ -25,15 +25,17 @@ abbrev pub seen_by : Told → Step → Step
 seen_by was (steps.Take take) = steps.Take (record take { seen = was.seen })
 seen_by was step = step
 
--- A step on which a request is kept gives its job. Any other gives the reply of the call that the step
--- stands for. A refused one changes nothing. What a session was told doesn't change with what its point
--- confirms.
+-- A Take gives the job of the request that is kept, and no reply. Any other step gives the reply of the
+-- call that it stands for. A refused one changes nothing. What a session was told doesn't change with
+-- what its point confirms.
 abbrev pub Performs : StoreState → Told → Step → Performed → StoreState → Told → Type 0
 Performs old was step (Job job) new told =
     Calls old was (seen_by was step) (Taken job.number job.book job.ask) new told
+Performs old was (steps.Take take) (Outcome (Made reply)) new told = ⊥
 Performs old was (steps.Confirm point link call) (Outcome (Made reply)) new told =
     Makes old (steps.Confirm point link call) reply new × (told ≡ was)
-Performs old was step (Outcome (Made reply)) new told = Calls old was (seen_by was step) reply new told
+Performs old was step (Outcome (Made reply)) new told =
+    Calls old was (seen_by was step) reply new told
 Performs old was step (Outcome (Answered handed)) new told = ⊥
 Performs old was step (Outcome (Refused refusal)) new told =
     IsRefusalOf old (seen_by was step) refusal × (new ≡ old) × (told ≡ was)

@@ -9,19 +9,19 @@ use Rattle.messages.specs.declared.response.Response.TheVariants.{Error}
 use Rattle.messages.specs.ResponseText.{response_text}
 use Rattle.site_core.specs.declared.step.Step.{Step}
 use Rattle.site_core.specs.declared.step.Step.TheVariants as steps
-use Rattle.session.specs.declared.asked.Asked.{Asked}
-use Rattle.session.specs.declared.asked.Asked.TheVariants as asked
+use Rattle.texts.specs.declared.asked.Asked.{Asked}
+use Rattle.texts.specs.declared.asked.Asked.TheVariants as asked
+use Rattle.texts.specs.Asked.{asked_of}
+use Rattle.texts.specs.Response.{response_of}
+use Rattle.texts.specs.SentText.{sent}
+use Rattle.texts.specs.Unread.{IsCallOf}
 use Rattle.session.specs.declared.session_core.Peer.{Peer}
 use Rattle.session.specs.declared.session_core.Peer.TheVariants.{Operator, Point}
 use Rattle.session.specs.declared.outcome.Outcome.{Outcome}
 use Rattle.session.specs.declared.todo.Owed.{Owed}
 use Rattle.session.specs.declared.todo.Owed.TheVariants as owed
-use Rattle.session.specs.Asked.{asked_of}
 use Rattle.session.specs.Outcome.{result_of}
-use Rattle.session.specs.Response.{response_of}
-use Rattle.session.specs.SentText.{sent}
 use Rattle.session.specs.Session.{SessionState, side_of, answer_unit}
-use Rattle.session.specs.Unread.{IsCallOf}
 
 pub record TodoState : Type 0 where
   -- the step that the text asks for, if it asks for one, until it is taken

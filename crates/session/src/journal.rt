@@ -1,6 +1,6 @@
 //! Where sessions note the texts that they serve.
 
-use crate::sent_text::SentText;
+use texts::SentText;
 
 /// Takes down the texts that sessions serve, in the order in which their steps are made.
 pub trait Journal {

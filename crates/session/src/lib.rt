@@ -2,26 +2,22 @@
 //! the texts that answer them.
 #![tactic(auto)]
 
-mod asked;
+mod answering;
+mod context;
 mod journal;
-mod number;
 mod outcome;
-mod response;
-mod sent_text;
 mod serving;
 mod session_core;
 mod step;
 mod todo;
-mod unread;
 
-pub use asked::{Asked, asked_of, hold_of};
+pub use context::Context;
 pub use journal::{Journal, NoJournal};
-pub use number::number_of;
 pub use outcome::{Outcome, Performed};
-pub use response::response_of;
-pub use sent_text::SentText;
-pub use serving::{Ended, serve_noted_socket, serve_socket};
+pub use serving::{
+    Ended, Served, serve_noted_socket, serve_sent_text, serve_session, serve_socket,
+};
 pub use session_core::{Peer, SessionCore};
 pub use step::perform;
+pub use texts::{Asked, SentText, Unread, asked_of, hold_of, number_of, response_of};
 pub use todo::{Owed, Todo};
-pub use unread::Unread;

@@ -4,9 +4,10 @@ ghost use Rattle.session.specs.Serving.{KeepsPass};
 
 mod calls;
 mod ended;
+mod served_text;
 mod sockets;
-mod texts;
 
+use crate::context::Context;
 use crate::journal::{Journal, NoJournal};
 use crate::session_core::SessionCore;
 use calls::{attach, lose};
@@ -14,25 +15,14 @@ use crossbeam_channel::Sender;
 pub use ended::Ended;
 use ocpp_scalars::Moments;
 use ocppj_frame::ReadingMemory;
+use served_text::serve_text;
+pub use served_text::{Served, serve_sent_text};
 use std::alloc::Global;
 use std::io::{Read, Write};
 use std::sync::Wait;
 use std::sync::ledger::Ledger;
-use texts::serve_text;
 use tungstenite::{MaskKeys, WebSocket};
 use version_store::{Job, Pass, Shared};
-
-/// What each session has at hand.
-#[derive(Drop)]
-pub(crate) struct Context<'a, C: Ledger, A: Ledger, R: Wait, M: Moments, J: Journal> {
-    pub(crate) rt: &'a R,
-    pub(crate) alloc: Global,
-    pub(crate) shared: &'a Shared<C, A>,
-    /// The way to those who compile.
-    pub(crate) jobs: &'a Sender<Job>,
-    pub(crate) clock: &'a M,
-    pub(crate) journal: &'a J,
-}
 
 /// Serves a session over its socket, after its handshake, until that is closed or fails: makes the step of each
 /// text on the shared book, and answers it. A request for a schedule goes to the workers, and is compiled here
@@ -93,16 +83,36 @@ pub fn serve_noted_socket<
         clock,
         journal,
     };
+    serve_session(&context, socket, core, pass)
+}
+
+/// Does what `serve_noted_socket` does, with what all sessions have at hand.
+pub fn serve_session<
+    S: Read + Write + Drop,
+    K: MaskKeys + Drop,
+    C: Ledger,
+    A: Ledger,
+    R: Wait,
+    M: Moments,
+    J: Journal,
+>(
+    context: &Context<'_, C, A, R, M, J>,
+    socket: WebSocket<S, K>,
+    core: SessionCore,
+    pass: Pass<C, A>,
+) -> (Ended, Pass<C, A>)
+    ensures { KeepsPass pass result.1 }
+{
     let (mut socket, mut core, mut pass) = (socket, core, pass);
-    let ended = match attach(&context, &mut core, &mut pass) {
-        Ok(()) => serve_texts(&context, &mut socket, &core, &mut pass),
+    let ended = match attach(context, &mut core, &mut pass) {
+        Ok(()) => serve_texts(context, &mut socket, &core, &mut pass),
         Err(ended) => {
             let _ = socket.close(None);
             ended
         }
     };
-    lose(&context, core);
-    journal.write_out();
+    lose(context, core);
+    context.journal.write_out();
     (ended, pass)
 }
 

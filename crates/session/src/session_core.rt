@@ -5,10 +5,8 @@ ghost use Rattle.session.specs.Session.{operators, points, side_of, answer_unit,
 ghost use Rattle.messages.specs.ResponseText.{response_text};
 ghost use Rattle.session.specs.Todo.{IsTodo, answer_text};
 
-use crate::asked::asked_of;
+use crate::answering::response_of_outcome;
 use crate::outcome::Outcome;
-use crate::response::response_of_outcome;
-use crate::sent_text::SentText;
 use crate::todo::{Owed, Todo};
 use messages::{Response, Side, push_response};
 use ocpp_scalars::{Instant, Refusal};
@@ -17,6 +15,7 @@ use profile::Unit;
 use site_core::PointId;
 use std::alloc::{AllocError, Global};
 use std::marker::Model;
+use texts::{SentText, asked_of};
 
 /// Who is at the other end of a session's socket.
 #[derive(Clone, Copy, Debug, PartialEq, Eq)]

@@ -1,17 +1,17 @@
 //! What is to be done for a text of a session: at most one step, and an answer.
 
 ghost use Rattle.std.specs.Prelude.{◌≡◌, None, IfSome};
-ghost use Rattle.session.specs.Asked.{AsksByCall};
+ghost use Rattle.texts.specs.Asked.{AsksByCall};
 ghost use Rattle.session.specs.Perform.{IsOfText};
 ghost use Rattle.session.specs.Todo.{confirming, todo_asked, without_memory};
 
-use crate::asked::Asked;
 use crate::session_core::Peer;
 use messages::{ActionKind, CallFault, Response};
 use ocpp_scalars::Refusal;
 use ocppj_frame::MessageId;
 use site_core::{PointId, Step};
 use std::marker::Model;
+use texts::Asked;
 
 /// What the sender of a text is owed.
 #[derive(Drop)]

@@ -4,10 +4,10 @@
 #[cfg(test)]
 mod same;
 #[cfg(test)]
+mod served_texts;
+#[cfg(test)]
 mod sessions_on_a_book;
 #[cfg(test)]
 mod sessions_over_memory;
 #[cfg(test)]
 mod streams;
-#[cfg(test)]
-mod texts;

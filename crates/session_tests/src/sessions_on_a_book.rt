@@ -4,7 +4,7 @@ ghost use Rattle.std.specs.Prelude.{◌≡◌};
 ghost use Rattle.session.specs.Perform.{IsOfText};
 
 use crate::same::same_text;
-use crate::texts::{ACCEPTED, ASK, INSTALL, SCHEDULE, SITE};
+use crate::served_texts::{ACCEPTED, ASK, INSTALL, SCHEDULE, SITE};
 use book_tests::instant_at;
 use ocppj_frame::ReadingMemory;
 use profile::Unit;

@@ -3,11 +3,11 @@
 ghost use Rattle.std.specs.Prelude.{◌≡◌};
 
 use crate::same::{holds, same, same_text};
-use crate::streams::{client_bytes, client_texts, messages_of, socket_of};
-use crate::texts::{
+use crate::served_texts::{
     ACCEPTED, ASK, CLEAR, CLEARED, HEARTBEAT, INSTALL, MOMENT, NOTED_OF_OPERATOR, NOTED_OF_POINT,
     SCHEDULE, SET, SITE,
 };
+use crate::streams::{client_bytes, client_texts, messages_of, socket_of};
 use book_tests::instant_at;
 use crossbeam_channel::{Sender, bounded};
 use ocpp_scalars::{Instant, Moments};

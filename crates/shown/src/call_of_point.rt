@@ -1,6 +1,6 @@
 //! The calls of a charge point that it hasn't confirmed.
 
-use messages::{Call, CallBody};
+use messages::Call;
 use site_core::Outbox;
 use std::alloc::{AllocError, Global};
 
@@ -26,17 +26,4 @@ pub fn waiting_calls(alloc: Global, outbox: &Outbox) -> Result<Vec<WaitingCall>,
         is_in_flight = false;
     }
     Ok(calls)
-}
-
-/// The call in flight, if one is.
-pub fn call_in_flight(
-    alloc: Global,
-    outbox: &Outbox,
-) -> Result<Option<(u64, CallBody)>, AllocError> {
-    if !outbox.is_in_flight() {
-        return Ok(None);
-    }
-    let number = outbox.first_number();
-    let first = outbox.bodies(alloc)?.into_iter().next();
-    Ok(first.map(|body| (number, body)))
 }

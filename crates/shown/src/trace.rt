@@ -9,16 +9,25 @@ use crate::traced_calls::PointCalls;
 use crate::words::{cut, text};
 use messages::Side;
 use ocppj_frame::ReadingMemory;
-use replay::{PlayedLine, Playing, ScriptLine, read_line};
-use session::SentText;
+use replay::{PlayedLine, Playing, PointChange, PrintedLine, ScriptLine, print_lines};
 use site_rules::Site;
 use std::alloc::{AllocError, Global};
+use texts::SentText;
 
 /// How many characters a trace shows of a text.
 const SHOWN_CHARACTERS: usize = 60;
 
+/// How much is kept of a script.
+#[derive(Clone, Copy, Debug, PartialEq, Eq)]
+pub enum Depth {
+    /// What its lines lead to. No schedule is made that nobody looks at.
+    State,
+    /// What each line printed, too.
+    Lines,
+}
+
 /// A line of a script that printed something.
-#[derive(Debug, Drop)]
+#[derive(Drop)]
 pub struct TracedLine {
     /// Its number, from 1.
     pub number: u64,
@@ -26,8 +35,7 @@ pub struct TracedLine {
     pub point: Option<String>,
     /// The line without its instant and its point, cut.
     pub text: String,
-    /// Whole lines.
-    pub printed: String,
+    pub printed: Vec<PrintedLine>,
 }
 
 /// A request that a line held.
@@ -41,12 +49,13 @@ pub struct HeldLine {
     pub point: String,
 }
 
-/// A script that was played, with what each of its lines printed and what became of the calls to each point.
+/// A script that is played, with what became of the calls to each point and, if wanted, what each line printed.
 #[derive(Drop)]
 pub struct Trace<'a> {
     alloc: Global,
     memory: ReadingMemory,
     playing: Playing<'a>,
+    depth: Depth,
     lines: Vec<TracedLine>,
     held: Vec<HeldLine>,
     /// Each at its place in the site file.
@@ -55,46 +64,23 @@ pub struct Trace<'a> {
     changes: Vec<RowChange>,
 }
 
-/// Who a line is from or for.
-#[derive(Drop)]
-struct LineWords {
-    point: Option<String>,
-    text: String,
-    /// The point's own text.
-    reply: Option<String>,
-}
-
-/// Plays a script up to the line of a number, or the whole of it, and keeps what each line printed.
+/// Plays a script up to the line of a number, or the whole of it.
 pub fn trace_script<'a>(
     alloc: Global,
     script: &'a [u8],
     site: Site,
     last_line: Option<u64>,
+    depth: Depth,
 ) -> Result<Trace<'a>, AllocError>
     requires { length script.now ≤ max_script_bytes }
 {
-    let mut points = Vec::with_capacity(alloc, site.len())?;
-    let mut rows = Vec::with_capacity(alloc, site.len())?;
-    for _place in 0..site.len() {
-        points.push(PointCalls::new(alloc)?)?;
-        rows.push(PointRows::new(alloc))?;
-    }
-    let mut trace = Trace {
-        alloc,
-        memory: ReadingMemory::new(alloc),
-        playing: Playing::new(alloc, script, site)?,
-        lines: Vec::new(alloc),
-        held: Vec::new(alloc),
-        points,
-        rows,
-        changes: Vec::new(alloc),
-    };
+    let mut trace = Trace::new(alloc, script, site, depth)?;
     // Each line has a byte at least.
     for _line in 0..script.len() {
         if last_line.is_some_and(|last| last < trace.playing.next_line()) {
             break;
         }
-        match trace.playing.play_next()? {
+        match trace.next()? {
             Some(played) => trace.take_in(played)?,
             None => break,
         }
@@ -103,12 +89,48 @@ pub fn trace_script<'a>(
 }
 
 impl<'a> Trace<'a> {
+    /// A script before its first line.
+    pub fn new(
+        alloc: Global,
+        script: &'a [u8],
+        site: Site,
+        depth: Depth,
+    ) -> Result<Trace<'a>, AllocError>
+        requires { length script.now ≤ max_script_bytes }
+    {
+        let mut points = Vec::with_capacity(alloc, site.len())?;
+        let mut rows = Vec::with_capacity(alloc, site.len())?;
+        for _place in 0..site.len() {
+            points.push(PointCalls::new(alloc)?)?;
+            rows.push(PointRows::new(alloc))?;
+        }
+        Ok(Trace {
+            alloc,
+            memory: ReadingMemory::new(alloc),
+            playing: Playing::new(alloc, script, site)?,
+            depth,
+            lines: Vec::new(alloc),
+            held: Vec::new(alloc),
+            points,
+            rows,
+            changes: Vec::new(alloc),
+        })
+    }
+
+    /// Plays the next line, if one is left.
+    pub fn next(&mut self) -> Result<Option<PlayedLine<'a>>, AllocError> {
+        match self.depth {
+            Depth::State => self.playing.skim_next(),
+            Depth::Lines => self.playing.play_next(),
+        }
+    }
+
     /// The script, where it stands.
     pub fn playing(&self) -> &Playing<'a> {
         &self.playing
     }
 
-    /// The lines that printed something.
+    /// The lines that printed something, where they are kept.
     pub fn lines(&self) -> &[TracedLine] {
         self.lines.as_slice()
     }
@@ -129,109 +151,121 @@ impl<'a> Trace<'a> {
     }
 
     /// Takes in a line that was played.
-    fn take_in(&mut self, played: PlayedLine<'a>) -> Result<(), AllocError> {
-        let words = self.words_of(played.line)?;
-        let number = played.number;
-        if let Some(point) = &words.point {
-            self.follow_calls(point.as_str(), number, words.reply.as_ref())?;
-            self.follow_rows(point.as_str(), number, played.line)?;
-            self.follow_held(point.as_str(), number, played.printed.text.as_str())?;
+    pub fn take_in(&mut self, played: PlayedLine<'a>) -> Result<(), AllocError> {
+        if let Some(Ok(ScriptLine::Text(sent) | ScriptLine::Hold(sent))) = &played.said {
+            self.follow(sent, &played)?;
         }
-        if !played.printed.text.is_empty() {
-            self.lines.push(TracedLine {
+        if self.depth == Depth::Lines && !played.outcome.printed.is_empty() {
+            self.keep_line(played)?;
+        }
+        Ok(())
+    }
+
+    /// Takes in what a text did at its point.
+    fn follow(&mut self, sent: &SentText<'_>, played: &PlayedLine<'a>) -> Result<(), AllocError> {
+        self.follow_change(sent, played)?;
+        for line in &played.outcome.printed {
+            match line {
+                PrintedLine::Call { call, .. } => {
+                    let place = self.playing.machine().site().place_of(sent.point());
+                    if let Some(calls) = place.and_then(|place| self.points.get_mut(place)) {
+                        calls.sent(self.alloc, call, played.number)?;
+                    }
+                }
+                PrintedLine::Held(request) => self.held.push(HeldLine {
+                    request: *request,
+                    line: played.number,
+                    point: text(self.alloc, sent.point())?,
+                })?,
+                PrintedLine::Answer { .. } | PrintedLine::Fault { .. } => {}
+            }
+        }
+        Ok(())
+    }
+
+    /// Takes in what a text changed at its point.
+    fn follow_change(
+        &mut self,
+        sent: &SentText<'_>,
+        played: &PlayedLine<'a>,
+    ) -> Result<(), AllocError> {
+        let change = played.outcome.change;
+        if change == PointChange::Nothing {
+            return Ok(());
+        }
+        let machine = self.playing.machine();
+        let Some(place) = machine.site().place_of(sent.point()) else {
+            return Ok(());
+        };
+        let Some(calls) = self.points.get_mut(place) else {
+            return Ok(());
+        };
+        match change {
+            PointChange::Nothing => Ok(()),
+            PointChange::Confirmed => {
+                calls.confirmed(self.alloc, &mut self.memory, played.number, sent.frame())
+            }
+            PointChange::Profiles => {
+                calls.added(played.number)?;
+                self.follow_rows(place, sent, played.number)
+            }
+            PointChange::Transaction => self.follow_rows(place, sent, played.number),
+        }
+    }
+
+    /// Takes in which profiles came to the point at a place and which are gone.
+    fn follow_rows(
+        &mut self,
+        place: usize,
+        sent: &SentText<'_>,
+        number: u64,
+    ) -> Result<(), AllocError> {
+        let book = self.playing.machine().book_of(sent.point());
+        let (Some(rows), Some(book)) = (self.rows.get_mut(place), book) else {
+            return Ok(());
+        };
+        if let Some(changed) = rows.follow(self.alloc, book.view().rows)? {
+            self.changes.push(RowChange {
                 number,
-                point: words.point,
-                text: words.text,
-                printed: played.printed.text,
+                frame: text(self.alloc, sent.frame())?,
+                came: changed.came,
+                gone: changed.gone,
             })?;
         }
         Ok(())
     }
 
-    /// Takes in what a line did to the calls of its point.
-    fn follow_calls(
-        &mut self,
-        point: &str,
-        number: u64,
-        reply: Option<&String>,
-    ) -> Result<(), AllocError> {
-        let machine = self.playing.machine();
-        let Some(place) = machine.site().place_of(point) else {
-            return Ok(());
-        };
-        let (Some(calls), Some(outbox)) = (self.points.get_mut(place), machine.outbox_of(point))
-        else {
-            return Ok(());
-        };
-        let reply = reply.map(|reply| reply.as_str());
-        calls.follow(self.alloc, &mut self.memory, outbox, number, reply)
-    }
-
-    /// Takes in what a line did to the profiles of its point.
-    fn follow_rows(&mut self, point: &str, number: u64, line: &[u8]) -> Result<(), AllocError> {
-        let machine = self.playing.machine();
-        let Some(place) = machine.site().place_of(point) else {
-            return Ok(());
-        };
-        let (Some(rows), Some(book)) = (self.rows.get_mut(place), machine.book_of(point)) else {
-            return Ok(());
-        };
-        let Some(changed) = rows.follow(self.alloc, book.view().rows)? else {
-            return Ok(());
-        };
-        let frame = match read_line(line, machine.site()) {
-            Ok(ScriptLine::Text(sent)) => text(self.alloc, sent.frame())?,
-            _ => String::new(self.alloc),
-        };
-        self.changes.push(RowChange {
-            number,
-            frame,
-            came: changed.came,
-            gone: changed.gone,
+    /// Keeps a line that printed something.
+    fn keep_line(&mut self, played: PlayedLine<'a>) -> Result<(), AllocError> {
+        let (point, text) = self.words_of(&played)?;
+        self.lines.push(TracedLine {
+            number: played.number,
+            point,
+            text,
+            printed: played.outcome.printed,
         })?;
         Ok(())
     }
 
-    /// Takes in that a line held a request.
-    fn follow_held(&mut self, point: &str, line: u64, printed: &str) -> Result<(), AllocError> {
-        if !printed.starts_with("held ") {
-            return Ok(());
-        }
-        let Some(last) = self.playing.held().last() else {
-            return Ok(());
-        };
-        self.held.push(HeldLine {
-            request: last.number,
-            line,
-            point: text(self.alloc, point)?,
-        })?;
-        Ok(())
-    }
-
-    /// Who a line is from or for, and its text.
-    fn words_of(&self, line: &[u8]) -> Result<LineWords, AllocError> {
+    /// The point that a line is from or for, and its text.
+    fn words_of(&self, played: &PlayedLine<'a>) -> Result<(Option<String>, String), AllocError> {
         let alloc = self.alloc;
-        match read_line(line, self.playing.machine().site()) {
-            Ok(ScriptLine::Text(sent)) => {
+        match &played.said {
+            Some(Ok(ScriptLine::Text(sent))) => {
                 let sender = match sent.sender() {
                     Side::Operator => "operator",
                     Side::Point => "point",
                 };
-                text_words(alloc, sender, &sent)
+                text_words(alloc, sender, sent)
             }
-            Ok(ScriptLine::Hold(sent)) => text_words(alloc, "hold", &sent),
-            Ok(ScriptLine::Release(request)) => Ok(LineWords {
-                point: self.point_of_request(request)?,
-                text: format!(in alloc; "release {request}")?,
-                reply: None,
-            }),
-            Err(_) => {
-                let whole = String::from_utf8_lossy(alloc, line)?;
-                Ok(LineWords {
-                    point: None,
-                    text: cut(alloc, whole.as_str(), SHOWN_CHARACTERS)?,
-                    reply: None,
-                })
+            Some(Ok(ScriptLine::Hold(sent))) => text_words(alloc, "hold", sent),
+            Some(Ok(ScriptLine::Release(request))) => {
+                let point = self.point_of_request(*request)?;
+                Ok((point, format!(in alloc; "release {request}")?))
+            }
+            Some(Err(_)) | None => {
+                let whole = String::from_utf8_lossy(alloc, played.line)?;
+                Ok((None, cut(alloc, whole.as_str(), SHOWN_CHARACTERS)?))
             }
         }
     }
@@ -247,19 +281,15 @@ impl<'a> Trace<'a> {
     }
 }
 
-/// The words of a line with a text.
-fn text_words(alloc: Global, word: &str, sent: &SentText<'_>) -> Result<LineWords, AllocError> {
-    let frame = sent.frame();
-    let shown = cut(alloc, frame, SHOWN_CHARACTERS)?;
-    let reply = match sent.sender() {
-        Side::Operator => None,
-        Side::Point => Some(text(alloc, frame)?),
-    };
-    Ok(LineWords {
-        point: Some(text(alloc, sent.point())?),
-        text: format!(in alloc; "{word} {shown}")?,
-        reply,
-    })
+/// The point of a line with a text, and that text.
+fn text_words(
+    alloc: Global,
+    word: &str,
+    sent: &SentText<'_>,
+) -> Result<(Option<String>, String), AllocError> {
+    let shown = cut(alloc, sent.frame(), SHOWN_CHARACTERS)?;
+    let point = text(alloc, sent.point())?;
+    Ok((Some(point), format!(in alloc; "{word} {shown}")?))
 }
 
 /// The lines that printed something, each beside what it printed.
@@ -274,7 +304,7 @@ pub fn trace_text(alloc: Global, trace: &Trace<'_>) -> Result<String, AllocError
             line.number.to_string(alloc)?,
             text(alloc, point)?,
             text(alloc, line.text.as_str())?,
-            text(alloc, line.printed.as_str())?,
+            print_lines(alloc, line.printed.as_slice())?,
         ])?;
     }
     let mut out = String::new(alloc);

@@ -1,10 +1,9 @@
 //! What became of a charge point's calls, line after line.
 
-use crate::call_of_point::call_in_flight;
 use crate::call_words::{action_name, profiles_text};
 use crate::reply::rejection_in;
+use messages::Call;
 use ocppj_frame::ReadingMemory;
-use site_core::Outbox;
 use std::alloc::{AllocError, Global};
 
 /// A call that went out.
@@ -38,8 +37,6 @@ pub struct RejectedCall {
 /// What became of the calls to a charge point.
 #[derive(Debug, Drop)]
 pub struct PointCalls {
-    /// How many calls are confirmed.
-    confirmed: u64,
     /// How many calls there are, confirmed or not.
     count: u64,
     /// The call that went out and isn't answered.
@@ -59,7 +56,6 @@ impl PointCalls {
             line: None,
         })?;
         Ok(PointCalls {
-            confirmed: 0,
             count: 1,
             in_flight: None,
             waiting,
@@ -67,62 +63,42 @@ impl PointCalls {
         })
     }
 
-    /// Takes in what the line of this number did to the calls of the point. `reply` is the point's text, where it is
-    /// the point's line.
-    pub fn follow(
-        &mut self,
-        alloc: Global,
-        memory: &mut ReadingMemory,
-        outbox: &Outbox,
-        line: u64,
-        reply: Option<&str>,
-    ) -> Result<(), AllocError> {
-        let confirmed = outbox.first_number();
-        if confirmed > self.confirmed {
-            self.confirmed = confirmed;
-            self.confirm(alloc, memory, line, reply)?;
-        }
-        let count = confirmed.saturating_add(outbox.len() as u64);
-        for number in self.count..count {
-            self.waiting.push(AddedCall {
-                number,
-                line: Some(line),
-            })?;
-        }
-        self.count = count;
-        if self.in_flight.is_none() {
-            self.sent(alloc, outbox, line)?;
-        }
+    /// The line of this number added a call.
+    pub(crate) fn added(&mut self, line: u64) -> Result<(), AllocError> {
+        let number = self.count;
+        self.count = number.saturating_add(1);
+        self.waiting.push(AddedCall {
+            number,
+            line: Some(line),
+        })?;
         Ok(())
     }
 
-    /// The call in flight was answered.
-    fn confirm(
+    /// A call went out behind the line of this number.
+    pub(crate) fn sent(&mut self, alloc: Global, call: &Call, line: u64) -> Result<(), AllocError> {
+        let number = call.number;
+        let action = action_name(&call.body);
+        let profiles = profiles_text(alloc, &call.body)?;
+        let what = format!(in alloc; "{action}, {profiles}")?;
+        self.in_flight = Some(SentCall { number, what, line });
+        self.waiting.retain(|added| added.number > number);
+        Ok(())
+    }
+
+    /// The call in flight was answered by this text of the point, in the line of this number.
+    pub(crate) fn confirmed(
         &mut self,
         alloc: Global,
         memory: &mut ReadingMemory,
         line: u64,
-        reply: Option<&str>,
+        reply: &str,
     ) -> Result<(), AllocError> {
-        let (Some(call), Some(reply)) = (self.in_flight.take(), reply) else {
+        let Some(call) = self.in_flight.take() else {
             return Ok(());
         };
         if let Some(status) = rejection_in(alloc, memory, reply)? {
             self.rejected.push(RejectedCall { call, line, status })?;
         }
-        Ok(())
-    }
-
-    /// The first call went out, if one is in flight.
-    fn sent(&mut self, alloc: Global, outbox: &Outbox, line: u64) -> Result<(), AllocError> {
-        let Some((number, body)) = call_in_flight(alloc, outbox)? else {
-            return Ok(());
-        };
-        let action = action_name(&body);
-        let profiles = profiles_text(alloc, &body)?;
-        let what = format!(in alloc; "{action}, {profiles}")?;
-        self.in_flight = Some(SentCall { number, what, line });
-        self.waiting.retain(|added| added.number > number);
         Ok(())
     }
 }

@@ -5,7 +5,7 @@ mod ordinary_day;
 mod two_points;
 mod validity;
 
-use shown::{ending_text, standing_json, standing_text, trace_script, trace_text};
+use shown::{Depth, ending_text, standing_json, standing_text, trace_script, trace_text};
 use site_rules::read_site;
 use std::alloc::{AllocError, Global};
 use std::test::Fail;
@@ -24,7 +24,7 @@ fn table_of(
     if bytes.len() > 16_777_216 {
         return Err(AllocError);
     }
-    let trace = trace_script(alloc, bytes, site, last_line)?;
+    let trace = trace_script(alloc, bytes, site, last_line, Depth::State)?;
     standing_text(alloc, &trace)
 }
 
@@ -48,7 +48,7 @@ fn json_of(alloc: Global, site: &str, script: &str) -> Result<String, AllocError
     if bytes.len() > 16_777_216 {
         return Err(AllocError);
     }
-    let trace = trace_script(alloc, bytes, site, None)?;
+    let trace = trace_script(alloc, bytes, site, None, Depth::State)?;
     standing_json(alloc, &trace)
 }
 
@@ -61,6 +61,6 @@ fn trace_of(alloc: Global, site: &str, script: &str) -> Result<(String, String),
     if bytes.len() > 16_777_216 {
         return Err(AllocError);
     }
-    let trace = trace_script(alloc, bytes, site, None)?;
+    let trace = trace_script(alloc, bytes, site, None, Depth::Lines)?;
     Ok((trace_text(alloc, &trace)?, ending_text(alloc, &trace)?))
 }

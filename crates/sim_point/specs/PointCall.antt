@@ -24,9 +24,11 @@ abbrev pub call_of : BookState → ℕ → SimStep → Option PointCall
 call_of book now steps.Heartbeat = Some Heartbeat
 call_of book now (steps.Start connector tag meter) =
     if has_connector book connector
-    then Some (StartTransaction connector (record { id_tag = tag; meter_start = meter; timestamp = now }))
+    then Some (StartTransaction connector
+    (record { id_tag = tag; meter_start = meter; timestamp = now }))
     else None
-call_of book now (steps.Stop connector) = option_map (stop_of now) (active_at book.transactions connector)
+call_of book now (steps.Stop connector) =
+    option_map (stop_of now) (active_at book.transactions connector)
 
 -- the first call that steps make, with the steps after its own; those before it are passed over
 abbrev pub call_or : Option PointCall → List SimStep → Option (PointCall × List SimStep)
@@ -36,7 +38,8 @@ call_or None steps later = later
 
 abbrev pub first_call : BookState → ℕ → List SimStep → Option (PointCall × List SimStep)
 first_call book now [] = None
-first_call book now (step ∷ steps) = call_or (call_of book now step) steps (first_call book now steps)
+first_call book now (step ∷ steps) =
+    call_or (call_of book now step) steps (first_call book now steps)
 
 -- ---- what its reply changes
 
@@ -48,4 +51,5 @@ book_replied book Heartbeat transaction = book
 book_replied book (StartTransaction connector begin) None = book
 book_replied book (StartTransaction connector begin) (Some transaction) =
     book_started book connector begin transaction
-book_replied book (StopTransaction transaction meter_stop timestamp) reply = book_stopped book transaction
+book_replied book (StopTransaction transaction meter_stop timestamp) reply =
+    book_stopped book transaction

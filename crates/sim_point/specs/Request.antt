@@ -1,6 +1,6 @@
 -- What a text of the central system asks of a charge point: nothing, an answer that it has whatever it
 -- has installed, a task for its book, or the end of its own call.
-use Rattle.std.specs.Prelude.{ℕ, ℤ, codes, Bool, true, false, List, Option, Some, None, Result, Ok, Err, if◌then◌else◌}
+use Rattle.std.specs.Prelude.{ℕ, ℤ, codes, List, Option, Some, None, Result, Ok, Err}
 use Rattle.ocpp_scalars.specs.declared.refusal.Refusal.{Refusal}
 use Rattle.ocppj_frame.specs.declared.fault.FrameFault.{FrameFault}
 use Rattle.ocppj_frame.specs.declared.fault.FrameFault.TheVariants.{Formation}
@@ -12,8 +12,7 @@ use Rattle.ocppj_frame.specs.Message.{Message, call, call_result, call_error, ot
 use Rattle.ocppj_frame.specs.ByCases.Message.{message_of_text}
 use Rattle.profile.specs.declared.charging_profile.Profile.{Profile}
 use Rattle.profile.specs.Parts.{profile_of_parts}
-use Rattle.messages.specs.declared.side.Side.{Side}
-use Rattle.messages.specs.declared.side.Side.TheVariants.{Operator, Point}
+use Rattle.messages.specs.declared.side.Side.TheVariants.{Operator}
 use Rattle.messages.specs.declared.action.Action.{Action}
 use Rattle.messages.specs.declared.action.Action.TheVariants as actions
 use Rattle.messages.specs.declared.action_kind.ActionKind.{ActionKind}
@@ -21,7 +20,7 @@ use Rattle.messages.specs.declared.call_fault.CallFault.{CallFault}
 use Rattle.messages.specs.declared.call_fault.CallFault.TheVariants.{FormationViolation, NotImplemented}
 use Rattle.messages.specs.declared.response.Response.{Response}
 use Rattle.messages.specs.declared.response.Response.TheVariants.{Rejected, Error}
-use Rattle.messages.specs.ActionKind.{action_named, side_of_kind}
+use Rattle.messages.specs.ActionKind.{action_named, kind_of_sender}
 use Rattle.messages.specs.Action.{action_of_kind}
 use Rattle.sim_point.specs.declared.request.Request.{Request}
 use Rattle.sim_point.specs.declared.request.Request.TheVariants.{Nothing, Respond, Act, Reply}
@@ -57,15 +56,7 @@ abbrev pub request_with : List ℕ → Result Task Response → Request
 request_with id (Ok task) = Act id task
 request_with id (Err response) = Respond id response
 
-abbrev pub is_operator : Side → Bool
-is_operator Operator = true
-is_operator Point = false
-
 -- A charge point is sent an operator's actions; any other isn't implemented, whatever its fields are.
-abbrev pub kind_sent : Option ActionKind → Option ActionKind
-kind_sent None = None
-kind_sent (Some kind) = if is_operator (side_of_kind kind) then Some kind else None
-
 abbrev pub request_of_kind : ℕ → List ℕ → Option ActionKind → Tree → Request
 request_of_kind now id None payload = Respond id not_implemented
 request_of_kind now id (Some kind) payload =
@@ -88,7 +79,7 @@ transaction_in payload = whole_in (whole_field_of (codes "transactionId") payloa
 -- call of the point's own, and a CALLERROR brings no transactionId.
 abbrev pub request_of_message : ℕ → Result Message FrameFault → Request
 request_of_message now (Ok (call id name payload)) =
-    request_of_kind now id (kind_sent (action_named name)) payload
+    request_of_kind now id (kind_of_sender Operator (action_named name)) payload
 request_of_message now (Ok (call_result id payload)) = Reply id (transaction_in payload)
 request_of_message now (Ok (call_error id)) = Reply id None
 request_of_message now (Ok other) = Nothing

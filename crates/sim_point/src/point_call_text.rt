@@ -2,16 +2,14 @@
 
 ghost use Rattle.std.specs.Prelude.{◌≡◌, IfOk, string_bytes};
 ghost use Rattle.std.specs.Fmt.{signed_decimal};
-ghost use Rattle.json.specs.Print.{quoted};
 ghost use Rattle.ocpp_scalars.specs.Appending.{Appends};
 ghost use Rattle.sim_point.specs.CallText.{action_name, call_text, payload_text, start_text, stop_text};
 
 use crate::point_call::PointCall;
-use json::Writer;
+use messages::ActionKind;
 use ocpp_scalars::{Instant, push_instant, push_integer};
-use ocppj_frame::{push_call_head, push_frame_end};
+use ocppj_frame::{push_call_head, push_frame_end, push_string};
 use std::alloc::{AllocError, Global};
-use std::mem;
 use transactions::Begin;
 
 /// The text of a call, whose message id is its number in decimal.
@@ -31,9 +29,9 @@ fn action_name(call: &PointCall) -> &'static str
     ensures { result.now ≡ action_name call.now }
 {
     match call {
-        PointCall::Heartbeat => "Heartbeat",
-        PointCall::StartTransaction { .. } => "StartTransaction",
-        PointCall::StopTransaction { .. } => "StopTransaction",
+        PointCall::Heartbeat => ActionKind::Heartbeat.name(),
+        PointCall::StartTransaction { .. } => ActionKind::StartTransaction.name(),
+        PointCall::StopTransaction { .. } => ActionKind::StopTransaction.name(),
     }
 }
 
@@ -62,7 +60,7 @@ fn push_start(out: &mut String, connector: u32, begin: &Begin) -> Result<(), All
     out.push_str(r#"{"connectorId":"#)?;
     push_integer(out, connector)?;
     out.push_str(r#","idTag":"#)?;
-    push_quoted(out, begin.id_tag.as_str())?;
+    push_string(out, begin.id_tag.as_str())?;
     out.push_str(r#","meterStart":"#)?;
     push_signed(out, &begin.meter_start)?;
     out.push_str(r#","timestamp":""#)?;
@@ -97,18 +95,4 @@ fn push_signed(out: &mut String, number: &i32) -> Result<(), AllocError>
         (signed_decimal number.now) }
 {
     push_integer(out, *number)
-}
-
-/// Appends a text as a JSON string.
-fn push_quoted(out: &mut String, text: &str) -> Result<(), AllocError>
-    ensures { Appends result (string_bytes out.old) (string_bytes out.new) (quoted text.now) }
-{
-    // The library writes onto bytes that it owns: the text's own, so that nothing is copied.
-    let alloc = *out.allocator();
-    let bytes = mem::replace(out, String::new(alloc)).into_bytes();
-    let mut writer = Writer::new(bytes);
-    let written = writer.string(text);
-    // A text with a JSON string behind it is UTF-8.
-    *out = unsafe { String::from_utf8_unchecked(writer.into_inner()) };
-    written
 }

@@ -1,13 +1,11 @@
 //! What a text of the central system asks of a charge point.
 
-ghost use Rattle.std.specs.Prelude.{◌≡◌, IfOk};
+ghost use Rattle.std.specs.Prelude.{◌≡◌, Ok, IfOk};
 ghost use Rattle.ocppj_frame.specs.Frame.{message_in};
 ghost use Rattle.ocppj_frame.specs.Payload.{tree_at};
 ghost use Rattle.profile.specs.Parts.{profile_of_parts};
 ghost use Rattle.messages.specs.Action.{action_of_kind};
-ghost use Rattle.messages.specs.ActionKind.{action_named};
-ghost use Rattle.std.specs.Prelude.{Ok};
-ghost use Rattle.sim_point.specs.Request.{kind_sent, task_of_made, task_of_action, task_of_reading, request_of_message, request_of, request_with, transaction_in, whole_in};
+ghost use Rattle.sim_point.specs.Request.{task_of_made, task_of_action, task_of_reading, request_of_message, request_of, request_with, transaction_in, whole_in};
 
 use messages::{Action, ActionKind, CallFault, Response, ScheduleRequest, Side, read_fields};
 use ocpp_scalars::{Instant, Refusal};
@@ -85,7 +83,8 @@ fn request_of_message(alloc: Global, now: Instant, frame: Frame<'_>) -> Result<R
             action,
             payload,
         } => {
-            let Some(kind) = kind_sent(action.as_str()) else {
+            // A charge point is sent an operator's actions.
+            let Some(kind) = ActionKind::of_sender(Side::Operator, action.as_str()) else {
                 return Ok(Request::Respond {
                     id,
                     response: NOT_IMPLEMENTED,
@@ -129,17 +128,6 @@ fn request_with(id: MessageId, asked: Result<Task, Response>) -> Request
     match asked {
         Ok(task) => Request::Act { id, task },
         Err(response) => Request::Respond { id, response },
-    }
-}
-
-/// The action of this name, where it is one that a charge point is sent.
-fn kind_sent(name: &str) -> Option<ActionKind>
-    ensures { result ≡ kind_sent (action_named name.now) }
-{
-    let kind = ActionKind::named(name)?;
-    match kind.side() {
-        Side::Operator => Some(kind),
-        Side::Point => None,
     }
 }
 

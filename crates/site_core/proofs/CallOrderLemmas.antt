@@ -1,33 +1,28 @@
 -- What comes to the outbox of a point along a history, and what is sent to it; its profiles; the moments
 -- of its calls.
-use Rattle.std.proofs.Common.{◌≡◌, ℕ, zero, suc, ◌==◌, Bool, true, false, cond, List, [], ◌∷◌, ◌++◌, length, map, filter_map, flat_map, slice_index_or, slice_get, ◌+◌, Option, Some, None, refl, sym, ap, ap₂, ◌∙◌, subst, arith, append_assoc, length-append, ◌≤◌, ◌-◌, inl}
+use Rattle.std.proofs.Common.{◌≡◌, ℕ, zero, suc, ◌==◌, Bool, true, false, cond, List, [], ◌∷◌, ◌++◌, length, map, filter_map, flat_map, slice_index_or, slice_get, ◌+◌, is_some, Option, Some, None, refl, sym, ap, ap₂, ◌∙◌, subst, arith, append_assoc, length-append, ◌≤◌, ◌-◌, inl}
 use Rattle.std.proofs.lemmas.List.{length-map, map-append}
-use Rattle.std.proofs.lemmas.List.Elements.{filter-append, filter_map-append, All-contains_itself, recursion_from_All}
+use Rattle.std.proofs.lemmas.List.Elements.{filter-append, All-contains_itself, recursion_from_All}
 use Rattle.std.specs.List.{AllByRecursion, Contains, cons_option}
-use Rattle.profile.specs.Changes.{installed, cleared, without_transaction_profiles}
 use Rattle.profile.specs.declared.row.Row.{Row}
-use Rattle.transactions.specs.ActiveTable.{connector_of}
 use Rattle.site_rules.specs.Site.{SiteState, PointEntry, place_of}
-use Rattle.point_book.specs.Book.{BookState}
-use Rattle.point_book.specs.Changes.{rows_after_stop}
 use Rattle.messages.specs.declared.call.Call.{Call}
 use Rattle.messages.specs.declared.call.CallBody.{CallBody}
 use Rattle.site_core.specs.declared.numbers.Numbers.{Numbers}
 use Rattle.site_core.specs.Outbox.{numbered, OutboxState, opening_outbox, all_calls, sendable, Traffic, Attach, Lose, Add, Send, Confirm, after, after_all}
-use Rattle.site_core.specs.ChargePoint.{ChargePointState, BookChange, Install, Clear, Start, Stop, opening_point, book_with, outbox_with}
+use Rattle.site_core.specs.ChargePoint.{ChargePointState, Deed, rows_after, call_in, call_of, traffic_of, opening_point, outbox_with, point_with}
 use Rattle.site_core.specs.State.{MachineState, IsMachine, opening_at, no_point, point_at, book_at, outbox_at}
 use Rattle.site_core.specs.OutboxOrder.{AreFrom, GoesOn, sent_at, numbers_sent, number_of, calls_confirmed, added_at, bodies_added, AreInSendingOrder}
-use Rattle.site_core.specs.Obey.{Change, Installs, Clears, Ends, rows_after, call_of, calls_of, last_number, obeyed, lasting, rows_after_call, Obeying, numbers_of}
+use Rattle.site_core.specs.Obey.{calls_of, last_number, obeyed, lasting, rows_after_call, Obeying, numbers_of}
 use Rattle.site_core.specs.History.{Event, Legal}
-use Rattle.site_core.specs.Theory.Histories.{legal_join}
-use Rattle.site_core.specs.CallOrder.{names, events_at, change_by, traffic_of, traffic_by_event, point_by, point_by_all, calls_by_event, calls_sent, confirmed_by_event, numbers_confirmed, numbers_of_calls, calls_made, IsOneOf, calls_since, CallsBeginAtZero, CallsStayConsecutive}
+use Rattle.site_core.specs.CallOrder.{names, events_at, deed_by, deeds_from, deeds_since, deeds_of, traffic_since, traffic_at, point_by, point_by_all, calls_by_event, calls_sent, confirmed_by_event, numbers_of_calls, calls_made, IsOneOf, calls_since, CallsBeginAtZero, CallsStayConsecutive}
 use Rattle.site_core.specs.CallOrder.{PointsFollowHistories, OutboxesFollowHistories, CallsAreSentInOrder, CallsAreSentAsMade, CallsAreLeftUnlessConfirmed, ConfirmationsAreEvents, CallsGoOnInOrder, CallsAreSentAsKept, CallsStayUnlessConfirmed}
-use Rattle.site_core.specs.CallOrder.{end_at, changes_in, changes_by, changes_from, changes_of, opening_at_place, rows_after_all, bodies_of, RowsFollowHistories, RowsGoOn, PointsStayInStep, accepted, Moment, EachCallHasItsMoment, CallsAreObeyedInOrder, ObeyingPointsStayInStep}
+use Rattle.site_core.specs.CallOrder.{opening_at_place, rows_after_all, bodies_of, RowsFollowHistories, RowsGoOn, PointsStayInStep, accepted, accepted_since, Moment, EachCallHasItsMoment, CallsAreObeyedInOrder, ObeyingPointsStayInStep}
 use Rattle.site_core.specs.ObeyOrder.{obeyed_numbers, numbers_obeyed, IsObeyed}
 use Rattle.site_core.proofs.PointLemmas.{as_many}
-use Rattle.site_core.proofs.EffectLemmas.{calls_at, call_list, sent_by_effect, confirmed_by_effect, bodies_in}
+use Rattle.site_core.proofs.EffectLemmas.{calls_at, call_list, sent_by_traffic, confirmed_by_traffic, traffic_with}
 use Rattle.site_core.proofs.StepLemmas.{Acts, HasPlaces, acts, does, keeps_site}
-use Rattle.site_core.proofs.ObeyLemmas.{lasting_end, stays_in_step}
+use Rattle.site_core.proofs.ObeyLemmas.{lasting_without_call, stays_in_step}
 use Rattle.site_core.proofs.ObeyOrderLemmas.{obeyed_in_order}
 use Rattle.site_core.proofs.OutboxOrderLemmas.{outbox, numbered_along, goes_on, left, sent_in_order, left_unless_confirmed}
 
@@ -123,11 +118,11 @@ each_at_its_number (body ∷ later) number before many =
 
 -- ---- lists that are joined
 
-rows_after_all-append : (one other : List Change) (rows : List Row)
+rows_after_all-append : (one other : List Deed) (rows : List Row)
     → rows_after_all (one ++ other) rows ≡ rows_after_all other (rows_after_all one rows)
 rows_after_all-append [] other rows = refl
-rows_after_all-append (change ∷ one) other rows = rows_after_all-append one other
-    (rows_after rows change)
+rows_after_all-append (deed ∷ one) other rows = rows_after_all-append one other
+    (rows_after rows deed)
 
 bodies_added-append : (one other : List Traffic)
     → bodies_added (one ++ other) ≡ bodies_added one ++ bodies_added other
@@ -144,58 +139,133 @@ after_all-cons outbox None later = refl
 after_all-cons outbox (Some traffic) later = refl
 
 calls_along-cons : (outbox : OutboxState) (first : Option Traffic) (later : List Traffic)
-    → calls_along outbox (cons_option first later) ≡ sent_by_effect outbox first ++ calls_along
+    → calls_along outbox (cons_option first later) ≡ sent_by_traffic outbox first ++ calls_along
     (outbox_with first outbox) later
 calls_along-cons outbox None later = refl
 calls_along-cons outbox (Some traffic) later = refl
 
 calls_confirmed-cons : (outbox : OutboxState) (first : Option Traffic) (later : List Traffic)
     → calls_confirmed outbox
-    (cons_option first later) ≡ confirmed_by_effect outbox first ++ calls_confirmed
+    (cons_option first later) ≡ confirmed_by_traffic outbox first ++ calls_confirmed
     (outbox_with first outbox) later
 calls_confirmed-cons outbox None later = refl
 calls_confirmed-cons outbox (Some traffic) later = refl
 
 bodies_added-cons : (first : Option Traffic) (later : List Traffic)
-    → bodies_added (cons_option first later) ≡ bodies_in first ++ bodies_added later
+    → bodies_added (cons_option first later) ≡ cons_option (call_in first) (bodies_added later)
 bodies_added-cons None later = refl
-bodies_added-cons (Some traffic) later = refl
+bodies_added-cons (Some (Attach link)) later = refl
+bodies_added-cons (Some Lose) later = refl
+bodies_added-cons (Some (Add body)) later = refl
+bodies_added-cons (Some Send) later = refl
+bodies_added-cons (Some (Confirm number)) later = refl
+
+-- ---- what is done at a point
+
+-- the calls that are added are those of what is done
+calls_are_added : (deeds : List Deed)
+    → filter_map call_of deeds ≡ bodies_added (filter_map traffic_of deeds)
+calls_are_added [] = refl
+calls_are_added (deed ∷ later) =
+    ap (cons_option (call_of deed)) (calls_are_added later)
+    ∙ sym (bodies_added-cons (traffic_of deed) (filter_map traffic_of later))
+
+traffic-cons : (does : Option Deed) (later : List Deed)
+    → filter_map traffic_of (cons_option does later)
+    ≡ cons_option (traffic_with does) (filter_map traffic_of later)
+traffic-cons None later = refl
+traffic-cons (Some deed) later = refl
+
+outbox_after : (does : Option Deed) (point : ChargePointState)
+    → (point_with does point).outbox ≡ outbox_with (traffic_with does) point.outbox
+outbox_after None point = refl
+outbox_after (Some deed) point = refl
+
+rows_with : (does : Option Deed) (point : ChargePointState)
+    → (point_with does point).book.rows
+    ≡ rows_after_all (cons_option does []) point.book.rows
+rows_with None point = refl
+rows_with (Some deed) point = refl
+
+rows_after_all-cons : (does : Option Deed) (later : List Deed) (rows : List Row)
+    → rows_after_all (cons_option does later) rows
+    ≡ rows_after_all later (rows_after_all (cons_option does []) rows)
+rows_after_all-cons None later rows = refl
+rows_after_all-cons (Some deed) later rows = refl
 
 -- ---- a point along its own events
 
+-- what comes to its outbox
+abbrev traffic_along : ChargePointState → List Event → List Traffic
+traffic_along point events = filter_map traffic_of (deeds_from point events)
+
+abbrev traffic_by : ChargePointState → Event → Option Traffic
+traffic_by point event = traffic_with (deed_by point event)
+
+traffic_more : (point : ChargePointState) (event : Event) (later : List Event)
+    → traffic_along point (event ∷ later)
+    ≡ cons_option (traffic_by point event) (traffic_along (point_by point event) later)
+traffic_more point event later =
+    traffic-cons (deed_by point event) (deeds_from (point_by point event) later)
+
 outbox_along : (point : ChargePointState) (events : List Event)
-    → (point_by_all point events).outbox ≡ after_all point.outbox
-    (filter_map traffic_by_event events)
+    → (point_by_all point events).outbox ≡ after_all point.outbox (traffic_along point events)
 outbox_along point [] = refl
 outbox_along point (event ∷ later) =
-    outbox_along (point_by point event) later
-    ∙ sym (after_all-cons point.outbox (traffic_by_event event)
-    (filter_map traffic_by_event later))
-
-rows_after_end : (found : Option ℕ) (rows : List Row)
-    → rows_after_stop found rows ≡ rows_after_all (end_at found) rows
-rows_after_end None rows = refl
-rows_after_end (Some connector) rows = refl
-
-rows_changed : (book : BookState) (change : Option BookChange)
-    → (book_with change book).rows ≡ rows_after_all (changes_in book change) book.rows
-rows_changed book None = refl
-rows_changed book (Some (Install row)) = refl
-rows_changed book (Some (Clear criteria)) = refl
-rows_changed book (Some (Start connector begin number)) = refl
-rows_changed book (Some (Stop number)) =
-    rows_after_end (connector_of book.transactions number) book.rows
+    let next = point_by point event in
+    outbox_along next later
+    ∙ ap (λ (o : OutboxState). after_all o (traffic_along next later))
+    (outbox_after (deed_by point event) point)
+    ∙ sym (after_all-cons point.outbox (traffic_by point event) (traffic_along next later))
+    ∙ ap (after_all point.outbox) (sym (traffic_more point event later))
 
 rows_along : (point : ChargePointState) (events : List Event)
     → (point_by_all point events).book.rows
-    ≡ rows_after_all (changes_from point events) point.book.rows
+    ≡ rows_after_all (deeds_from point events) point.book.rows
 rows_along point [] = refl
 rows_along point (event ∷ later) =
-    rows_along (point_by point event) later
-    ∙ ap (rows_after_all (changes_from (point_by point event) later))
-    (rows_changed point.book (change_by event.step event.reply))
-    ∙ sym (rows_after_all-append (changes_by point event)
-    (changes_from (point_by point event) later) point.book.rows)
+    let next = point_by point event in
+    rows_along next later
+    ∙ ap (rows_after_all (deeds_from next later)) (rows_with (deed_by point event) point)
+    ∙ sym (rows_after_all-cons (deed_by point event) (deeds_from next later) point.book.rows)
+
+-- that it is sent the calls of its events' replies, and that those are confirmed
+abbrev IsSent : ChargePointState → List Event → Type 0
+IsSent point events =
+    flat_map calls_by_event events ≡ calls_along point.outbox (traffic_along point events)
+
+abbrev IsConfirmed : ChargePointState → List Event → Type 0
+IsConfirmed point events =
+    numbers_of_calls (calls_confirmed point.outbox (traffic_along point events))
+    ≡ flat_map confirmed_by_event events
+
+sent_more : (point : ChargePointState) (event : Event) (later : List Event)
+    → calls_by_event event ≡ sent_by_traffic point.outbox (traffic_by point event)
+    → IsSent (point_by point event) later → IsSent point (event ∷ later)
+sent_more point event later first rest =
+    let next = point_by point event in
+    ap₂ (λ (one other : List Call). one ++ other) first (rest
+    ∙ ap (λ (o : OutboxState). calls_along o (traffic_along next later))
+    (outbox_after (deed_by point event) point))
+    ∙ sym (calls_along-cons point.outbox (traffic_by point event) (traffic_along next later))
+    ∙ ap (calls_along point.outbox) (sym (traffic_more point event later))
+
+confirmed_more : (point : ChargePointState) (event : Event) (later : List Event)
+    → numbers_of_calls (confirmed_by_traffic point.outbox (traffic_by point event))
+    ≡ confirmed_by_event event
+    → IsConfirmed (point_by point event) later → IsConfirmed point (event ∷ later)
+confirmed_more point event later first rest =
+    let next = point_by point event in
+    let box = outbox_with (traffic_by point event) point.outbox in
+    ap (λ (t : List Traffic). numbers_of_calls (calls_confirmed point.outbox t))
+    (traffic_more point event later)
+    ∙ ap numbers_of_calls (calls_confirmed-cons point.outbox (traffic_by point event)
+    (traffic_along next later))
+    ∙ map-append (λ (call : Call). call.number) (confirmed_by_traffic point.outbox
+    (traffic_by point event)) (calls_confirmed box (traffic_along next later))
+    ∙ ap₂ (λ (one other : List ℕ). one ++ other) first
+    (ap (λ (o : OutboxState). numbers_of_calls (calls_confirmed o (traffic_along next later)))
+    (sym (outbox_after (deed_by point event) point)) ∙ rest)
 
 -- ---- along a history
 
@@ -206,15 +276,8 @@ record Follows (place : ℕ) (old : MachineState) (history : List Event)
   site : new.site ≡ old.site
   many : HasPlaces new
   point : point_at new place ≡ point_by_all (point_at old place) (events_at old.site place history)
-  sent : calls_sent old.site place history
-      ≡ calls_along (outbox_at old place) (traffic_of old.site place history)
-  confirmed : numbers_of_calls
-      (calls_confirmed (outbox_at old place) (traffic_of old.site place history))
-      ≡ numbers_confirmed old.site place history
-  -- the changes of its profiles that are calls are those that its outbox is brought
-  calls : (point : ChargePointState)
-      → filter_map call_of (changes_from point (events_at old.site place history))
-      ≡ bodies_added (traffic_of old.site place history)
+  sent : IsSent (point_at old place) (events_at old.site place history)
+  confirmed : IsConfirmed (point_at old place) (events_at old.site place history)
 
 follows_more : (place : ℕ) (old middle : MachineState) (event : Event) (later : List Event)
     (new : MachineState) → middle.site ≡ old.site
@@ -230,76 +293,43 @@ follows_more place old middle event later new site act there =
     events : List Event
     events = events_at old.site place later
 
-    traffic : List Traffic
-    traffic = traffic_of old.site place later
-
-    first : Option Traffic
-    first = traffic_by_event event
+    -- of whatever is so of a point along its own events
+    along : (P : ChargePointState → List Event → Type 0) → (was : ChargePointState)
+        → point_at middle place ≡ was → P (point_at middle place) events → P was events
+    along P was here holds = subst (λ (p : ChargePointState). P p events) here holds
 
     by : (named : Bool) → names old.site place event.step ≡ named
         → Follows place old (event ∷ later) new
     by true is =
-        let all : events_at old.site place (event ∷ later) ≡ event ∷ events =
-        ap (λ (b : Bool). cond b (event ∷ events) events) is in
-        let here : point_at middle place ≡ point_by (point_at old place) event =
-        act.point ∙ ap (λ (b : Bool). cond b (point_by (point_at old place) event)
-        (point_at old place)) is in
-        let box : outbox_at middle place ≡ outbox_with first (outbox_at old place) =
-        ap (λ (p : ChargePointState). p.outbox) here in
+        let point = point_at old place in
+        let next = point_by point event in
+        let all : event ∷ events ≡ events_at old.site place (event ∷ later) =
+        ap (λ (b : Bool). cond b (event ∷ events) events) (sym is) in
+        let here : point_at middle place ≡ next =
+        act.point ∙ ap (λ (b : Bool). cond b next point) is in
         record {
           site = rest.site;
           many = rest.many;
           point = rest.point ∙ ap (λ (p : ChargePointState). point_by_all p events) here
-              ∙ ap (point_by_all (point_at old place)) (sym all);
-          sent = ap (flat_map calls_by_event) all
-              ∙ ap₂ (λ (one other : List Call). one ++ other) (act.sent is) (rest.sent
-              ∙ ap (λ (o : OutboxState). calls_along o traffic) box)
-              ∙ sym (calls_along-cons (outbox_at old place) first traffic)
-              ∙ ap (λ (es : List Event). calls_along (outbox_at old place)
-              (filter_map traffic_by_event es)) (sym all);
-          confirmed = ap (λ (es : List Event). numbers_of_calls (calls_confirmed
-              (outbox_at old place) (filter_map traffic_by_event es))) all
-              ∙ ap numbers_of_calls (calls_confirmed-cons (outbox_at old place) first traffic)
-              ∙ map-append (λ (call : Call). call.number) (confirmed_by_effect
-              (outbox_at old place) first) (calls_confirmed (outbox_with first
-              (outbox_at old place)) traffic)
-              ∙ ap₂ (λ (one other : List ℕ). one ++ other) (act.confirmed is)
-              (ap (λ (o : OutboxState). numbers_of_calls (calls_confirmed o traffic)) (sym box)
-              ∙ rest.confirmed)
-              ∙ ap (flat_map confirmed_by_event) (sym all);
-          calls = λ point. ap (λ (es : List Event). filter_map call_of (changes_from point es)) all
-              ∙ filter_map-append call_of (changes_by point event) (changes_from
-              (point_by point event) events)
-              ∙ ap₂ (λ (one other : List CallBody). one ++ other) (act.bodies point.book)
-              (rest.calls (point_by point event))
-              ∙ sym (bodies_added-cons first traffic)
-              ∙ ap (λ (es : List Event). bodies_added (filter_map traffic_by_event es)) (sym all);
+              ∙ ap (point_by_all point) all;
+          sent = subst (IsSent point) all (sent_more point event events (act.sent is)
+              (along IsSent next here rest.sent));
+          confirmed = subst (IsConfirmed point) all (confirmed_more point event events
+              (act.confirmed is) (along IsConfirmed next here rest.confirmed));
         }
     by false is =
-        let all : events_at old.site place (event ∷ later) ≡ events = ap (λ (b : Bool). cond b
-        (event ∷ events) events) is in
-        let here : point_at middle place ≡ point_at old place =
-        act.point ∙ ap (λ (b : Bool). cond b (point_by (point_at old place) event)
-        (point_at old place)) is in
-        let box : outbox_at middle place ≡ outbox_at old place =
-        ap (λ (p : ChargePointState). p.outbox) here in
+        let point = point_at old place in
+        let all : events ≡ events_at old.site place (event ∷ later) =
+        ap (λ (b : Bool). cond b (event ∷ events) events) (sym is) in
+        let here : point_at middle place ≡ point =
+        act.point ∙ ap (λ (b : Bool). cond b (point_by point event) point) is in
         record {
           site = rest.site;
           many = rest.many;
           point = rest.point ∙ ap (λ (p : ChargePointState). point_by_all p events) here
-              ∙ ap (point_by_all (point_at old place)) (sym all);
-          sent = ap (flat_map calls_by_event) all ∙ rest.sent
-              ∙ ap (λ (o : OutboxState). calls_along o traffic) box
-              ∙ ap (λ (es : List Event). calls_along (outbox_at old place)
-              (filter_map traffic_by_event es)) (sym all);
-          confirmed = ap (λ (es : List Event). numbers_of_calls (calls_confirmed
-              (outbox_at old place) (filter_map traffic_by_event es))) all
-              ∙ ap (λ (o : OutboxState). numbers_of_calls (calls_confirmed o traffic)) (sym box)
-              ∙ rest.confirmed
-              ∙ ap (flat_map confirmed_by_event) (sym all);
-          calls = λ point. ap (λ (es : List Event). filter_map call_of
-              (changes_from point es)) all ∙ rest.calls point
-              ∙ ap (λ (es : List Event). bodies_added (filter_map traffic_by_event es)) (sym all);
+              ∙ ap (point_by_all point) all;
+          sent = subst (IsSent point) all (along IsSent point here rest.sent);
+          confirmed = subst (IsConfirmed point) all (along IsConfirmed point here rest.confirmed);
         }
 
 places_still : (place : ℕ) (old : MachineState) (event : Event) (middle : MachineState)
@@ -316,7 +346,6 @@ follows place old [] new many legal = record {
   point = ap (λ (s : MachineState). point_at s place) legal;
   sent = refl;
   confirmed = refl;
-  calls = λ point. refl;
 }
 follows place old (event ∷ later) new many legal =
     let is = does old event.step event.reply legal.0 legal.1 in
@@ -337,15 +366,15 @@ points_follow old history new is legal place = (of_machine place old history new
 
 outbox_follows : (place : ℕ) (old : MachineState) (history : List Event) (new : MachineState)
     → Follows place old history new
-    → outbox_at new place ≡ after_all (outbox_at old place) (traffic_of old.site place history)
+    → outbox_at new place ≡ after_all (outbox_at old place) (traffic_since old place history)
 outbox_follows place old history new is =
     ap (λ (p : ChargePointState). p.outbox) is.point
     ∙ outbox_along (point_at old place) (events_at old.site place history)
 
 rows_follow_from : (place : ℕ) (old : MachineState) (history : List Event) (new : MachineState)
     → Follows place old history new
-    → (book_at new place).rows ≡ rows_after_all (changes_from (point_at old place)
-    (events_at old.site place history)) (book_at old place).rows
+    → (book_at new place).rows ≡ rows_after_all (deeds_since old place history)
+    (book_at old place).rows
 rows_follow_from place old history new is =
     ap (λ (p : ChargePointState). p.book.rows) is.point
     ∙ rows_along (point_at old place) (events_at old.site place history)
@@ -357,27 +386,27 @@ rows_go_on old history new is legal place = rows_follow_from place old history n
 numbers_by : (old : MachineState) (history : List Event) (new : MachineState) (place : ℕ)
     → Follows place old history new
     → numbers_of_calls (calls_sent old.site place history) ≡ numbers_sent (outbox_at old place)
-    (traffic_of old.site place history)
+    (traffic_since old place history)
 numbers_by old history new place is =
     ap numbers_of_calls is.sent ∙ numbers_along (outbox_at old place)
-    (traffic_of old.site place history)
+    (traffic_since old place history)
 
 pub go_on_in_order : CallsGoOnInOrder
 go_on_in_order old history new is legal place first are =
     let state = outbox_at old place in
     subst (GoesOn first) (sym (numbers_by old history new place
     (of_machine place old history new is legal)))
-    (goes_on (traffic_of old.site place history) state.link state.calls state.next
+    (goes_on (traffic_since old place history) state.link state.calls state.next
     state.is_in_flight first first are (inl refl) (λ flies. refl))
 
 pub stay_consecutive : CallsStayConsecutive
 stay_consecutive old history new is legal place first are =
     let state = outbox_at old place in
     let first_then =
-    first + length (calls_confirmed state (traffic_of old.site place history)) in
+    first + length (calls_confirmed state (traffic_since old place history)) in
     subst (λ (o : OutboxState). AreFrom first_then o.calls o.next)
     (sym (outbox_follows place old history new (of_machine place old history new is legal)))
-    (numbered_along (traffic_of old.site place history) state.link state.calls state.next
+    (numbered_along (traffic_since old place history) state.link state.calls state.next
     state.is_in_flight first are)
 
 pub sent_as_kept : CallsAreSentAsKept
@@ -386,13 +415,13 @@ sent_as_kept old history new is legal place =
     let all = calls_since old place history in
     subst (AllByRecursion (Contains all)) (sym (of_machine place old history new is legal).sent)
     (each_along (Contains all)
-    (traffic_of old.site place history) state.link state.calls state.next state.is_in_flight
+    (traffic_since old place history) state.link state.calls state.next state.is_in_flight
     (recursion_from_All (Contains all) all (All-contains_itself all)))
 
 pub stay_unless_confirmed : CallsStayUnlessConfirmed
 stay_unless_confirmed old history new is legal place =
     let state = outbox_at old place in
-    let traffic = traffic_of old.site place history in
+    let traffic = traffic_since old place history in
     ap (λ (o : OutboxState). calls_confirmed state traffic ++ o.calls)
     (outbox_follows place old history new (of_machine place old history new is legal))
     ∙ left traffic state.link state.calls state.next state.is_in_flight
@@ -427,34 +456,34 @@ pub outboxes_follow : OutboxesFollowHistories
 outboxes_follow site numbers history state legal point place here =
     outbox_follows place (opening_at site numbers) history state
     (from_opening site numbers history state place legal)
-    ∙ ap (λ (o : OutboxState). after_all o (traffic_of site place history))
+    ∙ ap (λ (o : OutboxState). after_all o (traffic_at site place history))
     (opening_outbox_of_each site.points place)
 
 sent_along : (site : SiteState) (numbers : Numbers) (history : List Event) (state : MachineState)
     (place : ℕ) → Legal (opening_at site numbers) history state
-    → calls_sent site place history ≡ calls_along opening_outbox (traffic_of site place history)
+    → calls_sent site place history ≡ calls_along opening_outbox (traffic_at site place history)
 sent_along site numbers history state place legal =
     (from_opening site numbers history state place legal).sent
-    ∙ ap (λ (o : OutboxState). calls_along o (traffic_of site place history))
+    ∙ ap (λ (o : OutboxState). calls_along o (traffic_at site place history))
     (opening_outbox_of_each site.points place)
 
 numbers_by_history : (site : SiteState) (numbers : Numbers) (history : List Event)
     (state : MachineState) (place : ℕ)
     → Legal (opening_at site numbers) history state
     → numbers_of_calls (calls_sent site place history) ≡ numbers_sent opening_outbox
-    (traffic_of site place history)
+    (traffic_at site place history)
 numbers_by_history site numbers history state place legal =
     ap numbers_of_calls (sent_along site numbers history state place legal)
-    ∙ numbers_along opening_outbox (traffic_of site place history)
+    ∙ numbers_along opening_outbox (traffic_at site place history)
 
 pub sent_by_history : CallsAreSentInOrder
 sent_by_history site numbers history state legal point place here =
     subst AreInSendingOrder (sym (numbers_by_history site numbers history state place legal))
-    (sent_in_order (traffic_of site place history))
+    (sent_in_order (traffic_at site place history))
 
 pub sent_as_made : CallsAreSentAsMade
 sent_as_made site numbers history state legal point place here =
-    let traffic = traffic_of site place history in
+    let traffic = traffic_at site place history in
     subst (AllByRecursion (IsOneOf (calls_made site place history))) (sym
     (sent_along site numbers history state place legal))
     (each_along (IsOneOf (calls_made site place history)) traffic None _ 1 false
@@ -462,14 +491,14 @@ sent_as_made site numbers history state legal point place here =
 
 pub left_of_history : CallsAreLeftUnlessConfirmed
 left_of_history site numbers history state legal point place here =
-    let traffic = traffic_of site place history in
+    let traffic = traffic_at site place history in
     ap (λ (o : OutboxState). calls_confirmed opening_outbox traffic ++ o.calls)
     (outboxes_follow site numbers history state legal point place here)
     ∙ left_unless_confirmed traffic
 
 pub confirmed_by_history : ConfirmationsAreEvents
 confirmed_by_history site numbers history state legal point place here =
-    ap (λ (o : OutboxState). numbers_of_calls (calls_confirmed o (traffic_of site place history)))
+    ap (λ (o : OutboxState). numbers_of_calls (calls_confirmed o (traffic_at site place history)))
     (sym (opening_outbox_of_each site.points place))
     ∙ (from_opening site numbers history state place legal).confirmed
 
@@ -479,39 +508,61 @@ pub rows_follow : RowsFollowHistories
 rows_follow site numbers history state legal point place here =
     rows_follow_from place (opening_at site numbers) history state
     (from_opening site numbers history state place legal)
-    ∙ ap (λ (rows : List Row). rows_after_all (changes_of site place history) rows)
+    ∙ ap (λ (rows : List Row). rows_after_all (deeds_of site place history) rows)
     (no_rows_of_each site.points place)
 
--- the changes of more events are more changes
-changes_more : (point : ChargePointState) (one other : List Event)
-    → (more : List Change) × (changes_from point (one ++ other) ≡ changes_from point one ++ more)
-changes_more point [] other = (changes_from point other, refl)
-changes_more point (event ∷ one) other =
-    let first = changes_by point event in
-    let next = point_by point event in
-    let rest = changes_more next one other in (
+-- what is done by more events is more
+deeds_more : (point : ChargePointState) (one other : List Event)
+    → (more : List Deed) × (deeds_from point (one ++ other) ≡ deeds_from point one ++ more)
+deeds_more point [] other = (deeds_from point other, refl)
+deeds_more point (event ∷ one) other =
+    let rest = deeds_more (point_by point event) one other in (
       rest.0,
-      ap (λ (cs : List Change). first ++ cs) rest.1
-          ∙ sym (append_assoc first (changes_from next one) rest.0),
+      by (deed_by point event) (deeds_from (point_by point event) (one ++ other))
+          (deeds_from (point_by point event) one) rest.0 rest.1,
     )
+  where
+    by : (first : Option Deed) (all so_far more : List Deed) → all ≡ so_far ++ more
+        → cons_option first all ≡ cons_option first so_far ++ more
+    by None all so_far more is = is
+    by (Some deed) all so_far more is = ap (λ (ds : List Deed). deed ∷ ds) is
 
--- after as many calls as the first changes have, the lasting rows are those after these changes
-rows_at_call : (one more : List Change) (rows : List Row) (number : ℕ)
+-- after as many calls as what is done first makes, the lasting rows are those after it
+rows_at_call : (one more : List Deed) (rows : List Row) (number : ℕ)
     → number ≡ length (filter_map call_of one)
     → lasting (rows_after_call number (one ++ more) rows) ≡ lasting (rows_after_all one rows)
 rows_at_call [] more rows zero is = refl
 rows_at_call [] more rows (suc before) is = absurd (omega arith)
-rows_at_call (Installs row ∷ one) more rows zero is = absurd (omega arith)
-rows_at_call (Installs row ∷ one) more rows (suc before) is =
-    rows_at_call one more (installed rows row) before (omega arith)
-rows_at_call (Clears criteria ∷ one) more rows zero is = absurd (omega arith)
-rows_at_call (Clears criteria ∷ one) more rows (suc before) is =
-    rows_at_call one more (cleared rows criteria) before (omega arith)
-rows_at_call (Ends connector ∷ one) more rows zero is =
-    sym (lasting_end rows connector) ∙ rows_at_call one more
-    (without_transaction_profiles rows connector) zero is
-rows_at_call (Ends connector ∷ one) more rows (suc before) is =
-    rows_at_call one more (without_transaction_profiles rows connector) (suc before) is
+rows_at_call (deed ∷ one) more rows number is =
+    by (λ n. rows_at_call one more (rows_after rows deed) n) (call_of deed) refl number is
+  where
+    next : List Row
+    next = rows_after rows deed
+
+    count_with : Option CallBody → ℕ
+    count_with call = length (cons_option call (filter_map call_of one))
+
+    by : ((n : ℕ) → n ≡ length (filter_map call_of one)
+        → lasting (rows_after_call n (one ++ more) next) ≡ lasting (rows_after_all one next))
+        → (call : Option CallBody) → call_of deed ≡ call → (count : ℕ)
+        → count ≡ count_with (call_of deed)
+        → lasting (rows_after_call count (deed ∷ (one ++ more)) rows)
+        ≡ lasting (rows_after_all one next)
+    by rest (Some body) has zero many =
+        let none : 0 ≡ count_with (Some body) = many ∙ ap count_with has in
+        absurd (omega (arith, none))
+    by rest (Some body) has (suc before) many =
+        let count : suc before ≡ count_with (Some body) = many ∙ ap count_with has in
+        ap (λ (c : Option CallBody). lasting (rows_after_call (cond (is_some c) before
+        (suc before)) (one ++ more) next)) has
+        ∙ rest before (omega (arith, count))
+    by rest None has zero many =
+        sym (lasting_without_call deed rows (ap (λ (c : Option CallBody). is_some c) has))
+        ∙ rest 0 (many ∙ ap count_with has)
+    by rest None has (suc before) many =
+        ap (λ (c : Option CallBody). lasting (rows_after_call (cond (is_some c) before
+        (suc before)) (one ++ more) next)) has
+        ∙ rest (suc before) (many ∙ ap count_with has)
 
 in_step_after : (site : SiteState) (numbers : Numbers) (earlier later : List Event)
     (middle state : MachineState)
@@ -525,24 +576,21 @@ in_step_after : (site : SiteState) (numbers : Numbers) (earlier later : List Eve
 in_step_after site numbers earlier later middle state legal then_legal point place here first
     others rows order last =
     let opening_state = opening_at site numbers in
-    let all = changes_of site place (earlier ++ later) in
-    let so_far = changes_of site place earlier in
+    let all = deeds_of site place (earlier ++ later) in
+    let so_far = deeds_of site place earlier in
     let number = last_number first.number others in
     let began = opening_at_place site place in
     let test : Event → Bool = λ event. names site place event.step in
-    let more = changes_more began (events_at site place earlier) (events_at site place later) in
-    let split : all ≡ so_far ++ more.0 = ap (changes_from began)
+    let more = deeds_more began (events_at site place earlier) (events_at site place later) in
+    let split : all ≡ so_far ++ more.0 = ap (deeds_from began)
     (filter-append test earlier later) ∙ more.1 in
-    let whole = from_opening site numbers (earlier ++ later) state place
-    (legal_join opening_state earlier middle later state legal then_legal) in
-    let part = from_opening site numbers earlier middle place legal in
     let calls : calls_of all ≡ bodies_of site place (earlier ++ later) =
-    ap all_calls (whole.calls began) in
+    ap all_calls (calls_are_added all) in
     let count : number ≡ length (filter_map call_of so_far) = last
-    ∙ ap (λ (bs : List CallBody). length bs) (sym (part.calls began)) in
+    ∙ ap (λ (bs : List CallBody). length bs) (sym (calls_are_added so_far)) in
     ap (λ (bs : List CallBody). lasting (obeyed bs (first ∷ others) rows)) (sym calls)
     ∙ stays_in_step all first others rows order
-    ∙ ap (λ (cs : List Change). lasting (rows_after_call number cs [])) split
+    ∙ ap (λ (ds : List Deed). lasting (rows_after_call number ds [])) split
     ∙ rows_at_call so_far more.0 [] number count
     ∙ ap lasting (sym (rows_follow site numbers earlier middle legal point place here))
 
@@ -555,7 +603,7 @@ stay_in_step site numbers history state point place here first others rows order
 
 pub obey_in_order : CallsAreObeyedInOrder
 obey_in_order site numbers history state legal point place here are_obeyed each =
-    let traffic = traffic_of site place history in
+    let traffic = traffic_at site place history in
     let same = numbers_by_history site numbers history state place legal in
     let each_sent : AllByRecursion (IsObeyed (numbers_obeyed traffic are_obeyed))
     (calls_confirmed opening_outbox traffic) =
@@ -574,36 +622,88 @@ obeying_stay_in_step site numbers history state legal point place here are_obeye
 
 -- ---- the moments of its calls
 
-accepted-append : (site : SiteState) (place : ℕ) (one other : List Event)
-    → accepted site place (one ++ other) ≡ accepted site place one ++ accepted site place other
-accepted-append site place one other =
-    ap (λ (es : List Event). bodies_added (filter_map traffic_by_event es)) (filter-append (λ
-    (event : Event). names site place event.step) one other)
-    ∙ ap bodies_added (filter_map-append traffic_by_event (events_at site place one)
-    (events_at site place other))
-    ∙ bodies_added-append (traffic_of site place one) (traffic_of site place other)
+-- the calls that are added at a point along its own events
+abbrev added_along : ChargePointState → List Event → List CallBody
+added_along point events = bodies_added (traffic_along point events)
 
--- no event adds more than one call
-one_at_most : (one : Option Traffic) → length (bodies_added (cons_option one [])) ≤ 1
-one_at_most None = omega arith
-one_at_most (Some (Attach link)) = omega arith
-one_at_most (Some Lose) = omega arith
-one_at_most (Some (Add body)) = omega arith
-one_at_most (Some Send) = omega arith
-one_at_most (Some (Confirm number)) = omega arith
+-- how many calls are added by what is done, which is one at most
+abbrev count_of : Option Deed → ℕ
+count_of does = length (cons_option (call_in (traffic_with does)) [])
 
-few_accepted : (site : SiteState) (place : ℕ) (event : Event)
-    → length (accepted site place (event ∷ [])) ≤ 1
-few_accepted site place event = go (names site place event.step)
+one_at_most : (does : Option Deed) → count_of does ≤ 1
+one_at_most does = by (call_in (traffic_with does))
   where
-    go : (named : Bool) → length (bodies_added (filter_map traffic_by_event (cond named
-        (event ∷ []) []))) ≤ 1
-    go true = one_at_most (traffic_by_event event)
-    go false = omega arith
+    by : (call : Option CallBody) → length (cons_option call []) ≤ 1
+    by None = omega arith
+    by (Some body) = omega arith
+
+added_more : (point : ChargePointState) (event : Event) (later : List Event)
+    → length (added_along point (event ∷ later))
+    ≡ count_of (deed_by point event) + length (added_along (point_by point event) later)
+added_more point event later =
+    ap (λ (t : List Traffic). length (bodies_added t)) (traffic_more point event later)
+    ∙ ap (λ (bs : List CallBody). length bs) (bodies_added-cons (traffic_by point event)
+    (traffic_along (point_by point event) later))
+    ∙ by (call_in (traffic_by point event)) (added_along (point_by point event) later)
+  where
+    by : (call : Option CallBody) (bodies : List CallBody)
+        → length (cons_option call bodies) ≡ length (cons_option call []) + length bodies
+    by None bodies = omega arith
+    by (Some body) bodies = omega arith
+
+none_more : (n : ℕ) → n ≡ 0 + n
+none_more n = omega arith
+
+-- how many calls an event adds at the point at a place, which it may name or not
+record Counts (place : ℕ) (old middle : MachineState) (event : Event) : Type 0 where
+  first : ℕ
+  few : first ≤ 1
+  join : (later : List Event) → length (accepted_since old place (event ∷ later))
+      ≡ first + length (accepted_since middle place later)
+
+counts : (place : ℕ) (old middle : MachineState) (event : Event) → middle.site ≡ old.site
+    → Acts place old event.step (record { reply = event.reply; after = middle })
+    → Counts place old middle event
+counts place old middle event site act = by (names old.site place event.step) refl
+  where
+    point : ChargePointState
+    point = point_at old place
+
+    same : (later : List Event) → events_at middle.site place later ≡ events_at old.site place later
+    same later = ap (λ (s : SiteState). events_at s place later) site
+
+    by : (named : Bool) → names old.site place event.step ≡ named
+        → Counts place old middle event
+    by true is = record {
+      first = count_of (deed_by point event);
+      few = one_at_most (deed_by point event);
+      join = λ later.
+          ap (λ (b : Bool). length (added_along point (cond b
+          (event ∷ events_at old.site place later) (events_at old.site place later)))) is
+          ∙ added_more point event (events_at old.site place later)
+          ∙ ap (λ (p : ChargePointState). count_of (deed_by point event)
+          + length (added_along p (events_at old.site place later)))
+          (sym (act.point ∙ ap (λ (b : Bool). cond b (point_by point event) point) is))
+          ∙ ap (λ (es : List Event). count_of (deed_by point event)
+          + length (added_along (point_at middle place) es)) (sym (same later));
+    }
+    by false is = record {
+      first = 0;
+      few = omega arith;
+      join = λ later.
+          ap (λ (b : Bool). length (added_along point (cond b
+          (event ∷ events_at old.site place later) (events_at old.site place later)))) is
+          ∙ ap (λ (p : ChargePointState). length (added_along p
+          (events_at old.site place later)))
+          (sym (act.point ∙ ap (λ (b : Bool). cond b (point_by point event) point) is))
+          ∙ ap (λ (es : List Event). length (added_along (point_at middle place) es))
+          (sym (same later))
+          ∙ none_more (length (accepted_since middle place later));
+    }
 
 moment : (place : ℕ) (old : MachineState) (history : List Event) (new : MachineState)
     → HasPlaces old → Legal old history new
-    → (number : ℕ) → number ≤ length (accepted old.site place history)
+    → (number : ℕ) → number ≤ length (accepted_since old place history)
     → Moment old history new place number
 moment place old history new many legal zero within =
     record {
@@ -621,22 +721,15 @@ moment place old (event ∷ later) new many legal (suc number) within =
     let site = keeps_site old event.step (record { reply = event.reply; after = legal.0 }) is in
     let act = acts place old event.step (record { reply = event.reply; after = legal.0 }) many is in
     let still = places_still place old event legal.0 many site act in
-    let first = length (accepted old.site place (event ∷ [])) in
-    let few : first ≤ 1 = few_accepted old.site place event in
-    let join = λ (events : List Event). ap (λ (bs : List CallBody). length bs)
-    (accepted-append old.site place (event ∷ []) events)
-    ∙ length-append (accepted old.site place (event ∷ [])) (accepted old.site place events) in
-    let all : length (accepted old.site place (event ∷ later)) ≡ first + length
-    (accepted old.site place later) = join later in
-    let left : suc number - first ≤ length (accepted old.site place later) =
+    let count = counts place old legal.0 event site act in
+    let first = count.first in
+    let few = count.few in
+    let all = count.join later in
+    let left : suc number - first ≤ length (accepted_since legal.0 place later) =
     omega (arith, all, few, within) in
-    let there : suc number - first ≤ length (accepted legal.0.site place later) =
-    subst (λ (s : SiteState). suc number - first ≤ length (accepted s place later))
-    (sym site) left in
-    let rest = moment place legal.0 later new still legal.2 (suc number - first) there in
-    let counted : length (accepted old.site place rest.earlier) ≡ suc number - first =
-    subst (λ (s : SiteState). length
-    (accepted s place rest.earlier) ≡ suc number - first) site rest.many in
+    let rest = moment place legal.0 later new still legal.2 (suc number - first) left in
+    let counted : length (accepted_since legal.0 place rest.earlier) ≡ suc number - first =
+    rest.many in
     record {
       earlier = event ∷ rest.earlier;
       later = rest.later;
@@ -644,7 +737,7 @@ moment place old (event ∷ later) new many legal (suc number) within =
       parts = ap (λ (es : List Event). event ∷ es) rest.parts;
       before = (legal.0, legal.1, rest.before);
       since = rest.since;
-      many = omega (arith, join rest.earlier, counted, few);
+      many = omega (arith, count.join rest.earlier, counted, few);
     }
 
 pub moments : EachCallHasItsMoment

@@ -1,9 +1,9 @@
 -- What the steps of a point come to, step by step, agrees with what the laws say of their events.
-use Rattle.std.proofs.Common.{◌≡◌, ℕ, ℤ, ◌+◌, ◌<◌, ◌==◌, ◌&&◌, Bool, true, false, cond, List, [], ◌∷◌, take, length, slice_set, slice_index_or, Option, Some, None, is_some, Result, Ok, Err, refl, sym, ap, ◌∙◌, subst, add-zero}
+use Rattle.std.proofs.Common.{◌≡◌, ℕ, ℤ, ◌+◌, ◌≤◌, ◌<◌, ◌==◌, ◌&&◌, Bool, true, false, cond, List, [], ◌∷◌, take, length, slice_set, slice_index_or, Option, Some, None, is_some, option_map, Result, Ok, Err, refl, sym, ap, ◌∙◌, subst, add-zero, arith}
 use Rattle.std.proofs.lemmas.Bool.{eqb-true, eqb-false}
-use Rattle.std.proofs.lemmas.List.{set-get_or, get_or-set_same, get_or-set_other}
+use Rattle.std.proofs.lemmas.List.{get_or-set_same, get_or-set_other}
 use Rattle.std.specs.Prelude.{IfOk}
-use Rattle.std.specs.List.{list_any, filter_map}
+use Rattle.std.specs.List.{list_any}
 use Rattle.ocpp_scalars.specs.declared.refusal.Refusal.{Refusal}
 use Rattle.ocpp_scalars.specs.declared.refusal.Refusal.TheVariants as refusals
 use Rattle.profile.specs.Changes.{matches}
@@ -14,23 +14,22 @@ use Rattle.transactions.specs.declared.active_table.Began.{Began}
 use Rattle.transactions.specs.declared.active_table.Began.TheVariants.{Fresh, Repeat}
 use Rattle.transactions.specs.ActiveTable.{began, connector_of}
 use Rattle.site_rules.specs.Site.{SiteState}
+use Rattle.site_rules.specs.Admission.{admission_refusal}
 use Rattle.messages.specs.declared.call.Call.{Call}
-use Rattle.messages.specs.declared.call.CallBody.{CallBody}
-use Rattle.point_book.specs.Book.{BookState}
+use Rattle.point_book.specs.Changes.{first_cause, install_refusal}
 use Rattle.site_core.specs.declared.numbers.Numbers.{Numbers}
 use Rattle.site_core.specs.declared.step.Step.{Step}
 use Rattle.site_core.specs.declared.step.Step.TheVariants as steps
 use Rattle.site_core.specs.declared.reply.Reply.{Reply}
 use Rattle.site_core.specs.declared.reply.Reply.TheVariants as replies
-use Rattle.site_core.specs.Outbox.{OutboxState, sendable, is_number_in_flight, is_number_of_first, Traffic, Attach, Lose, Add, Send, Confirm}
-use Rattle.site_core.specs.OutboxOrder.{confirmed_at, added_at}
-use Rattle.site_core.specs.Obey.{call_of}
-use Rattle.site_core.specs.ChargePoint.{ChargePointState, BookChange, Install, Clear, Start, Stop, Effect, drawn_by, drawn_by_change, drawn_by_traffic}
-use Rattle.site_core.specs.State.{MachineState}
-use Rattle.site_core.specs.Step.{Told, Answers, Does, unless, affected, done, installing, clearing, effect_alone, traffic_alone, refusal_to_install, refusal_to_call, refusal_to_start, refusal_to_attach, version_refusal, next_transaction, is_at_no_connector, is_event, installs, clears, starts, starts_as, stops, attaches, sends, sends_call, confirms, loses}
+use Rattle.site_core.specs.Limits.{max_number, max_transaction}
+use Rattle.site_core.specs.Outbox.{OutboxState, sendable, is_number_in_flight, is_number_of_first, Traffic, Send, Confirm}
+use Rattle.site_core.specs.OutboxOrder.{confirmed_at}
+use Rattle.site_core.specs.ChargePoint.{ChargePointState, Deed, Stops, traffic_of}
+use Rattle.site_core.specs.State.{MachineState, AreNumbers}
+use Rattle.site_core.specs.Step.{Work, AtPoint, work, unless, facts, deed, drawn, counted, is_event, is_reply_to, refusal_to_install, refusal_to_call, refusal_to_add, refusal_to_start, refusal_to_attach, version_refusal, transaction_number_refusal, next_transaction, is_at_no_connector, installs, clears, starts, starts_as, stops, attaches, sends, sends_call, confirms, loses}
 use Rattle.site_core.specs.History.{reply_takes, asks_answer_of}
-use Rattle.site_core.specs.Step.{Counted, counted, no_count, one_change, is_reply_to}
-use Rattle.site_core.specs.CallOrder.{effect_by, calls_by, confirmed_by, numbers_of_calls, end_at, changes_in}
+use Rattle.site_core.specs.CallOrder.{calls_by, confirmed_by, numbers_of_calls}
 
 -- ---- what holds of whatever comes of a step
 
@@ -39,134 +38,68 @@ pub unless_holds : {X : Type 0} (P : X → Type 0) (refusal : Option Refusal) (x
 unless_holds P None x h = h
 unless_holds P (Some refusal) x h = tt
 
+-- where nothing refuses it
+pub unless_none : {X : Type 0} (P : X → Type 0) (refusal : Option Refusal) (x : X)
+    → (refusal ≡ None → P x) → IfOk (unless refusal x) P
+unless_none P None x h = h refl
+unless_none P (Some refusal) x h = tt
+
 pub either_holds : {X : Type 0} (P : X → Type 0) (test : Bool) (one other : Result X Refusal)
     → IfOk one P → IfOk other P → IfOk (cond test one other) P
 either_holds P true one other h k = h
 either_holds P false one other h k = k
 
--- ---- effects
+-- ---- numbers
 
-abbrev pub no_effect : Effect
-no_effect = record { change = None; traffic = None }
+-- neither of two causes
+pub neither : (first next : Option Refusal) → first_cause first next ≡ None
+    → (first ≡ None) × (next ≡ None)
+neither None next none = (refl, none)
+neither (Some refusal) next none = absurd (cc none)
 
-abbrev pub told_reply : Told → Reply
-told_reply (Answers reply) = reply
-told_reply (Does reply effect) = reply
+-- below its limit, a number has a next one
+pub has_next : (n most : ℕ) (refusal : Refusal) → n ≤ most
+    → cond (n == most) (Some refusal) None ≡ None → n + 1 ≤ most
+has_next n most refusal within none =
+    elim (n == most) as (λ b. (n == most) ≡ b → cond b (Some refusal) None ≡ None → n + 1 ≤ most) [
+      | true ↦ λ same h. absurd (cc h)
+      | false ↦ λ other h. omega (arith, within, eqb-false n most other)
+    ] refl none
 
-abbrev pub told_effect : Told → Effect
-told_effect (Answers reply) = no_effect
-told_effect (Does reply effect) = effect
+next_version : (numbers : Numbers) → AreNumbers numbers → version_refusal numbers ≡ None
+    → numbers.version + 1 ≤ max_number
+next_version numbers are none =
+    has_next numbers.version max_number refusals.VersionsExhausted are.version none
 
--- a reply alone is no event
-abbrev pub told_event : Told → Bool
-told_event (Answers reply) = false
-told_event (Does reply effect) = true
+-- a change of a book draws a version
+version_drawn : (numbers : Numbers) → AreNumbers numbers → version_refusal numbers ≡ None
+    → AreNumbers (drawn replies.Accepted numbers)
+version_drawn numbers are none = record {
+  version = next_version numbers are none;
+  request = are.request;
+  transaction = are.transaction;
+  link = are.link;
+}
 
--- a change of the book is counted
-abbrev count_of_change : Option BookChange → Counted
-count_of_change None = no_count
-count_of_change (Some change) = one_change
+-- a call that may be added leaves room for a version
+call_draws : (numbers : Numbers) (point : ChargePointState)
+    → refusal_to_call numbers point ≡ None → version_refusal numbers ≡ None
+call_draws numbers point none =
+    (neither (refusal_to_add point.outbox) (version_refusal numbers) none).1
 
-abbrev pub told_count : Told → Counted
-told_count told = count_of_change (told_effect told).change
-
--- where nothing is done, nothing changes
-pub affected_by_nothing : (old : MachineState) (place : ℕ) → affected old place no_effect ≡ old
-affected_by_nothing old place =
-    ap (λ (points : List ChargePointState). record old {
-      points = points;
-    }) (set-get_or old.points place _)
-
-pub done_is : (old : MachineState) (place : ℕ) (told : Told)
-    → done old place told ≡ record {
-      reply = told_reply told;
-      after = affected old place (told_effect told);
-    }
-done_is old place (Answers reply) = ap (λ (s : MachineState). record {
-  reply = reply;
-  after = s;
-}) (sym (affected_by_nothing old place))
-done_is old place (Does reply effect) = refl
-
--- what is no event has no effect
-pub nothing_affected : (old : MachineState) (place : ℕ) (told : Told) → told_event told ≡ false
-    → affected old place (told_effect told) ≡ old
-nothing_affected old place (Answers reply) no_event = affected_by_nothing old place
-nothing_affected old place (Does reply effect) no_event = absurd (cc no_event)
-
--- no effect draws the number of a request
-change_draws_no_request : (change : Option BookChange) (numbers : Numbers)
-    → (drawn_by_change change numbers).request ≡ numbers.request
-change_draws_no_request None numbers = refl
-change_draws_no_request (Some (Install row)) numbers = refl
-change_draws_no_request (Some (Clear criteria)) numbers = refl
-change_draws_no_request (Some (Start connector begin number)) numbers = refl
-change_draws_no_request (Some (Stop number)) numbers = refl
-
-pub draws_no_request : (effect : Effect) (numbers : Numbers)
-    → (drawn_by effect numbers).request ≡ numbers.request
-draws_no_request effect numbers = by effect.traffic (drawn_by_change effect.change numbers)
-    ∙ change_draws_no_request effect.change numbers
-  where
-    by : (traffic : Option Traffic) (drawn : Numbers)
-        → (drawn_by_traffic traffic drawn).request ≡ drawn.request
-    by None drawn = refl
-    by (Some (Attach link)) drawn = refl
-    by (Some Lose) drawn = refl
-    by (Some (Add body)) drawn = refl
-    by (Some Send) drawn = refl
-    by (Some (Confirm number)) drawn = refl
-
--- it draws as many versions as it counts changes, and counts nothing else
-change_draws_versions : (change : Option BookChange) (numbers : Numbers)
-    → (drawn_by_change change numbers).version
-    ≡ numbers.version + (count_of_change change).changes
-change_draws_versions None numbers = sym (add-zero _)
-change_draws_versions (Some (Install row)) numbers = refl
-change_draws_versions (Some (Clear criteria)) numbers = refl
-change_draws_versions (Some (Start connector begin number)) numbers = refl
-change_draws_versions (Some (Stop number)) numbers = refl
-
-pub draws_versions : (told : Told) (numbers : Numbers)
-    → (drawn_by (told_effect told) numbers).version ≡ numbers.version + (told_count told).changes
-draws_versions told numbers =
-    by (told_effect told).traffic (drawn_by_change (told_effect told).change numbers)
-    ∙ change_draws_versions (told_effect told).change numbers
-  where
-    by : (traffic : Option Traffic) (drawn : Numbers)
-        → (drawn_by_traffic traffic drawn).version ≡ drawn.version
-    by None drawn = refl
-    by (Some (Attach link)) drawn = refl
-    by (Some Lose) drawn = refl
-    by (Some (Add body)) drawn = refl
-    by (Some Send) drawn = refl
-    by (Some (Confirm number)) drawn = refl
-
-pub only_changes_counted : (told : Told)
-    → ((told_count told).takes ≡ 0) × ((told_count told).answers ≡ 0)
-only_changes_counted told = by (told_effect told).change
-  where
-    by : (change : Option BookChange)
-        → ((count_of_change change).takes ≡ 0) × ((count_of_change change).answers ≡ 0)
-    by None = (refl, refl)
-    by (Some change) = (refl, refl)
+-- ---- the point at a place
 
 -- what is read after the item of a place was changed
-pub changed_in : {X : Type 0} (xs : List X) (there place : ℕ) (change : X → X) (d : X)
+pub changed_in : {X : Type 0} (xs : List X) (there place : ℕ) (new d : X)
     → there < length xs
-    → slice_index_or (slice_set xs there (change (slice_index_or xs there d))) place d
-    ≡ cond (there == place) (change (slice_index_or xs place d)) (slice_index_or xs place d)
-changed_in {X} xs there place change d within = go (there == place) refl
+    → slice_index_or (slice_set xs there new) place d
+    ≡ cond (there == place) new (slice_index_or xs place d)
+changed_in {X} xs there place new d within = go (there == place) refl
   where
-    new : X
-    new = change (slice_index_or xs there d)
-
-    go : (b : Bool) → (there == place) ≡ b → slice_index_or
-        (slice_set xs there new) place d ≡ cond b (change (slice_index_or xs place d))
-        (slice_index_or xs place d)
-    go true is =
-        subst (λ (p : ℕ). slice_index_or (slice_set xs there new) p d ≡ change
-        (slice_index_or xs p d)) (eqb-true there place is) (get_or-set_same xs there new d within)
+    go : (b : Bool) → (there == place) ≡ b
+        → slice_index_or (slice_set xs there new) place d ≡ cond b new (slice_index_or xs place d)
+    go true is = subst (λ (p : ℕ). slice_index_or (slice_set xs there new) p d ≡ new)
+        (eqb-true there place is) (get_or-set_same xs there new d within)
     go false is = get_or-set_other xs there place new d (λ e. eqb-false there place is (sym e))
 
 -- ---- the calls that an outbox sends and confirms
@@ -179,149 +112,187 @@ abbrev pub calls_at : OutboxState → Traffic → List Call
 calls_at old Send = call_list (sendable old)
 calls_at old other = []
 
-abbrev pub sent_by_effect : OutboxState → Option Traffic → List Call
-sent_by_effect old None = []
-sent_by_effect old (Some traffic) = calls_at old traffic
+abbrev pub sent_by_traffic : OutboxState → Option Traffic → List Call
+sent_by_traffic old None = []
+sent_by_traffic old (Some traffic) = calls_at old traffic
 
-abbrev pub confirmed_by_effect : OutboxState → Option Traffic → List Call
-confirmed_by_effect old None = []
-confirmed_by_effect old (Some traffic) = confirmed_at old traffic
+abbrev pub confirmed_by_traffic : OutboxState → Option Traffic → List Call
+confirmed_by_traffic old None = []
+confirmed_by_traffic old (Some traffic) = confirmed_at old traffic
 
-abbrev pub bodies_in : Option Traffic → List CallBody
-bodies_in None = []
-bodies_in (Some traffic) = added_at traffic
-
--- the end of a transaction is no call
-end_is_no_call : (found : Option ℕ) → filter_map call_of (end_at found) ≡ []
-end_is_no_call None = refl
-end_is_no_call (Some connector) = refl
+-- what a step brings to an outbox that does something there, or nothing
+abbrev pub traffic_with : Option Deed → Option Traffic
+traffic_with None = None
+traffic_with (Some deed) = traffic_of deed
 
 -- ---- step by step
 
--- what a step at a point comes to is what the laws say of its event
-pub record Agrees (point : ChargePointState) (step : Step) (told : Told) : Type 0 where
-  pub effect : effect_by step (told_reply told) ≡ told_effect told
-  pub calls : calls_by step (told_reply told) ≡ sent_by_effect point.outbox
-      (told_effect told).traffic
-  pub confirmed : numbers_of_calls (confirmed_by_effect point.outbox
-      (told_effect told).traffic) ≡ confirmed_by step (told_reply told)
-  -- the changes of profiles that are calls are those that the outbox is brought
-  pub bodies : (book : BookState) → filter_map call_of (changes_in book
-      (told_effect told).change) ≡ bodies_in (told_effect told).traffic
-  pub no_take : (number : ℕ) → reply_takes number (told_reply told) ≡ false
+-- what a step at a point replies, and what it does there, is what the laws say of its event
+pub record Agrees (numbers : Numbers) (point : ChargePointState) (step : Step) (reply : Reply)
+    : Type 0 where
+  pub calls : calls_by step reply
+      ≡ sent_by_traffic point.outbox (traffic_with (deed point step reply))
+  pub confirmed : numbers_of_calls (confirmed_by_traffic point.outbox (traffic_with
+      (deed point step reply))) ≡ confirmed_by step reply
+  pub no_take : (number : ℕ) → reply_takes number reply ≡ false
   pub no_answer : (number : ℕ) → asks_answer_of number step ≡ false
-  pub event : (old : MachineState) → is_event old (told_reply told) ≡ told_event told
-  pub counts : counted (told_reply told) ≡ told_count told
-  pub its_own : is_reply_to step (told_reply told) ≡ true
+  pub event : (old : MachineState) → is_event old reply ≡ is_some (deed point step reply)
+  pub still : deed point step reply ≡ None → drawn reply numbers ≡ numbers
+  pub fits : AreNumbers numbers → AreNumbers (drawn reply numbers)
+  pub version : (drawn reply numbers).version ≡ numbers.version + (counted reply).changes
+  pub request : (drawn reply numbers).request ≡ numbers.request
+  pub asks : (facts reply).asks ≡ None
+  pub takes : (counted reply).takes ≡ 0
+  pub answers : (counted reply).answers ≡ 0
+  pub its_own : is_reply_to step reply ≡ true
 
--- it does, where its rows of the tables are the same
-all_refl : (point : ChargePointState) (step : Step) (told : Told)
-    → effect_by step (told_reply told) ≡ told_effect told
-    → calls_by step (told_reply told) ≡ sent_by_effect point.outbox (told_effect told).traffic
-    → numbers_of_calls (confirmed_by_effect point.outbox
-    (told_effect told).traffic) ≡ confirmed_by step (told_reply told)
-    → ((book : BookState) → filter_map call_of (changes_in book (told_effect told).change)
-    ≡ bodies_in (told_effect told).traffic)
-    → ((number : ℕ) → reply_takes number (told_reply told) ≡ false) → ((number : ℕ)
-    → asks_answer_of number step ≡ false)
-    → ((old : MachineState) → is_event old (told_reply told) ≡ told_event told)
-    → counted (told_reply told) ≡ told_count told
-    → is_reply_to step (told_reply told) ≡ true
-    → Agrees point step told
-all_refl point step told effect calls confirmed bodies no_take no_answer event counts its_own =
-    record {
-      effect = effect;
+-- an answer that changes nothing draws nothing
+same_numbers : (numbers : Numbers) → AreNumbers numbers → AreNumbers numbers
+same_numbers numbers are = are
+
+agrees_so : (numbers : Numbers) (point : ChargePointState) (step : Step) (reply : Reply)
+    → calls_by step reply ≡ sent_by_traffic point.outbox (traffic_with (deed point step reply))
+    → numbers_of_calls (confirmed_by_traffic point.outbox (traffic_with
+    (deed point step reply))) ≡ confirmed_by step reply
+    → ((number : ℕ) → reply_takes number reply ≡ false)
+    → ((number : ℕ) → asks_answer_of number step ≡ false)
+    → ((old : MachineState) → is_event old reply ≡ is_some (deed point step reply))
+    → (deed point step reply ≡ None → drawn reply numbers ≡ numbers)
+    → (AreNumbers numbers → AreNumbers (drawn reply numbers))
+    → (drawn reply numbers).version ≡ numbers.version + (counted reply).changes
+    → (drawn reply numbers).request ≡ numbers.request
+    → (facts reply).asks ≡ None
+    → (counted reply).takes ≡ 0 → (counted reply).answers ≡ 0
+    → is_reply_to step reply ≡ true
+    → Agrees numbers point step reply
+agrees_so numbers point step reply calls confirmed no_take no_answer event still fits version
+    request asks takes answers its_own = record {
       calls = calls;
       confirmed = confirmed;
-      bodies = bodies;
       no_take = no_take;
       no_answer = no_answer;
       event = event;
-      counts = counts;
+      still = still;
+      fits = fits;
+      version = version;
+      request = request;
+      asks = asks;
+      takes = takes;
+      answers = answers;
       its_own = its_own;
     }
 
-pub install_agrees : (site : SiteState) (numbers : Numbers) (id : List ℕ) (row : Row)
+install_agrees : (site : SiteState) (numbers : Numbers) (id : List ℕ) (row : Row)
     (point : ChargePointState)
-    → IfOk (installs site numbers id row point) (Agrees point (steps.Install id row))
+    → IfOk (installs site numbers id row point) (Agrees numbers point (steps.Install id row))
 install_agrees site numbers id row point =
-    unless_holds (Agrees point (steps.Install id row))
-    (refusal_to_install site numbers id row point) (Does replies.Accepted (installing row))
-    (all_refl point (steps.Install id row) (Does replies.Accepted (installing row)) refl refl refl
-    (λ book. refl) (λ number. refl) (λ number. refl) (λ old. refl) refl refl)
+    unless_none (Agrees numbers point (steps.Install id row))
+    (refusal_to_install site numbers id row point) replies.Accepted (λ none.
+    agrees_so numbers point (steps.Install id row) replies.Accepted refl refl (λ n. refl)
+    (λ n. refl) (λ old. refl) (λ none. absurd (cc none)) (λ are. version_drawn numbers are (call_draws numbers point
+    (neither (install_refusal point.book row) (refusal_to_call numbers point)
+    (neither (admission_refusal site id row.connector row.profile) (first_cause
+    (install_refusal point.book row) (refusal_to_call numbers point)) none).1).1))
+    refl refl refl refl refl refl)
 
-pub clear_agrees : (numbers : Numbers) (id : List ℕ) (criteria : Criteria)
-    (point : ChargePointState)
-    → IfOk (clears numbers criteria point) (Agrees point (steps.Clear id criteria))
+clear_agrees : (numbers : Numbers) (id : List ℕ) (criteria : Criteria) (point : ChargePointState)
+    → IfOk (clears numbers criteria point) (Agrees numbers point (steps.Clear id criteria))
 clear_agrees numbers id criteria point =
-    let P = Agrees point (steps.Clear id criteria) in
-    either_holds P (list_any (matches criteria) point.book.rows) (unless
-    (refusal_to_call numbers point) (Does replies.Accepted (clearing criteria))) (Ok
-    (Answers replies.Unknown))
-    (unless_holds P (refusal_to_call numbers point) (Does replies.Accepted (clearing criteria))
-    (all_refl point (steps.Clear id criteria) (Does replies.Accepted
-    (clearing criteria)) refl refl refl (λ book. refl) (λ number. refl) (λ number. refl)
-    (λ old. refl) refl refl))
-    (all_refl point (steps.Clear id criteria) (Answers replies.Unknown) refl refl refl
-    (λ book. refl) (λ number. refl) (λ number. refl) (λ old. refl) refl refl)
+    either_holds P (list_any (matches criteria) point.book.rows)
+    (unless (refusal_to_call numbers point) replies.Accepted) (Ok replies.Unknown)
+    (unless_none P (refusal_to_call numbers point) replies.Accepted (λ none.
+    agrees_so numbers point (steps.Clear id criteria) replies.Accepted refl refl (λ n. refl)
+    (λ n. refl) (λ old. refl) (λ none. absurd (cc none)) (λ are. version_drawn numbers are (call_draws numbers point none))
+    refl refl refl refl refl refl))
+    (agrees_so numbers point (steps.Clear id criteria) replies.Unknown refl refl (λ n. refl)
+    (λ n. refl) (λ old. refl) (λ none. refl) (same_numbers numbers) (sym (add-zero _)) refl refl refl refl refl)
+  where
+    P : Reply → Type 0
+    P = Agrees numbers point (steps.Clear id criteria)
 
-pub start_agrees : (numbers : Numbers) (id : List ℕ) (connector : ℕ) (begin : Begin)
+start_agrees : (numbers : Numbers) (id : List ℕ) (connector : ℕ) (begin : Begin)
     (point : ChargePointState)
-    → IfOk (starts numbers connector begin point) (Agrees point (steps.Start id connector begin))
+    → IfOk (starts numbers connector begin point)
+    (Agrees numbers point (steps.Start id connector begin))
 start_agrees numbers id connector begin point =
     either_holds P (is_at_no_connector point connector) (Err refusals.UnknownConnector) (starts_as
-    (began point.book.transactions connector begin) numbers connector begin)
+    (began point.book.transactions connector begin) numbers)
     tt (by (began point.book.transactions connector begin))
   where
-    P : Told → Type 0
-    P = Agrees point (steps.Start id connector begin)
+    P : Reply → Type 0
+    P = Agrees numbers point (steps.Start id connector begin)
 
-    new : Told
-    new = Does (replies.Started (next_transaction numbers)) (effect_alone (Start connector begin
-        (next_transaction numbers)))
+    drawn_both : refusal_to_start numbers ≡ None → AreNumbers numbers
+        → AreNumbers (drawn (replies.Started (next_transaction numbers)) numbers)
+    drawn_both none are =
+        let both = neither (version_refusal numbers) (transaction_number_refusal numbers) none in
+        record {
+          version = next_version numbers are both.0;
+          request = are.request;
+          transaction = has_next numbers.transaction max_transaction
+              refusals.TransactionsExhausted are.transaction both.1;
+          link = are.link;
+        }
 
-    by : (found : Began) → IfOk (starts_as found numbers connector begin) P
-    by (Repeat number) = all_refl point (steps.Start id connector begin) (Answers
-        (replies.Repeated number)) refl refl refl (λ book. refl) (λ number. refl) (λ number. refl)
-        (λ old. refl) refl refl
-    by Fresh = unless_holds P (refusal_to_start numbers) new (all_refl point
-        (steps.Start id connector begin) new refl refl refl (λ book. refl) (λ number. refl)
-        (λ number. refl) (λ old. refl) refl refl)
+    by : (found : Began) → IfOk (starts_as found numbers) P
+    by (Repeat number) = agrees_so numbers point (steps.Start id connector begin)
+        (replies.Repeated number) refl refl (λ n. refl) (λ n. refl) (λ old. refl)
+        (λ none. refl) (same_numbers numbers) (sym (add-zero _)) refl refl refl refl refl
+    by Fresh = unless_none P (refusal_to_start numbers) (replies.Started
+        (next_transaction numbers)) (λ none. agrees_so numbers point
+        (steps.Start id connector begin) (replies.Started (next_transaction numbers)) refl refl
+        (λ n. refl) (λ n. refl) (λ old. refl) (λ none. absurd (cc none)) (drawn_both none) refl refl refl refl refl refl)
 
-pub stop_agrees : (numbers : Numbers) (id : List ℕ) (number : ℤ) (point : ChargePointState)
-    → IfOk (stops numbers number point) (Agrees point (steps.Stop id number))
-stop_agrees numbers id number point =
-    let P = Agrees point (steps.Stop id number) in
-    let ended : Told = Does replies.Ended (effect_alone (Stop number)) in
-    either_holds P (is_some (connector_of point.book.transactions number)) (unless
-    (version_refusal numbers) ended) (Ok (Answers replies.NoSuch))
-    (unless_holds P (version_refusal numbers) ended (all_refl point
-    (steps.Stop id number) ended refl refl refl (λ book. end_is_no_call
-    (connector_of book.transactions number)) (λ n. refl) (λ n. refl) (λ old. refl) refl refl))
-    (all_refl point (steps.Stop id number) (Answers replies.NoSuch) refl refl refl (λ book. refl)
-    (λ n. refl) (λ n. refl) (λ old. refl) refl refl)
+stop_agrees : (numbers : Numbers) (id : List ℕ) (number : ℤ) (point : ChargePointState)
+    → IfOk (stops numbers number point) (Agrees numbers point (steps.Stop id number))
+stop_agrees numbers id number point = by (connector_of point.book.transactions number) refl
+  where
+    P : Reply → Type 0
+    P = Agrees numbers point (steps.Stop id number)
 
-pub attach_agrees : (numbers : Numbers) (id : List ℕ) (point : ChargePointState)
-    → IfOk (attaches numbers point) (Agrees point (steps.Attach id))
+    by : (found : Option ℕ) → connector_of point.book.transactions number ≡ found
+        → IfOk (cond (is_some found) (unless (version_refusal numbers) replies.Ended)
+        (Ok replies.NoSuch)) P
+    by None here = agrees_so numbers point (steps.Stop id number) replies.NoSuch refl refl
+        (λ n. refl) (λ n. refl) (λ old. refl) (λ none. refl) (same_numbers numbers) (sym (add-zero _)) refl
+        refl refl refl refl
+    by (Some connector) here =
+        let does : deed point (steps.Stop id number) replies.Ended ≡ Some (Stops connector) =
+        ap (option_map Stops) here in
+        unless_none P (version_refusal numbers) replies.Ended (λ none.
+        agrees_so numbers point (steps.Stop id number) replies.Ended
+        (ap (λ (d : Option Deed). sent_by_traffic point.outbox (traffic_with d)) (sym does))
+        (ap (λ (d : Option Deed). numbers_of_calls (confirmed_by_traffic point.outbox
+        (traffic_with d))) does)
+        (λ n. refl) (λ n. refl) (λ old. ap (λ (d : Option Deed). is_some d) (sym does))
+        (λ none. let never : Some (Stops connector) ≡ None = sym does ∙ none in absurd (cc never))
+        (λ are. version_drawn numbers are none) refl refl refl refl refl refl)
+
+attach_agrees : (numbers : Numbers) (id : List ℕ) (point : ChargePointState)
+    → IfOk (attaches numbers point) (Agrees numbers point (steps.Attach id))
 attach_agrees numbers id point =
-    let linked : Told = Does (replies.Attached (numbers.link + 1)) (traffic_alone (Attach
-    (numbers.link + 1))) in
-    unless_holds (Agrees point (steps.Attach id)) (refusal_to_attach numbers) linked
-    (all_refl point (steps.Attach id) linked refl refl refl (λ book. refl) (λ number. refl)
-    (λ number. refl) (λ old. refl) refl refl)
+    unless_none (Agrees numbers point (steps.Attach id)) (refusal_to_attach numbers)
+    (replies.Attached (numbers.link + 1)) (λ none.
+    agrees_so numbers point (steps.Attach id) (replies.Attached (numbers.link + 1)) refl refl
+    (λ n. refl) (λ n. refl) (λ old. refl) (λ none. absurd (cc none)) (λ are. record {
+      version = are.version;
+      request = are.request;
+      transaction = are.transaction;
+      link = has_next numbers.link max_number refusals.VersionsExhausted are.link none;
+    }) (sym (add-zero _)) refl refl refl refl refl)
 
-pub send_agrees : (id : List ℕ) (link : ℕ) (point : ChargePointState)
-    → IfOk (sends point) (Agrees point (steps.Send id link))
-send_agrees id link point = by (sendable point.outbox) refl
+send_agrees : (numbers : Numbers) (id : List ℕ) (link : ℕ) (point : ChargePointState)
+    → IfOk (sends point) (Agrees numbers point (steps.Send id link))
+send_agrees numbers id link point = by (sendable point.outbox) refl
   where
     by : (call : Option Call) → sendable point.outbox ≡ call
-        → Agrees point (steps.Send id link) (sends_call call)
-    by None first = all_refl point (steps.Send id link) (Answers replies.Nothing) refl refl refl
-        (λ book. refl) (λ number. refl) (λ number. refl) (λ old. refl) refl refl
-    by (Some call) first =
-        all_refl point (steps.Send id link) (Does (replies.Sent call) (traffic_alone Send)) refl
-        (ap call_list (sym first)) refl (λ book. refl) (λ number. refl) (λ number. refl)
-        (λ old. refl) refl refl
+        → Agrees numbers point (steps.Send id link) (sends_call call)
+    by None first = agrees_so numbers point (steps.Send id link) replies.Nothing refl refl
+        (λ n. refl) (λ n. refl) (λ old. refl) (λ none. refl) (same_numbers numbers) (sym (add-zero _)) refl
+        refl refl refl refl
+    by (Some call) first = agrees_so numbers point (steps.Send id link) (replies.Sent call)
+        (ap call_list (sym first)) refl (λ n. refl) (λ n. refl) (λ old. refl)
+        (λ none. refl) (same_numbers numbers) (sym (add-zero _)) refl refl refl refl refl
 
 -- the call in flight that has a number is the first, and has it
 first_confirmed : (outbox : OutboxState) (number : ℕ) → is_number_in_flight outbox number ≡ true
@@ -336,24 +307,45 @@ first_confirmed outbox number is =
     by true [] h = absurd (cc h)
     by true (call ∷ later) h = ap (λ (n : ℕ). n ∷ []) (eqb-true call.number number h)
 
-pub confirm_agrees : (id : List ℕ) (link number : ℕ) (point : ChargePointState)
-    → IfOk (confirms number point) (Agrees point (steps.Confirm id link number))
-confirm_agrees id link number point = by (is_number_in_flight point.outbox number) refl
+confirm_agrees : (numbers : Numbers) (id : List ℕ) (link number : ℕ) (point : ChargePointState)
+    → IfOk (confirms number point) (Agrees numbers point (steps.Confirm id link number))
+confirm_agrees numbers id link number point = by (is_number_in_flight point.outbox number) refl
   where
-    confirming : Told
-    confirming = Does replies.Confirmed (traffic_alone (Confirm number))
-
     by : (flies : Bool) → is_number_in_flight point.outbox number ≡ flies
-        → IfOk (cond flies (Ok confirming) (Err refusals.NothingInFlight)) (Agrees point
-        (steps.Confirm id link number))
+        → IfOk (cond flies (Ok replies.Confirmed) (Err refusals.NothingInFlight))
+        (Agrees numbers point (steps.Confirm id link number))
     by false is = tt
-    by true is = all_refl point (steps.Confirm id link number) confirming refl refl
-        (first_confirmed point.outbox number is) (λ book. refl) (λ n. refl) (λ n. refl)
-        (λ old. refl) refl refl
+    by true is = agrees_so numbers point (steps.Confirm id link number) replies.Confirmed refl
+        (first_confirmed point.outbox number is) (λ n. refl) (λ n. refl) (λ old. refl)
+        (λ none. refl) (same_numbers numbers) (sym (add-zero _)) refl refl refl refl refl
 
-pub lose_agrees : (id : List ℕ) (link : ℕ) (point : ChargePointState)
-    → IfOk (loses point) (Agrees point (steps.Lost id link))
-lose_agrees id link point =
-    all_refl point (steps.Lost id link) (Does replies.LinkLost
-    (traffic_alone Lose)) refl refl refl (λ book. refl) (λ number. refl) (λ number. refl)
-    (λ old. refl) refl refl
+lose_agrees : (numbers : Numbers) (id : List ℕ) (link : ℕ) (point : ChargePointState)
+    → IfOk (loses point) (Agrees numbers point (steps.Lost id link))
+lose_agrees numbers id link point =
+    agrees_so numbers point (steps.Lost id link) replies.LinkLost refl refl (λ n. refl)
+    (λ n. refl) (λ old. refl) (λ none. refl) (same_numbers numbers) (sym (add-zero _)) refl refl refl refl refl
+
+-- ---- all of them
+
+-- of a step at a point
+abbrev pub WorkAgrees : Step → Work → Type 0
+WorkAgrees step (AtPoint at) =
+    (site : SiteState) (numbers : Numbers) (point : ChargePointState)
+    → IfOk (at.decided site numbers point) (Agrees numbers point step)
+WorkAgrees step other = Unit {0}
+
+pub agrees : (step : Step) → WorkAgrees step (work step)
+agrees (steps.Install id row) = λ site numbers point. install_agrees site numbers id row point
+agrees (steps.Clear id criteria) = λ site numbers point. clear_agrees numbers id criteria point
+agrees (steps.Start id connector begin) =
+    λ site numbers point. start_agrees numbers id connector begin point
+agrees (steps.Stop id number) = λ site numbers point. stop_agrees numbers id number point
+agrees (steps.Take take) = tt
+agrees (steps.Compile number) = tt
+agrees (steps.Answer number) = tt
+agrees steps.Finish = tt
+agrees (steps.Attach id) = λ site numbers point. attach_agrees numbers id point
+agrees (steps.Send id link) = λ site numbers point. send_agrees numbers id link point
+agrees (steps.Confirm id link number) =
+    λ site numbers point. confirm_agrees numbers id link number point
+agrees (steps.Lost id link) = λ site numbers point. lose_agrees numbers id link point

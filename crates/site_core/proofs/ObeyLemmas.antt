@@ -1,6 +1,6 @@
--- That an obeying point stays in step: a call acts on the lasting rows alone, and again it changes nothing.
-use Rattle.std.proofs.Common.{◌≡◌, ℕ, ◌+◌, zero, suc, Bool, true, false, not, ◌||◌, ◌&&◌, ◌==◌, ◌⊎◌, inl, inr, refl, sym, ◌∙◌, ap, subst, List, [], ◌∷◌, ◌++◌, filter, map, Option, None, Some, slice_get, append-nil, arith}
-use Rattle.std.specs.List.{filter_map}
+-- That an obeying point stays in step: a call acts on the lasting rows alone, and again it deeds nothing.
+use Rattle.std.proofs.Common.{◌≡◌, ℕ, ◌+◌, zero, suc, Bool, true, false, not, ◌||◌, ◌&&◌, ◌==◌, ◌⊎◌, inl, inr, refl, sym, ◌∙◌, ap, subst, List, [], ◌∷◌, ◌++◌, filter, map, Option, None, Some, is_some, slice_get, cond, append-nil, arith}
+use Rattle.std.specs.List.{filter_map, cons_option}
 use Rattle.std.specs.Ordering.{int_eq}
 use Rattle.std.proofs.lemmas.Bool.Decides.{Decides-int_eq}
 use Rattle.std.proofs.lemmas.List.Elements.{filter-append}
@@ -13,7 +13,8 @@ use Rattle.messages.specs.declared.call.CallBody.{CallBody}
 use Rattle.messages.specs.declared.call.CallBody.TheVariants.{Clear, Set}
 use Rattle.site_core.specs.Outbox.{every_profile}
 use Rattle.site_core.specs.OutboxOrder.{GoesOn}
-use Rattle.site_core.specs.Obey.{Change, Installs, Clears, Ends, Obeying, at_moment, call_of, calls_of, lasting, last_number, numbers_of, obeyed, obeyed_call, rows_after_call, StaysInStep}
+use Rattle.site_core.specs.ChargePoint.{Deed, Installs, Clears, Starts, Stops, Attaches, Loses, Sends, Confirms, rows_after, call_of}
+use Rattle.site_core.specs.Obey.{Obeying, at_moment, calls_of, lasting, last_number, numbers_of, obeyed, obeyed_call, rows_after_call, StaysInStep}
 
 -- ---- filters
 
@@ -157,7 +158,8 @@ on_lasting (Some (Set connector profile)) rows =
 on_lasting (Some (Clear criteria)) rows = filter (fails_some criteria) rows
 
 lasting_installed : (rows : List Row) (row : Row)
-    → lasting (installed rows row) ≡ on_lasting (call_of (Installs row)) (lasting rows)
+    → lasting (installed rows row)
+    ≡ on_lasting (Some (Set row.connector row.profile)) (lasting rows)
 lasting_installed rows row =
     lasting_append (rows_beside rows row) (row ∷ [])
     ∙ ap (λ (rs : List Row). rs ++ lasting (row ∷ [])) (lasting_filter (stays_beside row)
@@ -194,7 +196,7 @@ replaces_itself row = go (lasts row) refl
         ∙ filter_gone (stays_beside row) (at_moment 0 row) [] replaced
     go false is = ap (filter (stays_beside row)) (lasting_gone row [] is)
 
--- a call that comes again changes nothing
+-- a call that comes again deeds nothing
 on_lasting_again : (call : Option CallBody) (rows : List Row)
     → on_lasting call (on_lasting call rows) ≡ on_lasting call rows
 on_lasting_again None rows = refl
@@ -211,22 +213,76 @@ on_lasting_again (Some (Clear criteria)) rows = filter_again (fails_some criteri
 -- ---- the central system
 
 -- after its next call the central system has what that call makes of the lasting rows
-next_call : (changes : List Change) (before : ℕ) (rows : List Row)
-    → lasting (rows_after_call (suc before) changes rows)
-    ≡ on_lasting (slice_get (filter_map call_of changes) before) (lasting
-    (rows_after_call before changes rows))
+-- what makes no call leaves the lasting rows
+pub lasting_without_call : (deed : Deed) (rows : List Row) → is_some (call_of deed) ≡ false
+    → lasting (rows_after rows deed) ≡ lasting rows
+lasting_without_call (Installs row) rows none = absurd (cc none)
+lasting_without_call (Clears criteria) rows none = absurd (cc none)
+lasting_without_call (Starts connector begin number) rows none = lasting_end rows connector
+lasting_without_call (Stops connector) rows none = lasting_end rows connector
+lasting_without_call (Attaches link) rows none = refl
+lasting_without_call Loses rows none = refl
+lasting_without_call Sends rows none = refl
+lasting_without_call (Confirms number) rows none = refl
+
+-- what makes a call does with them as the call says
+lasting_with_call : (deed : Deed) (rows : List Row) → is_some (call_of deed) ≡ true
+    → lasting (rows_after rows deed) ≡ on_lasting (call_of deed) (lasting rows)
+lasting_with_call (Installs row) rows some = lasting_installed rows row
+lasting_with_call (Clears criteria) rows some = lasting_cleared rows criteria
+lasting_with_call (Starts connector begin number) rows some = absurd (cc some)
+lasting_with_call (Stops connector) rows some = absurd (cc some)
+lasting_with_call (Attaches link) rows some = absurd (cc some)
+lasting_with_call Loses rows some = absurd (cc some)
+lasting_with_call Sends rows some = absurd (cc some)
+lasting_with_call (Confirms number) rows some = absurd (cc some)
+
+next_call : (deeds : List Deed) (before : ℕ) (rows : List Row)
+    → lasting (rows_after_call (suc before) deeds rows)
+    ≡ on_lasting (slice_get (filter_map call_of deeds) before) (lasting
+    (rows_after_call before deeds rows))
 next_call [] zero rows = refl
 next_call [] (suc before) rows = refl
-next_call (Installs row ∷ later) zero rows = lasting_installed rows row
-next_call (Installs row ∷ later) (suc before) rows = next_call later before (installed rows row)
-next_call (Clears criteria ∷ later) zero rows = lasting_cleared rows criteria
-next_call (Clears criteria ∷ later) (suc before) rows = next_call later before
-    (cleared rows criteria)
-next_call (Ends connector ∷ later) zero rows =
-    next_call later zero (without_transaction_profiles rows connector)
-    ∙ ap (on_lasting (slice_get (filter_map call_of later) zero)) (lasting_end rows connector)
-next_call (Ends connector ∷ later) (suc before) rows = next_call later (suc before)
-    (without_transaction_profiles rows connector)
+next_call (deed ∷ later) before rows =
+    by (λ n. next_call later n (rows_after rows deed)) (call_of deed) refl before
+  where
+    next : List Row
+    next = rows_after rows deed
+
+    calls : List CallBody
+    calls = filter_map call_of later
+
+    by : ((n : ℕ) → lasting (rows_after_call (suc n) later next)
+        ≡ on_lasting (slice_get calls n) (lasting (rows_after_call n later next)))
+        → (call : Option CallBody) → call_of deed ≡ call → (count : ℕ)
+        → lasting (rows_after_call (cond (is_some (call_of deed)) count (suc count)) later next)
+        ≡ on_lasting (slice_get (cons_option (call_of deed) calls) count)
+        (lasting (rows_after_call count (deed ∷ later) rows))
+    by rest (Some body) has zero =
+        ap (λ (c : Option CallBody). lasting (rows_after_call (cond (is_some c) 0 1) later next)) has
+        ∙ lasting_with_call deed rows (ap (λ (c : Option CallBody). is_some c) has)
+        ∙ ap (λ (c : Option CallBody). on_lasting c (lasting rows)) has
+        ∙ ap (λ (c : Option CallBody). on_lasting (slice_get (cons_option c calls) 0)
+        (lasting rows)) (sym has)
+    by rest (Some body) has (suc count) =
+        ap (λ (c : Option CallBody). lasting (rows_after_call (cond (is_some c) (suc count)
+        (suc (suc count))) later next)) has
+        ∙ rest count
+        ∙ ap (λ (c : Option CallBody). on_lasting (slice_get (cons_option c calls) (suc count))
+        (lasting (rows_after_call (cond (is_some c) count (suc count)) later next))) (sym has)
+    by rest None has zero =
+        ap (λ (c : Option CallBody). lasting (rows_after_call (cond (is_some c) 0 1) later next)) has
+        ∙ rest 0
+        ∙ ap (on_lasting (slice_get calls 0))
+        (lasting_without_call deed rows (ap (λ (c : Option CallBody). is_some c) has))
+        ∙ ap (λ (c : Option CallBody). on_lasting (slice_get (cons_option c calls) 0)
+        (lasting rows)) (sym has)
+    by rest None has (suc count) =
+        ap (λ (c : Option CallBody). lasting (rows_after_call (cond (is_some c) (suc count)
+        (suc (suc count))) later next)) has
+        ∙ rest (suc count)
+        ∙ ap (λ (c : Option CallBody). on_lasting (slice_get (cons_option c calls) (suc count))
+        (lasting (rows_after_call (cond (is_some c) count (suc count)) later next))) (sym has)
 
 -- ---- the point
 
@@ -235,54 +291,54 @@ cleared_all : (rows : List Row) → lasting (cleared rows every_profile) ≡ []
 cleared_all rows = ap lasting (filter_none rows)
 
 -- the same call again
-obeyed_again : (moment number : ℕ) (changes : List Change) (rows : List Row)
-    → lasting rows ≡ lasting (rows_after_call number changes [])
-    → lasting (obeyed_call moment (slice_get (calls_of changes) number) rows) ≡ lasting
-    (rows_after_call number changes [])
-obeyed_again moment zero changes rows same = cleared_all rows
-obeyed_again moment (suc before) changes rows same =
-    let call = slice_get (filter_map call_of changes) before in
-    lasting_obeyed moment call rows ∙ ap (on_lasting call) (same ∙ next_call changes before [])
-    ∙ on_lasting_again call (lasting (rows_after_call before changes []))
-    ∙ sym (next_call changes before [])
+obeyed_again : (moment number : ℕ) (deeds : List Deed) (rows : List Row)
+    → lasting rows ≡ lasting (rows_after_call number deeds [])
+    → lasting (obeyed_call moment (slice_get (calls_of deeds) number) rows) ≡ lasting
+    (rows_after_call number deeds [])
+obeyed_again moment zero deeds rows same = cleared_all rows
+obeyed_again moment (suc before) deeds rows same =
+    let call = slice_get (filter_map call_of deeds) before in
+    lasting_obeyed moment call rows ∙ ap (on_lasting call) (same ∙ next_call deeds before [])
+    ∙ on_lasting_again call (lasting (rows_after_call before deeds []))
+    ∙ sym (next_call deeds before [])
 
 -- the next call
-obeyed_next : (moment before : ℕ) (changes : List Change) (rows : List Row)
-    → lasting rows ≡ lasting (rows_after_call before changes [])
-    → lasting (obeyed_call moment (slice_get (calls_of changes) (suc before)) rows) ≡ lasting
-    (rows_after_call (suc before) changes [])
-obeyed_next moment before changes rows same =
-    let call = slice_get (filter_map call_of changes) before in
-    lasting_obeyed moment call rows ∙ ap (on_lasting call) same ∙ sym (next_call changes before [])
+obeyed_next : (moment before : ℕ) (deeds : List Deed) (rows : List Row)
+    → lasting rows ≡ lasting (rows_after_call before deeds [])
+    → lasting (obeyed_call moment (slice_get (calls_of deeds) (suc before)) rows) ≡ lasting
+    (rows_after_call (suc before) deeds [])
+obeyed_next moment before deeds rows same =
+    let call = slice_get (filter_map call_of deeds) before in
+    lasting_obeyed moment call rows ∙ ap (on_lasting call) same ∙ sym (next_call deeds before [])
 
-obeyed_one : (moment before number : ℕ) (changes : List Change) (rows : List Row)
+obeyed_one : (moment before number : ℕ) (deeds : List Deed) (rows : List Row)
     → (number ≡ before) ⊎ (number ≡ before + 1)
-    → lasting rows ≡ lasting (rows_after_call before changes [])
-    → lasting (obeyed_call moment (slice_get (calls_of changes) number) rows) ≡ lasting
-    (rows_after_call number changes [])
-obeyed_one moment before number changes rows (inl e) same =
-    obeyed_again moment number changes rows (same
-    ∙ ap (λ (n : ℕ). lasting (rows_after_call n changes [])) (sym e))
-obeyed_one moment before number changes rows (inr e) same =
+    → lasting rows ≡ lasting (rows_after_call before deeds [])
+    → lasting (obeyed_call moment (slice_get (calls_of deeds) number) rows) ≡ lasting
+    (rows_after_call number deeds [])
+obeyed_one moment before number deeds rows (inl e) same =
+    obeyed_again moment number deeds rows (same
+    ∙ ap (λ (n : ℕ). lasting (rows_after_call n deeds [])) (sym e))
+obeyed_one moment before number deeds rows (inr e) same =
     let next : suc before ≡ number = omega arith in
     let P : ℕ → Type 0 = λ n. lasting (obeyed_call moment (slice_get
-    (calls_of changes) n) rows) ≡ lasting (rows_after_call n changes []) in
-    subst P next (obeyed_next moment before changes rows same)
+    (calls_of deeds) n) rows) ≡ lasting (rows_after_call n deeds []) in
+    subst P next (obeyed_next moment before deeds rows same)
 
-obeyed_all : (later : List Obeying) (before : ℕ) (changes : List Change) (rows : List Row)
-    → GoesOn before (numbers_of later) → lasting rows ≡ lasting (rows_after_call before changes [])
-    → lasting (obeyed (calls_of changes) later rows) ≡ lasting (rows_after_call
-    (last_number before later) changes [])
-obeyed_all [] before changes rows goes same = same
-obeyed_all (obeying ∷ later) before changes rows goes same =
-    obeyed_all later obeying.number changes (obeyed_call obeying.moment (slice_get
-    (calls_of changes) obeying.number) rows) goes.1
-    (obeyed_one obeying.moment before obeying.number changes rows goes.0 same)
+obeyed_all : (later : List Obeying) (before : ℕ) (deeds : List Deed) (rows : List Row)
+    → GoesOn before (numbers_of later) → lasting rows ≡ lasting (rows_after_call before deeds [])
+    → lasting (obeyed (calls_of deeds) later rows) ≡ lasting (rows_after_call
+    (last_number before later) deeds [])
+obeyed_all [] before deeds rows goes same = same
+obeyed_all (obeying ∷ later) before deeds rows goes same =
+    obeyed_all later obeying.number deeds (obeyed_call obeying.moment (slice_get
+    (calls_of deeds) obeying.number) rows) goes.1
+    (obeyed_one obeying.moment before obeying.number deeds rows goes.0 same)
 
 pub stays_in_step : StaysInStep
-stays_in_step changes first later rows order =
-    obeyed_all later first.number changes (obeyed_call first.moment (slice_get
-    (calls_of changes) first.number) rows) order.1
+stays_in_step deeds first later rows order =
+    obeyed_all later first.number deeds (obeyed_call first.moment (slice_get
+    (calls_of deeds) first.number) rows) order.1
     (subst (λ (n : ℕ). lasting (obeyed_call first.moment (slice_get
-    (calls_of changes) n) rows) ≡ lasting (rows_after_call n changes []))
+    (calls_of deeds) n) rows) ≡ lasting (rows_after_call n deeds []))
     (sym order.0) (cleared_all rows))

@@ -6,17 +6,16 @@ use Rattle.site_core.specs.declared.step.Step.TheVariants as steps
 use Rattle.site_core.specs.State.{MachineState, no_point}
 use Rattle.site_core.specs.Step.{Made}
 use Rattle.site_core.specs.History.{Event, Legal}
-use Rattle.site_core.specs.CallOrder.{place_named, effect_by}
+use Rattle.site_core.specs.CallOrder.{place_named}
 use Rattle.site_core.proofs.StepLemmas.{Does, does, leaves, takes_one, compiles_one, hands_one, finishes_all, points_by, keeps_site}
 
 -- an event says what it makes of the points
 points_are : (old : MachineState) (step : Step) (made : Made) → Does old step made
-    → made.after.points ≡ points_by old.points (place_named old.site step)
-    (effect_by step made.reply)
+    → made.after.points ≡ points_by old.points (place_named old.site step) step made.reply
 points_are old step made (leaves _ _ is) = is.points
 points_are old step made (takes_one take place ask point asks going) =
     sym (set-get_or old.points place no_point)
-    ∙ ap (λ found. points_by old.points found (effect_by (steps.Take take) made.reply)) (sym point)
+    ∙ ap (λ found. points_by old.points found (steps.Take take) made.reply) (sym point)
 points_are old step made (compiles_one number kept answer found unanswered right) = refl
 points_are old step made (hands_one number kept answer found has) = refl
 points_are old step made (finishes_all going) = refl
@@ -38,6 +37,6 @@ same_points old another one other (event ∷ events) site points legal also =
     ∙ sym (keeps_site another event.step made_there there)))
     (points_are old event.step made here
     ∙ ((λ i. points_by (points i) (place_named (site i) event.step)
-    (effect_by event.step event.reply))
+    event.step event.reply)
     ∙ sym (points_are another event.step made_there there)))
     legal.2 also.2

@@ -2,63 +2,70 @@
 -- requests and of their numbers.
 use Rattle.std.proofs.Common.{◌≡◌, ℕ, ◌+◌, ◌<◌, ◌==◌, Bool, true, false, not, cond, List, [], Option, Some, None, Result, Ok, Err, slice_set, slice_index_or, length, is_some, refl, sym, ap, ◌∙◌, subst, inl, inr, ◌&&◌, add-zero}
 use Rattle.std.proofs.lemmas.Bool.{eqb-true}
-use Rattle.std.proofs.lemmas.List.{length-set}
+use Rattle.std.proofs.lemmas.List.{length-set, set-get_or}
 use Rattle.std.proofs.lemmas.List.Quantifiers.{position-Some}
 use Rattle.std.specs.Prelude.{IfOk, ◌⊎◌}
 use Rattle.std.specs.Str.{bytes_eq}
-use Rattle.std.specs.List.{filter_map}
-use Rattle.point_book.specs.Book.{BookState}
+use Rattle.ocpp_scalars.specs.ResultSteps.{◌>>=◌}
 use Rattle.ocpp_scalars.specs.declared.refusal.Refusal.{Refusal}
 use Rattle.ocpp_scalars.specs.declared.refusal.Refusal.TheVariants as refusals
 use Rattle.meaning.specs.declared.ask.Ask.{Ask}
 use Rattle.site_rules.specs.Site.{SiteState, PointEntry, place_of}
+use Rattle.site_core.specs.declared.numbers.Numbers.{Numbers}
 use Rattle.site_core.specs.declared.step.Step.{Step}
 use Rattle.site_core.specs.declared.step.Step.TheVariants as steps
 use Rattle.site_core.specs.declared.step.Take.{Take}
+use Rattle.site_core.specs.declared.reply.Counted.{Counted}
 use Rattle.site_core.specs.declared.reply.Reply.{Reply}
-use Rattle.site_core.specs.declared.reply.Reply.TheVariants.{Taken, Compiled, Answered, NotYet, Finished}
-use Rattle.site_core.specs.Obey.{call_of}
-use Rattle.site_core.specs.ChargePoint.{ChargePointState, Effect, point_after}
+use Rattle.site_core.specs.declared.reply.Reply.TheVariants.{Compiled, Answered, NotYet, Finished}
+use Rattle.site_core.specs.Outbox.{Traffic}
+use Rattle.site_core.specs.ChargePoint.{ChargePointState, Deed, point_with}
 use Rattle.site_core.specs.State.{MachineState, Kept, ScheduleAnswer, no_point, point_in, point_at, book_at, outbox_at, is_this_number}
 use Rattle.site_core.specs.Requests.{request_of, answered, without, all_stopped}
 use Rattle.site_core.specs.Right.{IsCompiledFor}
 use Rattle.site_core.specs.Ask.{ask_at}
-use Rattle.site_core.specs.Step.{Told, Made, Steps, Counted, counted, is_reply_to, RepliesAreTheirSteps, done, done_at, told_at, affected, at_place, at_point, at_link, at_linked_place, takes, takes_ask, with_request, compiles_kept, answers_kept, answers_with, finishes, unchanged, stepped, no_answer, is_event, installs, clears, starts, stops, attaches, sends, confirms, loses}
-use Rattle.site_core.specs.History.{reply_takes, asks_answer_of, has_answer}
-use Rattle.site_core.specs.CallOrder.{is_at, place_named, names, effect_by, traffic_by, point_by, calls_by, confirmed_by, numbers_of_calls, change_by, changes_in}
-use Rattle.site_core.proofs.EffectLemmas.{Agrees, told_reply, told_effect, nothing_affected, done_is, draws_no_request, changed_in, sent_by_effect, confirmed_by_effect, bodies_in, unless_holds, either_holds}
-use Rattle.site_core.proofs.EffectLemmas.{draws_versions, only_changes_counted}
-use Rattle.site_core.proofs.EffectLemmas.{install_agrees, clear_agrees, start_agrees, stop_agrees, attach_agrees, send_agrees, confirm_agrees, lose_agrees}
+use Rattle.site_core.specs.Step.{Made, Steps, Works, no_count, PointStep, Work, AtPoint, work, counted, is_reply_to, RepliesAreTheirSteps, deed, drawn, done_at, made_at, made_there, found_place, place_for, taking, refusal_to_take, compiles_kept, answers_kept, answers_with, finishes, unchanged, stepped, no_answer, is_event}
+use Rattle.site_core.specs.History.{Event, reply_takes, asks_answer_of, has_answer}
+use Rattle.site_core.specs.CallOrder.{is_at, place_of_work, place_named, names, point_by, calls_by, confirmed_by, numbers_of_calls}
+use Rattle.site_core.specs.Theory.Steps.{StepKind, names_point, kind_of}
+use Rattle.site_core.specs.Theory.Steps as kinds
+use Rattle.site_core.proofs.EffectLemmas.{Agrees, WorkAgrees, agrees, changed_in, sent_by_traffic, confirmed_by_traffic, traffic_with, unless_holds, either_holds}
 
 -- ---- what holds of whatever is made
 
-pub at_point_made : (P : Made → Type 0) (old : MachineState) (point : List ℕ)
-    (made_at : ℕ → Result Made Refusal)
-    → ((place : ℕ) → old.is_stopped ≡ false → place_of old.site point ≡ Some place
-    → IfOk (made_at place) P) → IfOk (at_point old point made_at) P
-at_point_made P old point made_at each = go old.is_stopped refl (place_of old.site point) refl
-  where
-    go : (stopped : Bool) → old.is_stopped ≡ stopped → (found : Option ℕ)
-        → place_of old.site point ≡ found → IfOk (cond stopped (Err refusals.Stopped)
-        (at_place found made_at)) P
-    go true is found here = tt
-    go false is None here = tt
-    go false is (Some place) here = each place is here
+-- what holds of each step after another, up to the first fault
+then_holds : {X Y : Type 0} (P : Y → Type 0) (one : Result X Refusal) (next : X → Result Y Refusal)
+    → ((x : X) → one ≡ Ok x → IfOk (next x) P) → IfOk (one >>= next) P
+then_holds P (Ok x) next each = each x refl
+then_holds P (Err refusal) next each = tt
 
--- what is made over a link is made at the place of its point
-at_link_made : (P : Made → Type 0) (old : MachineState) (point : List ℕ) (link : ℕ)
-    (made_at : ℕ → Result Made Refusal)
-    → ((place : ℕ) → place_of old.site point ≡ Some place → IfOk (made_at place) P)
-    → IfOk (at_link old point link made_at) P
-at_link_made P old point link made_at each =
-    either_holds P old.is_stopped (Err refusals.Stopped) (at_linked_place old link
-    (place_of old.site point) made_at) tt (found (place_of old.site point) refl)
+-- what holds of whatever is made holds of what was made
+of_made : (P : Made → Type 0) (result : Result Made Refusal) (made : Made) → result ≡ Ok made
+    → IfOk result P → P made
+of_made P result made is holds = subst (λ (r : Result Made Refusal). IfOk r P) is holds
+
+-- a place that is found is that of the point, and the central system isn't stopped
+record IsFound (old : MachineState) (point : List ℕ) (place : ℕ) : Type 0 where
+  pub going : old.is_stopped ≡ false
+  pub here : place_of old.site point ≡ Some place
+
+found : (old : MachineState) (point : List ℕ) (link : Option ℕ)
+    → IfOk (place_for old point link) (IsFound old point)
+found old point link = by old.is_stopped refl (place_of old.site point) refl link
   where
-    found : (place : Option ℕ) → place_of old.site point ≡ place
-        → IfOk (at_linked_place old link place made_at) P
-    found None here = tt
-    found (Some place) here = either_holds P (is_this_number link (outbox_at old place).link)
-        (made_at place) (Err refusals.Superseded) (each place here) tt
+    P : ℕ → Type 0
+    P = IsFound old point
+
+    by : (stopped : Bool) → old.is_stopped ≡ stopped → (place : Option ℕ)
+        → place_of old.site point ≡ place → (over : Option ℕ)
+        → IfOk (cond stopped (Err refusals.Stopped) (found_place old over place)) P
+    by true is place here over = tt
+    by false is None here None = tt
+    by false is (Some place) here None = record { going = is; here = here }
+    by false is None here (Some number) = tt
+    by false is (Some place) here (Some number) =
+        either_holds P (is_this_number number (outbox_at old place).link) (Ok place)
+        (Err refusals.Superseded) (record { going = is; here = here }) tt
 
 -- ---- steps at a point
 
@@ -66,44 +73,35 @@ at_link_made P old point link made_at each =
 record IsAtPoint (old : MachineState) (point : List ℕ) (step : Step) (made : Made) : Type 0 where
   place : ℕ
   here : place_of old.site point ≡ Some place
-  told : Told
-  is : done old place told ≡ made
-  agrees : Agrees (point_at old place) step told
+  reply : Reply
+  is : made_at old step place reply ≡ made
+  agrees : Agrees old.numbers (point_at old place) step reply
 
-by_told : (old : MachineState) (point : List ℕ) (step : Step) (place : ℕ)
-    → place_of old.site point ≡ Some place
-    → (result : Result Told Refusal) → IfOk result (Agrees (point_at old place) step)
-    → IfOk (done_at old place result) (IsAtPoint old point step)
-by_told old point step place here (Ok told) agrees = record {
-  place = place;
-  here = here;
-  told = told;
-  is = refl;
-  agrees = agrees;
-}
-by_told old point step place here (Err refusal) agrees = tt
-
-at_its_point : (old : MachineState) (point : List ℕ) (step : Step)
-    (told : ChargePointState → Result Told Refusal)
-    → ((kept : ChargePointState) → IfOk (told kept) (Agrees kept step))
-    → IfOk (at_point old point (told_at old told)) (IsAtPoint old point step)
-at_its_point old point step told agrees =
-    at_point_made (IsAtPoint old point step) old point (told_at old told) (λ place going here.
-    by_told old point step place here (told (point_at old place)) (agrees (point_at old place)))
-
-over_its_link : (old : MachineState) (point : List ℕ) (link : ℕ) (step : Step)
-    (told : ChargePointState → Result Told Refusal)
-    → ((kept : ChargePointState) → IfOk (told kept) (Agrees kept step))
-    → IfOk (at_link old point link (told_at old told)) (IsAtPoint old point step)
-over_its_link old point link step told agrees =
-    at_link_made (IsAtPoint old point step) old point link (told_at old told) (λ place here.
-    by_told old point step place here (told (point_at old place)) (agrees (point_at old place)))
+made_at_point : (old : MachineState) (step : Step) (at : PointStep) → WorkAgrees step (AtPoint at)
+    → IfOk (made_there old step at) (IsAtPoint old at.point step)
+made_at_point old step at agree =
+    then_holds (IsAtPoint old at.point step) (place_for old at.point at.link) _ (λ place there.
+    then_holds (IsAtPoint old at.point step)
+    (at.decided old.site old.numbers (point_at old place)) _ (λ reply says. record {
+      place = place;
+      here = (subst (λ (r : Result ℕ Refusal). IfOk r (IsFound old at.point)) there
+          (found old at.point at.link)).here;
+      reply = reply;
+      is = refl;
+      agrees = subst (λ (r : Result Reply Refusal). IfOk r
+          (Agrees old.numbers (point_at old place) step)) says
+          (agree old.site old.numbers (point_at old place));
+    }))
 
 -- ---- what a step leaves, and what it does to the point at a place
 
 -- as many points as in the site file
 abbrev pub HasPlaces : MachineState → Type 0
 HasPlaces state = length state.points ≡ length state.site.points
+
+-- what comes to the outbox of the point at a place by a step with its reply
+abbrev pub traffic_there : MachineState → ℕ → Step → Reply → Option Traffic
+traffic_there old place step reply = traffic_with (deed (point_at old place) step reply)
 
 -- the point at a place is what the event makes of it where that names it, and else as it was
 pub record Acts (place : ℕ) (old : MachineState) (step : Step) (made : Made) : Type 0 where
@@ -114,18 +112,17 @@ pub record Acts (place : ℕ) (old : MachineState) (step : Step) (made : Made) :
         reply = made.reply;
       })) (point_at old place)
   pub sent : names old.site place step ≡ true
-      → calls_by step made.reply ≡ sent_by_effect (outbox_at old place) (traffic_by step made.reply)
+      → calls_by step made.reply
+      ≡ sent_by_traffic (outbox_at old place) (traffic_there old place step made.reply)
   pub confirmed : names old.site place step ≡ true
-      → numbers_of_calls (confirmed_by_effect (outbox_at old place)
-      (traffic_by step made.reply)) ≡ confirmed_by step made.reply
-  pub bodies : (book : BookState) → filter_map call_of (changes_in book
-      (change_by step made.reply)) ≡ bodies_in (traffic_by step made.reply)
+      → numbers_of_calls (confirmed_by_traffic (outbox_at old place)
+      (traffic_there old place step made.reply)) ≡ confirmed_by step made.reply
 
--- the points after an effect at a place, if there is one
-abbrev pub points_by : List ChargePointState → Option ℕ → Effect → List ChargePointState
-points_by points None effect = points
-points_by points (Some place) effect = slice_set points place (point_after
-    (point_in points place) effect)
+-- the points after a step that names the one at a place, if there is one
+abbrev pub points_by : List ChargePointState → Option ℕ → Step → Reply → List ChargePointState
+points_by points None step reply = points
+points_by points (Some place) step reply = slice_set points place
+    (point_with (deed (point_in points place) step reply) (point_in points place))
 
 pub record LeavesRequests (old : MachineState) (step : Step) (made : Made) : Type 0 where
   pub site : made.after.site ≡ old.site
@@ -134,8 +131,8 @@ pub record LeavesRequests (old : MachineState) (step : Step) (made : Made) : Typ
   pub stopped : made.after.is_stopped ≡ old.is_stopped
   pub no_take : (number : ℕ) → reply_takes number made.reply ≡ false
   pub no_answer : (number : ℕ) → (asks_answer_of number step && has_answer made.reply) ≡ false
-  pub points : made.after.points ≡ points_by old.points (place_named old.site step)
-      (effect_by step made.reply)
+  pub points : made.after.points
+      ≡ points_by old.points (place_named old.site step) step made.reply
   pub acts : (place : ℕ) → HasPlaces old → Acts place old step made
   pub alone : is_event old made.reply ≡ false → made.after ≡ old
   pub versions : made.after.numbers.version
@@ -154,59 +151,95 @@ either_way : {X : Type 0} (b : Bool) (x : X) → x ≡ cond b x x
 either_way true x = refl
 either_way false x = refl
 
--- where points stay as they are, and the event has no effect
+-- where points stay as they are, and the step does nothing at a point
 pub idle : (place : ℕ) (old : MachineState) (step : Step) (made : Made)
     → made.after.points ≡ old.points
-    → point_by (point_at old place) (record {
-      step = step;
-      reply = made.reply;
-    }) ≡ point_at old place
-    → calls_by step made.reply ≡ sent_by_effect (outbox_at old place) (traffic_by step made.reply)
-    → numbers_of_calls (confirmed_by_effect (outbox_at old place)
-    (traffic_by step made.reply)) ≡ confirmed_by step made.reply
-    → ((book : BookState) → filter_map call_of (changes_in book
-    (change_by step made.reply)) ≡ bodies_in (traffic_by step made.reply))
+    → deed (point_at old place) step made.reply ≡ None
+    → calls_by step made.reply ≡ [] → confirmed_by step made.reply ≡ []
     → Acts place old step made
-idle place old step made same none sent confirmed bodies = record {
+idle place old step made same none sent confirmed = record {
   many = ap (λ (points : List ChargePointState). length points) same;
   point = ap (λ (points : List ChargePointState). slice_index_or points place no_point) same
       ∙ either_way (names old.site place step) (point_at old place)
-      ∙ ap (λ (p : ChargePointState). cond (names old.site place step) p (point_at old place))
-      (sym none);
-  sent = λ named. sent;
-  confirmed = λ named. confirmed;
-  bodies = bodies;
+      ∙ ap (λ (d : Option Deed). cond (names old.site place step)
+      (point_with d (point_at old place)) (point_at old place)) (sym none);
+  sent = λ named. sent ∙ ap (λ (d : Option Deed). sent_by_traffic (outbox_at old place)
+      (traffic_with d)) (sym none);
+  confirmed = λ named. ap (λ (d : Option Deed). numbers_of_calls (confirmed_by_traffic
+      (outbox_at old place) (traffic_with d))) none ∙ sym confirmed;
 }
 
+-- what a step does at its point, if anything, and what stays
+abbrev pub after_deed : MachineState → ℕ → Reply → Option Deed → List ChargePointState
+after_deed old place reply does = (done_at old place reply does).after.points
+
+pub points_after : (old : MachineState) (place : ℕ) (reply : Reply) (does : Option Deed)
+    → after_deed old place reply does
+    ≡ slice_set old.points place (point_with does (point_at old place))
+points_after old place reply None = sym (set-get_or old.points place _)
+points_after old place reply (Some deed) = refl
+
+site_after : (old : MachineState) (place : ℕ) (reply : Reply) (does : Option Deed)
+    → (done_at old place reply does).after.site ≡ old.site
+site_after old place reply None = refl
+site_after old place reply (Some deed) = refl
+
+requests_after : (old : MachineState) (place : ℕ) (reply : Reply) (does : Option Deed)
+    → (done_at old place reply does).after.requests ≡ old.requests
+requests_after old place reply None = refl
+requests_after old place reply (Some deed) = refl
+
+stopped_after : (old : MachineState) (place : ℕ) (reply : Reply) (does : Option Deed)
+    → (done_at old place reply does).after.is_stopped ≡ old.is_stopped
+stopped_after old place reply None = refl
+stopped_after old place reply (Some deed) = refl
+
+pub reply_after : (old : MachineState) (place : ℕ) (reply : Reply) (does : Option Deed)
+    → (done_at old place reply does).reply ≡ reply
+reply_after old place reply None = refl
+reply_after old place reply (Some deed) = refl
+
+pub numbers_after : (old : MachineState) (place : ℕ) (reply : Reply) (does : Option Deed)
+    → (does ≡ None → drawn reply old.numbers ≡ old.numbers)
+    → (done_at old place reply does).after.numbers ≡ drawn reply old.numbers
+numbers_after old place reply None still = sym (still refl)
+numbers_after old place reply (Some deed) still = refl
+
+alone_after : (old : MachineState) (place : ℕ) (reply : Reply) (does : Option Deed)
+    → is_some does ≡ false → (done_at old place reply does).after ≡ old
+alone_after old place reply None none = refl
+alone_after old place reply (Some deed) none = absurd (cc none)
+
 -- the effect of a step at its point
-acts_there : (place there : ℕ) (old : MachineState) (point : List ℕ) (step : Step) (told : Told)
+acts_there : (place there : ℕ) (old : MachineState) (point : List ℕ) (step : Step) (reply : Reply)
     → HasPlaces old → place_of old.site point ≡ Some there
-    → names old.site place step ≡ is_at old.site place point → Agrees (point_at old there) step told
+    → names old.site place step ≡ is_at old.site place point
+    → Agrees old.numbers (point_at old there) step reply
     → Acts place old step (record {
-      reply = told_reply told;
-      after = affected old there (told_effect told);
+      reply = reply;
+      after = (made_at old step there reply).after;
     })
-acts_there place there old point step told many here named agrees = record {
-  many = length-set old.points there (point_after (point_at old there) (told_effect told));
-  point = changed_in old.points there place (λ (p : ChargePointState). point_after p
-      (told_effect told)) no_point within
-      ∙ ap (λ (e : Effect). cond (there == place) (point_after (point_at old place) e)
-      (point_at old place)) (sym agrees.effect)
-      ∙ ap (λ (b : Bool). cond b (point_after (point_at old place) (effect_by step
-      (told_reply told))) (point_at old place)) (sym here_named);
-  sent = λ is. agrees.calls ∙ ap (λ (e : Effect). sent_by_effect (outbox_at old there) e.traffic)
-      (sym agrees.effect)
-      ∙ ap (λ (p : ℕ). sent_by_effect (outbox_at old p) (traffic_by step (told_reply told)))
-      (same is);
-  confirmed = λ is. ap (λ (p : ℕ). numbers_of_calls (confirmed_by_effect (outbox_at old p)
-      (traffic_by step (told_reply told)))) (sym (same is))
-      ∙ ap (λ (e : Effect). numbers_of_calls (confirmed_by_effect
-      (outbox_at old there) e.traffic)) agrees.effect ∙ agrees.confirmed;
-  bodies = λ book. ap (λ (e : Effect). filter_map call_of
-      (changes_in book e.change)) agrees.effect ∙ agrees.bodies book
-      ∙ ap (λ (e : Effect). bodies_in e.traffic) (sym agrees.effect);
+acts_there place there old point step reply many here named agree = record {
+  many = ap (λ (points : List ChargePointState). length points) all
+      ∙ length-set old.points there new;
+  point = ap (λ (points : List ChargePointState). slice_index_or points place no_point) all
+      ∙ changed_in old.points there place new no_point within
+      ∙ at_place (there == place) refl;
+  sent = λ is. agree.calls ∙ ap (λ (p : ℕ). sent_by_traffic (outbox_at old p)
+      (traffic_there old p step reply)) (same is);
+  confirmed = λ is. ap (λ (p : ℕ). numbers_of_calls (confirmed_by_traffic (outbox_at old p)
+      (traffic_there old p step reply))) (sym (same is)) ∙ agree.confirmed;
 }
   where
+    does : Option Deed
+    does = deed (point_at old there) step reply
+
+    new : ChargePointState
+    new = point_with does (point_at old there)
+
+    all : (made_at old step there reply).after.points ≡ slice_set old.points there new
+    all = points_after old there reply does
+
     within : there < length old.points
     within = subst (λ (n : ℕ). there < n) (sym many) (place_within old.site point there here)
 
@@ -216,6 +249,20 @@ acts_there place there old point step told many here named agrees = record {
     same : names old.site place step ≡ true → there ≡ place
     same is = eqb-true there place (sym here_named ∙ is)
 
+    event : Event
+    event = record { step = step; reply = reply }
+
+    at_place : (b : Bool) → (there == place) ≡ b
+        → cond b new (point_at old place)
+        ≡ cond (names old.site place step) (point_by (point_at old place) event)
+        (point_at old place)
+    at_place true is = ap (λ (p : ℕ). point_by (point_at old p) event) (eqb-true there place is)
+        ∙ ap (λ (b : Bool). cond b (point_by (point_at old place) event) (point_at old place))
+        (sym (here_named ∙ is))
+    at_place false is =
+        ap (λ (b : Bool). cond b (point_by (point_at old place) event) (point_at old place))
+        (sym (here_named ∙ is))
+
 false_and : (test other : Bool) → test ≡ false → (test && other) ≡ false
 false_and test other is = ap (λ (b : Bool). b && other) is
 
@@ -223,43 +270,43 @@ at_point_leaves : (old : MachineState) (point : List ℕ) (step : Step) (made : 
     → place_named old.site step ≡ place_of old.site point
     → IsAtPoint old point step made → LeavesRequests old step made
 at_point_leaves old point step made named is =
-    subst (LeavesRequests old step) (sym (done_is old is.place is.told) ∙ is.is) (record {
-      site = refl;
-      requests = refl;
-      drawn = draws_no_request (told_effect is.told) old.numbers;
-      stopped = refl;
+    subst (LeavesRequests old step) (same ∙ is.is) (record {
+      site = site_after old is.place is.reply does;
+      requests = requests_after old is.place is.reply does;
+      drawn = ap (λ (n : Numbers). n.request) numbers ∙ is.agrees.request;
+      stopped = stopped_after old is.place is.reply does;
       no_take = is.agrees.no_take;
       no_answer = λ number. false_and (asks_answer_of number step) (has_answer
-          (told_reply is.told)) (is.agrees.no_answer number);
-      points = ap (λ (e : Effect). slice_set old.points is.place (point_after
-          (point_at old is.place) e)) (sym is.agrees.effect)
-          ∙ ap (λ (found : Option ℕ). points_by old.points found (effect_by step
-          (told_reply is.told))) (sym (named ∙ is.here));
-      acts = λ place many. acts_there place is.place old point step is.told many is.here (ap
+          is.reply) (is.agrees.no_answer number);
+      points = points_after old is.place is.reply does
+          ∙ ap (λ (found : Option ℕ). points_by old.points found step is.reply)
+          (sym (named ∙ is.here));
+      acts = λ place many. acts_there place is.place old point step is.reply many is.here (ap
           (is_this_number place) named) is.agrees;
-      alone = λ no_event. nothing_affected old is.place is.told (sym (is.agrees.event old)
+      alone = λ no_event. alone_after old is.place is.reply does (sym (is.agrees.event old)
           ∙ no_event);
-      versions = draws_versions is.told old.numbers
-          ∙ ap (λ (n : Counted). old.numbers.version + n.changes) (sym is.agrees.counts);
-      takes = ap (λ (n : Counted). n.takes) is.agrees.counts
-          ∙ (only_changes_counted is.told).0;
-      answers = ap (λ (n : Counted). n.answers) is.agrees.counts
-          ∙ (only_changes_counted is.told).1;
+      versions = ap (λ (n : Numbers). n.version) numbers ∙ is.agrees.version;
+      takes = is.agrees.takes;
+      answers = is.agrees.answers;
       its_own = is.agrees.its_own;
     })
+  where
+    does : Option Deed
+    does = deed (point_at old is.place) step is.reply
 
--- what holds of whatever is made holds of what was made
-of_made : (P : Made → Type 0) (result : Result Made Refusal) (made : Made) → result ≡ Ok made
-    → IfOk result P → P made
-of_made P result made is holds = subst (λ (r : Result Made Refusal). IfOk r P) is holds
+    numbers : (made_at old step is.place is.reply).after.numbers ≡ drawn is.reply old.numbers
+    numbers = numbers_after old is.place is.reply does is.agrees.still
+
+    same : record {
+      reply = is.reply;
+      after = (made_at old step is.place is.reply).after;
+    } ≡ made_at old step is.place is.reply
+    same = ap (λ (r : Reply). record {
+      reply = r;
+      after = (made_at old step is.place is.reply).after;
+    }) (sym (reply_after old is.place is.reply does))
 
 -- ---- Take
-
-abbrev pub taking : MachineState → ℕ → Ask → Made
-taking old place ask = record {
-  reply = Taken (old.numbers.request + 1) (book_at old place) ask;
-  after = with_request old (book_at old place) ask place;
-}
 
 record IsTaking (old : MachineState) (take : Take) (made : Made) : Type 0 where
   pub place : ℕ
@@ -272,22 +319,18 @@ record IsTaking (old : MachineState) (take : Take) (made : Made) : Type 0 where
 takes_is : (old : MachineState) (take : Take)
     → IfOk (stepped no_answer old (steps.Take take)) (IsTaking old take)
 takes_is old take =
-    at_point_made (IsTaking old take) old take.point (takes old take) (λ place going here.
-    asked place going here (ask_at old.site.unit (book_at old place) take) refl)
-  where
-    asked : (place : ℕ) → old.is_stopped ≡ false → place_of old.site take.point ≡ Some place
-        → (asking : Result Ask Refusal) → ask_at old.site.unit (book_at old place) take ≡ asking
-        → IfOk (takes_ask old take place asking) (IsTaking old take)
-    asked place going here (Err refusal) asks = tt
-    asked place going here (Ok ask) asks =
-        unless_holds (IsTaking old take) _ _ (record {
-          place = place;
-          point = here;
-          ask = ask;
-          asks = asks;
-          going = going;
-          is = refl;
-        })
+    then_holds (IsTaking old take) (place_for old take.point None) _ (λ place there.
+    then_holds (IsTaking old take) (ask_at old.site.unit (book_at old place) take) _ (λ ask asks.
+    let at = subst (λ (r : Result ℕ Refusal). IfOk r (IsFound old take.point)) there
+    (found old take.point None) in
+    unless_holds (IsTaking old take) (refusal_to_take old take) (taking old place ask) (record {
+      place = place;
+      ask = ask;
+      point = at.here;
+      asks = asks;
+      going = at.going;
+      is = refl;
+    })))
 
 -- ---- Compile
 
@@ -403,116 +446,100 @@ and_false true = refl
 and_false false = refl
 
 -- a step at a point leaves the requests
-done_leaves : (old : MachineState) (point : List ℕ) (step : Step) (result : Result Made Refusal)
-    (made : Made)
-    → place_named old.site step ≡ place_of old.site point → result ≡ Ok made
-    → IfOk result (IsAtPoint old point step) → Does old step made
-done_leaves old point step result made named is at =
-    leaves step made (at_point_leaves old point step made named (of_made
-    (IsAtPoint old point step) result made is at))
+done_leaves : (old : MachineState) (step : Step) (at : PointStep) (reply : Reply)
+    (new : MachineState) → work step ≡ AtPoint at → WorkAgrees step (AtPoint at)
+    → made_there old step at ≡ Ok (record { reply = reply; after = new })
+    → Does old step (record { reply = reply; after = new })
+done_leaves old step at reply new is agree made =
+    let made_so : Made = record { reply = reply; after = new } in
+    leaves step made_so (at_point_leaves old at.point step made_so
+    (ap (place_of_work old.site) is)
+    (of_made (IsAtPoint old at.point step) (made_there old step at) made_so made
+    (made_at_point old step at agree)))
+
+-- an answer that isn't there yet changes nothing
+idle_leaves : (old : MachineState) (step : Step) (reply : Reply)
+    → ((number : ℕ) → reply_takes number reply ≡ false)
+    → ((number : ℕ) → (asks_answer_of number step && has_answer reply) ≡ false)
+    → place_named old.site step ≡ None
+    → ((place : ℕ) → Acts place old step (unchanged old reply))
+    → (counted reply ≡ no_count) → is_reply_to step reply ≡ true
+    → LeavesRequests old step (unchanged old reply)
+idle_leaves old step reply no_take no_answer nowhere acts counts its_own = record {
+  site = refl;
+  requests = refl;
+  drawn = refl;
+  stopped = refl;
+  no_take = no_take;
+  no_answer = no_answer;
+  points = ap (λ (found : Option ℕ). points_by old.points found step reply) (sym nowhere);
+  acts = λ place many. acts place;
+  alone = λ no_event. refl;
+  versions = sym (add-zero _) ∙ ap (λ (n : Counted). old.numbers.version + n.changes) (sym counts);
+  takes = ap (λ (n : Counted). n.takes) counts;
+  answers = ap (λ (n : Counted). n.answers) counts;
+  its_own = its_own;
+}
+
+handed_is : (old : MachineState) (number : ℕ) (reply : Reply) (new : MachineState)
+    → IsHanding old number (record { reply = reply; after = new })
+    ⊎ (unchanged old NotYet ≡ record { reply = reply; after = new })
+    → Does old (steps.Answer number) (record { reply = reply; after = new })
+handed_is old number reply new (inl is) = subst (Does old (steps.Answer number)) is.is
+    (hands_one number is.kept is.answer is.found is.has)
+handed_is old number reply new (inr same) =
+    subst (Does old (steps.Answer number)) same
+    (leaves _ _ (idle_leaves old (steps.Answer number) NotYet (λ n. refl)
+    (λ other. and_false (number == other)) refl
+    (λ place. idle place old (steps.Answer number) (unchanged old NotYet) refl refl refl refl)
+    refl refl))
+
+finished_is : (old : MachineState) (reply : Reply) (new : MachineState)
+    → finishes old ≡ record { reply = reply; after = new }
+    → (unchanged old Finished ≡ finishes old)
+    ⊎ ((old.is_stopped ≡ false) × (finishing old ≡ finishes old))
+    → Does old steps.Finish (record { reply = reply; after = new })
+finished_is old reply new is (inl same) =
+    subst (Does old steps.Finish) (same ∙ is)
+    (leaves _ _ (idle_leaves old steps.Finish Finished (λ n. refl) (λ n. refl) refl
+    (λ place. idle place old steps.Finish (unchanged old Finished) refl refl refl refl)
+    refl refl))
+finished_is old reply new is (inr same) =
+    subst (Does old steps.Finish) (same.1 ∙ is) (finishes_all same.0)
 
 pub does : (old : MachineState) (step : Step) (reply : Reply) (new : MachineState)
     → Steps old step reply new → Does old step (record { reply = reply; after = new })
-does old (steps.Install point row) reply new made =
-    done_leaves old point (steps.Install point row) _ _ refl made
-    (at_its_point old point (steps.Install point row) (installs old.site old.numbers point row)
-    (install_agrees old.site old.numbers point row))
-does old (steps.Clear point criteria) reply new made =
-    done_leaves old point (steps.Clear point criteria) _ _ refl made
-    (at_its_point old point (steps.Clear point criteria) (clears old.numbers criteria)
-    (clear_agrees old.numbers point criteria))
-does old (steps.Start point connector begin) reply new made =
-    done_leaves old point (steps.Start point connector begin) _ _ refl made
-    (at_its_point old point (steps.Start point connector begin)
-    (starts old.numbers connector begin) (start_agrees old.numbers point connector begin))
-does old (steps.Stop point number) reply new made =
-    done_leaves old point (steps.Stop point number) _ _ refl made
-    (at_its_point old point (steps.Stop point number) (stops old.numbers number)
-    (stop_agrees old.numbers point number))
-does old (steps.Take take) reply new made =
-    let taken : IsTaking old take (record { reply = reply; after = new }) =
-    subst (λ (r : Result Made Refusal). IfOk r (IsTaking old take)) made (takes_is old take) in
-    subst (Does old (steps.Take take)) taken.is
-    (takes_one take taken.place taken.ask taken.point taken.asks taken.going)
-does old (steps.Compile number) reply new made =
-    let found = request_of number old.requests in
-    let is : IsCompiling old number found made.answer (record { reply = reply; after = new }) =
-    subst (λ (r : Result Made Refusal). IfOk r
-    (IsCompiling old number found made.answer)) made.made
-    (compiles_is old number made.answer found) in
-    subst (Does old (steps.Compile number)) is.is
-    (compiles_one number made.kept made.answer made.is_kept
-    (is.unanswered made.kept made.is_kept) made.right)
-does old (steps.Answer number) reply new made =
-    handed (subst (λ (r : Result Made Refusal). IfOk r (λ m. IsHanding old number m ⊎
-    (unchanged old NotYet ≡ m))) made (answers_is old number))
+does old step reply new made = by step (kind_of step) made
   where
-    handed : IsHanding old number (record {
+    by : (step : Step) → StepKind step → Steps old step reply new
+        → Does old step (record { reply = reply; after = new })
+    by step (names_point _ at is) made = done_leaves old step at reply new is
+        (subst (WorkAgrees step) is (agrees step))
+        (subst (λ (w : Work). Works old step w reply new) is made)
+    by _ (kinds.takes_one take) made =
+        let taken : IsTaking old take (record { reply = reply; after = new }) =
+        subst (λ (r : Result Made Refusal). IfOk r (IsTaking old take)) made (takes_is old take) in
+        subst (Does old (steps.Take take)) taken.is
+        (takes_one take taken.place taken.ask taken.point taken.asks taken.going)
+    by _ (kinds.compiles_one number) made =
+        let found = request_of number old.requests in
+        let is : IsCompiling old number found made.answer (record {
+          reply = reply;
+          after = new;
+        }) =
+        subst (λ (r : Result Made Refusal). IfOk r
+        (IsCompiling old number found made.answer)) made.made
+        (compiles_is old number made.answer found) in
+        subst (Does old (steps.Compile number)) is.is
+        (compiles_one number made.kept made.answer made.is_kept
+        (is.unanswered made.kept made.is_kept) made.right)
+    by _ (kinds.answers_one number) made =
+        handed_is old number reply new (subst (λ (r : Result Made Refusal). IfOk r (λ m. IsHanding old number m ⊎
+        (unchanged old NotYet ≡ m))) made (answers_is old number))
+    by _ kinds.finishes_all made = finished_is old reply new (let e : finishes old ≡ record {
       reply = reply;
       after = new;
-    }) ⊎ (unchanged old NotYet ≡ record { reply = reply; after = new })
-        → Does old (steps.Answer number) (record { reply = reply; after = new })
-    handed (inl is) = subst (Does old (steps.Answer number)) is.is
-        (hands_one number is.kept is.answer is.found is.has)
-    handed (inr same) =
-        subst (Does old (steps.Answer number)) same
-        (leaves _ _ (record {
-          site = refl;
-          requests = refl;
-          drawn = refl;
-          stopped = refl;
-          no_take = λ number. refl;
-          no_answer = λ other. and_false (number == other);
-          points = refl;
-          acts = λ place many. idle place old (steps.Answer number)
-              (unchanged old NotYet) refl refl refl refl (λ book. refl);
-          alone = λ no_event. refl;
-          versions = sym (add-zero _);
-          takes = refl;
-          answers = refl;
-          its_own = refl;
-        }))
-does old steps.Finish reply new made = finished (finishes_is old)
-  where
-    is : finishes old ≡ record { reply = reply; after = new }
-    is = cc
-
-    finished : (unchanged old Finished ≡ finishes old)
-        ⊎ ((old.is_stopped ≡ false) × (finishing old ≡ finishes old))
-        → Does old steps.Finish (record { reply = reply; after = new })
-    finished (inl same) =
-        subst (Does old steps.Finish) (same ∙ is)
-        (leaves _ _ (record {
-          site = refl;
-          requests = refl;
-          drawn = refl;
-          stopped = refl;
-          no_take = λ number. refl;
-          no_answer = λ number. refl;
-          points = refl;
-          acts = λ place many. idle place old steps.Finish
-              (unchanged old Finished) refl refl refl refl (λ book. refl);
-          alone = λ no_event. refl;
-          versions = sym (add-zero _);
-          takes = refl;
-          answers = refl;
-          its_own = refl;
-        }))
-    finished (inr same) = subst (Does old steps.Finish) (same.1 ∙ is) (finishes_all same.0)
-does old (steps.Attach point) reply new made =
-    done_leaves old point (steps.Attach point) _ _ refl made
-    (at_its_point old point (steps.Attach point) (attaches old.numbers)
-    (attach_agrees old.numbers point))
-does old (steps.Send point link) reply new made =
-    done_leaves old point (steps.Send point link) _ _ refl made
-    (over_its_link old point link (steps.Send point link) sends (send_agrees point link))
-does old (steps.Confirm point link call) reply new made =
-    done_leaves old point (steps.Confirm point link call) _ _ refl made
-    (over_its_link old point link (steps.Confirm point link call) (confirms call)
-    (confirm_agrees point link call))
-does old (steps.Lost point link) reply new made =
-    done_leaves old point (steps.Lost point link) _ _ refl made
-    (over_its_link old point link (steps.Lost point link) loses (lose_agrees point link))
+    } = cc in e) (finishes_is old)
 
 -- ---- the points
 
@@ -521,15 +548,13 @@ pub acts : (place : ℕ) (old : MachineState) (step : Step) (made : Made) → Ha
     → Does old step made → Acts place old step made
 acts place old step made many (leaves _ _ is) = is.acts place many
 acts place old step made many (takes_one take there ask point asks going) =
-    idle place old (steps.Take take) (taking old there ask) refl refl refl refl (λ book. refl)
+    idle place old (steps.Take take) (taking old there ask) refl refl refl refl
 acts place old step made many (compiles_one number kept answer found unanswered right) =
     idle place old (steps.Compile number) (compiling old number answer) refl refl refl refl
-    (λ book. refl)
 acts place old step made many (hands_one number kept answer found has) =
     idle place old (steps.Answer number) (handing old kept answer) refl refl refl refl
-    (λ book. refl)
 acts place old step made many (finishes_all going) = idle place old steps.Finish
-    (finishing old) refl refl refl refl (λ book. refl)
+    (finishing old) refl refl refl refl
 
 pub keeps_site : (old : MachineState) (step : Step) (made : Made) → Does old step made
     → made.after.site ≡ old.site

@@ -21,13 +21,13 @@ use Rattle.site_core.specs.Theory.Requests.{found_number, found_holds}
 use Rattle.site_core.specs.Requests.{request_of, with_answer, answered, without, stopped_request, all_stopped}
 use Rattle.site_core.specs.Right.{IsCompiledFor, IsRight}
 use Rattle.site_core.specs.Ask.{ask_at}
-use Rattle.site_core.specs.Step.{Made, Steps, unchanged}
+use Rattle.site_core.specs.Step.{Made, Steps, taking, unchanged}
 use Rattle.site_core.specs.History.{Event, Legal, taken_event, finish_event, answered_event, reply_takes, is_take_of, takes_of, history_of}
 use Rattle.site_core.specs.Run.{Runs}
 use Rattle.site_core.specs.Headline.{IsRightAfter, AnswersAreRight, IsKeptRight, KeepsRight, IsTakenIn, IsKeptBefore, Origin, IsRightBefore}
 use Rattle.site_core.specs.Headline.{RequestsStayRight, RequestsHaveTheirBooks, AnswersGoOnRight, HasItsBook}
 use Rattle.site_core.proofs.HistoryLemmas.{legal_push, legal_split, runs_legal, run_at, takes_push, takes_once}
-use Rattle.site_core.proofs.StepLemmas.{LeavesRequests, IsHanding, taking, compiling, handing, finishing, Does, does, leaves, takes_one, compiles_one, hands_one, finishes_all, answers_is}
+use Rattle.site_core.proofs.StepLemmas.{LeavesRequests, IsHanding, compiling, handing, finishing, Does, does, leaves, takes_one, compiles_one, hands_one, finishes_all, answers_is}
 
 -- ---- the one Take of a number
 

@@ -22,7 +22,8 @@ use Rattle.site_core.specs.declared.reply.Reply.{Reply}
 use Rattle.site_core.specs.declared.reply.Reply.TheVariants.{Accepted, Answered, Compiled}
 use Rattle.site_core.specs.State.{MachineState, opening}
 use Rattle.site_core.specs.Right.{IsCompiledFor}
-use Rattle.site_core.specs.Step.{Made, Steps, affected, installing, with_request}
+use Rattle.site_core.specs.ChargePoint.{Installs}
+use Rattle.site_core.specs.Step.{Made, Steps, done_at, with_request}
 use Rattle.site_core.specs.Requests.{answered, without}
 use Rattle.site_core.specs.History.{Event, Legal, taken_event, answered_event}
 
@@ -100,7 +101,7 @@ abbrev taken : MachineState
 taken = with_request (opening site) before ask 0
 
 abbrev installed : MachineState
-installed = affected taken 0 (installing row)
+installed = (done_at taken 0 Accepted (Some (Installs row))).after
 
 abbrev taken_again : MachineState
 taken_again = with_request installed after ask 0

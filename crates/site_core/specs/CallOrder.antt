@@ -1,23 +1,21 @@
 -- What the laws of outboxes and of points that obey say of the machine: the calls and the profiles
 -- of a point along a history.
 use Rattle.std.specs.Prelude.{ℕ, ◌≤◌, ◌+◌, ◌≡◌, Bool, List, [], ◌∷◌, ◌++◌, length, map, filter, slice_get, Option, None, Some}
-use Rattle.std.specs.List.{flat_map, filter_map, AllByRecursion, Contains}
+use Rattle.std.specs.List.{flat_map, filter_map, cons_option, AllByRecursion, Contains}
 use Rattle.profile.specs.declared.row.Row.{Row}
-use Rattle.transactions.specs.ActiveTable.{connector_of}
 use Rattle.site_rules.specs.Site.{SiteState, place_of}
 use Rattle.messages.specs.declared.call.Call.{Call}
 use Rattle.messages.specs.declared.call.CallBody.{CallBody}
-use Rattle.messages.specs.declared.call.CallBody.TheVariants as bodies
 use Rattle.site_core.specs.declared.numbers.Numbers.{Numbers}
 use Rattle.site_core.specs.declared.step.Step.{Step}
 use Rattle.site_core.specs.declared.step.Step.TheVariants as steps
 use Rattle.site_core.specs.declared.reply.Reply.{Reply}
 use Rattle.site_core.specs.declared.reply.Reply.TheVariants as replies
-use Rattle.point_book.specs.Book.{BookState}
-use Rattle.site_core.specs.Outbox.{opening_outbox, all_calls, numbered, Traffic, Attach, Lose, Add, Send, Confirm, after_all}
-use Rattle.site_core.specs.ChargePoint.{ChargePointState, BookChange, Install, Clear, Start, Stop, Effect, point_after}
+use Rattle.site_core.specs.Outbox.{opening_outbox, all_calls, numbered, Traffic, after_all}
+use Rattle.site_core.specs.ChargePoint.{ChargePointState, Deed, rows_after, traffic_of, point_with}
+use Rattle.site_core.specs.Step.{Work, AtPoint, Takes, Compiling, Answering, Finishing, work, deed}
 use Rattle.site_core.specs.OutboxOrder.{calls_confirmed, calls_so_far, bodies_added, AreFrom, GoesOn, AreInSendingOrder}
-use Rattle.site_core.specs.Obey.{Change, Installs, Clears, Ends, rows_after, Obeying, numbers_of, last_number, obeyed, lasting}
+use Rattle.site_core.specs.Obey.{Obeying, numbers_of, last_number, obeyed, lasting}
 use Rattle.site_core.specs.ObeyOrder.{obeyed_numbers, IsObeyed}
 use Rattle.site_core.specs.State.{MachineState, IsMachine, opening, opening_at, point_at, book_at, outbox_at, is_this_number}
 use Rattle.site_core.specs.History.{Event, Legal}
@@ -29,19 +27,15 @@ abbrev pub is_at : SiteState → ℕ → List ℕ → Bool
 is_at site place point = is_this_number place (place_of site point)
 
 -- the place of the point that a step names, if it names one of the site
+abbrev pub place_of_work : SiteState → Work → Option ℕ
+place_of_work site (AtPoint at) = place_of site at.point
+place_of_work site (Takes take) = place_of site take.point
+place_of_work site (Compiling number) = None
+place_of_work site (Answering number) = None
+place_of_work site Finishing = None
+
 abbrev pub place_named : SiteState → Step → Option ℕ
-place_named site (steps.Install point row) = place_of site point
-place_named site (steps.Clear point criteria) = place_of site point
-place_named site (steps.Start point connector begin) = place_of site point
-place_named site (steps.Stop point number) = place_of site point
-place_named site (steps.Take take) = place_of site take.point
-place_named site (steps.Compile number) = None
-place_named site (steps.Answer number) = None
-place_named site steps.Finish = None
-place_named site (steps.Attach point) = place_of site point
-place_named site (steps.Send point link) = place_of site point
-place_named site (steps.Confirm point link number) = place_of site point
-place_named site (steps.Lost point link) = place_of site point
+place_named site step = place_of_work site (work step)
 
 -- whether a step names the point at a place
 abbrev pub names : SiteState → ℕ → Step → Bool
@@ -51,40 +45,36 @@ names site place step = is_this_number place (place_named site step)
 abbrev pub events_at : SiteState → ℕ → List Event → List Event
 events_at site place history = filter (λ (event : Event). names site place event.step) history
 
--- ---- what the events do at a point, said of the events themselves
+-- ---- what the events do at a point, from what was kept of it before each
 
--- An install and a clear that are accepted, a start that begins a transaction and the stop of one
--- that is active change what the point has.
-abbrev pub change_by : Step → Reply → Option BookChange
-change_by (steps.Install point row) replies.Accepted = Some (Install row)
-change_by (steps.Clear point criteria) replies.Accepted = Some (Clear criteria)
-change_by (steps.Start point connector begin) (replies.Started number) =
-    Some (Start connector begin number)
-change_by (steps.Stop point number) replies.Ended = Some (Stop number)
-change_by step reply = None
-
--- what a step with its reply brings to the outbox of the point that it names: the calls are its
--- installs and clears that are accepted
-abbrev pub traffic_by : Step → Reply → Option Traffic
-traffic_by (steps.Install point row) replies.Accepted =
-    Some (Add (bodies.Set row.connector row.profile))
-traffic_by (steps.Clear point criteria) replies.Accepted = Some (Add (bodies.Clear criteria))
-traffic_by (steps.Attach point) (replies.Attached link) = Some (Attach link)
-traffic_by (steps.Send point link) (replies.Sent call) = Some Send
-traffic_by (steps.Confirm point link number) replies.Confirmed = Some (Confirm number)
-traffic_by (steps.Lost point link) replies.LinkLost = Some Lose
-traffic_by step reply = None
-
-abbrev pub effect_by : Step → Reply → Effect
-effect_by step reply = record { change = change_by step reply; traffic = traffic_by step reply }
+abbrev pub deed_by : ChargePointState → Event → Option Deed
+deed_by point event = deed point event.step event.reply
 
 -- the point after an event of its own
 abbrev pub point_by : ChargePointState → Event → ChargePointState
-point_by point event = point_after point (effect_by event.step event.reply)
+point_by point event = point_with (deed_by point event) point
 
 abbrev pub point_by_all : ChargePointState → List Event → ChargePointState
 point_by_all point [] = point
 point_by_all point (event ∷ later) = point_by_all (point_by point event) later
+
+-- all that is done at a point by events of its own, one after another
+abbrev pub deeds_from : ChargePointState → List Event → List Deed
+deeds_from point [] = []
+deeds_from point (event ∷ later) =
+    cons_option (deed_by point event) (deeds_from (point_by point event) later)
+
+-- at the point at a place from a state on
+abbrev pub deeds_since : MachineState → ℕ → List Event → List Deed
+deeds_since old place history = deeds_from (point_at old place) (events_at old.site place history)
+
+-- and from the opening on, when nothing is installed and no transaction is active
+abbrev pub opening_at_place : SiteState → ℕ → ChargePointState
+opening_at_place site place = point_at (opening site) place
+
+abbrev pub deeds_of : SiteState → ℕ → List Event → List Deed
+deeds_of site place history =
+    deeds_from (opening_at_place site place) (events_at site place history)
 
 -- what holds of each place along every legal history, from any state that a central system may be in
 abbrev pub FromAnyState : (MachineState → ℕ → List Event → MachineState → Type 0) → Type 0
@@ -100,12 +90,12 @@ PointsFollowHistories = FromAnyState (λ old place history new.
 
 -- ---- its calls
 
-abbrev pub traffic_by_event : Event → Option Traffic
-traffic_by_event event = traffic_by event.step event.reply
-
 -- all that comes to the outbox of the point at a place
-abbrev pub traffic_of : SiteState → ℕ → List Event → List Traffic
-traffic_of site place history = filter_map traffic_by_event (events_at site place history)
+abbrev pub traffic_since : MachineState → ℕ → List Event → List Traffic
+traffic_since old place history = filter_map traffic_of (deeds_since old place history)
+
+abbrev pub traffic_at : SiteState → ℕ → List Event → List Traffic
+traffic_at site place history = filter_map traffic_of (deeds_of site place history)
 
 abbrev pub calls_by : Step → Reply → List Call
 calls_by (steps.Send point link) (replies.Sent call) = call ∷ []
@@ -123,12 +113,12 @@ numbers_of_calls calls = map (λ (call : Call). call.number) calls
 
 -- every call of the point at a place so far
 abbrev pub calls_made : SiteState → ℕ → List Event → List Call
-calls_made site place history = calls_so_far (traffic_of site place history)
+calls_made site place history = calls_so_far (traffic_at site place history)
 
 -- the calls to the point at a place that are confirmed, in the order of their confirmations
 abbrev pub calls_confirmed_at : SiteState → ℕ → List Event → List Call
 calls_confirmed_at site place history =
-    calls_confirmed opening_outbox (traffic_of site place history)
+    calls_confirmed opening_outbox (traffic_at site place history)
 
 -- the numbers of the calls that Confirm takes note of
 abbrev pub confirmed_by : Step → Reply → List ℕ
@@ -155,7 +145,7 @@ OfEachPoint holds =
 -- the outbox of a point is what all that came to it makes of the opening one
 abbrev pub OutboxesFollowHistories : Type 0
 OutboxesFollowHistories = OfEachPoint (λ site place history state.
-    outbox_at state place ≡ after_all opening_outbox (traffic_of site place history))
+    outbox_at state place ≡ after_all opening_outbox (traffic_at site place history))
 
 -- the calls that Send replies are in sending order
 abbrev pub CallsAreSentInOrder : Type 0
@@ -201,13 +191,13 @@ abbrev pub CallsStayConsecutive : Type 0
 CallsStayConsecutive = FromAnyState (λ old place history new.
     (first : ℕ) → AreKeptFrom old place first
     → AreKeptFrom new place (first + length (calls_confirmed (outbox_at old place)
-    (traffic_of old.site place history))))
+    (traffic_since old place history))))
 
 -- the calls that aren't confirmed in a state, and those since
 abbrev pub calls_since : MachineState → ℕ → List Event → List Call
 calls_since old place history =
     (outbox_at old place).calls
-    ++ numbered (outbox_at old place).next (bodies_added (traffic_of old.site place history))
+    ++ numbered (outbox_at old place).next (bodies_added (traffic_since old place history))
 
 -- the numbers that Send replies begin with that of the first call that isn't confirmed, or the next
 -- one, and each later one equals the one before it or is one more
@@ -224,54 +214,23 @@ CallsAreSentAsKept = FromAnyState (λ old place history new.
 -- the calls of an outbox are those without the ones that were confirmed since, in order
 abbrev pub CallsStayUnlessConfirmed : Type 0
 CallsStayUnlessConfirmed = FromAnyState (λ old place history new.
-    calls_confirmed (outbox_at old place) (traffic_of old.site place history)
+    calls_confirmed (outbox_at old place) (traffic_since old place history)
     ++ (outbox_at new place).calls
     ≡ calls_since old place history)
 
 -- ---- its profiles
 
-abbrev pub end_at : Option ℕ → List Change
-end_at None = []
-end_at (Some connector) = Ends connector ∷ []
-
--- what a change of a point's book changes of its profiles. A new transaction ends the one before it
--- at its connector (OCPP 1.6, 3.13).
-abbrev pub row_changes : BookState → BookChange → List Change
-row_changes book (Install row) = Installs row ∷ []
-row_changes book (Clear criteria) = Clears criteria ∷ []
-row_changes book (Start connector begin number) = Ends connector ∷ []
-row_changes book (Stop number) = end_at (connector_of book.transactions number)
-
-abbrev pub changes_in : BookState → Option BookChange → List Change
-changes_in book None = []
-changes_in book (Some change) = row_changes book change
-
--- what an event changes of the profiles of the point that it names, which was this before
-abbrev pub changes_by : ChargePointState → Event → List Change
-changes_by point event = changes_in point.book (change_by event.step event.reply)
-
-abbrev pub changes_from : ChargePointState → List Event → List Change
-changes_from point [] = []
-changes_from point (event ∷ later) =
-    changes_by point event ++ changes_from (point_by point event) later
-
--- nothing is installed at the opening, and no transaction is active
-abbrev pub opening_at_place : SiteState → ℕ → ChargePointState
-opening_at_place site place = point_at (opening site) place
-
--- all that changes the profiles of the point at a place
-abbrev pub changes_of : SiteState → ℕ → List Event → List Change
-changes_of site place history =
-    changes_from (opening_at_place site place) (events_at site place history)
-
--- the rows after all these changes
-abbrev pub rows_after_all : List Change → List Row → List Row
+-- the rows after all that is done
+abbrev pub rows_after_all : List Deed → List Row → List Row
 rows_after_all [] rows = rows
-rows_after_all (change ∷ later) rows = rows_after_all later (rows_after rows change)
+rows_after_all (deed ∷ later) rows = rows_after_all later (rows_after rows deed)
 
--- the installs and clears of the point at a place that were accepted, as calls
+-- the calls to the point at a place that were added: its installs and clears that were accepted
+abbrev pub accepted_since : MachineState → ℕ → List Event → List CallBody
+accepted_since old place history = bodies_added (traffic_since old place history)
+
 abbrev pub accepted : SiteState → ℕ → List Event → List CallBody
-accepted site place history = bodies_added (traffic_of site place history)
+accepted site place history = bodies_added (traffic_at site place history)
 
 -- what calls 0, 1, .. of the point at a place tell it
 abbrev pub bodies_of : SiteState → ℕ → List Event → List CallBody
@@ -279,17 +238,16 @@ bodies_of site place history = all_calls (accepted site place history)
 
 -- ---- the laws of its profiles
 
--- the rows that the machine has for a point are what the changes by its events make of none
+-- the rows that the machine has for a point are what its events make of none
 abbrev pub RowsFollowHistories : Type 0
 RowsFollowHistories = OfEachPoint (λ site place history state.
-    (book_at state place).rows ≡ rows_after_all (changes_of site place history) [])
+    (book_at state place).rows ≡ rows_after_all (deeds_of site place history) [])
 
 -- from any state, what they make of those of that state
 abbrev pub RowsGoOn : Type 0
 RowsGoOn = FromAnyState (λ old place history new.
     (book_at new place).rows
-    ≡ rows_after_all (changes_from (point_at old place) (events_at old.site place history))
-    (book_at old place).rows)
+    ≡ rows_after_all (deeds_since old place history) (book_at old place).rows)
 
 -- the part of a history up to a moment when this many installs and clears of the point at a place
 -- had been accepted, the state then, and what came later
@@ -301,7 +259,7 @@ pub record Moment (old : MachineState) (history : List Event) (new : MachineStat
   pub parts : history ≡ earlier ++ later
   pub before : Legal old earlier state
   pub since : Legal state later new
-  pub many : length (accepted old.site place earlier) ≡ number
+  pub many : length (accepted_since old place earlier) ≡ number
 
 -- each number up to that of the installs and clears of a point that were accepted has its moment
 abbrev pub EachCallHasItsMoment : Type 0

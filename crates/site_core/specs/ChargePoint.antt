@@ -1,16 +1,16 @@
 -- What the central system keeps of a charge point, and what a step does there. A step of a point
 -- can't see other points or requests. `record old { .. }` is the point with these fields changed and
 -- all else as it was.
-use Rattle.std.specs.Prelude.{ℕ, ℤ, ◌+◌, List, [], ◌∷◌, Option, Some, None}
+use Rattle.std.specs.Prelude.{ℕ, ℤ, ◌-◌, List, Option, Some, None, slice_set}
 use Rattle.profile.specs.declared.row.Row.{Row}
 use Rattle.profile.specs.declared.criteria.Criteria.{Criteria}
+use Rattle.profile.specs.Changes.{installed, cleared, without_transaction_profiles}
 use Rattle.transactions.specs.declared.begin.Begin.{Begin}
-use Rattle.transactions.specs.declared.active_table.Began.TheVariants.{Fresh}
-use Rattle.transactions.specs.ActiveTable.{placed}
+use Rattle.transactions.specs.declared.transaction.Transaction.{Transaction}
+use Rattle.messages.specs.declared.call.CallBody.{CallBody}
+use Rattle.messages.specs.declared.call.CallBody.TheVariants as bodies
 use Rattle.site_rules.specs.Site.{PointEntry}
 use Rattle.point_book.specs.Book.{BookState, empty_book}
-use Rattle.point_book.specs.Changes.{book_installed, book_cleared, book_stopped, rows_after_start}
-use Rattle.site_core.specs.declared.numbers.Numbers.{Numbers}
 use Rattle.site_core.specs.Outbox.{OutboxState, opening_outbox, Traffic, Attach, Lose, Add, Send, Confirm, after}
 
 pub record ChargePointState : Type 0 where
@@ -24,87 +24,91 @@ abbrev pub opening_point : PointEntry → ChargePointState
 opening_point point =
     record { book = empty_book point.ceiling point.ceilings; outbox = opening_outbox }
 
--- ---- its book
-
--- a profile is installed (OCPP 1.6, 5.16), profiles are cleared (5.5), a transaction of a number
--- begins at a connector (4.8), the transaction of a number ends (4.10)
-pub data BookChange : Type 0 where
-  Install : (row : Row) → BookChange
-  Clear : (criteria : Criteria) → BookChange
-  Start : (connector : ℕ) (begin : Begin) (number : ℤ) → BookChange
-  Stop : (number : ℤ) → BookChange
-
--- A new transaction takes the place of the one before it at its connector, which ends with its
--- TxProfiles (OCPP 1.6, 3.13).
-abbrev pub book_begun : BookState → ℕ → Begin → ℤ → BookState
-book_begun book connector begin number = record book {
-  rows = rows_after_start Fresh book.rows connector;
-  transactions = placed Fresh book.transactions connector (record { id = number; begin = begin });
-}
-
--- the book then
-abbrev pub book_after : BookState → BookChange → BookState
-book_after book (Install row) = book_installed book row
-book_after book (Clear criteria) = book_cleared book criteria
-book_after book (Start connector begin number) = book_begun book connector begin number
-book_after book (Stop number) = book_stopped book number
-
 -- ---- what a step does at a point
 
--- What it changes in the book, if it does, and what it brings to the outbox, if anything. All that
--- is said of a step's effect is read from here: the point after it, the numbers that it draws, and
--- what the laws over histories say of it.
-pub record Effect : Type 0 where
-  pub change : Option BookChange
-  pub traffic : Option Traffic
+-- All that is said of what a step does at its point is read from here: the point after it, the call
+-- to the point, and what the laws over histories say.
+pub data Deed : Type 0 where
+  -- a profile is installed, and the point is called to install it (OCPP 1.6, 5.16)
+  Installs : (row : Row) → Deed
+  -- the matching profiles are cleared, and the point is called to clear them (OCPP 1.6, 5.5)
+  Clears : (criteria : Criteria) → Deed
+  -- a transaction of a number begins at a connector (OCPP 1.6, 4.8), and takes the place of the one
+  -- before it, which ends with its TxProfiles (3.13)
+  Starts : (connector : ℕ) (begin : Begin) (number : ℤ) → Deed
+  -- the transaction at a connector ends (OCPP 1.6, 4.10) with its TxProfiles (3.13)
+  Stops : (connector : ℕ) → Deed
+  -- the point has a new link
+  Attaches : (link : ℕ) → Deed
+  -- it has none any more
+  Loses : Deed
+  -- the first call goes out
+  Sends : Deed
+  -- the point has replied to the call of a number
+  Confirms : (number : ℕ) → Deed
 
-abbrev pub book_with : Option BookChange → BookState → BookState
-book_with None book = book
-book_with (Some change) book = book_after book change
+-- its profiles then
+abbrev pub rows_after : List Row → Deed → List Row
+rows_after rows (Installs row) = installed rows row
+rows_after rows (Clears criteria) = cleared rows criteria
+rows_after rows (Starts connector begin number) = without_transaction_profiles rows connector
+rows_after rows (Stops connector) = without_transaction_profiles rows connector
+rows_after rows (Attaches link) = rows
+rows_after rows Loses = rows
+rows_after rows Sends = rows
+rows_after rows (Confirms number) = rows
+
+-- its transactions then
+abbrev pub transactions_after : List (Option Transaction) → Deed → List (Option Transaction)
+transactions_after active (Starts connector begin number) =
+    slice_set active (connector - 1) (Some (record { id = number; begin = begin }))
+transactions_after active (Stops connector) = slice_set active (connector - 1) None
+transactions_after active (Installs row) = active
+transactions_after active (Clears criteria) = active
+transactions_after active (Attaches link) = active
+transactions_after active Loses = active
+transactions_after active Sends = active
+transactions_after active (Confirms number) = active
+
+-- what comes to its outbox: a call that is added, or what becomes of its link and of the first call.
+-- That a transaction begins or ends, a point knows by itself.
+abbrev pub traffic_of : Deed → Option Traffic
+traffic_of (Installs row) = Some (Add (bodies.Set row.connector row.profile))
+traffic_of (Clears criteria) = Some (Add (bodies.Clear criteria))
+traffic_of (Starts connector begin number) = None
+traffic_of (Stops connector) = None
+traffic_of (Attaches link) = Some (Attach link)
+traffic_of Loses = Some Lose
+traffic_of Sends = Some Send
+traffic_of (Confirms number) = Some (Confirm number)
+
+-- the call that tells the point of it, if there is one
+abbrev pub call_in : Option Traffic → Option CallBody
+call_in (Some (Add body)) = Some body
+call_in other = None
+
+abbrev pub call_of : Deed → Option CallBody
+call_of deed = call_in (traffic_of deed)
+
+-- ---- the point then
+
+abbrev pub book_after : BookState → Deed → BookState
+book_after book deed = record book {
+  rows = rows_after book.rows deed;
+  transactions = transactions_after book.transactions deed;
+}
 
 abbrev pub outbox_with : Option Traffic → OutboxState → OutboxState
 outbox_with None outbox = outbox
 outbox_with (Some traffic) outbox = after outbox traffic
 
--- the point then
-abbrev pub point_after : ChargePointState → Effect → ChargePointState
-point_after old effect = record {
-  book = book_with effect.change old.book;
-  outbox = outbox_with effect.traffic old.outbox;
+abbrev pub point_after : ChargePointState → Deed → ChargePointState
+point_after old deed = record old {
+  book = book_after old.book deed;
+  outbox = outbox_with (traffic_of deed) old.outbox;
 }
 
-abbrev pub point_after_all : ChargePointState → List Effect → ChargePointState
-point_after_all old [] = old
-point_after_all old (effect ∷ later) = point_after_all (point_after old effect) later
-
--- ---- the numbers that it draws
-
-abbrev pub with_version : Numbers → Numbers
-with_version numbers = record numbers { version = numbers.version + 1 }
-
-abbrev pub with_transaction : Numbers → Numbers
-with_transaction numbers = record numbers { transaction = numbers.transaction + 1 }
-
-abbrev pub with_link : Numbers → Numbers
-with_link numbers = record numbers { link = numbers.link + 1 }
-
--- each change of a book draws a version of the store, and a start the transaction's number
-abbrev pub drawn_by_change : Option BookChange → Numbers → Numbers
-drawn_by_change None numbers = numbers
-drawn_by_change (Some (Install row)) numbers = with_version numbers
-drawn_by_change (Some (Clear criteria)) numbers = with_version numbers
-drawn_by_change (Some (Start connector begin number)) numbers =
-    with_transaction (with_version numbers)
-drawn_by_change (Some (Stop number)) numbers = with_version numbers
-
--- a new link draws its number
-abbrev pub drawn_by_traffic : Option Traffic → Numbers → Numbers
-drawn_by_traffic None numbers = numbers
-drawn_by_traffic (Some (Attach link)) numbers = with_link numbers
-drawn_by_traffic (Some Lose) numbers = numbers
-drawn_by_traffic (Some (Add body)) numbers = numbers
-drawn_by_traffic (Some Send) numbers = numbers
-drawn_by_traffic (Some (Confirm number)) numbers = numbers
-
-abbrev pub drawn_by : Effect → Numbers → Numbers
-drawn_by effect numbers = drawn_by_traffic effect.traffic (drawn_by_change effect.change numbers)
+-- after a step that does something there, or nothing
+abbrev pub point_with : Option Deed → ChargePointState → ChargePointState
+point_with None old = old
+point_with (Some deed) old = point_after old deed

@@ -3,49 +3,28 @@
 use Rattle.std.specs.Prelude.{ℕ, ◌≡◌, not, List, [], ◌∷◌, filter, map, Option, None, Some, is_some, zero, suc, slice_get, if◌then◌else◌}
 use Rattle.std.specs.List.{filter_map}
 use Rattle.profile.specs.declared.row.Row.{Row}
-use Rattle.profile.specs.declared.criteria.Criteria.{Criteria}
 use Rattle.profile.specs.Purpose.{is_tx}
-use Rattle.profile.specs.Changes.{installed, cleared, without_transaction_profiles}
+use Rattle.profile.specs.Changes.{installed, cleared}
 use Rattle.messages.specs.declared.call.CallBody.{CallBody}
 use Rattle.messages.specs.declared.call.CallBody.TheVariants.{Clear, Set}
 use Rattle.site_core.specs.Outbox.{all_calls}
+use Rattle.site_core.specs.ChargePoint.{Deed, rows_after, call_of}
 use Rattle.site_core.specs.OutboxOrder.{AreInSendingOrder}
 
 -- ---- the central system
 
--- what changes the profiles that the central system has for a point
-pub data Change : Type 0 where
-  -- a profile is installed (OCPP 1.6, 5.16)
-  Installs : (row : Row) → Change
-  -- profiles are cleared (OCPP 1.6, 5.5)
-  Clears : (criteria : Criteria) → Change
-  -- the transaction at a connector ends (OCPP 1.6, 3.13)
-  Ends : (connector : ℕ) → Change
-
--- what a change makes of the rows that the central system has for a point
-abbrev pub rows_after : List Row → Change → List Row
-rows_after rows (Installs row) = installed rows row
-rows_after rows (Clears criteria) = cleared rows criteria
-rows_after rows (Ends connector) = without_transaction_profiles rows connector
-
--- the call to the point that makes the change known: it sees by itself that a transaction ends
-abbrev pub call_of : Change → Option CallBody
-call_of (Installs row) = Some (Set row.connector row.profile)
-call_of (Clears criteria) = Some (Clear criteria)
-call_of (Ends connector) = None
-
--- what the central system has for a point once it has made as many installs and clears as this,
+-- what the central system has for a point once it has done as much there as makes so many calls,
 -- having had these rows before
-abbrev pub rows_after_call : ℕ → List Change → List Row → List Row
-rows_after_call zero changes rows = rows
+abbrev pub rows_after_call : ℕ → List Deed → List Row → List Row
+rows_after_call zero deeds rows = rows
 rows_after_call (suc before) [] rows = rows
-rows_after_call (suc before) (change ∷ later) rows =
-    rows_after_call (if is_some (call_of change) then before else suc before) later
-    (rows_after rows change)
+rows_after_call (suc before) (deed ∷ later) rows =
+    rows_after_call (if is_some (call_of deed) then before else suc before) later
+    (rows_after rows deed)
 
--- every call to the point: those of its installs and clears come after call 0
-abbrev pub calls_of : List Change → List CallBody
-calls_of changes = all_calls (filter_map call_of changes)
+-- every call to the point: those that what is done there makes come after call 0
+abbrev pub calls_of : List Deed → List CallBody
+calls_of deeds = all_calls (filter_map call_of deeds)
 
 -- ---- the point
 
@@ -92,7 +71,7 @@ lasting rows = map (at_moment 0) (filter (λ row. not (is_tx row.profile.purpose
 -- those that the central system had, which began with none, after the last of these calls.
 abbrev pub StaysInStep : Type 0
 StaysInStep =
-    (changes : List Change) (first : Obeying) (later : List Obeying) (rows : List Row)
+    (deeds : List Deed) (first : Obeying) (later : List Obeying) (rows : List Row)
     → AreInSendingOrder (numbers_of (first ∷ later))
-    → lasting (obeyed (calls_of changes) (first ∷ later) rows)
-    ≡ lasting (rows_after_call (last_number first.number later) changes [])
+    → lasting (obeyed (calls_of deeds) (first ∷ later) rows)
+    ≡ lasting (rows_after_call (last_number first.number later) deeds [])

@@ -1,7 +1,8 @@
 -- One step of the central system: what it replies and what it changes, or the first cause why it is
 -- refused. All that a step doesn't name stays as it was, and a refused step changes nothing.
-use Rattle.std.specs.Prelude.{ℕ, ℤ, pos, ◌≡◌, ◌≤◌, ◌+◌, not, nat_lt, nat_le, ◌==◌, ◌||◌, Bool, true, false, List, [], ◌∷◌, ◌++◌, length, Option, Some, None, is_some, Result, Ok, Err, IfOk, slice_set, if◌then◌else◌}
+use Rattle.std.specs.Prelude.{ℕ, ℤ, pos, ◌≡◌, ◌≤◌, ◌+◌, not, nat_lt, nat_le, ◌==◌, ◌||◌, Bool, true, false, List, [], ◌∷◌, ◌++◌, length, Option, Some, None, is_some, option_map, IfSome, Result, Ok, Err, IfOk, slice_set, if◌then◌else◌}
 use Rattle.std.specs.List.{list_any}
+use Rattle.ocpp_scalars.specs.ResultSteps.{◌>>=◌}
 use Rattle.ocpp_scalars.specs.declared.refusal.Refusal.{Refusal}
 use Rattle.ocpp_scalars.specs.declared.refusal.Refusal.TheVariants.{UnknownPoint, UnknownConnector, OutboxFull, TooManyOpen, VersionsExhausted, TransactionsExhausted, Behind, OutOfMemory, UnknownRequest, AlreadyAnswered, Superseded, NothingInFlight}
 use Rattle.ocpp_scalars.specs.declared.refusal.Refusal.TheVariants as refusals
@@ -13,81 +14,148 @@ use Rattle.transactions.specs.declared.active_table.Began.{Began}
 use Rattle.transactions.specs.declared.active_table.Began.TheVariants.{Fresh, Repeat}
 use Rattle.transactions.specs.ActiveTable.{began, connector_of}
 use Rattle.meaning.specs.declared.ask.Ask.{Ask}
+use Rattle.messages.specs.declared.call.Call.{Call}
 use Rattle.site_rules.specs.Site.{SiteState, place_of}
 use Rattle.site_rules.specs.Admission.{admission_refusal}
 use Rattle.point_book.specs.Book.{BookState}
 use Rattle.point_book.specs.Changes.{first_cause, install_refusal}
+use Rattle.site_core.specs.declared.numbers.Numbers.{Numbers}
 use Rattle.site_core.specs.declared.step.Step.{Step}
 use Rattle.site_core.specs.declared.step.Step.TheVariants as steps
 use Rattle.site_core.specs.declared.step.Take.{Take}
+use Rattle.site_core.specs.declared.reply.Counted.{Counted}
 use Rattle.site_core.specs.declared.reply.Reply.{Reply}
 use Rattle.site_core.specs.declared.reply.Reply.TheVariants.{Accepted, Unknown, Started, Repeated, Ended, NoSuch, Taken, Compiled, Answered, NotYet, Finished, Attached, Sent, Nothing, Confirmed, LinkLost}
 use Rattle.site_core.specs.declared.outcome.Refused.{Refused}
 use Rattle.site_core.specs.Limits.{max_number, max_transaction, max_requests}
-use Rattle.messages.specs.declared.call.Call.{Call}
-use Rattle.messages.specs.declared.call.CallBody.{CallBody}
-use Rattle.messages.specs.declared.call.CallBody.TheVariants as bodies
-use Rattle.site_core.specs.declared.numbers.Numbers.{Numbers}
-use Rattle.site_core.specs.Outbox.{OutboxState, is_full, is_exhausted, sendable, is_number_in_flight, Traffic, Attach, Lose, Add, Send, Confirm}
-use Rattle.site_core.specs.ChargePoint.{ChargePointState, BookChange, Install, Clear, Start, Stop, Effect, point_after, drawn_by}
+use Rattle.site_core.specs.Outbox.{OutboxState, is_full, is_exhausted, sendable, is_number_in_flight}
+use Rattle.site_core.specs.ChargePoint.{ChargePointState, Deed, Installs, Clears, Starts, Stops, Attaches, Loses, Sends, Confirms, point_after}
 use Rattle.site_core.specs.State.{MachineState, Kept, ScheduleAnswer, point_at, book_at, outbox_at, is_this_number}
 use Rattle.site_core.specs.Requests.{request_of, answered, without, all_stopped}
 use Rattle.site_core.specs.Ask.{ask_at}
 use Rattle.site_core.specs.Right.{IsCompiledFor}
 
--- what a step that is made replies, and the state after it
-pub record Made : Type 0 where
-  pub reply : Reply
-  pub after : MachineState
+-- ---- what replies tell
 
--- it replies this and changes nothing
-abbrev pub unchanged : MachineState → Reply → Made
-unchanged old reply = record { reply = reply; after = old }
+-- a reply that tells of no change, Take or answer
+abbrev pub no_count : Counted
+no_count = record { changes = 0; takes = 0; answers = 0 }
 
--- what a step at a point comes to: a reply alone, with which nothing changes, or a reply and what is
--- done at the point
-pub data Told : Type 0 where
-  Answers : (reply : Reply) → Told
-  Does : (reply : Reply) (effect : Effect) → Told
+-- what is so of a reply
+pub record Facts : Type 0 where
+  -- Whether its step is an event, where it is known if the central system was stopped before: what is
+  -- answered without a change is none.
+  pub is_event : Bool → Bool
+  -- the numbers that were drawn last, after its step
+  pub drawn : Numbers → Numbers
+  pub counts : Counted
+  -- whether its step wants memory
+  pub wants_memory : Bool
+  -- a book and what is asked of it, where it tells them
+  pub asks : Option (BookState × Ask)
 
--- it comes to this, unless there is a cause against it
+-- nothing changes
+abbrev pub answer_alone : Facts
+answer_alone = record {
+  is_event = λ was_stopped. false;
+  drawn = λ numbers. numbers;
+  counts = no_count;
+  wants_memory = false;
+  asks = None;
+}
+
+-- an event that draws no number and wants no memory
+abbrev pub quiet_event : Facts
+quiet_event = record answer_alone { is_event = λ was_stopped. true }
+
+-- each change of a point's book makes a new version of the store
+abbrev pub with_version : Numbers → Numbers
+with_version numbers = record numbers { version = numbers.version + 1 }
+
+abbrev pub change_of_book : Facts
+change_of_book = record quiet_event {
+  drawn = with_version;
+  counts = record no_count { changes = 1 };
+  wants_memory = true;
+}
+
+abbrev pub facts : Reply → Facts
+facts Accepted = change_of_book
+facts Unknown = answer_alone
+facts (Started number) = record change_of_book {
+  drawn = λ numbers. record (with_version numbers) { transaction = numbers.transaction + 1 };
+}
+facts (Repeated number) = answer_alone
+facts Ended = change_of_book
+facts NoSuch = answer_alone
+facts (Taken number book ask) = record quiet_event {
+  drawn = λ numbers. record numbers { request = numbers.request + 1 };
+  counts = record no_count { takes = 1 };
+  wants_memory = true;
+  asks = Some (book, ask);
+}
+facts Compiled = quiet_event
+facts (Answered book ask answer) = record quiet_event {
+  counts = record no_count { answers = 1 };
+  asks = Some (book, ask);
+}
+facts NotYet = answer_alone
+facts Finished = record quiet_event { is_event = λ was_stopped. not was_stopped }
+facts (Attached link) = record quiet_event {
+  drawn = λ numbers. record numbers { link = numbers.link + 1 };
+}
+facts (Sent call) = record quiet_event { wants_memory = true }
+facts Nothing = answer_alone
+facts Confirmed = quiet_event
+facts LinkLost = quiet_event
+
+-- whether a step with its reply is an event
+abbrev pub is_event : MachineState → Reply → Bool
+is_event old reply = (facts reply).is_event old.is_stopped
+
+abbrev pub counted : Reply → Counted
+counted reply = (facts reply).counts
+
+abbrev pub drawn : Reply → Numbers → Numbers
+drawn reply numbers = (facts reply).drawn numbers
+
+-- What wants memory: a profile and a clear with their calls, a transaction and its end, a request
+-- that is kept, and a call that is copied to be sent.
+abbrev pub wants_memory : Reply → Bool
+wants_memory reply = (facts reply).wants_memory
+
+-- a book that is replied with an ask has the connector that is asked
+abbrev pub HasAskedConnector : Reply → Type 0
+HasAskedConnector reply = IfSome (facts reply).asks (λ (asked : BookState × Ask).
+    asked.1.connector ≤ length asked.0.ceilings)
+
+-- whether a reply is one of a step's
+abbrev pub is_reply_to : Step → Reply → Bool
+is_reply_to (steps.Install point row) Accepted = true
+is_reply_to (steps.Clear point criteria) Accepted = true
+is_reply_to (steps.Clear point criteria) Unknown = true
+is_reply_to (steps.Start point connector begin) (Started number) = true
+is_reply_to (steps.Start point connector begin) (Repeated number) = true
+is_reply_to (steps.Stop point number) Ended = true
+is_reply_to (steps.Stop point number) NoSuch = true
+is_reply_to (steps.Take take) (Taken number book ask) = true
+is_reply_to (steps.Compile number) Compiled = true
+is_reply_to (steps.Answer number) (Answered book ask answer) = true
+is_reply_to (steps.Answer number) NotYet = true
+is_reply_to steps.Finish Finished = true
+is_reply_to (steps.Attach point) (Attached link) = true
+is_reply_to (steps.Send point link) (Sent call) = true
+is_reply_to (steps.Send point link) Nothing = true
+is_reply_to (steps.Confirm point link number) Confirmed = true
+is_reply_to (steps.Lost point link) LinkLost = true
+is_reply_to step reply = false
+
+-- ---- steps at a point are decided first, from the site, the numbers drawn last and the point
+
+-- it replies this, unless there is a cause against it
 abbrev pub unless : {X : Type 0} → Option Refusal → X → Result X Refusal
 unless (Some refusal) x = Err refusal
 unless None x = Ok x
-
--- ---- points
-
--- the state after an effect at the point at a place
-abbrev pub affected : MachineState → ℕ → Effect → MachineState
-affected old place effect = record old {
-  points = slice_set old.points place (point_after (point_at old place) effect);
-  numbers = drawn_by effect old.numbers;
-}
-
-abbrev pub done : MachineState → ℕ → Told → Made
-done old place (Answers reply) = unchanged old reply
-done old place (Does reply effect) = record { reply = reply; after = affected old place effect }
-
--- what a step at a point makes of the whole state
-abbrev pub done_at : MachineState → ℕ → Result Told Refusal → Result Made Refusal
-done_at old place (Ok told) = Ok (done old place told)
-done_at old place (Err refusal) = Err refusal
-
-abbrev pub at_place : Option ℕ → (ℕ → Result Made Refusal) → Result Made Refusal
-at_place None made_at = Err UnknownPoint
-at_place (Some place) made_at = made_at place
-
--- what is made at the place of a point of the site, while the central system isn't stopped
-abbrev pub at_point : MachineState → List ℕ → (ℕ → Result Made Refusal) → Result Made Refusal
-at_point old point made_at =
-    if old.is_stopped then Err refusals.Stopped else at_place (place_of old.site point) made_at
-
--- a step at a point, by what is kept of it
-abbrev pub told_at : MachineState → (ChargePointState → Result Told Refusal) → ℕ
-    → Result Made Refusal
-told_at old told place = done_at old place (told (point_at old place))
-
--- ---- changes of a point's book: each makes a new version of the store
 
 abbrev pub version_refusal : Numbers → Option Refusal
 version_refusal numbers = if numbers.version == max_number then Some VersionsExhausted else None
@@ -102,33 +170,23 @@ refusal_to_add outbox =
 abbrev pub refusal_to_call : Numbers → ChargePointState → Option Refusal
 refusal_to_call numbers point = first_cause (refusal_to_add point.outbox) (version_refusal numbers)
 
--- An install and a clear are calls to the point too: each joins those that wait.
-abbrev pub effect_with_call : BookChange → CallBody → Effect
-effect_with_call change body = record { change = Some change; traffic = Some (Add body) }
-
--- Install (OCPP 1.6, 5.16): by the rules of the site, and then by the point's book
+-- Install (OCPP 1.6, 5.16): by the rules of the site, and then by the point's book. It is a call to
+-- the point too, and so is a clear.
 abbrev pub refusal_to_install : SiteState → Numbers → List ℕ → Row → ChargePointState
     → Option Refusal
 refusal_to_install site numbers id row point =
     first_cause (admission_refusal site id row.connector row.profile)
     (first_cause (install_refusal point.book row) (refusal_to_call numbers point))
 
-abbrev pub installing : Row → Effect
-installing row = effect_with_call (Install row) (bodies.Set row.connector row.profile)
-
-abbrev pub installs : SiteState → Numbers → List ℕ → Row → ChargePointState → Result Told Refusal
-installs site numbers id row point =
-    unless (refusal_to_install site numbers id row point) (Does Accepted (installing row))
+abbrev pub installs : SiteState → Numbers → List ℕ → Row → ChargePointState → Result Reply Refusal
+installs site numbers id row point = unless (refusal_to_install site numbers id row point) Accepted
 
 -- Clear (OCPP 1.6, 5.5): where no profile matches, that is the answer, and nothing changes
-abbrev pub clearing : Criteria → Effect
-clearing criteria = effect_with_call (Clear criteria) (bodies.Clear criteria)
-
-abbrev pub clears : Numbers → Criteria → ChargePointState → Result Told Refusal
+abbrev pub clears : Numbers → Criteria → ChargePointState → Result Reply Refusal
 clears numbers criteria point =
     if list_any (matches criteria) point.book.rows
-    then unless (refusal_to_call numbers point) (Does Accepted (clearing criteria))
-    else Ok (Answers Unknown)
+    then unless (refusal_to_call numbers point) Accepted
+    else Ok Unknown
 
 -- Start (OCPP 1.6, 4.8): transactions are numbered over the whole site. A start that is told again
 -- changes nothing. A transaction is at a connector of the point, and connector 0 is none.
@@ -142,31 +200,106 @@ transaction_number_refusal numbers =
 abbrev pub refusal_to_start : Numbers → Option Refusal
 refusal_to_start numbers = first_cause (version_refusal numbers) (transaction_number_refusal numbers)
 
--- starts and stops send nothing
-abbrev pub effect_alone : BookChange → Effect
-effect_alone change = record { change = Some change; traffic = None }
-
-abbrev pub starts_as : Began → Numbers → ℕ → Begin → Result Told Refusal
-starts_as (Repeat number) numbers connector begin = Ok (Answers (Repeated number))
-starts_as Fresh numbers connector begin =
-    unless (refusal_to_start numbers) (Does (Started (next_transaction numbers))
-    (effect_alone (Start connector begin (next_transaction numbers))))
+abbrev pub starts_as : Began → Numbers → Result Reply Refusal
+starts_as (Repeat number) numbers = Ok (Repeated number)
+starts_as Fresh numbers = unless (refusal_to_start numbers) (Started (next_transaction numbers))
 
 abbrev pub is_at_no_connector : ChargePointState → ℕ → Bool
 is_at_no_connector point connector =
     (connector == 0) || nat_lt (length point.book.ceilings) connector
 
-abbrev pub starts : Numbers → ℕ → Begin → ChargePointState → Result Told Refusal
+abbrev pub starts : Numbers → ℕ → Begin → ChargePointState → Result Reply Refusal
 starts numbers connector begin point =
     if is_at_no_connector point connector then Err UnknownConnector
-    else starts_as (began point.book.transactions connector begin) numbers connector begin
+    else starts_as (began point.book.transactions connector begin) numbers
 
 -- Stop (OCPP 1.6, 4.10): only a transaction that is active at the point ends
-abbrev pub stops : Numbers → ℤ → ChargePointState → Result Told Refusal
+abbrev pub stops : Numbers → ℤ → ChargePointState → Result Reply Refusal
 stops numbers number point =
     if is_some (connector_of point.book.transactions number)
-    then unless (version_refusal numbers) (Does Ended (effect_alone (Stop number)))
-    else Ok (Answers NoSuch)
+    then unless (version_refusal numbers) Ended
+    else Ok NoSuch
+
+-- Attach (OCPP-J 1.6, 3): the point has a new link, and none before it any more
+abbrev pub refusal_to_attach : Numbers → Option Refusal
+refusal_to_attach numbers = if numbers.link == max_number then Some VersionsExhausted else None
+
+abbrev pub attaches : Numbers → ChargePointState → Result Reply Refusal
+attaches numbers point = unless (refusal_to_attach numbers) (Attached (numbers.link + 1))
+
+-- Send (OCPP-J 1.6, 4): the first call goes out, unless one is in flight
+abbrev pub sends_call : Option Call → Reply
+sends_call None = Nothing
+sends_call (Some call) = Sent call
+
+abbrev pub sends : ChargePointState → Result Reply Refusal
+sends point = Ok (sends_call (sendable point.outbox))
+
+-- Confirm: the call in flight has this number, and is done with
+abbrev pub confirms : ℕ → ChargePointState → Result Reply Refusal
+confirms number point =
+    if is_number_in_flight point.outbox number then Ok Confirmed else Err NothingInFlight
+
+-- Lost: the point has no link any more, and a call in flight waits again
+abbrev pub loses : ChargePointState → Result Reply Refusal
+loses point = Ok LinkLost
+
+-- ---- and then done
+
+-- what a step does at its point, which is read from the point, the step and what is replied: no other
+-- step with its reply does anything at a point
+abbrev pub deed : ChargePointState → Step → Reply → Option Deed
+deed point (steps.Install id row) Accepted = Some (Installs row)
+deed point (steps.Clear id criteria) Accepted = Some (Clears criteria)
+deed point (steps.Start id connector begin) (Started number) = Some (Starts connector begin number)
+deed point (steps.Stop id number) Ended =
+    option_map Stops (connector_of point.book.transactions number)
+deed point (steps.Attach id) (Attached link) = Some (Attaches link)
+deed point (steps.Send id link) (Sent call) = Some Sends
+deed point (steps.Confirm id link number) Confirmed = Some (Confirms number)
+deed point (steps.Lost id link) LinkLost = Some Loses
+deed point step reply = None
+
+-- ---- the whole state
+
+-- what a step that is made replies, and the state after it
+pub record Made : Type 0 where
+  pub reply : Reply
+  pub after : MachineState
+
+-- it replies this and changes nothing
+abbrev pub unchanged : MachineState → Reply → Made
+unchanged old reply = record { reply = reply; after = old }
+
+-- ---- where a step is made
+
+-- the place of a point of the site; over a link, only where that is the point's present one
+abbrev pub found_place : MachineState → Option ℕ → Option ℕ → Result ℕ Refusal
+found_place old None None = Err UnknownPoint
+found_place old None (Some place) = Ok place
+found_place old (Some link) None = Err Superseded
+found_place old (Some link) (Some place) =
+    if is_this_number link (outbox_at old place).link then Ok place else Err Superseded
+
+-- while the central system isn't stopped
+abbrev pub place_for : MachineState → List ℕ → Option ℕ → Result ℕ Refusal
+place_for old point link =
+    if old.is_stopped then Err refusals.Stopped
+    else found_place old link (place_of old.site point)
+
+-- what a step makes of the whole state that does something at the point at a place, or nothing
+abbrev pub done_at : MachineState → ℕ → Reply → Option Deed → Made
+done_at old place reply None = unchanged old reply
+done_at old place reply (Some deed) = record {
+  reply = reply;
+  after = record old {
+    points = slice_set old.points place (point_after (point_at old place) deed);
+    numbers = drawn reply old.numbers;
+  };
+}
+
+abbrev pub made_at : MachineState → Step → ℕ → Reply → Made
+made_at old step place reply = done_at old place reply (deed (point_at old place) step reply)
 
 -- ---- requests for composite schedules (OCPP 1.6, 5.7)
 
@@ -190,15 +323,17 @@ with_request old book ask place = record old {
   }) ∷ [];
 }
 
-abbrev pub takes_ask : MachineState → Take → ℕ → Result Ask Refusal → Result Made Refusal
-takes_ask old take place (Err refusal) = Err refusal
-takes_ask old take place (Ok ask) = unless (refusal_to_take old take) (record {
+abbrev pub taking : MachineState → ℕ → Ask → Made
+taking old place ask = record {
   reply = Taken (old.numbers.request + 1) (book_at old place) ask;
   after = with_request old (book_at old place) ask place;
-})
+}
 
-abbrev pub takes : MachineState → Take → ℕ → Result Made Refusal
-takes old take place = takes_ask old take place (ask_at old.site.unit (book_at old place) take)
+abbrev pub takes : MachineState → Take → Result Made Refusal
+takes old take = do
+  place ← place_for old take.point None
+  ask ← ask_at old.site.unit (book_at old place) take
+  unless (refusal_to_take old take) (taking old place ask)
 
 -- Compile: the request has this answer now, which it had not before
 abbrev pub compiles_kept : MachineState → ℕ → ScheduleAnswer → Option Kept → Result Made Refusal
@@ -238,72 +373,65 @@ finishes old =
       after = record old { requests = all_stopped old.requests; is_stopped = true };
     }
 
--- ---- links and calls (OCPP-J 1.6, 3 and 4)
-
-abbrev pub traffic_alone : Traffic → Effect
-traffic_alone traffic = record { change = None; traffic = Some traffic }
-
--- Attach: the point has a new link, and none before it any more
-abbrev pub refusal_to_attach : Numbers → Option Refusal
-refusal_to_attach numbers = if numbers.link == max_number then Some VersionsExhausted else None
-
-abbrev pub attaches : Numbers → ChargePointState → Result Told Refusal
-attaches numbers point = unless (refusal_to_attach numbers)
-    (Does (Attached (numbers.link + 1)) (traffic_alone (Attach (numbers.link + 1))))
-
-abbrev pub at_linked_place : MachineState → ℕ → Option ℕ → (ℕ → Result Made Refusal)
-    → Result Made Refusal
-at_linked_place old link None made_at = Err Superseded
-at_linked_place old link (Some place) made_at =
-    if is_this_number link (outbox_at old place).link then made_at place else Err Superseded
-
--- what is made over a link, while it is the present one of its point and the central system isn't
--- stopped
-abbrev pub at_link : MachineState → List ℕ → ℕ → (ℕ → Result Made Refusal) → Result Made Refusal
-at_link old point link made_at =
-    if old.is_stopped then Err refusals.Stopped
-    else at_linked_place old link (place_of old.site point) made_at
-
--- Send: the first call goes out, unless one is in flight
-abbrev pub sends_call : Option Call → Told
-sends_call None = Answers Nothing
-sends_call (Some call) = Does (Sent call) (traffic_alone Send)
-
-abbrev pub sends : ChargePointState → Result Told Refusal
-sends point = Ok (sends_call (sendable point.outbox))
-
--- Confirm: the call in flight has this number, and is done with
-abbrev pub confirms : ℕ → ChargePointState → Result Told Refusal
-confirms number point =
-    if is_number_in_flight point.outbox number
-    then Ok (Does Confirmed (traffic_alone (Confirm number)))
-    else Err NothingInFlight
-
--- Lost: the point has no link any more, and a call in flight waits again
-abbrev pub loses : ChargePointState → Result Told Refusal
-loses point = Ok (Does LinkLost (traffic_alone Lose))
-
 -- ---- all steps
 
+-- a step at a point: the point that it names, the link that it has to be made over, where it has to,
+-- and what it comes to there
+pub record PointStep : Type 0 where
+  pub point : List ℕ
+  pub link : Option ℕ
+  pub decided : SiteState → Numbers → ChargePointState → Result Reply Refusal
+
+abbrev pub at_point : List ℕ → (SiteState → Numbers → ChargePointState → Result Reply Refusal)
+    → PointStep
+at_point point decided = record { point = point; link = None; decided = decided }
+
+abbrev pub over_link : List ℕ → ℕ → (ChargePointState → Result Reply Refusal) → PointStep
+over_link point link decided =
+    record { point = point; link = Some link; decided = λ site numbers. decided }
+
+-- what a step is about: a point, or the requests that are kept
+pub data Work : Type 0 where
+  AtPoint : (at : PointStep) → Work
+  Takes : (take : Take) → Work
+  Compiling : (number : ℕ) → Work
+  Answering : (number : ℕ) → Work
+  Finishing : Work
+
+abbrev pub work : Step → Work
+work (steps.Install point row) =
+    AtPoint (at_point point (λ site numbers. installs site numbers point row))
+work (steps.Clear point criteria) =
+    AtPoint (at_point point (λ site numbers. clears numbers criteria))
+work (steps.Start point connector begin) =
+    AtPoint (at_point point (λ site numbers. starts numbers connector begin))
+work (steps.Stop point number) = AtPoint (at_point point (λ site numbers. stops numbers number))
+work (steps.Take take) = Takes take
+work (steps.Compile number) = Compiling number
+work (steps.Answer number) = Answering number
+work steps.Finish = Finishing
+work (steps.Attach point) = AtPoint (at_point point (λ site numbers. attaches numbers))
+work (steps.Send point link) = AtPoint (over_link point link sends)
+work (steps.Confirm point link number) = AtPoint (over_link point link (confirms number))
+work (steps.Lost point link) = AtPoint (over_link point link loses)
+
+-- a step at a point is decided, and then done
+abbrev pub made_there : MachineState → Step → PointStep → Result Made Refusal
+made_there old step at = do
+  place ← place_for old at.point at.link
+  reply ← at.decided old.site old.numbers (point_at old place)
+  Ok (made_at old step place reply)
+
 -- What a step does. The answer is the compiler's, and only a Compile looks at it.
+abbrev pub worked : ScheduleAnswer → MachineState → Step → Work → Result Made Refusal
+worked answer old step (AtPoint at) = made_there old step at
+worked answer old step (Takes take) = takes old take
+worked answer old step (Compiling number) = compiles old number answer
+worked answer old step (Answering number) = answers old number
+worked answer old step Finishing = Ok (finishes old)
+
 abbrev pub stepped : ScheduleAnswer → MachineState → Step → Result Made Refusal
-stepped answer old (steps.Install point row) =
-    at_point old point (told_at old (installs old.site old.numbers point row))
-stepped answer old (steps.Clear point criteria) =
-    at_point old point (told_at old (clears old.numbers criteria))
-stepped answer old (steps.Start point connector begin) =
-    at_point old point (told_at old (starts old.numbers connector begin))
-stepped answer old (steps.Stop point number) =
-    at_point old point (told_at old (stops old.numbers number))
-stepped answer old (steps.Take take) = at_point old take.point (takes old take)
-stepped answer old (steps.Compile number) = compiles old number answer
-stepped answer old (steps.Answer number) = answers old number
-stepped answer old steps.Finish = Ok (finishes old)
-stepped answer old (steps.Attach point) = at_point old point (told_at old (attaches old.numbers))
-stepped answer old (steps.Send point link) = at_link old point link (told_at old sends)
-stepped answer old (steps.Confirm point link number) =
-    at_link old point link (told_at old (confirms number))
-stepped answer old (steps.Lost point link) = at_link old point link (told_at old loses)
+stepped answer old step = worked answer old step (work step)
 
 -- an answer that no step but a Compile is given
 abbrev pub no_answer : ScheduleAnswer
@@ -319,107 +447,13 @@ pub record Compiles (old : MachineState) (number : ℕ) (reply : Reply) (new : M
   pub made : compiles old number answer ≡ Ok (record { reply = reply; after = new })
 
 -- from one state a step leads to another, and replies
+abbrev pub Works : MachineState → Step → Work → Reply → MachineState → Type 0
+Works old step (Compiling number) reply new = Compiles old number reply new
+Works old step other reply new =
+    worked no_answer old step other ≡ Ok (record { reply = reply; after = new })
+
 abbrev pub Steps : MachineState → Step → Reply → MachineState → Type 0
-Steps old (steps.Compile number) reply new = Compiles old number reply new
-Steps old step reply new = stepped no_answer old step ≡ Ok (record { reply = reply; after = new })
-
--- ---- what replies tell
-
--- a book that is replied with an ask has the connector that is asked
-abbrev pub HasAskedConnector : Reply → Type 0
-HasAskedConnector (Taken number book ask) = ask.connector ≤ length book.ceilings
-HasAskedConnector (Answered book ask answer) = ask.connector ≤ length book.ceilings
-HasAskedConnector Accepted = Unit {0}
-HasAskedConnector Unknown = Unit {0}
-HasAskedConnector (Started number) = Unit {0}
-HasAskedConnector (Repeated number) = Unit {0}
-HasAskedConnector Ended = Unit {0}
-HasAskedConnector NoSuch = Unit {0}
-HasAskedConnector Compiled = Unit {0}
-HasAskedConnector NotYet = Unit {0}
-HasAskedConnector Finished = Unit {0}
-HasAskedConnector (Attached link) = Unit {0}
-HasAskedConnector (Sent call) = Unit {0}
-HasAskedConnector Nothing = Unit {0}
-HasAskedConnector Confirmed = Unit {0}
-HasAskedConnector LinkLost = Unit {0}
-
--- Whether a step with its reply is an event. What is answered without a change isn't: Unknown,
--- Repeated, NoSuch, NotYet, Nothing, and a Finish once the central system is stopped.
-abbrev pub is_event : MachineState → Reply → Bool
-is_event old Accepted = true
-is_event old Unknown = false
-is_event old (Started number) = true
-is_event old (Repeated number) = false
-is_event old Ended = true
-is_event old NoSuch = false
-is_event old (Taken number book ask) = true
-is_event old Compiled = true
-is_event old (Answered book ask answer) = true
-is_event old NotYet = false
-is_event old Finished = not old.is_stopped
-is_event old (Attached link) = true
-is_event old (Sent call) = true
-is_event old Nothing = false
-is_event old Confirmed = true
-is_event old LinkLost = true
-
--- of how many changes, Takes and answers a reply tells
-pub record Counted : Type 0 where
-  pub changes : ℕ
-  pub takes : ℕ
-  pub answers : ℕ
-
-abbrev pub no_count : Counted
-no_count = record { changes = 0; takes = 0; answers = 0 }
-
-abbrev pub one_change : Counted
-one_change = record { changes = 1; takes = 0; answers = 0 }
-
-abbrev pub one_take : Counted
-one_take = record { changes = 0; takes = 1; answers = 0 }
-
-abbrev pub one_answer : Counted
-one_answer = record { changes = 0; takes = 0; answers = 1 }
-
-abbrev pub counted : Reply → Counted
-counted Accepted = one_change
-counted Unknown = no_count
-counted (Started number) = one_change
-counted (Repeated number) = no_count
-counted Ended = one_change
-counted NoSuch = no_count
-counted (Taken number book ask) = one_take
-counted Compiled = no_count
-counted (Answered book ask answer) = one_answer
-counted NotYet = no_count
-counted Finished = no_count
-counted (Attached link) = no_count
-counted (Sent call) = no_count
-counted Nothing = no_count
-counted Confirmed = no_count
-counted LinkLost = no_count
-
--- whether a reply is one of a step's
-abbrev pub is_reply_to : Step → Reply → Bool
-is_reply_to (steps.Install point row) Accepted = true
-is_reply_to (steps.Clear point criteria) Accepted = true
-is_reply_to (steps.Clear point criteria) Unknown = true
-is_reply_to (steps.Start point connector begin) (Started number) = true
-is_reply_to (steps.Start point connector begin) (Repeated number) = true
-is_reply_to (steps.Stop point number) Ended = true
-is_reply_to (steps.Stop point number) NoSuch = true
-is_reply_to (steps.Take take) (Taken number book ask) = true
-is_reply_to (steps.Compile number) Compiled = true
-is_reply_to (steps.Answer number) (Answered book ask answer) = true
-is_reply_to (steps.Answer number) NotYet = true
-is_reply_to steps.Finish Finished = true
-is_reply_to (steps.Attach point) (Attached link) = true
-is_reply_to (steps.Send point link) (Sent call) = true
-is_reply_to (steps.Send point link) Nothing = true
-is_reply_to (steps.Confirm point link number) Confirmed = true
-is_reply_to (steps.Lost point link) LinkLost = true
-is_reply_to step reply = false
+Steps old step reply new = Works old step (work step) reply new
 
 -- ---- what would come of a step
 
@@ -447,27 +481,6 @@ first_refusal old step = cause_of (stepped no_answer old step)
 abbrev pub SendsNothing : MachineState → List ℕ → ℕ → Type 0
 SendsNothing old point link =
     IfOk (stepped no_answer old (steps.Send point link)) (λ made. made ≡ unchanged old Nothing)
-
--- What wants memory: a profile and a clear with their calls, a transaction and its end, a request
--- that is kept, and a call that is copied to be sent. What changes nothing wants none, and neither do
--- compiling, answering and finishing, a new link, a confirmation and a link lost.
-abbrev pub wants_memory : Reply → Bool
-wants_memory Accepted = true
-wants_memory Unknown = false
-wants_memory (Started number) = true
-wants_memory (Repeated number) = false
-wants_memory Ended = true
-wants_memory NoSuch = false
-wants_memory (Taken number book ask) = true
-wants_memory Compiled = false
-wants_memory (Answered book ask answer) = false
-wants_memory NotYet = false
-wants_memory Finished = false
-wants_memory (Attached link) = false
-wants_memory (Sent call) = true
-wants_memory Nothing = false
-wants_memory Confirmed = false
-wants_memory LinkLost = false
 
 -- why a step is refused: its first cause, or else, where it would do what wants memory, that memory
 -- ran out

@@ -1,32 +1,41 @@
 //! What the central system keeps of a charge point, and what a step does there: a method sees neither
-//! other points nor requests.
+//! other points nor requests. A step is decided first, without a change, and then done.
 
-ghost use Rattle.std.specs.Prelude.{◌≡◌, ◌<◌, ◌≤◌, None, IfErr, IfNone, IfOk, IsSome, OnErr, OnOk, length};
-ghost use Rattle.site_rules.specs.Site.{point_entry};
+ghost use Rattle.std.specs.Prelude.{◌≡◌, ◌+◌, ◌<◌, ◌≤◌, ℕ, None, Ok, IfNone, IfOk, length};
+ghost use Rattle.site_rules.specs.Site.{HasConnector, point_entry};
 ghost use Rattle.transactions.specs.declared.active_table.Began.{Began};
 ghost use Rattle.transactions.specs.ActiveTable.{began};
 ghost use Rattle.point_book.specs.Changes.{install_refusal};
 ghost use Rattle.messages.specs.declared.call.CallBody.{CallBody};
+ghost use Rattle.site_core.specs.declared.reply.Reply.{Reply};
+ghost use Rattle.site_core.specs.declared.step.Step.TheVariants as steps;
 ghost use Rattle.site_core.specs.Limits.{max_calls, max_number};
-ghost use Rattle.site_core.specs.Outbox.{Traffic, sendable, is_number_in_flight};
-ghost use Rattle.site_core.specs.ChargePoint.{BookChange, opening_point, point_after};
-ghost use Rattle.site_core.specs.Step.{refusal_to_add, installing, clearing, effect_alone, traffic_alone};
+ghost use Rattle.site_core.specs.State.{AreNumbers};
+ghost use Rattle.site_core.specs.ChargePoint.{opening_point};
+ghost use Rattle.site_core.specs.Step.{refusal_to_call, refusal_to_start, installs, clears, starts, stops, attaches, sends, confirms, loses, next_transaction, work};
+ghost use Rattle.site_core.specs.ByCases.Made.{decision_of, ComesTo, OnDoes, IsMadeAt, IsAtPoint, HasConnectorsOf, IsDecided, IsWorked};
 
+use crate::decision::Decision;
+use crate::numbers::Numbers;
 use crate::outbox::{Outbox, PreparedCall};
+use crate::point_id::PointId;
+use crate::reply::Reply;
 use crate::shared_book::SharedBook;
-use messages::{Call, CallBody};
+use crate::step::Step;
+use messages::CallBody;
 use ocpp_scalars::Refusal;
 use point_book::PointBook;
 use profile::{Criteria, Row};
-use site_rules::SitePoint;
-use std::alloc::{AllocError, AllocFailed, Global};
+use site_rules::{Site, SitePoint, admit};
+use std::alloc::{AllocError, Global};
 use std::marker::Model;
-use transactions::Begin;
+use transactions::{Began, Begin};
 
 /// What the central system keeps of a charge point: its profiles and transactions, the link to it, and the
 /// calls that it hasn't confirmed.
 #[derive(Drop)]
 pub(crate) struct ChargePoint {
+    alloc: Global,
     book: SharedBook,
     outbox: Outbox,
 }
@@ -50,6 +59,7 @@ impl ChargePoint {
         let ceilings = Vec::from_slice(alloc, point.ceilings)?;
         let book = PointBook::try_new(alloc, point.ceiling, ceilings)?;
         Ok(ChargePoint {
+            alloc,
             book: SharedBook::new(alloc, book)?,
             outbox: Outbox::new(alloc)?,
         })
@@ -60,6 +70,7 @@ impl ChargePoint {
         ensures { IfOk result (λ copy. copy ≡ self.now) }
     {
         Ok(ChargePoint {
+            alloc: self.alloc,
             book: self.book.share()?,
             outbox: self.outbox.copy()?,
         })
@@ -93,9 +104,316 @@ impl ChargePoint {
         &self.outbox
     }
 
+    // ---- all steps
+
+    /// What a step at this point comes to, or why it is refused, if memory lasts. Allocates nothing.
+    pub fn decide(&self, site: &Site, numbers: &Numbers, step: &Step) -> Result<Decision, Refusal>
+        requires { IsAtPoint (work step.now) }
+        ensures { IsDecided (work step.now) site.now numbers.now self.now result }
+    {
+        match step {
+            Step::Install { point, row } => self.decide_install(site, numbers, point, row),
+            Step::Clear { criteria, .. } => self.decide_clear(numbers, criteria),
+            Step::Start {
+                connector,
+                begin,
+                ..
+            } => self.decide_start(numbers, *connector, begin),
+            Step::Stop { transaction, .. } => self.decide_stop(numbers, *transaction),
+            Step::Attach(_) => self.decide_attach(numbers),
+            Step::Send { .. } => self.decide_send(),
+            Step::Confirm { call, .. } => self.decide_confirm(*call),
+            Step::Lost { .. } => Ok(Decision::Does),
+            Step::Take(_) | Step::Compile(_) | Step::Answer(_) | Step::Finish => unreachable!(),
+        }
+    }
+
+    /// Makes a step at this point, or says why not: then nothing has changed. The refusal is the one by
+    /// which it is decided, or else `OutOfMemory`.
+    pub fn make(&mut self, site: &Site, numbers: &Numbers, step: &Step) -> Result<Reply, Refusal>
+        requires named { IsAtPoint (work step.now) }
+        requires numbers { AreNumbers numbers.now }
+        requires connectors { HasConnectorsOf (work step.now) site.now self.old }
+        ensures { IsWorked (work step.now) site.now numbers.now step.now self.old result self.new }
+    {
+        match step {
+            Step::Install { point, row } => self.install(site, numbers, point, row),
+            Step::Clear { point, criteria } => self.clear(numbers, point, criteria),
+            Step::Start {
+                point,
+                connector,
+                begin,
+            } => self.start(numbers, point, *connector, begin),
+            Step::Stop { point, transaction } => self.stop(numbers, point, *transaction),
+            Step::Attach(point) => self.attach(numbers, point),
+            Step::Send { point, link } => self.send(point, *link),
+            Step::Confirm { point, link, call } => self.confirm(point, *link, *call),
+            Step::Lost { point, link } => Ok(self.lose(point, *link)),
+            Step::Take(_) | Step::Compile(_) | Step::Answer(_) | Step::Finish => unreachable!(),
+        }
+    }
+
+    // ---- Install (chapter 5.16)
+
+    fn decide_install(
+        &self,
+        site: &Site,
+        numbers: &Numbers,
+        point: &PointId,
+        row: &Row,
+    ) -> Result<Decision, Refusal>
+        ensures decision { result
+            ≡ decision_of (installs site.now numbers.now point.now row.now self.now) }
+        ensures comes { ComesTo (installs site.now numbers.now point.now row.now self.now)
+            Reply.Accepted result }
+        ensures allowed { OnDoes result (install_refusal self.now.book row.now ≡ None) }
+        ensures room { OnDoes result (length self.now.outbox.calls < max_calls) }
+        ensures number { OnDoes result (self.now.outbox.next ≤ max_number) }
+        ensures connector { OnDoes result (HasConnector site.now point.now row.now.connector) }
+    {
+        if let Err(refusal) = admit(site, point.as_str(), row.connector, &row.profile) {
+            return Err(refusal);
+        }
+        if let Some(refusal) = self.book().install_refusal(row) {
+            return Err(refusal);
+        }
+        match self.refusal_to_call(numbers) {
+            Some(refusal) => Err(refusal),
+            None => Ok(Decision::Does),
+        }
+    }
+
+    /// Installs a copy of a row, and adds the call that tells so.
+    fn install(
+        &mut self,
+        site: &Site,
+        numbers: &Numbers,
+        point: &PointId,
+        row: &Row,
+    ) -> Result<Reply, Refusal>
+        requires { (connector : ℕ) → HasConnector site.now point.now connector
+            → connector ≤ length self.old.book.ceilings }
+        ensures { IsMadeAt (installs site.now numbers.now point.now row.now self.old)
+            (steps.Install point.now row.now) self.old result self.new }
+    {
+        match self.decide_install(site, numbers, point, row)? {
+            Decision::Answers(reply) => Ok(reply),
+            Decision::Does => {
+                // The call's memory comes first, so that a refusal leaves the book.
+                let call = call_of(self.alloc, row)?;
+                let row = row.copy()?;
+                self.book.install(row)?;
+                self.outbox.add(call);
+                Ok(Reply::Accepted)
+            }
+        }
+    }
+
+    // ---- Clear (chapter 5.5)
+
+    fn decide_clear(&self, numbers: &Numbers, criteria: &Criteria) -> Result<Decision, Refusal>
+        ensures decision { result ≡ decision_of (clears numbers.now criteria.now self.now) }
+        ensures comes { ComesTo (clears numbers.now criteria.now self.now) Reply.Accepted result }
+        ensures room { OnDoes result (length self.now.outbox.calls < max_calls) }
+        ensures number { OnDoes result (self.now.outbox.next ≤ max_number) }
+    {
+        if !self.book().has_match(criteria) {
+            return Ok(Decision::Answers(Reply::Unknown));
+        }
+        match self.refusal_to_call(numbers) {
+            Some(refusal) => Err(refusal),
+            None => Ok(Decision::Does),
+        }
+    }
+
+    /// Removes the profiles that match each criterion that is given, and adds the call that tells so.
+    fn clear(
+        &mut self,
+        numbers: &Numbers,
+        point: &PointId,
+        criteria: &Criteria,
+    ) -> Result<Reply, Refusal>
+        ensures { IsMadeAt (clears numbers.now criteria.now self.old)
+            (steps.Clear point.now criteria.now) self.old result self.new }
+    {
+        match self.decide_clear(numbers, criteria)? {
+            Decision::Answers(reply) => Ok(reply),
+            Decision::Does => {
+                let Ok(call) = PreparedCall::new(self.alloc, CallBody::Clear(*criteria)) else {
+                    return Err(Refusal::OutOfMemory);
+                };
+                self.book.clear(criteria)?;
+                self.outbox.add(call);
+                Ok(Reply::Accepted)
+            }
+        }
+    }
+
+    // ---- Start (chapter 4.8)
+
+    fn decide_start(
+        &self,
+        numbers: &Numbers,
+        connector: u32,
+        begin: &Begin,
+    ) -> Result<Decision, Refusal>
+        ensures decision { result ≡ decision_of (starts numbers.now connector begin.now self.now) }
+        ensures comes { ComesTo (starts numbers.now connector begin.now self.now)
+            (Reply.Started (next_transaction numbers.now)) result }
+        ensures above { OnDoes result (0 < connector) }
+        ensures has { OnDoes result (connector ≤ length self.now.book.ceilings) }
+        ensures new { OnDoes result
+            (began self.now.book.transactions connector begin.now ≡ Began.Fresh) }
+        ensures numbers { OnDoes result (refusal_to_start numbers.now ≡ None) }
+    {
+        if connector == 0 || connector > self.book().connectors() {
+            return Err(Refusal::UnknownConnector);
+        }
+        match self.book().began(connector, begin) {
+            Began::Repeat(number) => Ok(Decision::Answers(Reply::Repeated(number))),
+            Began::Fresh => match numbers.refusal_to_start() {
+                Some(refusal) => Err(refusal),
+                None => Ok(Decision::Does),
+            },
+        }
+    }
+
+    /// Begins a transaction with the next number, with a copy of what began, or answers a start that is told
+    /// again.
+    fn start(
+        &mut self,
+        numbers: &Numbers,
+        point: &PointId,
+        connector: u32,
+        begin: &Begin,
+    ) -> Result<Reply, Refusal>
+        requires { AreNumbers numbers.now }
+        ensures { IsMadeAt (starts numbers.now connector begin.now self.old)
+            (steps.Start point.now connector begin.now) self.old result self.new }
+    {
+        match self.decide_start(numbers, connector, begin)? {
+            Decision::Answers(reply) => Ok(reply),
+            Decision::Does => {
+                let number = numbers.next_transaction();
+                let begin = begin.copy(self.alloc)?;
+                self.book.start(connector, begin, number)?;
+                Ok(Reply::Started(number))
+            }
+        }
+    }
+
+    // ---- Stop (chapter 4.10)
+
+    fn decide_stop(&self, numbers: &Numbers, number: i32) -> Result<Decision, Refusal>
+        ensures decision { result ≡ decision_of (stops numbers.now number self.now) }
+        ensures comes { ComesTo (stops numbers.now number self.now) Reply.Ended result }
+    {
+        if self.book().connector_of(number).is_none() {
+            return Ok(Decision::Answers(Reply::NoSuch));
+        }
+        match numbers.version_refusal() {
+            Some(refusal) => Err(refusal),
+            None => Ok(Decision::Does),
+        }
+    }
+
+    /// Ends the transaction of this number, where it is active.
+    fn stop(&mut self, numbers: &Numbers, point: &PointId, number: i32) -> Result<Reply, Refusal>
+        ensures { IsMadeAt (stops numbers.now number self.old)
+            (steps.Stop point.now number) self.old result self.new }
+    {
+        match self.decide_stop(numbers, number)? {
+            Decision::Answers(reply) => Ok(reply),
+            Decision::Does => {
+                self.book.stop(number)?;
+                Ok(Reply::Ended)
+            }
+        }
+    }
+
+    // ---- links (OCPP-J 1.6, chapter 3)
+
+    fn decide_attach(&self, numbers: &Numbers) -> Result<Decision, Refusal>
+        ensures { result ≡ decision_of (attaches numbers.now self.now) }
+    {
+        match numbers.refusal_to_attach() {
+            Some(refusal) => Err(refusal),
+            None => Ok(Decision::Does),
+        }
+    }
+
+    /// Gives the point a new link. A call in flight over the one before waits again.
+    fn attach(&mut self, numbers: &Numbers, point: &PointId) -> Result<Reply, Refusal>
+        requires { AreNumbers numbers.now }
+        ensures { IsMadeAt (attaches numbers.now self.old) (steps.Attach point.now)
+            self.old result self.new }
+    {
+        match numbers.refusal_to_attach() {
+            Some(refusal) => Err(refusal),
+            None => {
+                let link = numbers.link + 1;
+                self.outbox.attach(link);
+                Ok(Reply::Attached(link))
+            }
+        }
+    }
+
+    /// The link to the point is lost. A call in flight waits again.
+    fn lose(&mut self, point: &PointId, link: u64) -> Reply
+        ensures { IsMadeAt (loses self.old) (steps.Lost point.now link)
+            self.old (Ok result) self.new }
+    {
+        self.outbox.lose();
+        Reply::LinkLost
+    }
+
+    // ---- calls (OCPP-J 1.6, chapter 4)
+
+    fn decide_send(&self) -> Result<Decision, Refusal>
+        ensures { result ≡ decision_of (sends self.now) }
+    {
+        if self.outbox.sending_link().is_some() {
+            Ok(Decision::Does)
+        } else {
+            Ok(Decision::Answers(Reply::Nothing))
+        }
+    }
+
+    /// Sends the first call, unless one is in flight. Only its copy wants memory.
+    fn send(&mut self, point: &PointId, link: u64) -> Result<Reply, Refusal>
+        ensures { IsMadeAt (sends self.old) (steps.Send point.now link) self.old result self.new }
+    {
+        match self.outbox.send()? {
+            Some(call) => Ok(Reply::Sent(call)),
+            None => Ok(Reply::Nothing),
+        }
+    }
+
+    fn decide_confirm(&self, call: u64) -> Result<Decision, Refusal>
+        ensures { result ≡ decision_of (confirms call self.now) }
+    {
+        if self.outbox.is_number_in_flight(call) {
+            Ok(Decision::Does)
+        } else {
+            Err(Refusal::NothingInFlight)
+        }
+    }
+
+    /// Takes note that the point has answered the call of this number.
+    fn confirm(&mut self, point: &PointId, link: u64, call: u64) -> Result<Reply, Refusal>
+        ensures { IsMadeAt (confirms call self.old) (steps.Confirm point.now link call)
+            self.old result self.new }
+    {
+        if self.outbox.confirm(call) {
+            Ok(Reply::Confirmed)
+        } else {
+            Err(Refusal::NothingInFlight)
+        }
+    }
+
     /// Why no call is added to those that wait for the point, if memory lasts.
-    pub fn refusal_to_add(&self) -> Option<Refusal>
-        ensures refusal { result ≡ refusal_to_add self.now.outbox }
+    fn refusal_to_call(&self, numbers: &Numbers) -> Option<Refusal>
+        ensures refusal { result ≡ refusal_to_call numbers.now self.now }
         ensures room { IfNone result (length self.now.outbox.calls < max_calls) }
         ensures number { IfNone result (self.now.outbox.next ≤ max_number) }
     {
@@ -105,110 +423,7 @@ impl ChargePoint {
         if self.outbox.is_exhausted() {
             return Some(Refusal::VersionsExhausted);
         }
-        None
-    }
-
-    /// Installs a row (chapter 5.16), which may be installed, and adds its call, for which there is room.
-    /// Out of memory nothing changes, and the row comes back.
-    pub fn install(&mut self, alloc: Global, row: Row) -> Result<(), AllocFailed<Row>>
-        requires connector { row.connector ≤ length self.old.book.ceilings }
-        requires allowed { install_refusal self.old.book row ≡ None }
-        requires room { length self.old.outbox.calls < max_calls }
-        requires number { self.old.outbox.next ≤ max_number }
-        ensures point { OnOk result (self.new ≡ point_after self.old (installing row)) }
-        ensures kept { OnErr result (self.new ≡ self.old) }
-        ensures back { IfErr result (λ failed. failed.value ≡ row) }
-    {
-        // The call's memory comes first, so that a refusal leaves the book.
-        let Ok(call) = call_of(alloc, &row) else {
-            return Err(AllocFailed { value: row });
-        };
-        match self.book.install(row) {
-            Ok(()) => {
-                self.outbox.add(call);
-                Ok(())
-            }
-            Err(failed) => Err(failed),
-        }
-    }
-
-    /// Removes the profiles that match each criterion that is given (chapter 5.5), and adds the call that
-    /// tells so, for which there is room. Out of memory nothing changes.
-    pub fn clear(&mut self, alloc: Global, criteria: &Criteria) -> Result<(), AllocError>
-        requires room { length self.old.outbox.calls < max_calls }
-        requires number { self.old.outbox.next ≤ max_number }
-        ensures point { OnOk result (self.new ≡ point_after self.old (clearing criteria.now)) }
-        ensures kept { OnErr result (self.new ≡ self.old) }
-    {
-        let Ok(call) = PreparedCall::new(alloc, CallBody::Clear(*criteria)) else {
-            return Err(AllocError);
-        };
-        self.book.clear(criteria)?;
-        self.outbox.add(call);
-        Ok(())
-    }
-
-    /// Begins a new transaction of this number at a connector (chapter 4.8). Out of memory nothing
-    /// changes, and what began comes back.
-    pub fn start(
-        &mut self,
-        connector: u32,
-        begin: Begin,
-        number: i32,
-    ) -> Result<(), AllocFailed<Begin>>
-        requires above { 0 < connector }
-        requires has { connector ≤ length self.old.book.ceilings }
-        requires new { began self.old.book.transactions connector begin ≡ Began.Fresh }
-        ensures point { OnOk result (self.new
-            ≡ point_after self.old (effect_alone (BookChange.Start connector begin number))) }
-        ensures kept { OnErr result (self.new ≡ self.old) }
-        ensures back { IfErr result (λ failed. failed.value ≡ begin) }
-    {
-        self.book.start(connector, begin, number)
-    }
-
-    /// Ends the transaction of this number, if it is active (chapter 4.10). Out of memory nothing changes.
-    pub fn stop(&mut self, number: i32) -> Result<(), AllocError>
-        ensures point { OnOk result
-            (self.new ≡ point_after self.old (effect_alone (BookChange.Stop number))) }
-        ensures kept { OnErr result (self.new ≡ self.old) }
-    {
-        self.book.stop(number)
-    }
-
-    /// Gives the point a new link. A call in flight over the one before waits again.
-    pub fn attach(&mut self, link: u64)
-        ensures { self.new ≡ point_after self.old (traffic_alone (Traffic.Attach link)) }
-    {
-        self.outbox.attach(link);
-    }
-
-    /// The first call that waits, which is in flight from then on: `None` where none is to be sent. Out of
-    /// memory, which only the copy of a call wants, nothing changes.
-    pub fn send(&mut self) -> Result<Option<Call>, AllocError>
-        ensures call { IfOk result (λ call. call ≡ sendable self.old.outbox) }
-        ensures point { OnOk result
-            (self.new ≡ point_after self.old (traffic_alone Traffic.Send)) }
-        ensures kept { OnErr result (self.new ≡ self.old) }
-        ensures wanted { OnErr result (IsSome (sendable self.old.outbox)) }
-    {
-        self.outbox.send()
-    }
-
-    /// Removes the call in flight where it has this number, and says whether it has.
-    pub fn confirm(&mut self, number: u64) -> bool
-        ensures answer { result ≡ is_number_in_flight self.old.outbox number }
-        ensures point { self.new
-            ≡ point_after self.old (traffic_alone (Traffic.Confirm number)) }
-    {
-        self.outbox.confirm(number)
-    }
-
-    /// The link to the point is lost. A call in flight waits again.
-    pub fn lose(&mut self)
-        ensures { self.new ≡ point_after self.old (traffic_alone Traffic.Lose) }
-    {
-        self.outbox.lose();
+        numbers.version_refusal()
     }
 }
 

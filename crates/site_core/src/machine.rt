@@ -5,24 +5,22 @@ ghost use Rattle.site_rules.specs.Site.{place_of};
 ghost use Rattle.site_core.specs.State.{AreNumbers, Kept, book_at, link_of, link_to_send, opening, opening_at, outbox_at, outbox_len};
 ghost use Rattle.site_core.specs.Requests.{request_of};
 ghost use Rattle.site_core.specs.State.{IsMachine};
-ghost use Rattle.site_core.specs.Step.{HasAskedConnector, Steps, IsRefused, IsRefusalOf, stepped, no_answer};
+ghost use Rattle.site_core.specs.Step.{HasAskedConnector, Steps, IsRefused, IsRefusalOf, outlook, place_for, stepped, no_answer, work};
 ghost use Rattle.site_core.specs.Run.{HasOutcome, Runs};
-ghost use Rattle.site_core.specs.ByCases.Made.{place_in};
+ghost use Rattle.site_core.specs.ByCases.Made.{IsAtPoint, outlook_by};
 
-mod changes;
-mod links;
-mod outlook;
 mod schedules;
 
 use crate::charge_point::ChargePoint;
 use crate::charge_points::{copy_of_points, gather_calls, opening_points, point_at};
+use crate::decision::Decision;
 use crate::numbers::Numbers;
 use crate::outbox::Outbox;
 use crate::outcome::{Outcome, Refused, RunFault};
 use crate::point_id::PointId;
 use crate::reply::Reply;
 use crate::request::Request;
-use crate::requests::{copy_of_requests, request_asked};
+use crate::requests::{compile_outlook, copy_of_requests, hand_out_outlook, request_asked};
 use crate::step::Step;
 use meaning::Ask;
 use ocpp_scalars::Refusal;
@@ -224,20 +222,12 @@ impl Machine {
             (λ refused. IsRefused self.old step refused self.new) }
         ensures asked { IfOk result HasAskedConnector }
     {
-        match step {
-            Step::Install { point, row } => self.install_step(point, row),
-            Step::Start {
-                point,
-                connector,
-                begin,
-            } => self.start_step(point, connector, begin),
-            other => with_step(self.make(&other), other),
-        }
+        with_step(self.make(&step), step)
     }
 
     /// Makes a step as `step` does, but copies what is kept of it, so that the caller still has it.
-    // The method of each step is marked not to be inlined: with all of them in one function, each step
-    // would clear the stack that the others want.
+    // The methods are marked not to be inlined: with all of them in one function, each step would clear
+    // the stack that the others want.
     pub fn make(&mut self, step: &Step) -> Result<Reply, Refusal>
         ensures made { IfOk result (λ reply. Steps self.old step.now reply self.new) }
         ensures refused { IfErr result (λ refusal.
@@ -245,23 +235,56 @@ impl Machine {
         ensures asked { IfOk result HasAskedConnector }
     {
         match step {
-            Step::Install { point, row } => self.install_copy(point, row),
-            Step::Clear { point, criteria } => self.clear(point, criteria),
-            Step::Start {
-                point,
-                connector,
-                begin,
-            } => self.start_copy(point, *connector, begin),
-            Step::Stop { point, transaction } => self.stop(point, *transaction),
             Step::Take(take) => self.take(take),
             Step::Compile(number) => self.compile(*number),
             Step::Answer(number) => self.answer(*number),
             Step::Finish => Ok(self.finish()),
-            Step::Attach(point) => self.attach(point),
-            Step::Send { point, link } => self.send(point, *link),
-            Step::Confirm { point, link, call } => self.confirm(point, *link, *call),
-            Step::Lost { point, link } => self.lose(point, *link),
+            _ => self.make_at_point(step),
         }
+    }
+
+    /// What would come of a step, if memory lasts: whether it would be an event, or be answered without a
+    /// change, or why it would be refused. Nothing is changed and nothing allocated.
+    pub fn outlook(&self, step: &Step) -> Result<bool, Refusal>
+        ensures { result ≡ outlook self.now step.now }
+    {
+        match step {
+            Step::Take(take) => self.take_outlook(take),
+            Step::Compile(number) => compile_outlook(&self.requests, *number),
+            Step::Answer(number) => hand_out_outlook(&self.requests, *number),
+            Step::Finish => Ok(!self.is_stopped),
+            _ => self.outlook_at_point(step),
+        }
+    }
+
+    /// Makes a step at its point: it is decided there, and done.
+    #[inline(never)]
+    fn make_at_point(&mut self, step: &Step) -> Result<Reply, Refusal>
+        requires { IsAtPoint (work step.now) }
+        ensures made { IfOk result (λ reply. Steps self.old step.now reply self.new) }
+        ensures refused { IfErr result (λ refusal.
+            IsRefusalOf (stepped no_answer self.old step.now) refusal × (self.new ≡ self.old)) }
+        ensures asked { IfOk result HasAskedConnector }
+    {
+        let (point, link) = step.target();
+        let place = self.place_for(point, link)?;
+        let numbers = self.numbers;
+        match self.points[place].make(&self.site, &numbers, step) {
+            Ok(reply) => {
+                self.numbers = reply.drawn(numbers);
+                Ok(reply)
+            }
+            Err(refusal) => Err(refusal),
+        }
+    }
+
+    fn outlook_at_point(&self, step: &Step) -> Result<bool, Refusal>
+        requires { IsAtPoint (work step.now) }
+        ensures { result ≡ outlook self.now step.now }
+    {
+        let (point, link) = step.target();
+        let place = self.place_for(point, link)?;
+        outlook_by(point_at(&self.points, place).decide(&self.site, &self.numbers, step))
     }
 
     /// Makes steps one after another, each made or refused. Out of memory for the outcomes no step was
@@ -292,20 +315,37 @@ impl Machine {
         }
     }
 
-    /// The place of the point of an identity, while the central system isn't stopped. The refusals are
-    /// `Stopped` and `UnknownPoint`.
-    fn place_at(&self, point: &PointId) -> Result<usize, Refusal>
-        ensures place { result ≡ place_in self.now point.now }
+    /// The place of the point of an identity, while the central system isn't stopped, and over a link only
+    /// where that is the point's present one. The refusals are `Stopped`, `UnknownPoint` and `Superseded`.
+    fn place_for(&self, point: &PointId, link: Option<u64>) -> Result<usize, Refusal>
+        ensures place { result ≡ place_for self.now point.now link }
         ensures here { IfOk result (λ place. place_of self.now.site point.now ≡ Some place) }
         ensures within { IfOk result (λ place. place < length self.now.points) }
     {
         if self.is_stopped {
             return Err(Refusal::Stopped);
         }
-        match self.site.place_of(point.as_str()) {
-            Some(place) => Ok(place),
-            None => Err(Refusal::UnknownPoint),
+        let Some(place) = self.site.place_of(point.as_str()) else {
+            return Err(match link {
+                None => Refusal::UnknownPoint,
+                Some(_) => Refusal::Superseded,
+            });
+        };
+        if link.is_some() && point_at(&self.points, place).outbox().link() != link {
+            return Err(Refusal::Superseded);
         }
+        Ok(place)
+    }
+}
+
+/// Whether a step that comes to this would be an event, or why it would be refused.
+fn outlook_by(decided: Result<Decision, Refusal>) -> Result<bool, Refusal>
+    ensures { result ≡ outlook_by decided }
+{
+    match decided {
+        Ok(Decision::Does) => Ok(true),
+        Ok(Decision::Answers(_)) => Ok(false),
+        Err(refusal) => Err(refusal),
     }
 }
 

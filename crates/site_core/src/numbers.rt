@@ -1,5 +1,11 @@
 //! The numbers that were drawn last.
 
+ghost use Rattle.std.specs.Prelude.{◌≡◌, None};
+ghost use Rattle.site_core.specs.State.{AreNumbers};
+ghost use Rattle.site_core.specs.Step.{next_transaction, refusal_to_attach, refusal_to_start, version_refusal};
+
+use ocpp_scalars::Refusal;
+
 /// The highest version, request, link and call number.
 pub const MAX_NUMBER: u64 = 1_000_000_000_000;
 
@@ -17,4 +23,50 @@ pub struct Numbers {
     pub transaction: u32,
     /// The number of a link to a point.
     pub link: u64,
+}
+
+impl Numbers {
+    /// Why no change of a point's book is made.
+    pub(crate) fn version_refusal(&self) -> Option<Refusal>
+        ensures { result ≡ version_refusal self.now }
+    {
+        if self.version == MAX_NUMBER {
+            Some(Refusal::VersionsExhausted)
+        } else {
+            None
+        }
+    }
+
+    /// Why no transaction begins.
+    pub(crate) fn refusal_to_start(&self) -> Option<Refusal>
+        ensures { result ≡ refusal_to_start self.now }
+    {
+        if let Some(refusal) = self.version_refusal() {
+            return Some(refusal);
+        }
+        if self.transaction == MAX_TRANSACTION {
+            return Some(Refusal::TransactionsExhausted);
+        }
+        None
+    }
+
+    /// Why no point gets a new link.
+    pub(crate) fn refusal_to_attach(&self) -> Option<Refusal>
+        ensures { result ≡ refusal_to_attach self.now }
+    {
+        if self.link == MAX_NUMBER {
+            Some(Refusal::VersionsExhausted)
+        } else {
+            None
+        }
+    }
+
+    /// The number of the next transaction, where there is one.
+    pub(crate) fn next_transaction(&self) -> i32
+        requires numbers { AreNumbers self.now }
+        requires last { refusal_to_start self.now ≡ None }
+        ensures { result ≡ next_transaction self.now }
+    {
+        (self.transaction + 1) as i32
+    }
 }

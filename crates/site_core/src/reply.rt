@@ -1,9 +1,10 @@
 //! What the steps of the central system reply.
 
 ghost use Rattle.std.specs.Prelude.{◌≡◌};
-ghost use Rattle.site_core.specs.State.{MachineState};
-ghost use Rattle.site_core.specs.Step.{is_event};
+ghost use Rattle.site_core.specs.State.{AreNumbers, MachineState};
+ghost use Rattle.site_core.specs.Step.{counted, drawn, is_event};
 
+use crate::numbers::Numbers;
 use crate::shared_book::SharedBook;
 use meaning::{Ask, Composite};
 use messages::Call;
@@ -54,6 +55,21 @@ pub enum Reply {
     LinkLost,
 }
 
+/// Of how many changes, Takes and answers a reply tells.
+#[derive(Clone, Copy, Debug, PartialEq, Eq)]
+pub struct Counted {
+    pub changes: u64,
+    pub takes: u64,
+    pub answers: u64,
+}
+
+/// A reply that tells of none.
+const NO_COUNT: Counted = Counted {
+    changes: 0,
+    takes: 0,
+    answers: 0,
+};
+
 impl Reply {
     /// Whether a step with this reply is an event, where it is known if the central system was stopped
     /// before it.
@@ -75,6 +91,54 @@ impl Reply {
             Reply::Unknown | Reply::Repeated(_) | Reply::NoSuch | Reply::NotYet | Reply::Nothing =>
                 false,
             Reply::Finished => !was_stopped,
+        }
+    }
+
+    /// The numbers that were drawn last, after a step with this reply.
+    pub(crate) fn drawn(&self, numbers: Numbers) -> Numbers
+        requires { AreNumbers numbers }
+        ensures { result ≡ drawn self.now numbers }
+    {
+        match self {
+            Reply::Accepted | Reply::Ended => Numbers {
+                version: numbers.version + 1,
+                ..numbers
+            },
+            Reply::Started(_) => Numbers {
+                version: numbers.version + 1,
+                transaction: numbers.transaction + 1,
+                ..numbers
+            },
+            Reply::Taken { .. } => Numbers {
+                request: numbers.request + 1,
+                ..numbers
+            },
+            Reply::Attached(_) => Numbers {
+                link: numbers.link + 1,
+                ..numbers
+            },
+            _ => numbers,
+        }
+    }
+
+    /// Of how many changes, Takes and answers it tells.
+    pub fn counted(&self) -> Counted
+        ensures { result ≡ counted self.now }
+    {
+        match self {
+            Reply::Accepted | Reply::Started(_) | Reply::Ended => Counted {
+                changes: 1,
+                ..NO_COUNT
+            },
+            Reply::Taken { .. } => Counted {
+                takes: 1,
+                ..NO_COUNT
+            },
+            Reply::Answered { .. } => Counted {
+                answers: 1,
+                ..NO_COUNT
+            },
+            _ => NO_COUNT,
         }
     }
 }

@@ -1,11 +1,11 @@
 //! The book of a charge point, shared by the machine and by requests for schedules.
 
-ghost use Rattle.std.specs.Prelude.{◌≡◌, ◌≤◌, ◌<◌, None, IfErr, IfOk, OnErr, OnOk, length};
+ghost use Rattle.std.specs.Prelude.{◌≡◌, ◌≤◌, ◌<◌, None, IfOk, OnErr, OnOk, length};
 ghost use Rattle.point_book.specs.Changes.{install_refusal, book_installed, book_cleared, book_started, book_stopped};
 
 use point_book::PointBook;
 use profile::{Criteria, Row};
-use std::alloc::{AllocError, AllocFailed, Global};
+use std::alloc::{AllocError, Global};
 use std::marker::Model;
 use std::sync::Arc;
 use transactions::Begin;
@@ -62,21 +62,16 @@ impl SharedBook {
         self.book
     }
 
-    /// Installs a row (chapter 5.16), which may be installed. Out of memory the row comes back.
-    pub(crate) fn install(&mut self, row: Row) -> Result<(), AllocFailed<Row>>
+    /// Installs a row (chapter 5.16), which may be installed.
+    pub(crate) fn install(&mut self, row: Row) -> Result<(), AllocError>
         requires connector { row.connector ≤ length self.old.ceilings }
         requires allowed { install_refusal self.old row ≡ None }
         ensures book { OnOk result (self.new ≡ book_installed self.old row) }
         ensures kept { OnErr result (self.new ≡ self.old) }
-        ensures back { IfErr result (λ failed. failed.value ≡ row) }
     {
-        let book = match Arc::make_mut(&mut self.book) {
-            Ok(book) => book,
-            Err(_) => return Err(AllocFailed { value: row }),
-        };
-        match book.install(row) {
+        match Arc::make_mut(&mut self.book)?.install(row) {
             Ok(()) => Ok(()),
-            Err((_, row)) => Err(AllocFailed { value: row }),
+            Err(_) => Err(AllocError),
         }
     }
 
@@ -89,27 +84,20 @@ impl SharedBook {
         Ok(())
     }
 
-    /// Begins a transaction of this number at a connector (chapter 4.8). Out of memory what began comes
-    /// back.
+    /// Begins a transaction of this number at a connector (chapter 4.8).
     pub(crate) fn start(
         &mut self,
         connector: u32,
         begin: Begin,
         number: i32,
-    ) -> Result<(), AllocFailed<Begin>>
+    ) -> Result<(), AllocError>
         requires above { 0 < connector }
         requires has { connector ≤ length self.old.ceilings }
         ensures book { OnOk result (self.new ≡ book_started self.old connector begin number) }
         ensures kept { OnErr result (self.new ≡ self.old) }
-        ensures back { IfErr result (λ failed. failed.value ≡ begin) }
     {
-        match Arc::make_mut(&mut self.book) {
-            Ok(book) => {
-                book.start(connector, begin, number);
-                Ok(())
-            }
-            Err(_) => Err(AllocFailed { value: begin }),
-        }
+        Arc::make_mut(&mut self.book)?.start(connector, begin, number);
+        Ok(())
     }
 
     /// Ends the transaction of this number, if it is active (chapter 4.10).

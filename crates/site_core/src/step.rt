@@ -1,6 +1,8 @@
 //! The steps of the central system.
 
 ghost use Rattle.std.specs.Prelude.{◌≡◌, IfOk};
+ghost use Rattle.site_core.specs.Step.{work};
+ghost use Rattle.site_core.specs.ByCases.Made.{IsAtPoint, IsFor};
 
 use crate::point_id::PointId;
 use ocpp_scalars::Instant;
@@ -76,6 +78,24 @@ pub struct Take {
 }
 
 impl Step {
+    /// The point that a step at a point names, and the link that it has to be made over, where it has to.
+    pub(crate) fn target(&self) -> (&PointId, Option<u64>)
+        requires { IsAtPoint (work self.now) }
+        ensures { IsFor (work self.now) result.0.now result.1 }
+    {
+        match self {
+            Step::Install { point, .. }
+            | Step::Clear { point, .. }
+            | Step::Start { point, .. }
+            | Step::Stop { point, .. }
+            | Step::Attach(point) => (point, None),
+            Step::Send { point, link }
+            | Step::Confirm { point, link, .. }
+            | Step::Lost { point, link } => (point, Some(*link)),
+            Step::Take(_) | Step::Compile(_) | Step::Answer(_) | Step::Finish => unreachable!(),
+        }
+    }
+
     /// A copy.
     pub fn copy(&self, alloc: Global) -> Result<Step, AllocError>
         ensures { IfOk result (λ copy. copy ≡ self.now) }

@@ -2,7 +2,7 @@
 //! and to copy the longest. Each call is made of what an operator asks for, with its fields in another
 //! order than they are written in.
 use crate::same::same_text;
-use messages::{Action, Call, CallBody, push_call, read_action};
+use messages::{Action, Call, CallBody, push_call, push_subject, read_action};
 use ocppj_frame::{ReadingMemory, read_frame};
 use profile::{Profile, ProfileParts};
 use std::alloc::Global;
@@ -76,6 +76,31 @@ fn calls_are_written(rt: HostRuntime) {
     while let Some(asked) = lines.next() {
         let wanted = lines.next().expect(&rt, asked);
         assert_call(&rt, rt.alloc(), 7, asked, wanted);
+    }
+}
+
+/// On each line which profiles a call is about, and what an operator asks for.
+const SUBJECTS: &str = r#"every profile = [2,"a","ClearChargingProfile",{}]
+id -5, connector 0, ChargePointMaxProfile, stack level 3 = [2,"a","ClearChargingProfile",{"stackLevel":3,"chargingProfilePurpose":"ChargePointMaxProfile","connectorId":0,"id":-5}]
+connector 64, stack level 0 = [2,"a","ClearChargingProfile",{"stackLevel":0,"id":null,"connectorId":64}]
+TxProfile = [2,"a","ClearChargingProfile",{"chargingProfilePurpose":"TxProfile"}]
+TxProfile -2147483648 at connector 2 = [2,"a","SetChargingProfile",{"csChargingProfiles":{"chargingSchedule":{"chargingSchedulePeriod":[{"limit":16,"startPeriod":0}],"chargingRateUnit":"A"},"chargingProfileKind":"Relative","chargingProfilePurpose":"TxProfile","stackLevel":0,"chargingProfileId":-2147483648},"connectorId":2}]"#;
+
+/// The subject of a call is the text wanted, and its action the one that is asked for.
+fn assert_subject(rt: &impl Abort, alloc: Global, asked: &str, wanted: &str) {
+    let body = body_of(rt, alloc, asked);
+    let mut text = String::new(alloc);
+    push_subject(&mut text, &body).expect(rt, "error");
+    same_text(rt, text.as_str(), wanted, asked);
+    let action = asked.split('"').nth(3).expect(rt, asked);
+    same_text(rt, body.action(), action, asked);
+}
+
+#[test]
+fn calls_have_subjects(rt: HostRuntime) {
+    for line in SUBJECTS.lines() {
+        let (wanted, asked) = line.split_once(" = ").expect(&rt, line);
+        assert_subject(&rt, rt.alloc(), asked, wanted);
     }
 }
 

@@ -3,8 +3,8 @@
 use crate::same::{holds, same_text};
 use meaning::{Ask, Composite, View, compile_plain};
 use messages::{
-    Action, CallFault, FieldName, Response, ScheduleResponse, Side, read_action, side_of,
-    write_response,
+    Action, ActionKind, CallFault, FieldKind, FieldName, ObjectKind, Response, ScheduleResponse,
+    Side, fields_in, fields_of, read_action, side_of, write_response,
 };
 use ocpp_scalars::{Instant, Refusal};
 use ocppj_frame::{ReadingMemory, read_frame};
@@ -15,15 +15,15 @@ use std::process::Abort;
 /// 2025-01-01T00:00:00Z.
 const MIDNIGHT: u64 = 1_735_689_600;
 
-/// On each line what a message asks for, and its text.
+/// On each line what a message asks for, or its answer where its fields aren't looked at, and its text.
 const ACTIONS: &str = r#"BootNotification = [2,"1","BootNotification",{"chargePointVendor":7}]
 Heartbeat = [2,"1","Heartbeat"]
 Authorize = [2,"1","Authorize",null]
-StatusNotification = [2,"1","StatusNotification",{}]
-MeterValues = [2,"1","MeterValues",{}]
-FirmwareStatusNotification = [2,"1","FirmwareStatusNotification",{}]
-DiagnosticsStatusNotification = [2,"1","DiagnosticsStatusNotification",{}]
-DataTransfer = [2,"1","DataTransfer",{}]
+Empty = [2,"1","StatusNotification",{}]
+Empty = [2,"1","MeterValues",{}]
+Empty = [2,"1","FirmwareStatusNotification",{}]
+Empty = [2,"1","DiagnosticsStatusNotification",{}]
+UnknownVendorId = [2,"1","DataTransfer",{}]
 NotACall = [3,"1",{}]
 NotACall = [4,"1","InternalError","",{}]
 NotACall = [7]
@@ -71,22 +71,8 @@ fn read(rt: &impl Abort, alloc: Global, text: &str) -> Result<Action, CallFault>
     }
 }
 
-fn name_of(action: &Action) -> &'static str {
-    match action {
-        Action::BootNotification => "BootNotification",
-        Action::Heartbeat => "Heartbeat",
-        Action::Authorize => "Authorize",
-        Action::StatusNotification => "StatusNotification",
-        Action::MeterValues => "MeterValues",
-        Action::FirmwareStatusNotification => "FirmwareStatusNotification",
-        Action::DiagnosticsStatusNotification => "DiagnosticsStatusNotification",
-        Action::DataTransfer => "DataTransfer",
-        Action::NotACall => "NotACall",
-        _ => "an action with fields",
-    }
-}
-
-/// What a message asks for, with the fields of all actions but a profile's.
+/// What a message asks for, with the fields of all actions but a profile's; of one whose fields aren't
+/// looked at its answer.
 fn described(alloc: Global, action: &Action) -> Result<String, AllocError> {
     match action {
         Action::StartTransaction(start) => {
@@ -104,7 +90,9 @@ fn described(alloc: Global, action: &Action) -> Result<String, AllocError> {
             )
         }
         Action::ClearChargingProfile(criteria) => format!(in alloc; "{criteria:?}"),
-        _ => String::from_str(alloc, name_of(action)),
+        Action::Answered(answer) => format!(in alloc; "{answer:?}"),
+        Action::NotACall => String::from_str(alloc, "NotACall"),
+        Action::SetChargingProfile { .. } => String::from_str(alloc, "a profile"),
     }
 }
 
@@ -196,7 +184,33 @@ const SIDES: [(&str, Option<Side>); 3] = [
 fn an_action_comes_from_one_side(rt: HostRuntime) {
     for (action, side) in &SIDES {
         holds(&rt, side_of(action) == *side, action);
+        let is_points = ActionKind::of_sender(Side::Point, action).is_some();
+        holds(&rt, is_points == (*side == Some(Side::Point)), action);
     }
+}
+
+/// How many fields an action has, those of its objects left out.
+const FIELD_COUNTS: [(&str, usize); 3] = [
+    ("ClearChargingProfile", 4),
+    ("StopTransaction", 1),
+    ("Heartbeat", 0),
+];
+
+#[test]
+fn an_action_has_a_row(rt: HostRuntime) {
+    for kind in ActionKind::all() {
+        let name = kind.name();
+        holds(&rt, ActionKind::named(name) == Some(*kind), name);
+        let is_answered = kind.fixed_answer().is_some();
+        holds(&rt, !is_answered || fields_of(*kind).is_empty(), name);
+    }
+    for (name, count) in &FIELD_COUNTS {
+        let kind = ActionKind::named(name).expect(&rt, name);
+        holds(&rt, fields_of(kind).len() == *count, name);
+    }
+    let row = fields_in(ObjectKind::Profile).first().expect(&rt, "none");
+    holds(&rt, row.name() == FieldName::ChargingProfileId, "the first");
+    holds(&rt, row.kind() == FieldKind::Whole, "its kind");
 }
 
 fn assert_response(rt: &impl Abort, alloc: Global, response: &Response, want: &str) {

@@ -14,11 +14,10 @@ use Rattle.site_rules.specs.Site.{place_of}
 use Rattle.point_book.specs.Book.{BookState}
 use Rattle.site_core.specs.declared.step.Step.TheVariants as steps
 use Rattle.site_core.specs.declared.step.Take.{Take}
-use Rattle.site_core.specs.declared.reply.Reply.TheVariants.{Taken}
 use Rattle.site_core.specs.Limits.{max_number, max_requests}
 use Rattle.site_core.specs.State.{MachineState, book_at}
 use Rattle.site_core.specs.Ask.{is_other_unit, ask_at}
-use Rattle.site_core.specs.Step.{Made, stepped, no_answer, at_place, refusal_to_take, takes_ask, takes, unless, with_request}
+use Rattle.site_core.specs.Step.{Made, stepped, no_answer, found_place, refusal_to_take, taking, unless}
 use Rattle.version_store.specs.Told.{Told}
 use Rattle.version_store.specs.Store.{StoreState}
 use Rattle.version_store.specs.Calls.{IsRefusalTo, IsRefusalOf, IsBehind}
@@ -91,13 +90,20 @@ refusal_behind old take seen found is =
         record { seen_is = cc is; found_is = cc is; older = grind (arith, nat_tests, older) }
     go false false false older is = absurd (cc is)
 
+-- what a Take comes to at a place
+abbrev takes_at : MachineState → Take → ℕ → Result Made Refusal
+takes_at old take place =
+    ask_at old.site.unit (book_at old place) take
+    >>= (λ ask. unless (refusal_to_take old take) (taking old place ask))
+
 takes_behind : (old : MachineState) (take : Take) (place seen found : ℕ)
-    → takes old take place ≡ Err (Behind seen found) → IsOlder old take seen found
+    → takes_at old take place ≡ Err (Behind seen found) → IsOlder old take seen found
 takes_behind old take place seen found is =
     go (ask_at old.site.unit (book_at old place) take) refl is
   where
     go : (asked : Result Ask Refusal) → ask_at old.site.unit (book_at old place) take ≡ asked
-        → takes_ask old take place asked ≡ Err (Behind seen found) → IsOlder old take seen found
+        → (asked >>= (λ ask. unless (refusal_to_take old take) (taking old place ask)))
+        ≡ Err (Behind seen found) → IsOlder old take seen found
     go (Err cause) asks is =
         let same : cause ≡ Behind seen found = cc is in
         absurd (ask_not_behind old.site.unit (book_at old place) take seen found
@@ -105,10 +111,8 @@ takes_behind old take place seen found is =
     go (Ok ask) asks is = unless_behind (refusal_to_take old take) refl is
       where
         unless_behind : (cause : Option Refusal) → refusal_to_take old take ≡ cause
-            → unless {X = Made} cause (record {
-              reply = Taken (old.numbers.request + 1) (book_at old place) ask;
-              after = with_request old (book_at old place) ask place;
-            }) ≡ Err (Behind seen found) → IsOlder old take seen found
+            → unless {X = Made} cause (taking old place ask) ≡ Err (Behind seen found)
+            → IsOlder old take seen found
         unless_behind (Some cause) here is =
             let same : cause ≡ Behind seen found = cc is in
             refusal_behind old take seen found (here ∙ ap Some same)
@@ -120,7 +124,7 @@ step_behind : (old : MachineState) (take : Take) (seen found : ℕ)
 step_behind old take seen found is = go old.is_stopped (place_of old.site take.point) is
   where
     go : (stopped : Bool) (place : Option ℕ)
-        → cond stopped (Err Stopped) (at_place place (takes old take))
+        → (cond stopped (Err Stopped) (found_place old None place) >>= takes_at old take)
         ≡ Err (Behind seen found) → IsOlder old take seen found
     go true place is = absurd (cc is)
     go false None is = absurd (cc is)
@@ -134,7 +138,7 @@ behind_shown store was take refusal same is seen found behind =
     go (stepped no_answer store.present (steps.Take take)) refl is
   where
     go : (result : Result Made Refusal) → stepped no_answer store.present (steps.Take take) ≡ result
-        → IsRefusalTo store result refusal
+        → IsRefusalTo store (steps.Take take) result refusal
         → IsBehind store.present.numbers.version was.seen seen found
     go (Ok made) steps is = absurd (cc (is.1, behind))
     go (Err cause) steps is =

@@ -1,5 +1,5 @@
 -- What the machine's outlook and its step tell of a call on the store.
-use Rattle.std.proofs.Common.{◌≡◌, ◌<◌, ◌≤◌, nat_le, ◌&&◌, Bool, true, false, cond, [], ◌∷◌, Result, Ok, Err, refl, sym, ap, ◌∙◌, subst, length, arith}
+use Rattle.std.proofs.Common.{◌≡◌, ◌<◌, ◌≤◌, nat_le, ◌||◌, ◌&&◌, Bool, true, false, cond, [], ◌∷◌, Result, Ok, Err, refl, sym, ap, ◌∙◌, subst, length, arith}
 use Rattle.std.proofs.lemmas.Bool.Decides.{nat_tests}
 use Rattle.ocpp_scalars.specs.declared.refusal.Refusal.{Refusal}
 use Rattle.ocpp_scalars.specs.declared.refusal.Refusal.TheVariants.{OutOfMemory}
@@ -7,29 +7,54 @@ use Rattle.site_core.specs.declared.step.Step.{Step}
 use Rattle.site_core.specs.declared.step.Step.TheVariants.{Compile}
 use Rattle.site_core.specs.declared.reply.Reply.{Reply}
 use Rattle.site_core.specs.State.{MachineState}
-use Rattle.site_core.specs.Step.{Made, Steps, IsRefusalOf, stepped, no_answer, is_event, outlook, outlook_of, counted}
+use Rattle.site_core.specs.Step.{Made, Steps, IsRefusalOf, stepped, no_answer, is_event, outlook, outlook_of, counted, wants_memory}
 use Rattle.site_core.specs.StoredHistory.{event_of, MayBeGiven}
 use Rattle.site_core.specs.Theory.Steps.{CompileOrOther, is_compile, is_other, compile_or_other}
 use Rattle.version_store.specs.Limits.{fold_from}
 use Rattle.version_store.specs.Told.{totals_after, no_totals}
-use Rattle.version_store.specs.Store.{StoreState, IsStore, with_event, folded, folded_for, may_fold}
+use Rattle.version_store.specs.Store.{StoreState, IsStore, with_event, folded, folded_for, may_fold, folds}
 use Rattle.version_store.specs.Calls.{Adds, Tells, IsRefusalTo, event_alone}
 use Rattle.version_store.specs.ByCases.Laws.{Laws}
 use Rattle.version_store.proofs.HistoryLemmas.{made_with, store_goes_on}
 
 -- ---- the outlook
 
-pub refusal_shown : (store : StoreState) (result : Result Made Refusal) (refusal : Refusal)
-    → outlook_of store.present result ≡ Err refusal → IsRefusalTo store result refusal
-refusal_shown store (Ok made) refusal is = absurd (cc is)
-refusal_shown store (Err cause) refusal is = cc is
+pub refusal_shown : (store : StoreState) (step : Step) (result : Result Made Refusal)
+    (refusal : Refusal)
+    → outlook_of store.present result ≡ Err refusal → IsRefusalTo store step result refusal
+refusal_shown store step (Ok made) refusal is = absurd (cc is)
+refusal_shown store step (Err cause) refusal is = cc is
 
--- the machine refuses for want of memory only what would be an event
-pub refusal_told : Laws → (store : StoreState) (result : Result Made Refusal) (refusal : Refusal)
-    → IsRefusalOf result refusal → IsRefusalTo store result refusal
-refusal_told laws store (Ok made) refusal cause =
-    (laws.memory store.present made.reply cause.0, cause.1)
-refusal_told laws store (Err first) refusal cause = cause
+-- a refusal of the machine is one of the store
+pub refusal_told : (store : StoreState) (step : Step) (result : Result Made Refusal)
+    (refusal : Refusal) → IsRefusalOf result refusal → IsRefusalTo store step result refusal
+refusal_told store step (Ok made) refusal cause = (
+  ap (λ (b : Bool). b || (is_event store.present made.reply && folds store step)) cause.0,
+  cause.1,
+)
+refusal_told store step (Err first) refusal cause = cause
+
+-- where an event folds the history, memory may be wanting
+pub refused_fold : (store : StoreState) (step : Step) (result : Result Made Refusal)
+    (refusal : Refusal) → outlook_of store.present result ≡ Ok true → may_fold step ≡ true
+    → fold_from ≤ length store.events → refusal ≡ OutOfMemory
+    → IsRefusalTo store step result refusal
+refused_fold store step (Err cause) refusal is can many memory = absurd (cc is)
+refused_fold store step (Ok made) refusal is can many memory =
+    let event : is_event store.present made.reply ≡ true = cc is in
+    let full : nat_le fold_from (length store.events) ≡ true = grind (arith, nat_tests) in (
+      by (wants_memory made.reply) (is_event store.present made.reply) (may_fold step)
+          (nat_le fold_from (length store.events)) event can full,
+      memory,
+    )
+  where
+    by : (wants event can full : Bool) → event ≡ true → can ≡ true → full ≡ true
+        → (wants || (event && (can && full))) ≡ true
+    by true event can full e c f = refl
+    by false true true true e c f = refl
+    by false false can full e c f = absurd (cc e)
+    by false true false full e c f = absurd (cc c)
+    by false true true false e c f = absurd (cc f)
 
 -- what would be an event is refused for want of memory alone
 pub refused_event : (old : MachineState) (result : Result Made Refusal) (refusal : Refusal)

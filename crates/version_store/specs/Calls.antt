@@ -1,5 +1,5 @@
 -- What a call on the store makes of it: one event more, or a reply alone, or nothing.
-use Rattle.std.specs.Prelude.{ℕ, ℤ, unsigned_abs, ◌≡◌, ◌<◌, ◌⊎◌, Bool, true, false, List, Option, Some, None, Result, Ok, Err}
+use Rattle.std.specs.Prelude.{ℕ, ℤ, unsigned_abs, ◌≡◌, ◌<◌, ◌⊎◌, ◌||◌, ◌&&◌, Bool, true, false, List, Option, Some, None, Result, Ok, Err}
 use Rattle.ocpp_scalars.specs.declared.instant.Instant.{Instant}
 use Rattle.ocpp_scalars.specs.declared.refusal.Refusal.{Refusal}
 use Rattle.ocpp_scalars.specs.declared.refusal.Refusal.TheVariants.{OutOfMemory}
@@ -14,11 +14,11 @@ use Rattle.site_core.specs.declared.step.Take.{Take}
 use Rattle.site_core.specs.declared.reply.Reply.{Reply}
 use Rattle.site_core.specs.declared.reply.Reply.TheVariants.{Accepted, Unknown, Started, Repeated, Ended, NoSuch, Compiled, Sent, Nothing}
 use Rattle.site_core.specs.State.{ScheduleAnswer}
-use Rattle.site_core.specs.Step.{Made, stepped, no_answer, is_event, unchanged}
+use Rattle.site_core.specs.Step.{Made, stepped, no_answer, is_event, unchanged, wants_memory}
 use Rattle.site_core.specs.StoredHistory.{StoredEvent, made_of}
 use Rattle.site_core.specs.Post.{Posts}
 use Rattle.version_store.specs.Told.{Told, told_after}
-use Rattle.version_store.specs.Store.{StoreState, with_event, folded_for}
+use Rattle.version_store.specs.Store.{StoreState, with_event, folded_for, folds}
 
 -- One event is added, after the history was folded where it had to be; the state and the reply are what
 -- the machine makes of the event.
@@ -46,14 +46,20 @@ compile_event number answer = record { step = steps.Compile number; answer = ans
 abbrev pub Makes : StoreState → Step → Reply → StoreState → Type 0
 Makes old step reply new = Adds old (event_alone step) reply new ⊎ Tells old step reply new
 
--- Nothing is made, for the machine's first cause, or for want of memory where an event would be added.
-abbrev pub IsRefusalTo : StoreState → Result Made Refusal → Refusal → Type 0
-IsRefusalTo old (Err cause) refusal = refusal ≡ cause
-IsRefusalTo old (Ok made) refusal =
-    (is_event old.present made.reply ≡ true) × (refusal ≡ OutOfMemory)
+-- Whether what a step comes to may want memory: the step itself, or the fold of the history before its
+-- event.
+abbrev pub may_want_memory : StoreState → Step → Reply → Bool
+may_want_memory old step reply =
+    wants_memory reply || (is_event old.present reply && folds old step)
+
+-- Nothing is made, for the machine's first cause, or for want of memory where it may want some.
+abbrev pub IsRefusalTo : StoreState → Step → Result Made Refusal → Refusal → Type 0
+IsRefusalTo old step (Err cause) refusal = refusal ≡ cause
+IsRefusalTo old step (Ok made) refusal =
+    (may_want_memory old step made.reply ≡ true) × (refusal ≡ OutOfMemory)
 
 abbrev pub IsRefusalOf : StoreState → Step → Refusal → Type 0
-IsRefusalOf old step refusal = IsRefusalTo old (stepped no_answer old.present step) refusal
+IsRefusalOf old step refusal = IsRefusalTo old step (stepped no_answer old.present step) refusal
 
 -- a call of a session: what it makes, and what the session was told then
 pub record Calls (old : StoreState) (was : Told) (step : Step) (reply : Reply) (new : StoreState)

@@ -4,9 +4,8 @@ use Rattle.std.specs.Prelude.{ℕ, ◌+◌, ◌≡◌, ◌≤◌, nat_le, ◌&&�
 use Rattle.std.specs.List.{AllByRecursion, sum_by}
 use Rattle.site_rules.specs.Site.{SiteState}
 use Rattle.site_core.specs.declared.step.Step.{Step}
-use Rattle.site_core.specs.declared.step.Step.TheVariants as steps
 use Rattle.site_core.specs.State.{MachineState, Kept, opening}
-use Rattle.site_core.specs.Step.{Made}
+use Rattle.site_core.specs.Step.{Made, Work, AtPoint, Takes, Compiling, Answering, Finishing, work}
 use Rattle.site_core.specs.History.{Event, Legal}
 use Rattle.site_core.specs.StoredHistory.{StoredEvent, IsStoredAs}
 use Rattle.site_core.specs.Counts.{changes_in, answers_in}
@@ -49,19 +48,15 @@ abbrev pub folded : StoreState → StoreState
 folded old = record old { base = old.present; based = old.made; events = [] }
 
 -- Compiling, answering and finishing take no memory, so they never fold.
+abbrev pub may_fold_for : Work → Bool
+may_fold_for (AtPoint at) = true
+may_fold_for (Takes take) = true
+may_fold_for (Compiling number) = false
+may_fold_for (Answering number) = false
+may_fold_for Finishing = false
+
 abbrev pub may_fold : Step → Bool
-may_fold (steps.Install point row) = true
-may_fold (steps.Clear point criteria) = true
-may_fold (steps.Start point connector begin) = true
-may_fold (steps.Stop point number) = true
-may_fold (steps.Take take) = true
-may_fold (steps.Compile number) = false
-may_fold (steps.Answer number) = false
-may_fold steps.Finish = false
-may_fold (steps.Attach point) = true
-may_fold (steps.Send point link) = true
-may_fold (steps.Confirm point link number) = true
-may_fold (steps.Lost point link) = true
+may_fold step = may_fold_for (work step)
 
 -- whether the history is folded before the event of this step
 abbrev pub folds : StoreState → Step → Bool

@@ -232,7 +232,11 @@ impl History {
         };
         let reply = match self.present.make(&step) {
             Ok(reply) => reply,
-            Err(refusal) => return Err(Refused { refusal, step }),
+            Err(refusal) => {
+                // The room is there for the next fold.
+                self.spare = Some(room);
+                return Err(Refused { refusal, step });
+            }
         };
         self.present.open_requests();
         let old_base = replace(&mut self.base, base);

@@ -1,11 +1,12 @@
 //! What is to be compiled.
 
-ghost use Rattle.std.specs.Prelude.{◌≡◌, ◌≤◌, length};
+ghost use Rattle.std.specs.Prelude.{◌≡◌, ◌≤◌, IfOk, length};
 ghost use Rattle.std.specs.Arc.{arc_value};
 
 use meaning::Ask;
 use point_book::PointBook;
 use site_core::SharedBook;
+use std::alloc::AllocError;
 use std::marker::Model;
 use std::sync::Arc;
 
@@ -49,6 +50,20 @@ impl Job {
         ensures { result ≡ self.now.number }
     {
         self.number
+    }
+
+    /// What its point had when the request was taken, shared with who compiles it. Copies nothing.
+    pub fn share_book(&self) -> Result<Arc<PointBook>, AllocError>
+        ensures { IfOk result (λ book. arc_value book ≡ self.now.book) }
+    {
+        Arc::try_clone(&self.book)
+    }
+
+    /// What is asked.
+    pub fn ask(&self) -> &Ask
+        ensures { result.now ≡ self.now.ask }
+    {
+        &self.ask
     }
 
     /// The request's number, what its point had when it was taken, and the ask.

@@ -4,7 +4,7 @@ ghost use Rattle.std.specs.Prelude.{◌≡◌, ◌+◌, ◌<◌, ◌^◌};
 ghost use Rattle.site_core.specs.Step.{counted};
 ghost use Rattle.version_store.specs.Told.{no_totals, totals_after};
 
-use site_core::Reply;
+use site_core::{Counted, Reply};
 
 /// How many changes of points' books were made, and how many answers to requests were handed out.
 #[derive(Clone, Copy, Debug, PartialEq, Eq)]
@@ -27,22 +27,11 @@ impl Totals {
     pub(crate) fn of(reply: &Reply) -> Totals
         ensures { result ≡ totals_after no_totals reply.now }
     {
-        let (changes, answers) = match reply {
-            Reply::Accepted | Reply::Started(_) | Reply::Ended => (1, 0),
-            Reply::Answered { .. } => (0, 1),
-            Reply::Unknown
-            | Reply::Repeated(_)
-            | Reply::NoSuch
-            | Reply::Taken { .. }
-            | Reply::Compiled
-            | Reply::NotYet
-            | Reply::Finished
-            | Reply::Attached(_)
-            | Reply::Sent(_)
-            | Reply::Nothing
-            | Reply::Confirmed
-            | Reply::LinkLost => (0, 0),
-        };
+        let Counted {
+            changes,
+            answers,
+            ..
+        } = reply.counted();
         Totals { changes, answers }
     }
 

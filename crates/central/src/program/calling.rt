@@ -5,7 +5,7 @@ use crate::program::payload_file::read_payload_file;
 use crate::program::program_fault::ProgramFault;
 use checks::{SentCheck, Severity, answer_sentence, check_sent, json_break};
 use client::{
-    ClientFault, Lines, OperatorClient, Outcome, ask_call, clear_call, connect_operator,
+    Address, ClientFault, Lines, OperatorClient, Outcome, ask_call, clear_call, connect,
     set_profile_call,
 };
 use std::alloc::AllocGlobal;
@@ -41,11 +41,12 @@ pub fn call_site<
         + Copy
         + Drop,
 >(rt: &R, calling: Calling<'_>) -> Result<u8, ProgramFault> {
+    let address = Address::of_operator(rt.alloc(), calling.url)?;
     let payload = match calling.set_profile {
         Some(path) => Some(read_payload_file(rt, path)?),
         None => None,
     };
-    let socket = connect_operator(rt, rt.alloc(), calling.url)?;
+    let socket = connect(rt, rt.alloc(), address)?;
     let mut caller = Caller {
         rt,
         client: OperatorClient::new(rt.alloc(), socket),

@@ -9,10 +9,10 @@ use crate::program::program_fault::ProgramFault;
 use crate::program::script_input::read_script;
 use crate::program::site_file::read_site_bytes;
 use checks::{
-    Change, Finding, Severity, check_change, check_printed, check_script, check_site,
+    Change, Finding, ScriptCheck, Severity, check_change, check_printed, check_site,
     check_standing, exit_status, sort_by_line,
 };
-use shown::{Trace, ending_text, trace_script, trace_text};
+use shown::{Depth, Trace, ending_text, trace_text};
 use site_rules::{Site, SiteFault, read_site};
 use std::alloc::{AllocError, AllocGlobal, Global};
 use std::fmt::Write;
@@ -69,9 +69,13 @@ fn push_played(
     requires { length script.now ≤ max_script_bytes }
 {
     let alloc = *page.allocator();
-    let mut findings = check_script(alloc, &site, script)?;
-    let trace = trace_script(alloc, script, site, None)?;
-    find_in_answers(alloc, &trace, &mut findings)?;
+    let depth = if with_trace {
+        Depth::Lines
+    } else {
+        Depth::State
+    };
+    let mut trace = Trace::new(alloc, script, site, depth)?;
+    let mut findings = find_in_lines(alloc, script, &mut trace)?;
     find_in_changes(alloc, &trace, &mut findings)?;
     find_at_the_end(alloc, &trace, &mut findings)?;
     sort_by_line(&mut findings)?;
@@ -83,17 +87,27 @@ fn push_played(
     Ok(findings)
 }
 
-/// Adds what is found in the answers of a script's lines.
-fn find_in_answers(
+/// Plays a script line by line. Returns what is found in its lines, and what is found in what they print.
+fn find_in_lines(
     alloc: Global,
-    trace: &Trace<'_>,
-    findings: &mut Vec<Finding>,
-) -> Result<(), AllocError> {
-    for line in trace.lines() {
-        let mut more = check_printed(alloc, line.number, line.printed.as_str())?;
-        findings.append(&mut more)?;
+    script: &[u8],
+    trace: &mut Trace<'_>,
+) -> Result<Vec<Finding>, AllocError> {
+    let mut check = ScriptCheck::new(alloc);
+    let mut printed = Vec::new(alloc);
+    // Each line has a byte at least.
+    for _line in 0..script.len() {
+        let Some(played) = trace.next()? else {
+            break;
+        };
+        check.take_in(trace.playing().machine().site(), &played)?;
+        let lines = played.outcome.printed.as_slice();
+        printed.append(&mut check_printed(alloc, played.number, lines)?)?;
+        trace.take_in(played)?;
     }
-    Ok(())
+    let mut findings = check.finish(trace.playing().held())?;
+    findings.append(&mut printed)?;
+    Ok(findings)
 }
 
 /// Adds what is found in what lines changed in the profiles of their points.
@@ -126,8 +140,7 @@ fn find_at_the_end(
     for place in 0..site.len() {
         if let Some(point) = site.point(place) {
             if let Some(book) = machine.book_of(point.id) {
-                let view = book.view();
-                let mut more = check_standing(alloc, site.unit(), point.id, &view)?;
+                let mut more = check_standing(alloc, site.unit(), point.id, book)?;
                 findings.append(&mut more)?;
             }
         }

@@ -257,11 +257,10 @@ fn showing_of<'a>(given: &ArgMatches<'a>) -> Option<Showing<'a>>
     ensures { IfSome result (λ showing. IsShowing (rows_of (found_of given.now)) showing) }
 {
     let site = text_of(given, "site")?;
-    let last_line = optional_number_of(given, "at");
     let json = is_given(given, "json");
     Some(Showing {
         site,
-        last_line,
+        last_line: optional_number_of(given, "at"),
         json,
     })
 }

@@ -7,9 +7,9 @@ use session::{Journal, SentText};
 use std::alloc::{AllocError, AllocGlobal, Global};
 use std::fs::File;
 use std::io::{ErrorKind, Write};
-use std::mem;
 use std::rt::Files;
 use std::sync::{Mutex, Wait};
+use std::{fs, mem};
 
 /// A file to which sessions write the texts that they serve, each as a line of a script (`replay`), or nothing where no
 /// file is named. Once it can't be written, or memory runs out for a line, nothing is written any more.
@@ -47,6 +47,28 @@ impl<'a, R: Files<File = File> + AllocGlobal> JournalFile<'a, R> {
             file: Mutex::new(file),
             noted: Mutex::new(noted),
         })
+    }
+}
+
+/// Refuses a name of a journal at which something is there already, before anything else is done.
+pub fn refuse_existing<R: Files>(rt: &R, path: Option<&str>) -> Result<(), ProgramFault> {
+    // Where that can't be said, making the file says what is wrong.
+    match path {
+        Some(path) if fs::exists(rt, path).unwrap_or(false) => Err(ProgramFault::JournalExists),
+        _ => Ok(()),
+    }
+}
+
+/// Removes a journal in which nothing was written, so that the same command line may be tried again.
+pub fn remove_if_empty<R: Files>(rt: &R, path: Option<&str>) {
+    let Some(path) = path else {
+        return;
+    };
+    if let Ok(found) = fs::metadata(rt, path) {
+        if found.len() == 0 {
+            // Where it can't be removed, it is in the way of the next start and no more.
+            let _ = rt.remove_file(path);
+        }
     }
 }
 
@@ -89,6 +111,8 @@ impl<R: Wait + Eprint> Journal for JournalFile<'_, R> {
             return;
         }
         *file = None;
+        // Whoever says it may be held up: the sessions that write next aren't.
+        drop(file);
         let mut noted = self.noted.lock(self.rt);
         noted.is_ended = true;
         drop(noted);

@@ -4,7 +4,7 @@ use crate::program::command_line::Pointing;
 use crate::program::program_fault::ProgramFault;
 use crate::program::site_file::read_site_file;
 use crate::program::system_clock::SystemClock;
-use client::{Lines, TerminalPoint, connect};
+use client::{Address, Lines, TerminalPoint, connect};
 use sim_point::SimPoint;
 use site_rules::Site;
 use std::alloc::{AllocError, AllocGlobal, Global};
@@ -28,11 +28,12 @@ pub fn run_point<
         + Drop,
 >(rt: &R, pointing: Pointing<'_>) -> Result<u8, ProgramFault> {
     let alloc = rt.alloc();
-    let site = read_site_file(rt, pointing.site)?;
-    let point = point_of_site(alloc, &site, pointing.id)?;
     let base = pointing.url.trim_end_matches('/');
     let url = format!(in alloc; "{base}/{}", pointing.id)?;
-    let socket = connect(rt, alloc, url.as_str())?;
+    let address = Address::of_url(alloc, url.as_str())?;
+    let site = read_site_file(rt, pointing.site)?;
+    let point = point_of_site(alloc, &site, pointing.id)?;
+    let socket = connect(rt, alloc, address)?;
     let mut lines = Lines::new(alloc, rt.reader())?;
     let terminal = TerminalPoint {
         alloc,

@@ -3,11 +3,12 @@
 ghost use Rattle.std.specs.Prelude.{◌≤◌};
 
 use crate::program::command_line::Serving;
-use crate::program::journal_file::JournalFile;
+use crate::program::journal_file::{JournalFile, refuse_existing, remove_if_empty};
 use crate::program::program_fault::ProgramFault;
 use crate::program::site_file::read_site_file;
 use crate::program::system_clock::SystemClock;
 use server::{ServeFault, serve_noted};
+use site_rules::Site;
 use std::alloc::AllocGlobal;
 use std::fs::File;
 use std::marker::Sync;
@@ -33,33 +34,56 @@ pub fn serve_file<
     requires workers { 1 ≤ serving.workers }
     requires sessions { 1 ≤ serving.sessions }
 {
-    let Serving {
-        site,
-        listen,
-        workers,
-        sessions,
-        journal,
-    } = serving;
-    let site = read_site_file(rt, site)?;
-    let Ok(listener) = TcpListener::bind(rt, listen) else {
+    refuse_existing(rt, serving.journal)?;
+    let site = read_site_file(rt, serving.site)?;
+    let Ok(listener) = TcpListener::bind(rt, serving.listen) else {
         return Err(ProgramFault::Serve(ServeFault::Socket));
     };
-    let journal = JournalFile::make(rt, journal)?;
-    if println!(rt; "listening {listen}").is_err() {
+    let journal = JournalFile::make(rt, serving.journal)?;
+    match serve_listening(rt, serving, site, listener, &journal) {
+        Ok(totals) => print_totals(rt, totals),
+        Err(fault) => {
+            remove_if_empty(rt, serving.journal);
+            Err(fault)
+        }
+    }
+}
+
+/// Serves a site on a listener, and prints where that listens.
+fn serve_listening<
+    R: Files<File = File>
+        + Print
+        + Eprint
+        + AllocGlobal
+        + Clock
+        + Net<Listener = TcpListener, Stream = TcpStream>
+        + Threads
+        + Wait
+        + Sync,
+>(
+    rt: &R,
+    serving: Serving<'_>,
+    site: Site,
+    listener: TcpListener,
+    journal: &JournalFile<'_, R>,
+) -> Result<Totals, ProgramFault>
+    requires workers { 1 ≤ serving.workers }
+    requires sessions { 1 ≤ serving.sessions }
+{
+    if println!(rt; "listening {}", serving.listen).is_err() {
         return Err(ProgramFault::Write);
     }
-    let clock = SystemClock { rt };
     match serve_noted(
         rt,
         rt.alloc(),
         site,
         listener,
-        workers as usize,
-        sessions,
-        &clock,
-        &journal,
+        serving.workers as usize,
+        serving.sessions,
+        &SystemClock { rt },
+        journal,
     ) {
-        Ok(totals) => print_totals(rt, totals),
+        Ok(totals) => Ok(totals),
         Err(fault) => Err(ProgramFault::Serve(fault)),
     }
 }

@@ -5,7 +5,7 @@ use crate::program::pages::{note_refused_lines, print_page};
 use crate::program::program_fault::ProgramFault;
 use crate::program::script_input::read_script;
 use crate::program::site_file::read_site_file;
-use shown::{standing_json, standing_text, trace_script};
+use shown::{Depth, standing_json, standing_text, trace_script};
 use std::alloc::AllocGlobal;
 use std::rt::Files;
 
@@ -17,7 +17,13 @@ pub fn show_file<R: Files + Input + Print + Eprint + AllocGlobal>(
     let alloc = rt.alloc();
     let site = read_site_file(rt, showing.site)?;
     let script = read_script(rt)?;
-    let trace = trace_script(alloc, script.as_slice(), site, showing.last_line)?;
+    let trace = trace_script(
+        alloc,
+        script.as_slice(),
+        site,
+        showing.last_line,
+        Depth::State,
+    )?;
     let page = if showing.json {
         standing_json(alloc, &trace)?
     } else {

@@ -2,8 +2,7 @@
 use Rattle.std.specs.Prelude.{ℕ, List}
 use Rattle.std.specs.Fmt.{decimal, signed_decimal}
 use Rattle.ocpp_scalars.specs.Writing.{tenths_text}
-use Rattle.messages.specs.ResponseText.{unit_text}
-use Rattle.messages.specs.CallText.{kind_name, purpose_name, recurrency_name}
+use Rattle.messages.specs.Names.{kind_name, purpose_name, recurrency_name, unit_text}
 use Rattle.messages.specs.ObjectText.{string_text, time_text}
 use Rattle.messages.specs.declared.field_value.FieldValue.{FieldValue}
 use Rattle.messages.specs.declared.field_value.FieldValue.TheVariants.{Whole, Signed, Tenths, Time, PurposeName, KindName, RecurrencyName, UnitName}

@@ -1,6 +1,6 @@
 -- What a text asks for is no compile. Of private clauses.
-use Rattle.session.specs.declared.asked.Asked.{Asked}
-use Rattle.session.specs.declared.asked.Asked.TheVariants as asked
+use Rattle.texts.specs.declared.asked.Asked.{Asked}
+use Rattle.texts.specs.declared.asked.Asked.TheVariants as asked
 use Rattle.replay.specs.ByCases.MachineSteps.{IsAsked}
 
 abbrev pub AsksNoCompile : Asked → Type 0

@@ -10,7 +10,7 @@ use Rattle.replay.specs.declared.script.form.LineWord.TheVariants.{Operator, Poi
 use Rattle.replay.specs.declared.script.form.Words.{Words}
 use Rattle.replay.specs.declared.script.form.Words.TheVariants.{Text, Release}
 use Rattle.replay.specs.Form.{Form, text_line, release_line}
-use Rattle.session.specs.ByCases.Number.{number_of}
+use Rattle.texts.specs.ByCases.Number.{number_of}
 
 abbrev pub is_space : ℕ → Bool
 is_space b = b == space

@@ -1,13 +1,15 @@
 //! Steps of the central system's machine, those on a point's link and calls among them.
 
-ghost use Rattle.std.specs.Prelude.{◌≡◌, IfOk, OnOk};
+ghost use Rattle.std.specs.Prelude.{◌≡◌, IsTrue, IfOk, OnOk};
 ghost use Rattle.replay.specs.MachineSteps.{stepped_exactly, handed_out, stepped_at_once, attached_once, call_sent, sent_first, confirmed_by};
-ghost use Rattle.replay.specs.ByCases.MachineSteps.{ComesOf, IsAsked, is_memory};
+ghost use Rattle.site_core.specs.declared.step.Step.TheVariants as steps;
+ghost use Rattle.replay.specs.ByCases.MachineSteps.{ComesOf, IsAsked, is_memory, LeadsTo, MayBeSkimmed};
 
-use meaning::exact_schedules;
+use crate::player::most_periods::most_periods;
+use meaning::{Ask, MAX_COMPOSITE_PERIODS, exact_schedules};
 use messages::Call;
 use ocpp_scalars::Refusal;
-use site_core::{Machine, PointId, Reply, Step, skipped_sends_send_nothing};
+use site_core::{Machine, PointId, Reply, Step, Take, skipped_sends_send_nothing};
 use std::alloc::{AllocError, Global};
 
 /// What comes of a step: its reply, or why it is refused.
@@ -31,6 +33,60 @@ pub fn step_at_once(machine: &mut Machine, step: Step) -> Result<StepOutcome, Al
     match step_exactly(machine, step)? {
         Ok(Reply::Taken { number, .. }) => hand_out(machine, number),
         outcome => Ok(outcome),
+    }
+}
+
+/// Makes a Take, and answers its request at once, for the state that it leads to alone.
+pub fn skim_take(machine: &mut Machine, take: Take) -> Result<StepOutcome, AllocError>
+    ensures { IfOk result (λ outcome.
+        LeadsTo (stepped_at_once machine.old (steps.Take take)) outcome machine.new) }
+{
+    // The request is gone again at once, so its answer makes no difference to the state: that to an ask of one
+    // second does as well.
+    if makes_no_difference(machine, &take) {
+        let outcome = step_at_once(machine, Step::Take(first_second(take)))?;
+        return Ok(outcome);
+    }
+    let outcome = step_at_once(machine, Step::Take(take))?;
+    Ok(outcome)
+}
+
+/// Whether an ask has no more periods than an answer may have, and no other request is kept: then its answer makes no
+/// difference. That it is too long would be told, so nothing is left out where that may be.
+fn makes_no_difference(machine: &Machine, take: &Take) -> bool
+    ensures { IsTrue result → MayBeSkimmed machine.now take.now }
+{
+    if machine.open_requests() > 0 {
+        return false;
+    }
+    let Ok(ask) = Ask::try_new(take.connector, take.start, take.duration) else {
+        return false;
+    };
+    let Ok(_second) = Ask::try_new(take.connector, take.start, 1) else {
+        return false;
+    };
+    is_surely_short(machine, take.point.as_str(), &ask)
+}
+
+/// Whether the schedule of an ask surely has no more periods than an answer may have.
+fn is_surely_short(machine: &Machine, point: &str, ask: &Ask) -> bool {
+    match machine.book_of(point) {
+        Some(book) => most_periods(&book.view(), ask) <= MAX_COMPOSITE_PERIODS as u64,
+        None => false,
+    }
+}
+
+/// The Take of the first second of what one asks.
+fn first_second(take: Take) -> Take
+    ensures { result ≡ record take { duration = 1 } }
+{
+    Take {
+        point: take.point,
+        connector: take.connector,
+        start: take.start,
+        duration: 1,
+        unit: take.unit,
+        seen: take.seen,
     }
 }
 
@@ -97,15 +153,17 @@ fn call_sent(outcome: StepOutcome) -> Option<Call>
 }
 
 /// Confirms the call of a number to a point over its link. Where that call isn't in flight, nothing changes.
-pub fn confirm_call(machine: &mut Machine, point: PointId, call: u64) -> Result<(), AllocError>
-    ensures { OnOk result (machine.new ≡ confirmed_by machine.old point call) }
+pub fn confirm_call(
+    machine: &mut Machine,
+    point: PointId,
+    call: u64,
+) -> Result<StepOutcome, AllocError>
+    ensures { IfOk result (λ outcome. confirmed_by machine.old point call
+        ≡ record { outcome = outcome; after = machine.new }) }
 {
     match machine.link_of(point.as_str()) {
-        Some(link) => {
-            let _ = step_exactly(machine, Step::Confirm { point, link, call })?;
-            Ok(())
-        }
-        None => Ok(()),
+        Some(link) => step_exactly(machine, Step::Confirm { point, link, call }),
+        None => Ok(Err(Refusal::NothingInFlight)),
     }
 }
 

@@ -2,22 +2,24 @@
 //! texts are read into.
 
 ghost use Rattle.std.specs.Prelude.{◌≡◌, ◌∷◌, [], ◌++◌, None, IfOk, OnOk};
-ghost use Rattle.session.specs.Asked.{hold_of, asked_of};
+ghost use Rattle.site_core.specs.declared.step.Step.TheVariants as steps;
+ghost use Rattle.texts.specs.Asked.{hold_of, asked_of};
 ghost use Rattle.replay.specs.Held.{id_held, let_go};
 ghost use Rattle.replay.specs.MachineSteps.{stepped_exactly, handed_out, stepped_at_once, attached_once, sent_first, confirmed_by};
 ghost use Rattle.replay.specs.ByCases.MachineSteps.{IsAsked};
 
 use crate::player::held::{Held, let_go};
 use crate::player::machine_steps::{
-    StepOutcome, attach_once, confirm_call, hand_out, send_first, step_at_once, step_exactly,
+    StepOutcome, attach_once, confirm_call, hand_out, send_first, skim_take, step_at_once,
+    step_exactly,
 };
 use messages::Call;
 use ocppj_frame::{MessageId, ReadingMemory};
-use session::{Asked, SentText, Unread, asked_of, hold_of};
-use site_core::{Machine, PointId, Step};
+use site_core::{Machine, PointId, Step, Take};
 use site_rules::Site;
 use std::alloc::{AllocError, Global};
 use std::marker::Model;
+use texts::{Asked, SentText, Unread, asked_of, hold_of};
 
 /// The player of a script.
 #[derive(Drop)]
@@ -43,7 +45,7 @@ impl Model for Player {
 
 impl Player {
     ghost use Rattle.replay.specs.Player.{first_state, with_machine};
-    ghost use Rattle.replay.specs.ByCases.Player.{ComesTo, Sends};
+    ghost use Rattle.replay.specs.ByCases.Player.{ComesTo, Skims, Sends};
 
     /// Before the first line of a script on a site.
     pub fn new(alloc: Global, site: Site) -> Result<Player, AllocError>
@@ -123,6 +125,15 @@ impl Player {
         step_at_once(&mut self.machine, step)
     }
 
+    /// Makes a Take and answers its request at once, for the state that it leads to alone: where it can do without,
+    /// no schedule is made but of the first second.
+    pub fn skim_take(&mut self, take: Take) -> Result<StepOutcome, AllocError>
+        ensures { IfOk result (λ outcome. Skims self.old
+            (stepped_at_once self.old.machine (steps.Take take)) outcome self.new) }
+    {
+        skim_take(&mut self.machine, take)
+    }
+
     /// Answers the request of a number.
     pub fn hand_out(&mut self, number: u64) -> Result<StepOutcome, AllocError>
         ensures { IfOk result
@@ -148,11 +159,12 @@ impl Player {
     }
 
     /// Confirms the call of a number to a point, if it is in flight.
-    pub fn confirm_call(&mut self, point: PointId, call: u64) -> Result<(), AllocError>
-        ensures { OnOk result
-            (self.new ≡ with_machine self.old (confirmed_by self.old.machine point call)) }
+    pub fn confirm_call(&mut self, point: PointId, call: u64) -> Result<StepOutcome, AllocError>
+        ensures { IfOk result (λ outcome.
+            ComesTo self.old (confirmed_by self.old.machine point call) outcome self.new) }
     {
-        confirm_call(&mut self.machine, point, call)
+        let outcome = confirm_call(&mut self.machine, point, call)?;
+        Ok(outcome)
     }
 
     /// Holds a request.

@@ -3,7 +3,7 @@
 ghost use Rattle.std.specs.Prelude.{◌≡◌, option_map};
 ghost use Rattle.replay.specs.ByCases.Form.{word_at, word_named, words_view, form_of};
 
-use session::number_of;
+use texts::number_of;
 
 /// Which line that brings a text it is, by its second word.
 #[derive(Clone, Copy, Debug, PartialEq, Eq)]

@@ -8,9 +8,9 @@ ghost use Rattle.replay.specs.Line.{instant_in, is_stranger, text_of, said_at, l
 use crate::script::form::{LineWord, Words, split_words};
 use messages::Side;
 use ocpp_scalars::{Instant, read_instant};
-use session::SentText;
 use site_rules::Site;
 use std::fmt;
+use texts::SentText;
 
 /// The longest line of a script, in bytes.
 const MAX_LINE_BYTES: usize = 1_048_576;

@@ -1,12 +1,13 @@
-//! What a line of a script prints, and what its player does at it.
+//! What comes of a line of a script: what it prints, and what its player does at it.
 
-ghost use Rattle.std.specs.Prelude.{◌≡◌, ◌++◌, true, false, IfOk, OnOk, string_bytes};
-ghost use Rattle.replay.specs.PrintedLine.{response_line, sent_line, held_line, fault_line};
-ghost use Rattle.replay.specs.PrintedLine.{printed_texts};
+ghost use Rattle.std.specs.Prelude.{◌≡◌, ◌∷◌, [], ◌++◌, true, false, IfOk, OnOk};
+ghost use Rattle.replay.specs.declared.script.printed_line.PrintedLine.TheVariants as lines;
 ghost use Rattle.replay.specs.Play.{outcome_lines, call_lines};
+ghost use Rattle.replay.specs.PointChange.{change_of};
 ghost use Rattle.replay.specs.Play.{asked_handled, point_handled, text_handled, hold_handled};
-ghost use Rattle.replay.specs.Play.{release_played, said_played, line_played, IsPlayed, IsHandled};
-ghost use Rattle.session.specs.Asked.{asked_of};
+ghost use Rattle.replay.specs.Play.{release_played, said_played, said_on, played_as, line_played};
+ghost use Rattle.replay.specs.Play.{IsPlayed, IsHandled};
+ghost use Rattle.texts.specs.Asked.{asked_of};
 ghost use Rattle.replay.specs.ByCases.Asked.{AsksNoCompile};
 ghost use Rattle.replay.specs.Held.{id_held};
 
@@ -14,172 +15,230 @@ use crate::player::held::Held;
 use crate::player::machine_steps::StepOutcome;
 use crate::player::player::Player;
 use crate::script::line::{LineFault, ScriptLine, read_line};
-use messages::{ActionKind, Call, Response, Side, push_call, push_response};
+use crate::script::played_line::{LineOutcome, PlayedLine};
+use crate::script::point_change::{PointChange, change_of};
+use crate::script::printed_line::PrintedLine;
+use messages::{ActionKind, Call, Side};
 use ocppj_frame::MessageId;
 use profile::Unit;
-use session::{Asked, SentText, response_of};
-use site_core::Reply;
+use site_core::{PointId, Reply};
+use site_rules::Site;
 use std::alloc::{AllocError, Global};
-
-/// What a line of the script prints.
-#[derive(Debug, Drop)]
-pub struct Printed {
-    /// Whole lines, or nothing.
-    pub text: String,
-    /// Whether the script's line has a fault.
-    pub is_fault: bool,
-}
+use texts::{Asked, SentText, response_of};
 
 /// Plays the line of this number. After an error the script can't go on.
-pub fn play_line(player: &mut Player, number: u64, line: &[u8]) -> Result<Printed, AllocError>
-    ensures { IfOk result
-        (λ printed. IsPlayed (line_played player.old number line.now) printed player.new) }
+pub fn play_line<'a>(
+    player: &mut Player,
+    number: u64,
+    line: &'a [u8],
+) -> Result<PlayedLine<'a>, AllocError>
+    ensures number { IfOk result (λ played. played.number ≡ number) }
+    ensures line { IfOk result (λ played. played.line.now ≡ line.entry.now) }
+    ensures said { IfOk result
+        (λ played. played.said ≡ said_on player.old.machine.site line.entry.now) }
+    ensures outcome { IfOk result (λ played. IsPlayed
+        (line_played player.old number line.entry.now) played.outcome player.new) }
+{
+    let said = said_on(player.site(), line);
+    let outcome = read_outcome(player, number, &said)?;
+    Ok(PlayedLine {
+        number,
+        line,
+        said,
+        outcome,
+    })
+}
+
+/// What a line says on a site, or its fault; nothing where it is empty.
+pub fn said_on<'a>(site: &Site, line: &'a [u8]) -> Option<Result<ScriptLine<'a>, LineFault>>
+    ensures { result ≡ said_on site.now line.entry.now }
 {
     if line.is_empty() {
-        return Ok(without_fault(String::new(player.alloc())));
+        return None;
     }
-    match read_line(line, player.site()) {
-        Ok(said) => play_said(player, number, said),
-        Err(fault) => fault_printed(player.alloc(), number, fault),
+    Some(read_line(line, site))
+}
+
+/// What comes of what a line says, or of its fault.
+pub fn read_outcome(
+    player: &mut Player,
+    number: u64,
+    said: &Option<Result<ScriptLine<'_>, LineFault>>,
+) -> Result<LineOutcome, AllocError>
+    ensures { IfOk result
+        (λ outcome. IsPlayed (played_as player.old number said.now) outcome player.new) }
+{
+    match said {
+        None => Ok(without_lines(player.alloc(), PointChange::Nothing)),
+        Some(Ok(said)) => said_outcome(player, number, said),
+        Some(Err(fault)) => fault_outcome(player.alloc(), number, *fault),
     }
 }
 
-/// Plays what a line says.
-fn play_said(player: &mut Player, number: u64, said: ScriptLine<'_>) -> Result<Printed, AllocError>
+/// What comes of what a line says.
+fn said_outcome(
+    player: &mut Player,
+    number: u64,
+    said: &ScriptLine<'_>,
+) -> Result<LineOutcome, AllocError>
     ensures { IfOk result
-        (λ printed. IsPlayed (said_played player.old number said.entry) printed player.new) }
+        (λ outcome. IsPlayed (said_played player.old number said.now) outcome player.new) }
 {
     match said {
-        ScriptLine::Text(text) => Ok(without_fault(text_lines(player, &text)?)),
-        ScriptLine::Hold(text) => match player.hold_of(&text)? {
-            Some(asked) => Ok(without_fault(hold_line(player, asked)?)),
-            None => fault_printed(player.alloc(), number, LineFault::NotComposite),
+        ScriptLine::Text(text) => text_outcome(player, text),
+        ScriptLine::Hold(text) => match player.hold_of(text)? {
+            Some(asked) => hold_outcome(player, asked),
+            None => fault_outcome(player.alloc(), number, LineFault::NotComposite),
         },
-        ScriptLine::Release(request) => play_release(player, number, request),
+        ScriptLine::Release(request) => release_outcome(player, number, *request),
     }
 }
 
 /// Answers the held request of this number.
-fn play_release(player: &mut Player, number: u64, request: u64) -> Result<Printed, AllocError>
-    ensures { IfOk result (λ printed. IsPlayed
+fn release_outcome(
+    player: &mut Player,
+    number: u64,
+    request: u64,
+) -> Result<LineOutcome, AllocError>
+    ensures { IfOk result (λ outcome. IsPlayed
         (release_played player.old number request (id_held request player.old.held))
-        printed player.new) }
+        outcome player.new) }
 {
     let Some(id) = player.let_go(request) else {
-        return fault_printed(player.alloc(), number, LineFault::UnknownRequest);
+        return fault_outcome(player.alloc(), number, LineFault::UnknownRequest);
     };
     let unit = player.site().unit();
     let outcome = player.hand_out(request)?;
     let kind = ActionKind::GetCompositeSchedule;
-    Ok(without_fault(outcome_line(player.alloc(), unit, kind, &id, outcome)?))
+    step_outcome(player.alloc(), unit, id, kind, outcome)
 }
 
-/// Lines that aren't of a fault.
-fn without_fault(text: String) -> Printed
-    ensures { result ≡ record { text = text; is_fault = false } }
+/// What comes of a line that prints nothing.
+fn without_lines(alloc: Global, change: PointChange) -> LineOutcome
+    ensures printed { result.printed.items ≡ [] }
+    ensures fault { result.is_fault ≡ false }
+    ensures change { result.change ≡ change }
 {
-    Printed {
-        text,
+    LineOutcome {
+        printed: Vec::new(alloc),
         is_fault: false,
+        change,
     }
 }
 
-/// The line with the fault of the script's line of this number.
-fn fault_printed(alloc: Global, number: u64, fault: LineFault) -> Result<Printed, AllocError>
-    ensures text { IfOk result
-        (λ printed. string_bytes printed.text ≡ fault_line number fault) }
-    ensures is { IfOk result (λ printed. printed.is_fault ≡ true) }
+/// What comes of a line that prints one line and has no fault.
+fn with_line(
+    alloc: Global,
+    line: PrintedLine,
+    change: PointChange,
+) -> Result<LineOutcome, AllocError>
+    ensures printed { IfOk result (λ outcome. outcome.printed.items ≡ line ∷ []) }
+    ensures fault { IfOk result (λ outcome. outcome.is_fault ≡ false) }
+    ensures change { IfOk result (λ outcome. outcome.change ≡ change) }
 {
-    Ok(Printed {
-        text: format!(in alloc; "! {number} {fault}\n")?,
-        is_fault: true,
+    Ok(LineOutcome {
+        printed: vec![in alloc; line]?,
+        is_fault: false,
+        change,
     })
 }
 
-/// The lines with the answer to a text and the call that goes out to its sender.
-fn text_lines(player: &mut Player, text: &SentText<'_>) -> Result<String, AllocError>
-    ensures { IfOk result (λ lines. IsHandled
-        (text_handled player.old text.now.sender text.now) (string_bytes lines) player.new) }
+/// What comes of the script's line of this number, which has a fault.
+fn fault_outcome(alloc: Global, number: u64, fault: LineFault) -> Result<LineOutcome, AllocError>
+    ensures printed { IfOk result
+        (λ outcome. outcome.printed.items ≡ lines.Fault number fault ∷ []) }
+    ensures fault { IfOk result (λ outcome. outcome.is_fault ≡ true) }
+    ensures change { IfOk result (λ outcome. outcome.change ≡ PointChange.Nothing) }
+{
+    Ok(LineOutcome {
+        printed: vec![in alloc;
+            PrintedLine::Fault {
+                line: number,
+                fault
+            },
+        ]?,
+        is_fault: true,
+        change: PointChange::Nothing,
+    })
+}
+
+/// What comes of a text: its answer, and the call that goes out to its sender.
+pub fn text_outcome(player: &mut Player, text: &SentText<'_>) -> Result<LineOutcome, AllocError>
+    ensures { IfOk result (λ outcome. IsHandled
+        (text_handled player.old text.now.sender text.now) outcome player.new) }
 {
     match text.sender() {
-        Side::Operator => answer_line(player, text),
-        Side::Point => point_lines(player, text),
+        Side::Operator => answer_outcome(player, text),
+        Side::Point => point_outcome(player, text),
     }
 }
 
-/// The lines with the answer to a point's text and the call that goes out to the point, which has a link then.
-fn point_lines(player: &mut Player, text: &SentText<'_>) -> Result<String, AllocError>
+/// What comes of a point's text: its answer, and the call that goes out to the point, which has a link then.
+fn point_outcome(player: &mut Player, text: &SentText<'_>) -> Result<LineOutcome, AllocError>
     ensures { IfOk result
-        (λ lines. IsHandled (point_handled player.old text.now) (string_bytes lines) player.new) }
+        (λ outcome. IsHandled (point_handled player.old text.now) outcome player.new) }
 {
     player.attach_once(text.point())?;
-    let mut lines = answer_line(player, text)?;
+    let mut outcome = answer_outcome(player, text)?;
     let call = player.send_first(text.point())?;
-    push_call_line(&mut lines, text.point(), &call)?;
-    Ok(lines)
+    push_call_line(player.alloc(), &mut outcome.printed, text.point(), call)?;
+    Ok(outcome)
 }
 
 /// Appends the line with the call that goes out to a point, if one does.
-fn push_call_line(lines: &mut String, point: &str, call: &Option<Call>) -> Result<(), AllocError>
-    ensures { OnOk result
-        (string_bytes lines.new
-        ≡ string_bytes lines.old ++ printed_texts (call_lines point.now call.now)) }
+fn push_call_line(
+    alloc: Global,
+    lines: &mut Vec<PrintedLine>,
+    point: &str,
+    call: Option<Call>,
+) -> Result<(), AllocError>
+    ensures { OnOk result (lines.new.items ≡ lines.old.items ++ call_lines point.now call) }
 {
-    match call {
-        Some(call) => push_sent(lines, point, call),
-        None => Ok(()),
+    if let Some(call) = call {
+        let point = PointId::copied(alloc, point)?;
+        lines.push(PrintedLine::Call { point, call })?;
     }
-}
-
-/// Appends the line with a call that goes out to a point.
-fn push_sent(lines: &mut String, point: &str, call: &Call) -> Result<(), AllocError>
-    ensures { OnOk result
-        (string_bytes lines.new ≡ string_bytes lines.old ++ sent_line point.now call.now) }
-{
-    lines.push_str("* ")?;
-    lines.push_str(point)?;
-    lines.push_str(" ")?;
-    push_call(lines, call)?;
-    lines.push_str("\n")?;
     Ok(())
 }
 
-/// The line with the answer to a text, if it has one.
-fn answer_line(player: &mut Player, text: &SentText<'_>) -> Result<String, AllocError>
-    ensures { IfOk result (λ line. IsHandled
-        (asked_handled player.old (asked_of text.now)) (string_bytes line) player.new) }
+/// What comes of a text without a call that goes out: its answer, if it has one.
+fn answer_outcome(player: &mut Player, text: &SentText<'_>) -> Result<LineOutcome, AllocError>
+    ensures { IfOk result (λ outcome. IsHandled
+        (asked_handled player.old (asked_of text.now)) outcome player.new) }
 {
     let asked = player.asked_of(text)?;
-    asked_line(player, asked)
+    asked_outcome(player, asked)
 }
 
-/// The line with the answer to what a text asks for, if it has one.
-fn asked_line(player: &mut Player, asked: Asked) -> Result<String, AllocError>
+/// What comes of what a text asks for.
+pub fn asked_outcome(player: &mut Player, asked: Asked) -> Result<LineOutcome, AllocError>
     requires { AsksNoCompile asked }
     ensures { IfOk result
-        (λ line. IsHandled (asked_handled player.old asked) (string_bytes line) player.new) }
+        (λ outcome. IsHandled (asked_handled player.old asked) outcome player.new) }
 {
-    let alloc = player.alloc();
     match asked {
-        Asked::Nothing => Ok(String::new(alloc)),
-        Asked::Respond { id, response } => response_line(alloc, id.as_str(), &response),
+        Asked::Nothing => Ok(without_lines(player.alloc(), PointChange::Nothing)),
+        Asked::Respond { id, response } => {
+            let line = PrintedLine::Answer { id, response };
+            with_line(player.alloc(), line, PointChange::Nothing)
+        }
         Asked::Step { id, kind, step } => {
             let unit = player.site().unit();
             let outcome = player.step_at_once(step)?;
-            outcome_line(alloc, unit, kind, &id, outcome)
+            step_outcome(player.alloc(), unit, id, kind, outcome)
         }
         Asked::Confirm { point, call } => {
-            player.confirm_call(point, call)?;
-            Ok(String::new(alloc))
+            let outcome = player.confirm_call(point, call)?;
+            Ok(without_lines(player.alloc(), change_of(&outcome)))
         }
     }
 }
 
-/// The line with the number of the request that is held, or with the answer to a text whose ask isn't.
-fn hold_line(player: &mut Player, asked: Asked) -> Result<String, AllocError>
+/// What comes of a held ask: the number of its request, or the answer where none is kept.
+fn hold_outcome(player: &mut Player, asked: Asked) -> Result<LineOutcome, AllocError>
     requires { AsksNoCompile asked }
     ensures { IfOk result
-        (λ line. IsHandled (hold_handled player.old asked) (string_bytes line) player.new) }
+        (λ outcome. IsHandled (hold_handled player.old asked) outcome player.new) }
 {
     match asked {
         Asked::Step { id, kind, step } => {
@@ -187,47 +246,35 @@ fn hold_line(player: &mut Player, asked: Asked) -> Result<String, AllocError>
             match player.step(step)? {
                 Ok(Reply::Taken { number, .. }) => {
                     player.hold(Held { number, id })?;
-                    held_line(player.alloc(), number)
+                    with_line(
+                        player.alloc(),
+                        PrintedLine::Held(number),
+                        PointChange::Nothing,
+                    )
                 }
-                outcome => outcome_line(player.alloc(), unit, kind, &id, outcome),
+                outcome => step_outcome(player.alloc(), unit, id, kind, outcome),
             }
         }
-        other => asked_line(player, other),
+        other => asked_outcome(player, other),
     }
 }
 
-/// The line with the number of a held request.
-fn held_line(alloc: Global, number: u64) -> Result<String, AllocError>
-    ensures { IfOk result (λ line. string_bytes line ≡ held_line number) }
-{
-    format!(in alloc; "held {number}\n")
-}
-
-/// The line with the answer to the CALL of this id, if what came of its step is answered.
-fn outcome_line(
+/// What comes of the CALL of this id, whose step has this outcome.
+pub fn step_outcome(
     alloc: Global,
     unit: Unit,
+    id: MessageId,
     kind: ActionKind,
-    id: &MessageId,
     outcome: StepOutcome,
-) -> Result<String, AllocError>
-    ensures { IfOk result
-        (λ line. string_bytes line ≡ printed_texts (outcome_lines unit id.now kind outcome)) }
+) -> Result<LineOutcome, AllocError>
+    ensures printed { IfOk result (λ line. line.printed.items
+        ≡ outcome_lines unit id kind outcome) }
+    ensures fault { IfOk result (λ line. line.is_fault ≡ false) }
+    ensures change { IfOk result (λ line. line.change ≡ change_of outcome) }
 {
+    let change = change_of(&outcome);
     match response_of(unit, kind, outcome) {
-        Some(response) => response_line(alloc, id.as_str(), &response),
-        None => Ok(String::new(alloc)),
+        Some(response) => with_line(alloc, PrintedLine::Answer { id, response }, change),
+        None => Ok(without_lines(alloc, change)),
     }
-}
-
-/// The line with a response to the CALL of this id.
-fn response_line(alloc: Global, id: &str, response: &Response) -> Result<String, AllocError>
-    ensures { IfOk result (λ line. string_bytes line ≡ response_line id.now response.now) }
-{
-    // Room from the start for most answers, so that they aren't copied as they grow.
-    let mut line = String::with_capacity(alloc, 128)?;
-    line.push_str("> ")?;
-    push_response(&mut line, id, response)?;
-    line.push_str("\n")?;
-    Ok(line)
 }

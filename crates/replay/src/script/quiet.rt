@@ -1,28 +1,19 @@
 //! A script that is played line after line without a writer, and what stands after so many of its lines.
 
-ghost use Rattle.std.specs.Prelude.{◌≡◌, ◌≤◌, IfOk, length};
+ghost use Rattle.std.specs.Prelude.{◌≡◌, ◌+◌, ◌<◌, ◌≤◌, if◌then◌else◌, IfOk, length};
 ghost use Rattle.replay.specs.Limits.{max_script_bytes};
 ghost use Rattle.replay.specs.Quiet.{played_up_to};
 
 use crate::player::held::Held;
 use crate::player::player::Player;
 use crate::script::lines::split_line;
-use crate::script::play::{Printed, play_line};
+use crate::script::play::play_line;
+use crate::script::played_line::{LineOutcome, PlayedLine};
+use crate::script::skim::skim_line;
 use site_core::Machine;
 use site_rules::Site;
 use std::alloc::{AllocError, Global};
 use std::marker::Model;
-
-/// A line of a script that was played.
-#[derive(Debug, Drop)]
-pub struct PlayedLine<'a> {
-    /// Its number, from 1.
-    pub number: u64,
-    /// The line without its ending.
-    pub line: &'a [u8],
-    /// What it printed, and whether it has a fault.
-    pub printed: Printed,
-}
 
 /// A script on a site, between two of its lines: what the lines so far led to, and those that are left.
 #[derive(Drop)]
@@ -57,7 +48,7 @@ impl<'a> Model for Playing<'a> {
 
 impl<'a> Playing<'a> {
     ghost use Rattle.replay.specs.Playing.{before_first_line};
-    ghost use Rattle.replay.specs.Quiet.{IsNext, is_up_to};
+    ghost use Rattle.replay.specs.Quiet.{IsNext, HasPrinted, is_up_to};
 
     /// A script on a site before its first line.
     pub fn new(alloc: Global, script: &'a [u8], site: Site) -> Result<Playing<'a>, AllocError>
@@ -75,24 +66,46 @@ impl<'a> Playing<'a> {
 
     /// Plays the next line, if one is left. Out of memory the script can't go on.
     pub fn play_next(&mut self) -> Result<Option<PlayedLine<'a>>, AllocError>
+        ensures next { IfOk result (λ line. IsNext self.old line self.new) }
+        ensures printed { IfOk result (λ line. HasPrinted self.old line) }
+    {
+        if self.rest.is_empty() {
+            return Ok(None);
+        }
+        let (line, others) = split_line(self.rest);
+        let played = play_line(&mut self.player, self.number, line)?;
+        self.pass(&played.outcome, others);
+        Ok(Some(played))
+    }
+
+    /// Plays the next line, if one is left, but for schedules: none is told of what it printed, and none is made where
+    /// the outcome is known without. Out of memory the script can't go on.
+    pub fn skim_next(&mut self) -> Result<Option<PlayedLine<'a>>, AllocError>
         ensures { IfOk result (λ line. IsNext self.old line self.new) }
     {
         if self.rest.is_empty() {
             return Ok(None);
         }
-        let number = self.number;
         let (line, others) = split_line(self.rest);
-        let printed = play_line(&mut self.player, number, line)?;
-        self.script_faults += u64::from(printed.is_fault);
-        let is_refused = printed.text.as_str().lines().any(is_refusal);
+        let played = skim_line(&mut self.player, self.number, line)?;
+        self.pass(&played.outcome, others);
+        Ok(Some(played))
+    }
+
+    /// Goes on behind a line that was played and came to this.
+    fn pass(&mut self, outcome: &LineOutcome, others: &'a [u8])
+        requires shorter { length others.now < length self.old.rest }
+        ensures rest { self.new.rest ≡ others.entry.now }
+        ensures state { self.new.state ≡ self.old.state }
+        ensures number { self.new.number ≡ self.old.number + 1 }
+        ensures faults { self.new.faults
+            ≡ self.old.faults + (if outcome.now.is_fault then 1 else 0) }
+    {
+        self.script_faults += u64::from(outcome.is_fault);
+        let is_refused = outcome.printed.iter().any(|line| line.is_refusal());
         self.refused_lines = self.refused_lines.saturating_add(u64::from(is_refused));
-        self.number = number + 1;
+        self.number += 1;
         self.rest = others;
-        Ok(Some(PlayedLine {
-            number,
-            line,
-            printed,
-        }))
     }
 
     /// Whether the next line is no later one than the last that is wanted.
@@ -139,13 +152,6 @@ impl<'a> Playing<'a> {
     }
 }
 
-/// Whether a line of the output names a fault of its line, or is an answer that refuses a text.
-fn is_refusal(printed: &str) -> bool {
-    printed.starts_with("! ")
-        || printed.starts_with("> [4,")
-        || (printed.starts_with("> [3,") && printed.contains(r#"{"status":"Rejected""#))
-}
-
 /// Plays a script on a site up to the line of a number, or the whole of it, and prints nothing. What
 /// stands then is what the definition of a script's play says of these lines. A script that is shorter is played whole.
 pub fn play_quietly(
@@ -164,7 +170,7 @@ pub fn play_quietly(
 {
     let mut playing = Playing::new(alloc, script, site)?;
     while playing.is_up_to(last_line) {
-        let Some(_) = playing.play_next()? else {
+        let Some(_) = playing.skim_next()? else {
             return Ok(playing);
         };
     }

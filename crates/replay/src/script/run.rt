@@ -14,6 +14,7 @@ use crate::script::input::{InputFault, read_all};
 use crate::script::lines::split_line;
 use crate::script::output::{WriteFault, flush_all, write_text};
 use crate::script::play::play_line;
+use crate::script::printed_line::print_lines;
 use site_rules::Site;
 use std::alloc::{AllocError, Global};
 use std::io::{Read, Write};
@@ -196,7 +197,8 @@ fn write_line<W: Write>(
         (printed_texts (line_played player.old number line.now).printed) }
     ensures late { IfErr result IsWriting }
 {
-    let printed = play_line(player, number, line)?;
-    write_text(writer, printed.text.as_str())?;
-    Ok(printed.is_fault)
+    let outcome = play_line(player, number, line)?.outcome;
+    let text = print_lines(player.alloc(), outcome.printed.as_slice())?;
+    write_text(writer, text.as_str())?;
+    Ok(outcome.is_fault)
 }

@@ -2,9 +2,8 @@
 
 ghost use Rattle.session.specs.Serving.{KeepsPass};
 
+use crate::context::Context;
 use crate::journal::Journal;
-use crate::sent_text::SentText;
-use crate::serving::Context;
 use crate::serving::ended::Ended;
 use crate::serving::sockets::send_text;
 use crate::session_core::{Peer, SessionCore};
@@ -15,6 +14,7 @@ use std::alloc::{AllocError, Global};
 use std::io::{Read, Write};
 use std::sync::Wait;
 use std::sync::ledger::Ledger;
+use texts::SentText;
 use tungstenite::{MaskKeys, WebSocket};
 use version_store::Pass;
 

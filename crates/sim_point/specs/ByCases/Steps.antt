@@ -25,7 +25,8 @@ pub record IsFound (book : BookState) (steps : List SimStep) (found : PointCall 
   pub within : found.1 ≤ length steps
   pub some : 0 < found.1
 
-pub record IsPlace (steps : List SimStep) (place next : ℕ) (book : BookState) (call : Option InFlight) : Type 0 where
+pub record IsPlace (steps : List SimStep) (place next : ℕ) (book : BookState)
+    (call : Option InFlight) : Type 0 where
   pub within : place ≤ length steps
   pub few : next ≤ place
   pub fits : IsOf book call

@@ -1,19 +1,17 @@
 -- What a method makes of a step: what the step does, or nothing, for the first cause or for want of
 -- memory. Of private clauses.
-use Rattle.std.specs.Prelude.{◌≡◌, ◌<◌, ◌≤◌, ℕ, List, length, Option, Some, None, Result, Ok, Err, if◌then◌else◌}
+use Rattle.std.specs.Prelude.{◌≡◌, ◌≤◌, ℕ, Bool, true, false, List, length, Option, Result, Ok, Err, MatchResult, if◌then◌else◌}
 use Rattle.ocpp_scalars.specs.declared.refusal.Refusal.{Refusal}
-use Rattle.ocpp_scalars.specs.declared.refusal.Refusal.TheVariants.{Stopped, Superseded, UnknownPoint}
-use Rattle.site_rules.specs.Site.{place_of}
-use Rattle.transactions.specs.declared.begin.Begin.{Begin}
-use Rattle.transactions.specs.declared.active_table.Began.{Began}
-use Rattle.transactions.specs.declared.active_table.Began.TheVariants.{Fresh, Repeat}
-use Rattle.transactions.specs.ActiveTable.{began}
+use Rattle.ocpp_scalars.specs.declared.refusal.Refusal.TheVariants.{OutOfMemory}
+use Rattle.site_rules.specs.Site.{SiteState, HasConnector}
+use Rattle.site_core.specs.declared.decision.Decision.{Decision}
+use Rattle.site_core.specs.declared.decision.Decision.TheVariants.{Answers, Does}
 use Rattle.site_core.specs.declared.numbers.Numbers.{Numbers}
 use Rattle.site_core.specs.declared.reply.Reply.{Reply}
-use Rattle.site_core.specs.declared.reply.Reply.TheVariants.{Started, Repeated}
-use Rattle.site_core.specs.ChargePoint.{ChargePointState, Start}
-use Rattle.site_core.specs.State.{MachineState, outbox_at, is_this_number}
-use Rattle.site_core.specs.Step.{Made, Answers, Does, IsRefusalOf, starts, next_transaction, refusal_to_start, effect_alone}
+use Rattle.site_core.specs.declared.step.Step.{Step}
+use Rattle.site_core.specs.ChargePoint.{ChargePointState, point_with}
+use Rattle.site_core.specs.State.{MachineState}
+use Rattle.site_core.specs.Step.{Made, IsRefusalOf, Work, AtPoint, facts, answer_alone, wants_memory, deed}
 
 -- made, with this reply and this state after it
 abbrev pub IsMade : Result Made Refusal → Reply → MachineState → Type 0
@@ -25,38 +23,72 @@ pub record IsNotMade (old : MachineState) (made : Result Made Refusal) (refusal 
   pub cause : IsRefusalOf made refusal
   pub unchanged : new ≡ old
 
--- the place of a point, or why nothing is made there
-abbrev pub found_place : Option ℕ → Result ℕ Refusal
-found_place None = Err UnknownPoint
-found_place (Some place) = Ok place
+-- ---- at a point
 
-abbrev pub place_in : MachineState → List ℕ → Result ℕ Refusal
-place_in state point =
-    if state.is_stopped then Err Stopped else found_place (place_of state.site point)
+-- whether what is replied is done first, or answered alone
+abbrev pub decision_of : Result Reply Refusal → Result Decision Refusal
+decision_of (Err refusal) = Err refusal
+decision_of (Ok reply) = Ok (if (facts reply).is_event false then Does else Answers reply)
 
--- the place of a point over a link, or why nothing is made over it
-abbrev pub found_linked : MachineState → ℕ → Option ℕ → Result ℕ Refusal
-found_linked state link None = Err Superseded
-found_linked state link (Some place) =
-    if is_this_number link (outbox_at state place).link then Ok place else Err Superseded
+-- whether a step would be an event that comes to this, or why it would be refused
+abbrev pub outlook_by : Result Decision Refusal → Result Bool Refusal
+outlook_by (Err refusal) = Err refusal
+outlook_by (Ok Does) = Ok true
+outlook_by (Ok (Answers reply)) = Ok false
 
-abbrev pub linked_place_in : MachineState → List ℕ → ℕ → Result ℕ Refusal
-linked_place_in state point link =
-    if state.is_stopped then Err Stopped else found_linked state link (place_of state.site point)
+-- What a method decides: what was decided is this reply where something is done, and else what the
+-- decision says.
+abbrev pub ComesTo : Result Reply Refusal → Reply → Result Decision Refusal → Type 0
+ComesTo decided reply (Ok Does) = decided ≡ Ok reply
+ComesTo decided reply (Ok (Answers answer)) =
+    (decided ≡ Ok answer) × (facts answer ≡ answer_alone)
+ComesTo decided reply (Err refusal) = decided ≡ Err refusal
 
--- a start at a point that nothing refuses and that isn't told again
-pub record IsFresh (numbers : Numbers) (connector : ℕ) (begin : Begin) (point : ChargePointState)
-    : Type 0 where
-  pub starts_so : starts numbers connector begin point
-      ≡ Ok (Does (Started (next_transaction numbers))
-      (effect_alone (Start connector begin (next_transaction numbers))))
-  pub above : 0 < connector
-  pub connector_is : connector ≤ length point.book.ceilings
-  pub fresh : began point.book.transactions connector begin ≡ Fresh
-  pub numbers_last : refusal_to_start numbers ≡ None
+-- where something is done
+abbrev pub OnDoes : Result Decision Refusal → Type 0 → Type 0
+OnDoes (Ok Does) holds = holds
+OnDoes (Ok (Answers answer)) holds = Unit {0}
+OnDoes (Err refusal) holds = Unit {0}
 
--- what a start at a point is that nothing refuses
-abbrev pub IsBegan : Numbers → ℕ → Begin → ChargePointState → Began → Type 0
-IsBegan numbers connector begin point (Repeat number) =
-    starts numbers connector begin point ≡ Ok (Answers (Repeated number))
-IsBegan numbers connector begin point Fresh = IsFresh numbers connector begin point
+-- why what was decided isn't made: its cause, or else, where it wants memory, that memory ran out
+abbrev pub IsCauseOf : Result Reply Refusal → Refusal → Type 0
+IsCauseOf (Err cause) refusal = refusal ≡ cause
+IsCauseOf (Ok reply) refusal = (wants_memory reply ≡ true) × (refusal ≡ OutOfMemory)
+
+-- what was decided is made at a point, by what the step does there, or isn't, and nothing changed
+abbrev pub IsMadeAt : Result Reply Refusal → Step → ChargePointState → Result Reply Refusal
+    → ChargePointState → Type 0
+IsMadeAt decided step old result new = MatchResult result
+    (λ reply. (decided ≡ Ok reply) × (new ≡ point_with (deed old step reply) old))
+    (λ refusal. IsCauseOf decided refusal × (new ≡ old))
+
+-- ---- of a step that names a point
+
+abbrev pub IsAtPoint : Work → Type 0
+IsAtPoint (AtPoint at) = Unit {0}
+IsAtPoint other = ⊥
+
+-- it names this point and this link
+abbrev pub IsFor : Work → List ℕ → Option ℕ → Type 0
+IsFor (AtPoint at) point link = (at.point ≡ point) × (at.link ≡ link)
+IsFor other point link = ⊥
+
+-- the connectors that the site file has of its point are those of the book
+abbrev pub HasConnectorsOf : Work → SiteState → ChargePointState → Type 0
+HasConnectorsOf (AtPoint at) site point =
+    (connector : ℕ) → HasConnector site at.point connector → connector ≤ length point.book.ceilings
+HasConnectorsOf other site point = ⊥
+
+-- what it comes to at its point
+abbrev pub IsDecided : Work → SiteState → Numbers → ChargePointState → Result Decision Refusal
+    → Type 0
+IsDecided (AtPoint at) site numbers point result =
+    result ≡ decision_of (at.decided site numbers point)
+IsDecided other site numbers point result = ⊥
+
+-- what is made of it there
+abbrev pub IsWorked : Work → SiteState → Numbers → Step → ChargePointState → Result Reply Refusal
+    → ChargePointState → Type 0
+IsWorked (AtPoint at) site numbers step old result new =
+    IsMadeAt (at.decided site numbers old) step old result new
+IsWorked other site numbers step old result new = ⊥

@@ -1,13 +1,37 @@
--- What crates above cite: every step but a Compile is made as the definition says, whatever answer
--- stands beside it. So who speaks of all steps goes by two cases.
-use Rattle.std.specs.Prelude.{ℕ, ◌≡◌, Ok}
-use Rattle.std.proofs.Common.{refl}
+-- Steps by what they are about, and which of them want memory: proved for crates above.
+use Rattle.std.proofs.Common.{◌≡◌, ℕ, Ok, refl, sym, ap, ◌∙◌, subst}
 use Rattle.site_core.specs.declared.step.Step.{Step}
 use Rattle.site_core.specs.declared.step.Step.TheVariants as steps
+use Rattle.site_core.specs.declared.step.Take.{Take}
 use Rattle.site_core.specs.declared.reply.Reply.{Reply}
 use Rattle.site_core.specs.declared.reply.Reply.TheVariants.{Accepted, Unknown, Started, Repeated, Ended, NoSuch, Taken, Compiled, Answered, NotYet, Finished, Attached, Sent, Nothing, Confirmed, LinkLost}
 use Rattle.site_core.specs.State.{MachineState, ScheduleAnswer}
-use Rattle.site_core.specs.Step.{Steps, stepped, no_answer, OnlyEventsWantMemory}
+use Rattle.site_core.specs.Step.{PointStep, Work, AtPoint, work, worked, Works, Steps, stepped, no_answer, OnlyEventsWantMemory}
+
+-- ---- what a step is about
+
+pub data StepKind : Step → Type 0 where
+  names_point : (step : Step) (at : PointStep) → work step ≡ AtPoint at → StepKind step
+  takes_one : (take : Take) → StepKind (steps.Take take)
+  compiles_one : (number : ℕ) → StepKind (steps.Compile number)
+  answers_one : (number : ℕ) → StepKind (steps.Answer number)
+  finishes_all : StepKind steps.Finish
+
+pub kind_of : (step : Step) → StepKind step
+kind_of (steps.Install point row) = names_point _ _ refl
+kind_of (steps.Clear point criteria) = names_point _ _ refl
+kind_of (steps.Start point connector begin) = names_point _ _ refl
+kind_of (steps.Stop point number) = names_point _ _ refl
+kind_of (steps.Take take) = takes_one take
+kind_of (steps.Compile number) = compiles_one number
+kind_of (steps.Answer number) = answers_one number
+kind_of steps.Finish = finishes_all
+kind_of (steps.Attach point) = names_point _ _ refl
+kind_of (steps.Send point link) = names_point _ _ refl
+kind_of (steps.Confirm point link number) = names_point _ _ refl
+kind_of (steps.Lost point link) = names_point _ _ refl
+
+-- ---- a Compile, and every other step
 
 -- the answer beside a step makes no difference
 abbrev pub NeedsNoAnswer : Step → Type 0
@@ -34,30 +58,29 @@ pub data CompileOrOther : Step → Type 0 where
   is_other : (step : Step) → NeedsNoAnswer step → IsMadeAsDefined step → IsDefinedAsMade step
       → CompileOrOther step
 
+at_point_is_other : (step : Step) (at : PointStep) → work step ≡ AtPoint at → CompileOrOther step
+at_point_is_other step at is =
+    is_other step
+    (λ answer old. ap (worked answer old step) is ∙ sym (ap (worked no_answer old step) is))
+    (λ old reply new made. ap (worked no_answer old step) is
+    ∙ subst (λ (w : Work). Works old step w reply new) is made)
+    (λ old reply new made. subst (λ (w : Work). Works old step w reply new) (sym is)
+    (sym (ap (worked no_answer old step) is) ∙ made))
+
 pub compile_or_other : (step : Step) → CompileOrOther step
-compile_or_other (steps.Install point row) =
-    is_other _ (λ answer old. refl) (λ old reply new is. is) (λ old reply new is. is)
-compile_or_other (steps.Clear point criteria) =
-    is_other _ (λ answer old. refl) (λ old reply new is. is) (λ old reply new is. is)
-compile_or_other (steps.Start point connector begin) =
-    is_other _ (λ answer old. refl) (λ old reply new is. is) (λ old reply new is. is)
-compile_or_other (steps.Stop point number) =
-    is_other _ (λ answer old. refl) (λ old reply new is. is) (λ old reply new is. is)
-compile_or_other (steps.Take take) =
-    is_other _ (λ answer old. refl) (λ old reply new is. is) (λ old reply new is. is)
-compile_or_other (steps.Compile number) = is_compile number
-compile_or_other (steps.Answer number) =
-    is_other _ (λ answer old. refl) (λ old reply new is. is) (λ old reply new is. is)
-compile_or_other steps.Finish =
-    is_other _ (λ answer old. refl) (λ old reply new is. is) (λ old reply new is. is)
-compile_or_other (steps.Attach point) =
-    is_other _ (λ answer old. refl) (λ old reply new is. is) (λ old reply new is. is)
-compile_or_other (steps.Send point link) =
-    is_other _ (λ answer old. refl) (λ old reply new is. is) (λ old reply new is. is)
-compile_or_other (steps.Confirm point link number) =
-    is_other _ (λ answer old. refl) (λ old reply new is. is) (λ old reply new is. is)
-compile_or_other (steps.Lost point link) =
-    is_other _ (λ answer old. refl) (λ old reply new is. is) (λ old reply new is. is)
+compile_or_other step = by step (kind_of step)
+  where
+    by : (step : Step) → StepKind step → CompileOrOther step
+    by step (names_point _ at is) = at_point_is_other step at is
+    by _ (takes_one take) =
+        is_other _ (λ answer old. refl) (λ old reply new is. is) (λ old reply new is. is)
+    by _ (compiles_one number) = is_compile number
+    by _ (answers_one number) =
+        is_other _ (λ answer old. refl) (λ old reply new is. is) (λ old reply new is. is)
+    by _ finishes_all =
+        is_other _ (λ answer old. refl) (λ old reply new is. is) (λ old reply new is. is)
+
+-- ---- what wants memory
 
 -- what is answered without an event wants no memory
 pub only_events_want_memory : OnlyEventsWantMemory

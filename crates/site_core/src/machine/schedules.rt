@@ -1,8 +1,9 @@
 //! The steps of requests for composite schedules, and the end.
 
-ghost use Rattle.std.specs.Prelude.{◌≡◌, ◌<◌, Some, IfOk, IfErr, MatchResult, length};
+ghost use Rattle.std.specs.Prelude.{◌≡◌, ◌<◌, ◌≤◌, None, Some, Ok, Err, IfOk, IfErr, length};
+ghost use Rattle.site_core.specs.State.{book_at};
 ghost use Rattle.site_core.specs.declared.reply.Reply.{Reply};
-ghost use Rattle.site_core.specs.Step.{HasAskedConnector, at_point, refusal_to_take, takes, Compiles, no_answer, compiles, answers, finishes, cause_of};
+ghost use Rattle.site_core.specs.Step.{HasAskedConnector, outlook_of, refusal_to_take, takes, taking, Compiles, no_answer, compiles, answers, finishes, cause_of};
 ghost use Rattle.site_core.specs.declared.step.Step.TheVariants as steps;
 ghost use Rattle.site_core.specs.Step.{Steps};
 ghost use Rattle.site_core.specs.Requests.{request_of};
@@ -26,18 +27,57 @@ impl Machine {
     /// Keeps a request for a schedule of a point.
     #[inline(never)]
     pub(super) fn take(&mut self, take: &Take) -> Result<Reply, Refusal>
-        ensures made { IfOk result (λ reply.
-            IsMade (at_point self.old take.now.point (takes self.old take.now)) reply self.new) }
-        ensures refused { IfErr result (λ refusal. IsNotMade self.old
-            (at_point self.old take.now.point (takes self.old take.now)) refusal self.new) }
+        ensures made { IfOk result (λ reply. IsMade (takes self.old take.now) reply self.new) }
+        ensures refused { IfErr result (λ refusal.
+            IsNotMade self.old (takes self.old take.now) refusal self.new) }
         ensures asked { IfOk result HasAskedConnector }
     {
-        let place = self.place_at(&take.point)?;
-        self.take_at(place, take)
+        let (place, ask) = self.asked(take)?;
+        let point = point_at(&self.points, place);
+        let kept = point.share_book()?;
+        let told = point.share_book()?;
+        let number = self.numbers.request + 1;
+        let reply = taken(number, told, &ask);
+        self.requests.push(Request {
+            number,
+            place,
+            book: kept,
+            ask,
+            answer: None,
+        })?;
+        self.numbers.request = number;
+        Ok(reply)
+    }
+
+    /// What would come of a request for a schedule, if memory lasts.
+    pub(super) fn take_outlook(&self, take: &Take) -> Result<bool, Refusal>
+        ensures { result ≡ outlook_of self.now (takes self.now take.now) }
+    {
+        self.asked(take)?;
+        Ok(true)
+    }
+
+    /// The place of the point that a request names and what is asked there, or why the request isn't kept,
+    /// if memory lasts.
+    fn asked(&self, take: &Take) -> Result<(usize, Ask), Refusal>
+        ensures taking { IfOk result (λ found.
+            takes self.now take.now ≡ Ok (taking self.now found.0 found.1)) }
+        ensures refused { IfErr result (λ refusal. takes self.now take.now ≡ Err refusal) }
+        ensures within { IfOk result (λ found. found.0 < length self.now.points) }
+        ensures connector { IfOk result (λ found.
+            found.1.connector ≤ length (book_at self.now found.0).ceilings) }
+        ensures last { IfOk result (λ found. refusal_to_take self.now take.now ≡ None) }
+    {
+        let place = self.place_for(&take.point, None)?;
+        let ask = ask_at(self.site.unit(), point_at(&self.points, place).book(), take)?;
+        match self.refusal_to_take(take) {
+            Some(refusal) => Err(refusal),
+            None => Ok((place, ask)),
+        }
     }
 
     /// Why a request isn't kept, if memory lasts, though there is an ask.
-    pub(super) fn refusal_to_take(&self, take: &Take) -> Option<Refusal>
+    fn refusal_to_take(&self, take: &Take) -> Option<Refusal>
         ensures { result ≡ refusal_to_take self.now take.now }
     {
         if self.requests.len() >= MAX_REQUESTS {
@@ -53,34 +93,6 @@ impl Machine {
             });
         }
         None
-    }
-
-    /// Keeps a request for a schedule of the point at a place.
-    fn take_at(&mut self, place: usize, take: &Take) -> Result<Reply, Refusal>
-        requires { place < length self.old.points }
-        ensures made { MatchResult result
-            (λ reply. IsMade (takes self.old take.now place) reply self.new)
-            (λ refusal. IsNotMade self.old (takes self.old take.now place) refusal self.new) }
-        ensures asked { IfOk result HasAskedConnector }
-    {
-        let ask = ask_at(self.site.unit(), point_at(&self.points, place).book(), take)?;
-        if let Some(refusal) = self.refusal_to_take(take) {
-            return Err(refusal);
-        }
-        let point = point_at(&self.points, place);
-        let kept = point.share_book()?;
-        let told = point.share_book()?;
-        let number = self.numbers.request + 1;
-        let reply = taken(number, told, &ask);
-        self.requests.push(Request {
-            number,
-            place,
-            book: kept,
-            ask,
-            answer: None,
-        })?;
-        self.numbers.request = number;
-        Ok(reply)
     }
 
     /// Compiles the schedule of the request of a number.

@@ -5,4 +5,4 @@ use Rattle.explained.specs.NotCounted.{IsTold}
 use Rattle.explained.proofs.uncounted.not_counted.Given as goal
 
 abbrev pub invariant-loop-place : goal.invariant-loop-place
-invariant-loop-place l = All (IsTold (point_state l.view) l.ask.start) l.rest.items
+invariant-loop-place l = All (IsTold (point_state l.view) l.ask) l.rest.items

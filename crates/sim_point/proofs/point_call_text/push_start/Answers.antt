@@ -12,5 +12,5 @@ returns c =
     (four_values _ (codes "{\"connectorId\":") _ (codes ",\"idTag\":") _ (codes ",\"meterStart\":") _ (codes ",\"timestamp\":\"") _ (codes "\"") (codes "}")
     _ _ _ _ _ _ _ _ _
     c.in_ok-push_str.ensures.bytes c.in_ok-push_integer.ensures c.in_ok-push_str-2.ensures.bytes
-    c.in_ok-push_quoted.ensures c.in_ok-push_str-3.ensures.bytes c.in_ok-push_signed.ensures
+    c.in_ok-push_string.ensures c.in_ok-push_str-3.ensures.bytes c.in_ok-push_signed.ensures
     c.in_ok-push_str-4.ensures.bytes c.in_ok-push_instant.ensures c.in_ok-push_str-5.ensures.bytes)

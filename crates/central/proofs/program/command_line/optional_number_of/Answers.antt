@@ -3,7 +3,7 @@ use Rattle.std.specs.Str.Parse.{ParsesUnsigned, ExplainsUnsignedError, HasUnsign
 use Rattle.std.proofs.Common.{◌∙◌}
 use Rattle.clap.specs.Words.{found_of, one_of, one_text, rows_of}
 use Rattle.clap.proofs.WalkLemmas.{one_text-rows}
-use Rattle.central.proofs.CommandLineLemmas.{number_read}
+use Rattle.central.proofs.CommandLineLemmas.{number_read, number_given}
 use Rattle.central.proofs.program.command_line.optional_number_of.Goals as goal
 
 pub returns : goal.returns
@@ -14,5 +14,8 @@ returns c =
       value = number_read (λ bs r. ParsesUnsigned 64 10 bs r × ExplainsUnsignedError 10 bs r × HasUnsignedDigitsIfOk bs r) (λ t r read. read.0)
           (one_text found c.args.option.now) (one_of c.args.option.now (rows_of found))
           c.get_one.result rows c.get_one.ensures.none c.get_one.ensures.value;
+      given = number_given (λ bs r. ParsesUnsigned 64 10 bs r × ExplainsUnsignedError 10 bs r × HasUnsignedDigitsIfOk bs r) (λ t r read. read.0)
+          (one_text found c.args.option.now) (one_of c.args.option.now (rows_of found))
+          c.get_one.result rows c.get_one.ensures.value;
       absent = λ none. c.get_one.ensures.none (rows ∙ none);
     }

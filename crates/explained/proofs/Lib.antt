@@ -1,0 +1,5 @@
+mod Connectors
+mod Counting
+mod Failing
+mod Others
+mod Reaching

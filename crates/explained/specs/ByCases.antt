@@ -1,0 +1,2 @@
+-- Definitions of private clauses, by cases: nothing here has to be believed.
+pub mod Throughout

@@ -1,0 +1,31 @@
+//! Rows of a point as they are looked at in an ask.
+
+ghost use Rattle.std.specs.Prelude.{◌≡◌, Some, slice_get};
+ghost use Rattle.meaning.specs.Cause.{counts_for};
+
+use meaning::{Ask, View};
+use profile::Row;
+
+/// A row of a view in an ask.
+#[derive(Clone, Copy)]
+pub(crate) struct RowAsked<'a> {
+    pub view: View<'a>,
+    pub ask: Ask,
+    pub place: usize,
+    pub row: &'a Row,
+    pub ghost stands: { slice_get view.rows.now place ≡ Some row.now },
+}
+
+/// A row of a view that is looked at for a connector in an ask.
+#[derive(Clone, Copy)]
+pub(crate) struct Looked<'a> {
+    pub view: View<'a>,
+    pub ask: Ask,
+    pub place: usize,
+    pub row: &'a Row,
+    pub connector: u32,
+    /// The connector for which the row counts: 0 for a ChargePointMaxProfile.
+    pub at: usize,
+    pub ghost stands: { slice_get view.rows.now place ≡ Some row.now },
+    pub ghost counts: { at ≡ counts_for row.now.profile.purpose connector },
+}

@@ -1,0 +1,7 @@
+-- What was missing: the actions that are left have what all have, as none before them has the name.
+use Rattle.std.proofs.Common.{◌≡◌, drop}
+use Rattle.messages.specs.ActionKind.{kind_in}
+use Rattle.messages.proofs.action_kind.kind_in.Given as goal
+
+abbrev pub invariant-loop-kind : goal.invariant-loop-kind
+invariant-loop-kind l = kind_in (drop l.kind-index l.kinds) l.text ≡ kind_in l.kinds l.text

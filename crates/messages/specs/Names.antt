@@ -1,0 +1,39 @@
+-- The names of OCPP's enumerations, as payloads write them (OCPP 1.6, chapter 7). They are read by the
+-- tables of names of `profile`.
+use Rattle.std.specs.Prelude.{ℕ, List, Option, Some, None, codes}
+use Rattle.profile.specs.declared.kind.Kind.{Kind}
+use Rattle.profile.specs.declared.kind.Kind.TheVariants.{Absolute, Recurring, Relative}
+use Rattle.profile.specs.declared.kind.Recurrency.{Recurrency}
+use Rattle.profile.specs.declared.kind.Recurrency.TheVariants.{Daily, Weekly}
+use Rattle.profile.specs.declared.purpose.Purpose.{Purpose}
+use Rattle.profile.specs.declared.purpose.Purpose.TheVariants.{ChargePointMaxProfile, TxDefaultProfile, TxProfile}
+use Rattle.profile.specs.declared.unit.Unit.{Unit}
+use Rattle.profile.specs.declared.unit.Unit.TheVariants.{A, W}
+
+-- ChargingProfilePurposeType
+abbrev pub purpose_name : Purpose → List ℕ
+purpose_name ChargePointMaxProfile = codes "ChargePointMaxProfile"
+purpose_name TxDefaultProfile = codes "TxDefaultProfile"
+purpose_name TxProfile = codes "TxProfile"
+
+-- ChargingProfileKindType
+abbrev pub kind_name : Kind → List ℕ
+kind_name Absolute = codes "Absolute"
+kind_name (Recurring recurrency) = codes "Recurring"
+kind_name Relative = codes "Relative"
+
+-- a Recurring profile alone has one
+abbrev pub recurrency_of : Kind → Option Recurrency
+recurrency_of Absolute = None
+recurrency_of (Recurring recurrency) = Some recurrency
+recurrency_of Relative = None
+
+-- RecurrencyKindType
+abbrev pub recurrency_name : Recurrency → List ℕ
+recurrency_name Daily = codes "Daily"
+recurrency_name Weekly = codes "Weekly"
+
+-- ChargingRateUnitType
+abbrev pub unit_text : Unit → List ℕ
+unit_text A = codes "A"
+unit_text W = codes "W"

@@ -1,6 +1,0 @@
--- No text asks for a compile.
-use Rattle.replay.proofs.AskedLemmas.{asks_no_compile}
-use Rattle.replay.proofs.script.play.answer_line.Goals as goal
-
-pub asked_line-requires : goal.asked_line-requires
-asked_line-requires c = asks_no_compile c.args.text.now c.in_ok-asked.asked c.in_ok-asked.ensures.asked

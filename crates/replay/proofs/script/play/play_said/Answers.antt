@@ -1,7 +1,0 @@
--- No held text asks for a compile.
-use Rattle.std.proofs.Common.{sym, ◌∙◌}
-use Rattle.replay.proofs.AskedLemmas.{hold_asks_no_compile}
-use Rattle.replay.proofs.script.play.play_said.Goals as goal
-
-pub hold_line-requires : goal.hold_line-requires
-hold_line-requires c = hold_asks_no_compile c.in-Hold.text c.in-Some.asked (sym c.in-Some.is ∙ c.in_ok-asked-in-Hold.ensures.asked)

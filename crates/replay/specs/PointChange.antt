@@ -1,0 +1,32 @@
+-- What a line of a script changes at its point.
+use Rattle.std.specs.Prelude.{Result, Ok, Err}
+use Rattle.ocpp_scalars.specs.declared.refusal.Refusal.{Refusal}
+use Rattle.site_core.specs.declared.reply.Reply.{Reply}
+use Rattle.site_core.specs.declared.reply.Reply.TheVariants as replies
+use Rattle.replay.specs.declared.script.point_change.PointChange.{PointChange}
+use Rattle.replay.specs.declared.script.point_change.PointChange.TheVariants.{Nothing, Profiles, Transaction, Confirmed}
+
+-- What a step changes that is made for the text of a line, by its reply. An install and a clear that
+-- removes profiles each add a call that tells the point so; TxProfiles may go with a transaction.
+abbrev pub change_by : Reply → PointChange
+change_by replies.Accepted = Profiles
+change_by replies.Unknown = Nothing
+change_by (replies.Started number) = Transaction
+change_by (replies.Repeated number) = Nothing
+change_by replies.Ended = Transaction
+change_by replies.NoSuch = Nothing
+change_by (replies.Taken number book ask) = Nothing
+change_by replies.Compiled = Nothing
+change_by (replies.Answered book ask answer) = Nothing
+change_by replies.NotYet = Nothing
+change_by replies.Finished = Nothing
+change_by (replies.Attached link) = Nothing
+change_by (replies.Sent call) = Nothing
+change_by replies.Nothing = Nothing
+change_by replies.Confirmed = Confirmed
+change_by replies.LinkLost = Nothing
+
+-- a refused step changes nothing
+abbrev pub change_of : Result Reply Refusal → PointChange
+change_of (Ok reply) = change_by reply
+change_of (Err refusal) = Nothing

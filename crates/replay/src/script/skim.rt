@@ -1,0 +1,89 @@
+//! A line of a script that is played for what it leads to: without the schedules that it prints.
+
+ghost use Rattle.std.specs.Prelude.{◌≡◌, IfOk};
+ghost use Rattle.texts.specs.Asked.{asked_of};
+ghost use Rattle.replay.specs.ByCases.Asked.{AsksNoCompile};
+ghost use Rattle.replay.specs.Play.{asked_handled, text_handled, text_played, said_on, line_played};
+ghost use Rattle.replay.specs.Play.{LeadsTo};
+
+use crate::player::player::Player;
+use crate::script::line::ScriptLine;
+use crate::script::play::{asked_outcome, read_outcome, said_on, step_outcome, text_outcome};
+use crate::script::played_line::{LineOutcome, PlayedLine};
+use crate::script::printed_line::PrintedLine;
+use messages::{Response, Side};
+use site_core::Step;
+use std::alloc::AllocError;
+use texts::{Asked, SentText};
+
+/// Plays the line of this number, but for schedules: none is told of what it printed, and none is made for an
+/// ask that is answered at once, where the outcome is known without. After an error the script can't go on.
+pub fn skim_line<'a>(
+    player: &mut Player,
+    number: u64,
+    line: &'a [u8],
+) -> Result<PlayedLine<'a>, AllocError>
+    ensures number { IfOk result (λ played. played.number ≡ number) }
+    ensures line { IfOk result (λ played. played.line.now ≡ line.entry.now) }
+    ensures said { IfOk result
+        (λ played. played.said ≡ said_on player.old.machine.site line.entry.now) }
+    ensures outcome { IfOk result (λ played. LeadsTo
+        (line_played player.old number line.entry.now) played.outcome player.new) }
+{
+    let said = said_on(player.site(), line);
+    let mut outcome = match &said {
+        Some(Ok(ScriptLine::Text(text))) => skim_text(player, text)?,
+        said => read_outcome(player, number, said)?,
+    };
+    outcome.printed.retain(|line| !has_schedule(line));
+    Ok(PlayedLine {
+        number,
+        line,
+        said,
+        outcome,
+    })
+}
+
+/// Whether a line is an answer with a schedule.
+fn has_schedule(line: &PrintedLine) -> bool {
+    matches!(
+        line,
+        PrintedLine::Answer {
+            response: Response::Schedule(_),
+            ..
+        }
+    )
+}
+
+/// What comes of a text, but for schedules. Only an operator asks for one.
+fn skim_text(player: &mut Player, text: &SentText<'_>) -> Result<LineOutcome, AllocError>
+    ensures { IfOk result (λ outcome. LeadsTo
+        (text_played (text_handled player.old text.now.sender text.now)) outcome player.new) }
+{
+    match text.sender() {
+        Side::Operator => {
+            let asked = player.asked_of(text)?;
+            skim_asked(player, asked)
+        }
+        Side::Point => text_outcome(player, text),
+    }
+}
+
+/// What comes of what a text asks for, but for schedules.
+fn skim_asked(player: &mut Player, asked: Asked) -> Result<LineOutcome, AllocError>
+    requires { AsksNoCompile asked }
+    ensures { IfOk result (λ outcome. LeadsTo
+        (text_played (asked_handled player.old asked)) outcome player.new) }
+{
+    match asked {
+        Asked::Step { id, kind, step } => match step {
+            Step::Take(take) => {
+                let unit = player.site().unit();
+                let outcome = player.skim_take(take)?;
+                step_outcome(player.alloc(), unit, id, kind, outcome)
+            }
+            step => asked_outcome(player, Asked::Step { id, kind, step }),
+        },
+        other => asked_outcome(player, other),
+    }
+}

@@ -1,0 +1,164 @@
+//! The connections of a site: each is accepted, and served on a thread of its own.
+
+ghost use Rattle.std.specs.Prelude.{◌≡◌, ◌≤◌, IfOk, length, vec_len, vec_capacity};
+
+use crate::connection::serve_connection;
+use ocpp_scalars::Moments;
+use session::{Context, Journal};
+use std::alloc::AllocError;
+use std::marker::{Send, Sync};
+use std::net::TcpListener;
+use std::sync::Wait;
+use std::sync::ledger::Ledger;
+use std::thread;
+use std::thread::{JoinHandle, Scope, Threads};
+use version_store::Pass;
+
+/// The passes of all sessions, once these have ended.
+#[derive(Drop)]
+pub(crate) struct Served<C: Ledger, A: Ledger> {
+    pub(crate) passes: Vec<Pass<C, A>>,
+    /// Whether each connection could be accepted.
+    pub(crate) is_accepting: bool,
+}
+
+/// The sessions of all passes, once each has begun.
+#[derive(Drop)]
+struct Begun<C: Ledger, A: Ledger> {
+    sessions: Vec<Session<C, A>>,
+    /// Whether each connection could be accepted.
+    is_accepting: bool,
+}
+
+/// The session of a pass.
+#[derive(Drop)]
+enum Session<C: Ledger, A: Ledger> {
+    /// It is served on a thread of its own, which gives back the pass.
+    Running(JoinHandle<Pass<C, A>>),
+    /// It has ended, or its connection couldn't be accepted.
+    Ended(Pass<C, A>),
+}
+
+/// Accepts a connection for each pass, and serves it on a thread of its own, or on this one where no thread can be
+/// made. Ends when all have ended, and gives back all passes.
+pub(crate) fn serve_connections<
+    C: Ledger + Send + Sync,
+    A: Ledger + Send + Sync,
+    R: Threads + Wait + Sync,
+    M: Moments + Sync,
+    J: Journal + Sync,
+>(
+    context: &Context<'_, C, A, R, M, J>,
+    listener: TcpListener,
+    passes: Vec<Pass<C, A>>,
+) -> Result<Served<C, A>, AllocError>
+    ensures { IfOk result (λ served. length served.passes.items ≡ length passes.items) }
+{
+    let count = passes.len();
+    // Room first: once a session has begun, its pass may not be lost.
+    let sessions = Vec::with_capacity(context.alloc, count)?;
+    let ended = Vec::with_capacity(context.alloc, count)?;
+    Ok(thread::scope(
+        thread::scope_env(),
+        context.rt,
+        |scope| -> Served<C, A>
+            requires { (vec_len sessions ≡ 0) × (length passes.items ≤ vec_capacity sessions)
+                × (vec_len ended ≡ 0) × (length passes.items ≤ vec_capacity ended) }
+            ensures { length result.passes.items ≡ length passes.items }
+        {
+            let begun = begin_all(scope, context, listener, passes, sessions);
+            Served {
+                passes: end_all(context.rt, begun.sessions, ended),
+                is_accepting: begun.is_accepting,
+            }
+        },
+    ))
+}
+
+/// Begins a session for each pass, in room for them. Then the listener is closed: nobody is to wait for a connection
+/// that is never accepted.
+fn begin_all<
+    's,
+    E,
+    C: Ledger + Send + Sync,
+    A: Ledger + Send + Sync,
+    R: Wait + Sync,
+    M: Moments + Sync,
+    J: Journal + Sync,
+>(
+    scope: &Scope<'s, E>,
+    context: &'s Context<'_, C, A, R, M, J>,
+    listener: TcpListener,
+    passes: Vec<Pass<C, A>>,
+    room: Vec<Session<C, A>>,
+) -> Begun<C, A>
+    requires empty { vec_len room ≡ 0 }
+    requires room { length passes.items ≤ vec_capacity room }
+    ensures { length result.sessions.items ≡ length passes.items }
+{
+    let (mut sessions, mut is_accepting) = (room, true);
+    for pass in passes {
+        let session = begin(scope, context, &listener, pass, &mut is_accepting);
+        sessions.push(session).unwrap();
+    }
+    Begun {
+        sessions,
+        is_accepting,
+    }
+}
+
+/// Begins the session of a pass with the next connection.
+fn begin<
+    's,
+    E,
+    C: Ledger + Send + Sync,
+    A: Ledger + Send + Sync,
+    R: Wait + Sync,
+    M: Moments + Sync,
+    J: Journal + Sync,
+>(
+    scope: &Scope<'s, E>,
+    context: &'s Context<'_, C, A, R, M, J>,
+    listener: &TcpListener,
+    pass: Pass<C, A>,
+    is_accepting: &mut bool,
+) -> Session<C, A> {
+    if !*is_accepting {
+        return Session::Ended(pass);
+    }
+    let Ok((stream, _)) = listener.accept() else {
+        *is_accepting = false;
+        return Session::Ended(pass);
+    };
+    // An answer leaves at once. Where that can't be set, it leaves later.
+    let _ = stream.set_nodelay(true);
+    match scope.spawn(move || serve_connection(context, stream, pass)) {
+        Ok(session) => Session::Running(session),
+        Err(unmade) => Session::Ended((unmade.value)()),
+    }
+}
+
+/// Waits until each session has ended, and gives back the passes, in room for them.
+fn end_all<C: Ledger, A: Ledger, R: Threads>(
+    rt: &R,
+    sessions: Vec<Session<C, A>>,
+    room: Vec<Pass<C, A>>,
+) -> Vec<Pass<C, A>>
+    requires empty { vec_len room ≡ 0 }
+    requires room { length sessions.items ≤ vec_capacity room }
+    ensures { length result.items ≡ length sessions.items }
+{
+    let mut ended = room;
+    for session in sessions {
+        ended.push(pass_of(rt, session)).unwrap();
+    }
+    ended
+}
+
+/// The pass of a session, once that has ended.
+fn pass_of<C: Ledger, A: Ledger, R: Threads>(rt: &R, session: Session<C, A>) -> Pass<C, A> {
+    match session {
+        Session::Running(session) => session.join(rt),
+        Session::Ended(pass) => pass,
+    }
+}

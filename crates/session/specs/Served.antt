@@ -1,0 +1,66 @@
+-- What a text of a session is answered, once its step was made on the book that all sessions share.
+use Rattle.std.specs.Prelude.{◌≡◌, ◌⊎◌, List, ℕ, Option, Some, None}
+use Rattle.ocpp_scalars.specs.declared.refusal.Refusal.TheVariants.{OutOfMemory, UnknownRequest}
+use Rattle.site_core.specs.declared.step.Step.{Step}
+use Rattle.site_core.specs.Right.{IsRight}
+use Rattle.version_store.specs.Answers.{RequestedJob, HandedAnswer}
+use Rattle.version_store.specs.Told.{Told}
+use Rattle.version_store.specs.Store.{StoreState, IsStore}
+use Rattle.texts.specs.SentText.{Sent}
+use Rattle.session.specs.declared.outcome.Outcome.{Outcome}
+use Rattle.session.specs.declared.outcome.Outcome.TheVariants.{Made, Answered, Refused}
+use Rattle.session.specs.declared.outcome.Performed.{Performed}
+use Rattle.session.specs.declared.outcome.Performed.TheVariants as performs
+use Rattle.session.specs.Perform.{Performs}
+use Rattle.session.specs.Session.{SessionState}
+use Rattle.session.specs.Todo.{TodoState, IsTodo, answer_text}
+
+-- An answer is that of a job: for the request of its number, with the book and the ask that the Take of
+-- that request kept, and right for these.
+pub record IsAnswerTo (job : RequestedJob) (handed : HandedAnswer) : Type 0 where
+  pub number : handed.number ≡ job.number
+  pub book : handed.book ≡ job.book
+  pub ask : handed.ask ≡ job.ask
+  pub right : IsRight job.book job.ask handed.answer
+
+-- the outcome of a request that is kept: its own answer, or that it has none for the session
+abbrev pub IsOutcomeOfJob : RequestedJob → Outcome → Type 0
+IsOutcomeOfJob job (Made reply) = ⊥
+IsOutcomeOfJob job (Answered handed) = IsAnswerTo job handed
+IsOutcomeOfJob job (Refused refusal) = (refusal ≡ UnknownRequest) ⊎ (refusal ≡ OutOfMemory)
+
+-- what the call on the book comes to that was performed for a step
+abbrev pub ComesTo : Performed → Outcome → Type 0
+ComesTo (performs.Job job) outcome = IsOutcomeOfJob job outcome
+ComesTo (performs.Outcome made) outcome = outcome ≡ made
+
+-- The one call that a step stands for was made on the book while the session had it.
+pub record IsPerformed (was : Told) (step : Step) (performed : Performed) : Type 0 where
+  pub old : StoreState
+  pub new : StoreState
+  pub told : Told
+  pub store : IsStore old
+  pub performs : Performs old was step performed new told
+
+-- The outcome of a session's own step: for a request of a schedule, the answer that is right for what
+-- its point had at this very Take.
+pub record IsOutcomeOf (was : Told) (step : Step) (outcome : Outcome) : Type 0 where
+  pub performed : Performed
+  pub is_performed : IsPerformed was step performed
+  pub comes : ComesTo performed outcome
+
+-- a text without a step has no outcome
+abbrev pub HasOutcome : Told → Option Step → Option Outcome → Type 0
+HasOutcome was None None = Unit {0}
+HasOutcome was (Some step) (Some outcome) = IsOutcomeOf was step outcome
+HasOutcome was _ _ = ⊥
+
+-- what answers a text of a session that was told so much: the text that is owed for what was asked, with
+-- the outcome of the step that was asked for
+pub record IsServed (session : SessionState) (was : Told) (text : Sent) (answer : Option (List ℕ))
+    : Type 0 where
+  pub todo : TodoState
+  pub outcome : Option Outcome
+  pub asked : IsTodo session text.moment text.frame todo
+  pub made : HasOutcome was todo.step outcome
+  pub answer_is : answer ≡ answer_text session todo outcome

@@ -1,0 +1,187 @@
+//! One text of a session: its step, its answer, and the call that follows a point's text.
+
+ghost use Rattle.std.specs.Prelude.{◌≡◌, ◌↔◌, IsTrue, IfOk, IfSome, option_map, string_bytes};
+ghost use Rattle.session.specs.Perform.{IsOfText};
+ghost use Rattle.session.specs.Served.{HasOutcome, IsOutcomeOf, IsOutcomeOfJob, IsPerformed, IsServed};
+ghost use Rattle.session.specs.Serving.{KeepsPass};
+
+use crate::context::Context;
+use crate::journal::Journal;
+use crate::outcome::{Outcome, Performed};
+use crate::serving::calls::send_call;
+use crate::serving::ended::Ended;
+use crate::serving::sockets::{read_text, send_text};
+use crate::session_core::SessionCore;
+use crate::step::perform;
+use compile_pool::{answer_job, wait_answer};
+use meaning::Ask;
+use ocpp_scalars::{Moments, Refusal};
+use ocppj_frame::ReadingMemory;
+use site_core::Step;
+use std::io::{Read, Write};
+use std::sync::Wait;
+use std::sync::ledger::Ledger;
+use texts::SentText;
+use tungstenite::{MaskKeys, WebSocket};
+use version_store::{Job, Pass};
+
+/// Serves the next message, if it is a text. An error ends the session.
+pub(crate) fn serve_text<
+    S: Read + Write + Drop,
+    K: MaskKeys + Drop,
+    C: Ledger,
+    A: Ledger,
+    R: Wait,
+    M: Moments,
+    J: Journal,
+>(
+    context: &Context<'_, C, A, R, M, J>,
+    socket: &mut WebSocket<S, K>,
+    core: &SessionCore,
+    memory: &mut ReadingMemory,
+    pass: &mut Pass<C, A>,
+) -> Result<(), Ended>
+    ensures { KeepsPass pass.old pass.new }
+{
+    let Some(text) = read_text(socket)? else {
+        return Ok(());
+    };
+    let Some(now) = context.clock.now() else {
+        return Err(Ended::Broken);
+    };
+    let sent = SentText::new(now, core.side(), core.point_id().as_str(), text.as_str());
+    let Served { answer, is_noted } = serve_sent_text(context, core, memory, pass, &sent)?;
+    if let Some(answer) = &answer {
+        send_text(context.alloc, socket, answer.as_str())?;
+    }
+    send_call(context, socket, core, &sent, is_noted)
+}
+
+/// What came of a text.
+#[derive(Drop)]
+pub struct Served {
+    /// The text that answers it, if one does.
+    pub answer: Option<String>,
+    /// Whether it had a step, and so is noted.
+    pub is_noted: bool,
+}
+
+/// Makes the step of a text, if it has one, and gives the text that answers it. A request for a schedule is answered
+/// by what is right for what its point had, and for what was asked, when this very request was taken; another's answer
+/// is never handed on, but ends the session.
+pub fn serve_sent_text<C: Ledger, A: Ledger, R: Wait, M: Moments, J: Journal>(
+    context: &Context<'_, C, A, R, M, J>,
+    core: &SessionCore,
+    memory: &mut ReadingMemory,
+    pass: &mut Pass<C, A>,
+    sent: &SentText<'_>,
+) -> Result<Served, Ended>
+    ensures pass { KeepsPass pass.old pass.new }
+    ensures served { IfOk result (λ served.
+        IsServed core.now pass.old sent.now (option_map string_bytes served.answer)) }
+{
+    let Ok(mut todo) = core.read_text(memory, sent.moment(), sent.frame()) else {
+        return Err(Ended::OutOfMemory);
+    };
+    let step = todo.take_step();
+    let is_noted = step.is_some();
+    let outcome = outcome_of(context, pass, sent, step)?;
+    let is_short = matches!(outcome, Some(Outcome::Refused(Refusal::OutOfMemory)));
+    match core.answer(todo, outcome) {
+        Ok(None) if is_short => Err(Ended::OutOfMemory),
+        Ok(answer) => Ok(Served { answer, is_noted }),
+        Err(_) => Err(Ended::OutOfMemory),
+    }
+}
+
+/// The outcome of the step of a text, if it has one.
+fn outcome_of<C: Ledger, A: Ledger, R: Wait, M: Moments, J: Journal>(
+    context: &Context<'_, C, A, R, M, J>,
+    pass: &mut Pass<C, A>,
+    sent: &SentText<'_>,
+    step: Option<Step>,
+) -> Result<Option<Outcome>, Ended>
+    requires { IfSome step IsOfText }
+    ensures pass { KeepsPass pass.old pass.new }
+    ensures outcome { IfOk result (HasOutcome pass.old step) }
+{
+    match step {
+        Some(step) => Ok(Some(outcome_of_step(context, pass, sent, step)?)),
+        None => Ok(None),
+    }
+}
+
+/// Makes the step of a text. A request for a schedule is compiled, and its answer collected.
+fn outcome_of_step<C: Ledger, A: Ledger, R: Wait, M: Moments, J: Journal>(
+    context: &Context<'_, C, A, R, M, J>,
+    pass: &mut Pass<C, A>,
+    sent: &SentText<'_>,
+    step: Step,
+) -> Result<Outcome, Ended>
+    requires { IsOfText step }
+    ensures pass { KeepsPass pass.old pass.new }
+    ensures outcome { IfOk result (IsOutcomeOf pass.old step) }
+{
+    match perform_noted(context, pass, sent, step) {
+        Performed::Job(job) => answer_of(context, pass, job),
+        Performed::Outcome(outcome) => Ok(outcome),
+    }
+}
+
+/// Makes the one call on the shared book that the step of a text stands for, and notes the text.
+fn perform_noted<C: Ledger, A: Ledger, R: Wait, M: Moments, J: Journal>(
+    context: &Context<'_, C, A, R, M, J>,
+    pass: &mut Pass<C, A>,
+    sent: &SentText<'_>,
+    step: Step,
+) -> Performed
+    requires { IsOfText step }
+    ensures pass { KeepsPass pass.old pass.new }
+    ensures performed { IsPerformed pass.old step result }
+{
+    let mut book = context.shared.lock(context.rt);
+    context.journal.note(sent);
+    let performed = perform(&mut book, pass, step);
+    drop(book);
+    context.journal.write_out();
+    performed
+}
+
+/// The answer to a request that is kept: compiled by a worker, or here where none takes it. No lock tells that what is
+/// handed out in the end is for the book and the ask of this request, so they are compared.
+fn answer_of<C: Ledger, A: Ledger, R: Wait, M: Moments, J: Journal>(
+    context: &Context<'_, C, A, R, M, J>,
+    pass: &mut Pass<C, A>,
+    job: Job,
+) -> Result<Outcome, Ended>
+    ensures pass { KeepsPass pass.old pass.new }
+    ensures outcome { IfOk result (IsOutcomeOfJob job) }
+{
+    let (number, book, ask) = (job.number(), job.share_book(), *job.ask());
+    if let Err(unsent) = context.jobs.send(context.rt, job) {
+        answer_job(
+            context.rt,
+            context.alloc,
+            context.shared,
+            unsent.into_inner(),
+        );
+    }
+    let answer = match wait_answer(context.rt, context.shared, pass, number) {
+        Ok(answer) => answer,
+        Err(refusal) => return Ok(Outcome::Refused(refusal)),
+    };
+    let Ok(book) = book else {
+        return Ok(Outcome::Refused(Refusal::OutOfMemory));
+    };
+    if book.same(answer.book()) && is_same(&ask, answer.ask()) {
+        Ok(Outcome::Answered(answer))
+    } else {
+        Err(Ended::Broken)
+    }
+}
+
+fn is_same(one: &Ask, other: &Ask) -> bool
+    ensures { IsTrue result ↔ (one.now ≡ other.now) }
+{
+    one.connector == other.connector && one.start == other.start && one.duration == other.duration
+}

@@ -1,0 +1,165 @@
+-- What a text asks for: nothing, an answer without a step, a step, or that a call is confirmed.
+use Rattle.std.specs.Prelude.{ℕ, ◌≡◌, codes, Bool, true, false, List, Option, Some, None, Result, Ok, Err, if◌then◌else◌}
+use Rattle.std.specs.Str.{bytes_eq}
+use Rattle.ocpp_scalars.specs.declared.refusal.Refusal.{Refusal}
+use Rattle.ocppj_frame.specs.declared.fault.FrameFault.{FrameFault}
+use Rattle.ocppj_frame.specs.declared.fault.FrameFault.TheVariants.{Formation}
+use Rattle.ocppj_frame.specs.Tree.{Tree}
+use Rattle.ocppj_frame.specs.Message.{Message, call, call_result, call_error, other}
+use Rattle.ocppj_frame.specs.ByCases.Message.{message_of_text}
+use Rattle.profile.specs.declared.charging_profile.Profile.{Profile}
+use Rattle.profile.specs.Parts.{profile_of_parts}
+use Rattle.transactions.specs.declared.begin.Begin.{Begin}
+use Rattle.messages.specs.declared.side.Side.{Side}
+use Rattle.messages.specs.declared.side.Side.TheVariants.{Operator, Point}
+use Rattle.messages.specs.declared.action.Action.{Action}
+use Rattle.messages.specs.declared.action.ScheduleRequest.{ScheduleRequest}
+use Rattle.messages.specs.declared.action.StartTransaction.{StartTransaction}
+use Rattle.messages.specs.declared.action.Action.TheVariants as actions
+use Rattle.messages.specs.declared.call_fault.CallFault.{CallFault}
+use Rattle.messages.specs.declared.call_fault.CallFault.TheVariants.{FormationViolation, NotImplemented}
+use Rattle.messages.specs.declared.response.Response.{Response}
+use Rattle.messages.specs.declared.response.Response.TheVariants.{Rejected, Schedule, Error}
+use Rattle.messages.specs.declared.action_kind.ActionKind.{ActionKind}
+use Rattle.messages.specs.declared.action_kind.ActionKind.TheVariants as kinds
+use Rattle.messages.specs.ActionKind.{action_named, kind_of_sender}
+use Rattle.messages.specs.Action.{action_of_kind}
+use Rattle.messages.specs.FixedAnswer.{fixed_response}
+use Rattle.texts.specs.declared.asked.Asked.{Asked}
+use Rattle.texts.specs.declared.asked.Asked.TheVariants as asked
+use Rattle.texts.specs.declared.asked.Wanted.{Wanted}
+use Rattle.texts.specs.declared.asked.Wanted.TheVariants as wanted
+use Rattle.site_core.specs.declared.step.Step.{Step}
+use Rattle.site_core.specs.declared.step.Step.TheVariants as steps
+use Rattle.site_core.specs.declared.step.Take.{Take}
+use Rattle.texts.specs.ByCases.Number.{number_of}
+use Rattle.texts.specs.SentText.{Sent}
+
+-- ---- actions: a step, or the answer where there is none
+
+-- the answer to an action that isn't known, or isn't its sender's
+abbrev pub not_implemented : Response
+not_implemented = Error NotImplemented
+
+-- the install of the profile that the fields make, or why they make none
+abbrev pub wanted_by_making : Sent → ℕ → Result Profile Refusal → Wanted
+wanted_by_making text connector (Ok profile) = wanted.Step (steps.Install text.point
+    (record { connector = connector; moment = text.moment; profile = profile }))
+wanted_by_making text connector (Err refusal) = wanted.Response (Rejected refusal)
+
+-- how the transaction began: as the CALL tells
+abbrev pub begin_of : StartTransaction → Begin
+begin_of start =
+    record { id_tag = start.id_tag; meter_start = start.meter_start; timestamp = start.timestamp }
+
+-- what is asked from the moment of the text on, whatever versions were seen before
+abbrev pub take_of : Sent → ScheduleRequest → Take
+take_of text request = record {
+  point = text.point;
+  connector = request.connector;
+  start = text.moment;
+  duration = request.duration;
+  unit = request.unit;
+  seen = 0;
+}
+
+abbrev pub wanted_by : Sent → Action → Wanted
+wanted_by text (actions.SetChargingProfile connector parts) =
+    wanted_by_making text connector (profile_of_parts parts)
+wanted_by text (actions.ClearChargingProfile criteria) =
+    wanted.Step (steps.Clear text.point criteria)
+wanted_by text (actions.GetCompositeSchedule request) =
+    wanted.Step (steps.Take (take_of text request))
+wanted_by text (actions.StartTransaction start) =
+    wanted.Step (steps.Start text.point start.connector (begin_of start))
+wanted_by text (actions.StopTransaction transaction) =
+    wanted.Step (steps.Stop text.point transaction)
+wanted_by text (actions.Answered answer) = wanted.Response (fixed_response answer text.moment)
+wanted_by text actions.NotACall = wanted.Response not_implemented
+
+-- ---- CALLs
+
+-- a CALL that can't be read is answered with its first fault
+abbrev pub wanted_by_reading : Sent → Result Action CallFault → Wanted
+wanted_by_reading text (Ok action) = wanted_by text action
+wanted_by_reading text (Err fault) = wanted.Response (Error fault)
+
+-- the step or the answer to the CALL of this id
+abbrev pub asked_with : List ℕ → ActionKind → Wanted → Asked
+asked_with id kind (wanted.Step step) = asked.Step id kind step
+asked_with id kind (wanted.Response response) = asked.Respond id response
+
+-- an action that isn't its sender's, or is nobody's, isn't implemented, whatever its fields are
+abbrev pub asked_of_kind : Sent → List ℕ → Option ActionKind → Tree → Asked
+asked_of_kind text id None payload = asked.Respond id not_implemented
+asked_of_kind text id (Some kind) payload =
+    asked_with id kind (wanted_by_reading text (action_of_kind kind payload))
+
+abbrev pub asked_of_call : Sent → List ℕ → List ℕ → Tree → Asked
+asked_of_call text id name payload =
+    asked_of_kind text id (kind_of_sender text.sender (action_named name)) payload
+
+-- ---- replies to calls (OCPP-J 1.6, 4.2.2 and 4.2.3)
+
+-- the number of the call that an id stands for: its decimal text, and nothing else, is the id
+abbrev pub call_numbered : List ℕ → Option ℕ
+call_numbered id = if bytes_eq id (codes "0") then Some 0 else number_of id
+
+abbrev pub asked_confirm : List ℕ → Option ℕ → Asked
+asked_confirm point None = asked.Nothing
+asked_confirm point (Some number) = asked.Confirm point number
+
+-- a point's reply confirms the call of its id, whatever it says; an operator is sent no calls
+abbrev pub asked_of_reply : Side → List ℕ → List ℕ → Asked
+asked_of_reply Operator point id = asked.Nothing
+asked_of_reply Point point id = asked_confirm point (call_numbered id)
+
+-- ---- texts
+
+-- only a CALL is answered, a malformed one too where it has an id
+abbrev pub asked_of_message : Sent → Result Message FrameFault → Asked
+asked_of_message text (Ok (call id name payload)) = asked_of_call text id name payload
+asked_of_message text (Ok (call_result id payload)) = asked_of_reply text.sender text.point id
+asked_of_message text (Ok (call_error id)) = asked_of_reply text.sender text.point id
+asked_of_message text (Ok other) = asked.Nothing
+asked_of_message text (Err (Formation id)) = asked.Respond id (Error FormationViolation)
+asked_of_message text (Err _) = asked.Nothing
+
+unfoldable pub asked_of : Sent → Asked
+asked_of text = asked_of_message text (message_of_text text.frame)
+
+-- ---- what any text asks for
+
+-- the steps that a CALL may ask for
+abbrev pub IsOfCall : Step → Type 0
+IsOfCall (steps.Install point row) = Unit {0}
+IsOfCall (steps.Clear point criteria) = Unit {0}
+IsOfCall (steps.Start point connector begin) = Unit {0}
+IsOfCall (steps.Stop point transaction) = Unit {0}
+IsOfCall (steps.Take take) = Unit {0}
+IsOfCall step = ⊥
+
+abbrev pub is_schedule : Response → Bool
+is_schedule (Schedule response) = true
+is_schedule response = false
+
+-- a step of a CALL, or an answer without a schedule
+abbrev pub AsksByCall : Asked → Type 0
+AsksByCall (asked.Step id kind step) = IsOfCall step
+AsksByCall (asked.Respond id response) = is_schedule response ≡ false
+AsksByCall _ = Unit {0}
+
+-- ---- held texts
+
+abbrev pub is_schedule_kind : Option ActionKind → Bool
+is_schedule_kind (Some kinds.GetCompositeSchedule) = true
+is_schedule_kind _ = false
+
+-- whether a message is a CALL of GetCompositeSchedule
+abbrev pub asks_schedule : Result Message FrameFault → Bool
+asks_schedule (Ok (call id name payload)) = is_schedule_kind (action_named name)
+asks_schedule _ = false
+
+-- what a held text asks for, where it is a CALL of GetCompositeSchedule
+abbrev pub hold_of : Sent → Option Asked
+hold_of text = if asks_schedule (message_of_text text.frame) then Some (asked_of text) else None

@@ -1,0 +1,7 @@
+pub mod SentText
+pub mod ByCases
+pub mod Number
+pub mod Unread
+pub mod Asked
+pub mod Response
+pub mod Theory

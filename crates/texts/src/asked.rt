@@ -1,0 +1,299 @@
+//! What a text asks for: nothing, an answer without a step, a step, or that a call is confirmed.
+
+ghost use Rattle.std.specs.Prelude.{◌≡◌, None, Ok, IfOk, IfErr};
+ghost use Rattle.ocppj_frame.specs.Frame.{message_in};
+ghost use Rattle.ocppj_frame.specs.ByCases.Message.{message_of_text};
+ghost use Rattle.ocppj_frame.specs.Payload.{tree_at};
+ghost use Rattle.profile.specs.Parts.{profile_of_parts};
+ghost use Rattle.messages.specs.Action.{action_of_kind};
+ghost use Rattle.texts.specs.Unread.{IsIdIn};
+ghost use Rattle.texts.specs.Asked.{begin_of, take_of, wanted_by, wanted_by_making, wanted_by_reading, call_numbered, asked_confirm, asked_of_reply, asked_of_message, asked_of, asked_with, asks_schedule, is_schedule_kind, hold_of, AsksByCall};
+
+use crate::number::number_of;
+use crate::sent_text::SentText;
+use crate::unread::Unread;
+use messages::{
+    Action, ActionKind, CallFault, Response, ScheduleRequest, Side, StartTransaction, read_fields,
+};
+use ocpp_scalars::Refusal;
+use ocppj_frame::{Frame, FrameFault, MessageId, Node, ReadingMemory, read_frame};
+use profile::{Profile, ProfileParts, Row};
+use site_core::{PointId, Step, Take};
+use std::alloc::{AllocError, Global};
+use transactions::Begin;
+
+/// The answer to a CALL of an action that isn't known, or isn't its sender's.
+const NOT_IMPLEMENTED: Response = Response::Error(CallFault::NotImplemented);
+
+/// What a text asks for.
+#[derive(Drop)]
+pub enum Asked {
+    /// The text isn't answered.
+    Nothing,
+    /// The CALL of this id is answered without a step.
+    Respond {
+        id: MessageId,
+        response: Response,
+    },
+    /// The CALL of this id, of an action of this kind, asks for a step.
+    Step {
+        id: MessageId,
+        kind: ActionKind,
+        step: Step,
+    },
+    /// The text is the point's reply to the call of this number.
+    Confirm {
+        point: PointId,
+        call: u64,
+    },
+}
+
+/// What an action wants.
+#[derive(Drop)]
+enum Wanted {
+    Step(Step),
+    /// It is answered without a step.
+    Response(Response),
+}
+
+/// What a text asks for. The text is read into `memory`. Where memory runs out, a CALL's id is told, if it
+/// was known by then.
+#[tactic(auto, unfolding(crate::specs::Asked::asked_of))]
+pub fn asked_of(
+    alloc: Global,
+    memory: &mut ReadingMemory,
+    text: &SentText<'_>,
+) -> Result<Asked, Unread>
+    ensures asked { IfOk result (λ asked. asked ≡ asked_of text.now) }
+    ensures by_call { IfOk result AsksByCall }
+    ensures call { IfErr result (λ unread. IsIdIn (message_of_text text.now.frame) unread.call) }
+{
+    match read_frame(memory, text.frame()) {
+        Ok(frame) => asked_of_message(alloc, text, frame),
+        Err(FrameFault::Formation { id }) => Ok(Asked::Respond {
+            id,
+            response: Response::Error(CallFault::FormationViolation),
+        }),
+        Err(FrameFault::Dropped) => Ok(Asked::Nothing),
+        Err(FrameFault::OutOfMemory) => Err(Unread { call: None }),
+    }
+}
+
+/// What a held text asks for: as [`asked_of`] has it, or `None` where the text is no CALL of
+/// GetCompositeSchedule. The text is read into `memory`.
+#[tactic(auto, unfolding(crate::specs::Asked::asked_of))]
+pub fn hold_of(
+    alloc: Global,
+    memory: &mut ReadingMemory,
+    text: &SentText<'_>,
+) -> Result<Option<Asked>, Unread>
+    ensures asked { IfOk result (λ asked. asked ≡ hold_of text.now) }
+    ensures call { IfErr result (λ unread. IsIdIn (message_of_text text.now.frame) unread.call) }
+{
+    match read_frame(memory, text.frame()) {
+        Ok(frame) => {
+            if !asks_schedule(&frame) {
+                return Ok(None);
+            }
+            Ok(Some(asked_of_message(alloc, text, frame)?))
+        }
+        Err(FrameFault::Formation { .. } | FrameFault::Dropped) => Ok(None),
+        Err(FrameFault::OutOfMemory) => Err(Unread { call: None }),
+    }
+}
+
+/// Whether a message is a CALL of GetCompositeSchedule.
+fn asks_schedule(frame: &Frame<'_>) -> bool
+    ensures { result ≡ asks_schedule (Ok (message_in frame.now)) }
+{
+    match frame {
+        Frame::Call { action, .. } => is_schedule_kind(ActionKind::named(action.as_str())),
+        Frame::Reply { .. } | Frame::Fault { .. } | Frame::Other => false,
+    }
+}
+
+fn is_schedule_kind(kind: Option<ActionKind>) -> bool
+    ensures { result ≡ is_schedule_kind kind }
+{
+    matches!(kind, Some(ActionKind::GetCompositeSchedule))
+}
+
+/// What a message asks for: only a CALL is answered, and a reply may confirm a call.
+fn asked_of_message(alloc: Global, text: &SentText<'_>, frame: Frame<'_>) -> Result<Asked, Unread>
+    ensures asked { IfOk result
+        (λ asked. asked ≡ asked_of_message text.now (Ok (message_in frame.entry))) }
+    ensures call { IfErr result (λ unread. IsIdIn (Ok (message_in frame.entry)) unread.call) }
+{
+    match frame {
+        Frame::Call {
+            id,
+            action,
+            payload,
+        } => {
+            let Some(kind) = ActionKind::of_sender(text.sender(), action.as_str()) else {
+                return Ok(Asked::Respond {
+                    id,
+                    response: NOT_IMPLEMENTED,
+                });
+            };
+            match wanted_by_fields(alloc, text, kind, payload.root()) {
+                Ok(wanted) => Ok(asked_with(id, kind, wanted)),
+                Err(AllocError) => Err(Unread { call: Some(id) }),
+            }
+        }
+        Frame::Reply { id, .. } => asked_of_reply(alloc, text, id.as_str()),
+        Frame::Fault { id } => asked_of_reply(alloc, text, id.as_str()),
+        Frame::Other => Ok(Asked::Nothing),
+    }
+}
+
+/// What a reply of this id asks for: a point's confirms the call of that number.
+fn asked_of_reply(alloc: Global, text: &SentText<'_>, id: &str) -> Result<Asked, Unread>
+    ensures asked { IfOk result
+        (λ asked. asked ≡ asked_of_reply text.now.sender text.now.point id.now) }
+    ensures call { IfErr result (λ unread. unread.call ≡ None) }
+{
+    match text.sender() {
+        Side::Operator => Ok(Asked::Nothing),
+        Side::Point => asked_confirm(alloc, text.point(), call_numbered(id)),
+    }
+}
+
+/// The confirmation of a point's call of this number, if there is one.
+fn asked_confirm(alloc: Global, point: &str, call: Option<u64>) -> Result<Asked, Unread>
+    ensures asked { IfOk result (λ asked. asked ≡ asked_confirm point.now call) }
+    ensures call { IfErr result (λ unread. unread.call ≡ None) }
+{
+    let Some(call) = call else {
+        return Ok(Asked::Nothing);
+    };
+    match PointId::copied(alloc, point) {
+        Ok(point) => Ok(Asked::Confirm { point, call }),
+        Err(AllocError) => Err(Unread { call: None }),
+    }
+}
+
+/// The number of the call whose decimal text an id is.
+fn call_numbered(id: &str) -> Option<u64>
+    ensures { result ≡ call_numbered id.now }
+{
+    if id == "0" { Some(0) } else { number_of(id) }
+}
+
+/// What the CALL of this id asks for, whose action wants this.
+fn asked_with(id: MessageId, kind: ActionKind, wanted: Wanted) -> Asked
+    ensures { result ≡ asked_with id kind wanted }
+{
+    match wanted {
+        Wanted::Step(step) => Asked::Step { id, kind, step },
+        Wanted::Response(response) => Asked::Respond { id, response },
+    }
+}
+
+/// What the action with these fields wants.
+fn wanted_by_fields(
+    alloc: Global,
+    text: &SentText<'_>,
+    kind: ActionKind,
+    payload: Node<'_, '_>,
+) -> Result<Wanted, AllocError>
+    ensures { IfOk result (λ wanted. wanted
+        ≡ wanted_by_reading text.now (action_of_kind kind (tree_at payload.entry))) }
+{
+    match read_fields(alloc, kind, payload) {
+        Ok(action) => wanted_by(alloc, text, action),
+        Err(CallFault::Refused(Refusal::OutOfMemory)) => Err(AllocError),
+        Err(fault) => Ok(Wanted::Response(Response::Error(fault))),
+    }
+}
+
+/// What an action wants: a step, or an answer without one.
+fn wanted_by(alloc: Global, text: &SentText<'_>, action: Action) -> Result<Wanted, AllocError>
+    ensures { IfOk result (λ wanted. wanted ≡ wanted_by text.now action) }
+{
+    let response = match action {
+        Action::SetChargingProfile { connector, profile } => {
+            return wanted_by_parts(alloc, text, connector, profile);
+        }
+        Action::ClearChargingProfile(criteria) => {
+            let point = PointId::copied(alloc, text.point())?;
+            return Ok(Wanted::Step(Step::Clear { point, criteria }));
+        }
+        Action::GetCompositeSchedule(request) => {
+            return Ok(Wanted::Step(step_of_ask(alloc, text, &request)?));
+        }
+        Action::StartTransaction(start) => {
+            return Ok(Wanted::Step(step_of_start(alloc, text, start)?));
+        }
+        Action::StopTransaction(transaction) => {
+            let point = PointId::copied(alloc, text.point())?;
+            return Ok(Wanted::Step(Step::Stop { point, transaction }));
+        }
+        Action::Answered(answer) => answer.response(text.moment()),
+        Action::NotACall => NOT_IMPLEMENTED,
+    };
+    Ok(Wanted::Response(response))
+}
+
+/// The request for a schedule that these fields make.
+fn step_of_ask(
+    alloc: Global,
+    text: &SentText<'_>,
+    request: &ScheduleRequest,
+) -> Result<Step, AllocError>
+    ensures { IfOk result (λ step. step ≡ Step.Take (take_of text.now request.now)) }
+{
+    Ok(Step::Take(Take {
+        point: PointId::copied(alloc, text.point())?,
+        connector: request.connector,
+        start: text.moment(),
+        duration: request.duration,
+        unit: request.unit,
+        seen: 0,
+    }))
+}
+
+/// The start that these fields make.
+fn step_of_start(
+    alloc: Global,
+    text: &SentText<'_>,
+    start: StartTransaction,
+) -> Result<Step, AllocError>
+    ensures { IfOk result
+        (λ step. step ≡ Step.Start text.now.point start.connector (begin_of start)) }
+{
+    Ok(Step::Start {
+        point: PointId::copied(alloc, text.point())?,
+        connector: start.connector,
+        begin: Begin {
+            id_tag: start.id_tag,
+            meter_start: start.meter_start,
+            timestamp: start.timestamp,
+        },
+    })
+}
+
+/// The install of the profile that these fields make, or that they make none.
+fn wanted_by_parts(
+    alloc: Global,
+    text: &SentText<'_>,
+    connector: u32,
+    parts: ProfileParts,
+) -> Result<Wanted, AllocError>
+    ensures { IfOk result (λ wanted. wanted
+        ≡ wanted_by_making text.now connector (profile_of_parts parts)) }
+{
+    match Profile::try_new(parts) {
+        Ok(profile) => {
+            let point = PointId::copied(alloc, text.point())?;
+            let moment = text.moment();
+            let row = Row {
+                connector,
+                moment,
+                profile,
+            };
+            Ok(Wanted::Step(Step::Install { point, row }))
+        }
+        Err((refusal, _)) => Ok(Wanted::Response(Response::Rejected(refusal))),
+    }
+}

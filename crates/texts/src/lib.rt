@@ -1,0 +1,14 @@
+//! What a text asks for, and what came of it as an answer: no socket, no store.
+#![tactic(auto)]
+
+mod asked;
+mod number;
+mod response;
+mod sent_text;
+mod unread;
+
+pub use asked::{Asked, asked_of, hold_of};
+pub use number::number_of;
+pub use response::{refused_response, reply_response, response_of, schedule_response};
+pub use sent_text::SentText;
+pub use unread::Unread;

@@ -1,0 +1,80 @@
+//! The answer to a CALL whose step was made or refused.
+
+ghost use Rattle.std.specs.Prelude.{◌≡◌};
+ghost use Rattle.texts.specs.Response.{refused_response, schedule_response, reply_response, response_of};
+
+use meaning::{Ask, Composite};
+use messages::{ActionKind, CallFault, Response, ScheduleResponse};
+use ocpp_scalars::Refusal;
+use profile::Unit;
+use site_core::Reply;
+
+/// What came of a step as a response to a CALL of this kind, on a site of this unit. `None` where that isn't
+/// answered: a request that is taken or compiled has no answer yet.
+pub fn response_of(
+    unit: Unit,
+    kind: ActionKind,
+    outcome: Result<Reply, Refusal>,
+) -> Option<Response>
+    ensures { result ≡ response_of unit kind outcome }
+{
+    match outcome {
+        Ok(reply) => reply_response(unit, kind, reply),
+        Err(refusal) => Some(refused_response(kind, refusal)),
+    }
+}
+
+/// What a step's reply is as a response.
+pub fn reply_response(unit: Unit, kind: ActionKind, reply: Reply) -> Option<Response>
+    ensures { result ≡ reply_response unit kind reply }
+{
+    match reply {
+        Reply::Accepted => Some(Response::Accepted),
+        Reply::Unknown => Some(Response::Unknown),
+        Reply::Started(transaction) => Some(Response::StartTransaction { transaction }),
+        Reply::Repeated(transaction) => Some(Response::StartTransaction { transaction }),
+        Reply::Ended | Reply::NoSuch => Some(Response::Empty),
+        Reply::Answered { ask, answer, .. } => Some(schedule_response(unit, kind, &ask, answer)),
+        Reply::Taken { .. }
+        | Reply::Compiled
+        | Reply::NotYet
+        | Reply::Finished
+        | Reply::Attached(_)
+        | Reply::Sent(_)
+        | Reply::Nothing
+        | Reply::Confirmed
+        | Reply::LinkLost => None,
+    }
+}
+
+/// The answer to a request for a composite schedule.
+pub fn schedule_response(
+    unit: Unit,
+    kind: ActionKind,
+    ask: &Ask,
+    answer: Result<Composite, Refusal>,
+) -> Response
+    ensures { result ≡ schedule_response unit kind ask.now answer }
+{
+    match answer {
+        Ok(schedule) => Response::Schedule(ScheduleResponse {
+            connector: ask.connector,
+            start: ask.start,
+            unit,
+            schedule,
+        }),
+        Err(refusal) => refused_response(kind, refusal),
+    }
+}
+
+/// A refused install or ask is answered by its .conf, any other refused CALL by a CALLERROR.
+pub fn refused_response(kind: ActionKind, refusal: Refusal) -> Response
+    ensures { result ≡ refused_response kind refusal }
+{
+    match kind {
+        ActionKind::SetChargingProfile | ActionKind::GetCompositeSchedule => {
+            Response::Rejected(refusal)
+        }
+        _ => Response::Error(CallFault::Refused(refusal)),
+    }
+}
