@@ -146,8 +146,7 @@ IsNumber option rows number =
     × IsNumeral 10 (without_leading_plus text)
     × (number ≡ digits_value 10 (without_leading_plus text))
 
--- the value of an option, where it is given, is a numeral of this number, and each that fits 64 bits
--- is read
+-- the value of an option that is given is a numeral of this number, and each in 64 bits is read
 pub record IsOptionalNumber (option : Text) (rows : List Row) (number : Option ℕ) : Type 0 where
   pub value : IfSome number (IsNumber option rows)
   pub given :

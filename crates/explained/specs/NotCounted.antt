@@ -32,7 +32,7 @@ abbrev pub is_ahead_at : Row → Option ℕ → Bool
 is_ahead_at row None = false
 is_ahead_at row (Some offset) = not (is_some (limit_in row.profile.schedule.periods offset))
 
--- whether a reason why a row doesn't prevail for a connector holds at an instant, with others or alone
+-- whether a reason why a row doesn't prevail for a connector holds at an instant
 abbrev pub holds_for : WhyNot → PointState → ℕ → ℕ → ℕ → Row → Bool
 holds_for OtherConnector state at asked instant row =
     is_elsewhere row.profile.purpose at row.connector
@@ -51,9 +51,9 @@ holds_for BelowHigherLevel state at asked instant row =
 holds_for BehindTxProfile state at asked instant row =
     is_tx_default row.profile.purpose && is_some (prevailing_row TxProfile state at asked instant)
 
--- What a reason says of a row for a connector at a second, in a schedule asked from `asked` on: that it
--- doesn't prevail for this reason, has no limit, doesn't prevail where it has one, or that it prevails.
--- A ChargePointMaxProfile prevails for the whole point.
+-- What a reason says of a row for a connector at a second, in a schedule asked from `asked` on:
+-- that it doesn't prevail for this reason, has no limit, doesn't prevail where it has one, or that
+-- it prevails. A ChargePointMaxProfile prevails for the whole point.
 abbrev pub SaysAt : NoPart → PointState → ℕ → ℕ → ℕ → Row → Type 0
 SaysAt (NotPrevailing why) state connector asked second row =
     holds_for why state (counts_for row.profile.purpose connector) asked second row ≡ true
@@ -83,7 +83,7 @@ abbrev pub LooksAt : PointState → ℕ → Row → ℕ → Type 0
 LooksAt state asked row connector =
     (if is_of_one asked row then connector == asked else is_of_active state row connector) ≡ true
 
--- a reason says so at every second of an ask for every connector that is looked at, and there is one
+-- a reason says so at each second of an ask for each connector looked at, and there is one
 pub record SaysThroughout (reason : NoPart) (state : PointState) (ask : Ask) (row : Row)
     : Type 0 where
   pub one : ℕ
@@ -112,7 +112,7 @@ IsReason NotLeast state ask row = PrevailsOnce state ask row
 IsReason NoActiveConnector state ask row =
     (connector : ℕ) → ¬ (LooksAt state ask.connector row connector)
 
--- what is told of a profile that never sets the limit: it is a row of the point, with a right reason
+-- what is told of a profile that never sets the limit: a row of the point, with a right reason
 pub record IsTold (state : PointState) (ask : Ask) (told : NotCounted) : Type 0 where
   pub place : ℕ
   pub row : Row

@@ -1,5 +1,5 @@
--- What a CALL asks for by its action and its payload, or its first fault: the fields of each action, in
--- the order in which they are checked (OCPP 1.6, chapters 4 to 6).
+-- What a CALL asks for by its action and its payload, or its first fault: the fields of each
+-- action, in the order in which they are checked (OCPP 1.6, chapters 4 to 6).
 use Rattle.std.specs.Prelude.{◌≡◌, ℕ, List, Bool, true, false, Option, Some, None, Result, Ok, Err}
 use Rattle.std.specs.List.{AllByRecursion}
 use Rattle.ocpp_scalars.specs.ResultSteps.{◌>>=◌}

@@ -1,5 +1,6 @@
 -- The table of actions: of each its name, who sends it, what it is answered where its fields aren't
--- looked at, and else its fields in the order in which they are checked (OCPP 1.6, chapters 4 to 6).
+-- looked at, and else its fields in the order in which they are checked (OCPP 1.6, chapters 4 to
+-- 6).
 use Rattle.std.specs.Prelude.{ℕ, List, [], ◌∷◌, Bool, true, false, Option, Some, None, codes, option_map, if◌then◌else◌}
 use Rattle.std.specs.Str.{bytes_eq}
 use Rattle.messages.specs.declared.action_kind.ActionKind.{ActionKind}
@@ -55,11 +56,14 @@ row_of StartTransaction = with_fields Point (codes "StartTransaction")
     ∷ Required MeterStart Whole
     ∷ Required Timestamp Time
     ∷ [])
-row_of StopTransaction = with_fields Point (codes "StopTransaction") (Required TransactionId Whole ∷ [])
+row_of StopTransaction = with_fields Point (codes "StopTransaction")
+    (Required TransactionId Whole ∷ [])
 row_of StatusNotification = answered Point (codes "StatusNotification") answers.Empty
 row_of MeterValues = answered Point (codes "MeterValues") answers.Empty
-row_of FirmwareStatusNotification = answered Point (codes "FirmwareStatusNotification") answers.Empty
-row_of DiagnosticsStatusNotification = answered Point (codes "DiagnosticsStatusNotification") answers.Empty
+row_of FirmwareStatusNotification =
+    answered Point (codes "FirmwareStatusNotification") answers.Empty
+row_of DiagnosticsStatusNotification =
+    answered Point (codes "DiagnosticsStatusNotification") answers.Empty
 row_of DataTransfer = answered Point (codes "DataTransfer") answers.UnknownVendorId
 
 abbrev pub name_of_kind : ActionKind → List ℕ

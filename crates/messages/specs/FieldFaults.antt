@@ -1,6 +1,6 @@
--- The faults of fields, by the tables of fields in `ActionKind` and `FieldRow` (OCPP 1.6, chapters 6
--- and 7). By the law `first_faults` an action is read exactly where no field of its table has a fault,
--- and else its fault is the first: so what is read is what the tables say.
+-- The faults of fields, by the tables of fields in `ActionKind` and `FieldRow` (OCPP 1.6, chapters
+-- 6 and 7). By the law `first_faults` an action is read exactly where no field of its table has a
+-- fault, and else its fault is the first: so what is read is what the tables say.
 use Rattle.std.specs.Prelude.{◌≡◌, ℕ, zero, suc, Bool, true, false, List, [], ◌∷◌, ◌++◌, Option, Some, None}
 use Rattle.std.specs.List.{AllByRecursion, flat_map}
 use Rattle.std.specs.Result.{result_err}
@@ -22,7 +22,7 @@ use Rattle.messages.specs.ActionKind.{fields_of}
 use Rattle.messages.specs.FieldRow.{fields_in}
 use Rattle.messages.specs.Fields.{required, optional, whole, whole_from_zero, tenths, instant, one_name_of, list, object, text, as_object, as_id_tag}
 
--- The fields of an object in the order in which they are checked, each with its fault if it has one.
+-- The fields of an object in the order in which they are checked, each with its fault if any.
 abbrev pub Checked : Type 0
 Checked = List (Option CallFault)
 

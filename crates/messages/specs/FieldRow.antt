@@ -1,5 +1,6 @@
--- Tables of fields, each with what its value has to be, in the order in which they are checked: those
--- of the objects inside payloads (OCPP 1.6, chapter 7). Those of payloads stand in `ActionKind`.
+-- Tables of fields, each with what its value has to be, in the order in which they are checked:
+-- those of the objects inside payloads (OCPP 1.6, chapter 7). Those of payloads stand in
+-- `ActionKind`.
 use Rattle.std.specs.Prelude.{List, [], ◌∷◌}
 use Rattle.messages.specs.declared.field_name.FieldName.{FieldName}
 use Rattle.messages.specs.declared.field_name.FieldName.TheVariants.{ChargingProfileId, ChargingProfileKind, ChargingProfilePurpose, ChargingRateUnit, ChargingSchedule, ChargingSchedulePeriod, Duration, Limit, MinChargingRate, NumberPhases, RecurrencyKind, StackLevel, StartPeriod, StartSchedule, TransactionId, ValidFrom, ValidTo}

@@ -1,5 +1,5 @@
--- The names of OCPP's enumerations, as payloads write them (OCPP 1.6, chapter 7). They are read by the
--- tables of names of `profile`.
+-- The names of OCPP's enumerations, as payloads write them (OCPP 1.6, chapter 7). They are read by
+-- the tables of names of `profile`.
 use Rattle.std.specs.Prelude.{ℕ, List, Option, Some, None, codes}
 use Rattle.profile.specs.declared.kind.Kind.{Kind}
 use Rattle.profile.specs.declared.kind.Kind.TheVariants.{Absolute, Recurring, Relative}

@@ -84,8 +84,8 @@ sent_over (Some link) old point = sending_of (stepped_exactly old (steps.Send po
 abbrev pub sent_first : MachineState → List ℕ → Sending
 sent_first old point = sent_over (link_of old point) old point
 
--- a point has answered the call of a number; where that isn't in flight, nothing changes, and none is
--- in flight to a point without a link
+-- a point has answered the call of a number; where that isn't in flight, nothing changes, and none
+-- is in flight to a point without a link
 abbrev pub confirmed_over : Option ℕ → MachineState → List ℕ → ℕ → Stepped
 confirmed_over None old point number = record { outcome = Err NothingInFlight; after = old }
 confirmed_over (Some link) old point number =

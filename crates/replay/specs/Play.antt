@@ -139,7 +139,7 @@ release_handled old number id =
 
 -- ---- lines
 
--- what a line prints, whether it has a fault, what it changes at its point, and what is known after it
+-- what a line prints, whether it has a fault, what it changes at its point, and what it leads to
 pub record LineStep : Type 0 where
   pub printed : List PrintedLine
   pub is_fault : Bool

@@ -25,9 +25,9 @@ abbrev pub seen_by : Told → Step → Step
 seen_by was (steps.Take take) = steps.Take (record take { seen = was.seen })
 seen_by was step = step
 
--- A Take gives the job of the request that is kept, and no reply. Any other step gives the reply of the
--- call that it stands for. A refused one changes nothing. What a session was told doesn't change with
--- what its point confirms.
+-- A Take gives the job of the request that is kept, and no reply. Any other step gives the reply of
+-- the call that it stands for. A refused one changes nothing. What a session was told doesn't
+-- change with what its point confirms.
 abbrev pub Performs : StoreState → Told → Step → Performed → StoreState → Told → Type 0
 Performs old was step (Job job) new told =
     Calls old was (seen_by was step) (Taken job.number job.book job.ask) new told

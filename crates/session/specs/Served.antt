@@ -15,8 +15,8 @@ use Rattle.session.specs.Perform.{Performs}
 use Rattle.session.specs.Session.{SessionState}
 use Rattle.session.specs.Todo.{TodoState, IsTodo, answer_text}
 
--- An answer is that of a job: for the request of its number, with the book and the ask that the Take of
--- that request kept, and right for these.
+-- An answer is that of a job: for the request of its number, with the book and the ask that the
+-- Take of that request kept, and right for these.
 pub record IsAnswerTo (job : RequestedJob) (handed : HandedAnswer) : Type 0 where
   pub number : handed.number ≡ job.number
   pub book : handed.book ≡ job.book
@@ -42,8 +42,8 @@ pub record IsPerformed (was : Told) (step : Step) (performed : Performed) : Type
   pub store : IsStore old
   pub performs : Performs old was step performed new told
 
--- The outcome of a session's own step: for a request of a schedule, the answer that is right for what
--- its point had at this very Take.
+-- The outcome of a session's own step: for a request of a schedule, the answer that is right for
+-- what its point had at this very Take.
 pub record IsOutcomeOf (was : Told) (step : Step) (outcome : Outcome) : Type 0 where
   pub performed : Performed
   pub is_performed : IsPerformed was step performed
@@ -55,8 +55,8 @@ HasOutcome was None None = Unit {0}
 HasOutcome was (Some step) (Some outcome) = IsOutcomeOf was step outcome
 HasOutcome was _ _ = ⊥
 
--- what answers a text of a session that was told so much: the text that is owed for what was asked, with
--- the outcome of the step that was asked for
+-- what answers a text of a session that was told so much: the text that is owed for what was asked,
+-- with the outcome of the step that was asked for
 pub record IsServed (session : SessionState) (was : Told) (text : Sent) (answer : Option (List ℕ))
     : Type 0 where
   pub todo : TodoState

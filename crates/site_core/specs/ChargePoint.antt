@@ -70,8 +70,8 @@ transactions_after active Loses = active
 transactions_after active Sends = active
 transactions_after active (Confirms number) = active
 
--- what comes to its outbox: a call that is added, or what becomes of its link and of the first call.
--- That a transaction begins or ends, a point knows by itself.
+-- what comes to its outbox: a call that is added, or what becomes of its link and of the first
+-- call. That a transaction begins or ends, a point knows by itself.
 abbrev pub traffic_of : Deed → Option Traffic
 traffic_of (Installs row) = Some (Add (bodies.Set row.connector row.profile))
 traffic_of (Clears criteria) = Some (Add (bodies.Clear criteria))

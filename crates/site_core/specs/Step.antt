@@ -43,8 +43,8 @@ no_count = record { changes = 0; takes = 0; answers = 0 }
 
 -- what is so of a reply
 pub record Facts : Type 0 where
-  -- Whether its step is an event, where it is known if the central system was stopped before: what is
-  -- answered without a change is none.
+  -- Whether its step is an event, where it is known if the central system was stopped before: what
+  -- is answered without a change is none.
   pub is_event : Bool → Bool
   -- the numbers that were drawn last, after its step
   pub drawn : Numbers → Numbers
@@ -246,8 +246,8 @@ loses point = Ok LinkLost
 
 -- ---- and then done
 
--- what a step does at its point, which is read from the point, the step and what is replied: no other
--- step with its reply does anything at a point
+-- what a step does at its point, which is read from the point, the step and what is replied: no
+-- other step with its reply does anything at a point
 abbrev pub deed : ChargePointState → Step → Reply → Option Deed
 deed point (steps.Install id row) Accepted = Some (Installs row)
 deed point (steps.Clear id criteria) Accepted = Some (Clears criteria)
@@ -375,8 +375,8 @@ finishes old =
 
 -- ---- all steps
 
--- a step at a point: the point that it names, the link that it has to be made over, where it has to,
--- and what it comes to there
+-- a step at a point: the point that it names, the link that it has to be made over, where it has
+-- to, and what it comes to there
 pub record PointStep : Type 0 where
   pub point : List ℕ
   pub link : Option ℕ

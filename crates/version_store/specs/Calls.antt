@@ -46,8 +46,8 @@ compile_event number answer = record { step = steps.Compile number; answer = ans
 abbrev pub Makes : StoreState → Step → Reply → StoreState → Type 0
 Makes old step reply new = Adds old (event_alone step) reply new ⊎ Tells old step reply new
 
--- Whether what a step comes to may want memory: the step itself, or the fold of the history before its
--- event.
+-- Whether what a step comes to may want memory: the step itself, or the fold of the history before
+-- its event.
 abbrev pub may_want_memory : StoreState → Step → Reply → Bool
 may_want_memory old step reply =
     wants_memory reply || (is_event old.present reply && folds old step)

@@ -30,12 +30,13 @@ is_memory (Ok (Answered book ask (Err OutOfMemory))) = true
 is_memory outcome = false
 
 -- the step leads to this state, and the outcome changes what the step's does
-pub record LeadsTo (step : Stepped) (outcome : Result Reply Refusal) (new : MachineState) : Type 0 where
+pub record LeadsTo
+    (step : Stepped) (outcome : Result Reply Refusal) (new : MachineState) : Type 0 where
   pub after : step.after ≡ new
   pub change : change_of step.outcome ≡ change_of outcome
 
--- The answer to a Take makes no difference to what is known when it was handed out: there is an ask,
--- also of its first second, and no other request is kept.
+-- The answer to a Take makes no difference to what is known when it was handed out: there is an
+-- ask, also of its first second, and no other request is kept.
 pub record MayBeSkimmed (old : MachineState) (take : Take) : Type 0 where
   pub alone : old.requests ≡ []
   pub ask : Ask
