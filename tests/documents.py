@@ -237,13 +237,13 @@ def refusal_problems(top, files):
 
 # The functions with the tables of sentences, each with the heading of its table in OPERATING.
 SENTENCES = {
-    "Refusals": ("crates/checks/src/sentences.rt", "sentence"),
-    "Faults of a site file": ("crates/checks/src/sentences.rt", "site_sentence"),
-    "Faults of a line": ("crates/checks/src/sentences.rt", "line_sentence"),
-    "Errors of a CALL": ("crates/checks/src/sentences.rt", "call_sentence"),
-    "Profiles that never count": ("crates/checks/src/sentences.rt", "never_sentence"),
-    "Profiles that never set the limit": ("crates/explained/src/words.rt", "sentence"),
-    "Profiles that don't prevail": ("crates/explained/src/words.rt", "why_not_sentence"),
+    "Refusals": ("crates/findings/src/sentences.rt", "sentence"),
+    "Faults of a site file": ("crates/findings/src/sentences.rt", "site_sentence"),
+    "Faults of a line": ("crates/findings/src/sentences.rt", "line_sentence"),
+    "Errors of a CALL": ("crates/findings/src/sentences.rt", "call_sentence"),
+    "Profiles that never count": ("crates/findings/src/sentences.rt", "never_sentence"),
+    "Profiles that never set the limit": ("crates/explain_pages/src/words.rt", "sentence"),
+    "Profiles that don't prevail": ("crates/explain_pages/src/words.rt", "why_not_sentence"),
 }
 
 
@@ -425,7 +425,7 @@ def told_limit_problems(top, files):
     known = {written(limit, value).replace(",", "") for limit, value in limits.items()}
     help_text = text_of(top, "crates/central/src/program/help_text.rt")
     options = re.findall(r"pub const (?:\w+_HELP|STATUSES): &str =\s*\"(?:[^\"\\]|\\.)*\";", help_text, re.DOTALL)
-    sources = ("crates/checks/src/sentences.rt", "crates/checks/src/field_fault.rt")
+    sources = ("crates/findings/src/sentences.rt", "crates/findings/src/field_fault.rt")
     texts = {**{source: text_of(top, source) for source in sources}, "the help": "\n".join(options)}
     for where, text in texts.items():
         found = list(told_numbers(text))

@@ -311,14 +311,14 @@ def memory_problems(program, folder):
             problems.append(f"only {refused} allocations were refused")
         yield f"{os.path.basename(case)}: each of {refused} allocations refused", problems
     for crate, test, in_a_row, least in (
-        ("core_tests", "runs::a_step_is_made_again_where_memory_was_refused", 1, 20),
-        ("core_tests", "runs::a_run_goes_on_where_memory_was_refused", 1, 2),
+        ("test_core", "runs::a_step_is_made_again_where_memory_was_refused", 1, 20),
+        ("test_core", "runs::a_run_goes_on_where_memory_was_refused", 1, 2),
         # A book's call lends its step to the machine, and so copies no more of it than the machine keeps.
-        ("core_tests", "stored_histories::a_call_is_made_again_where_memory_was_refused", 1, 20),
+        ("test_core", "stored_histories::a_call_is_made_again_where_memory_was_refused", 1, 20),
         # From each allocation on all are refused: past its beginning the test makes none, until its last step.
-        ("core_tests", "runs::a_step_without_an_event_wants_no_memory", 1_000_000, 1),
+        ("test_core", "runs::a_step_without_an_event_wants_no_memory", 1_000_000, 1),
         # A chunk of the arena that is refused is asked for at half its size, and so on: all of that is refused.
-        ("text_tests", "frame_texts::a_text_is_read_again_where_memory_was_refused", 20, 30),
+        ("test_texts", "frame_texts::a_text_is_read_again_where_memory_was_refused", 20, 30),
     ):
         yield again_problems(library, [built_tests(program, crate), test], in_a_row, least, range(1, 151))
     # The last two calls of these are those that are made again, after a history that takes many allocations.
@@ -326,7 +326,7 @@ def memory_problems(program, folder):
         "stored_histories::an_install_folds_again_where_memory_was_refused",
         "stored_histories::a_start_folds_again_where_memory_was_refused",
     ):
-        words = [built_tests(program, "core_tests"), test]
+        words = [built_tests(program, "test_core"), test]
         last = allocations(library, words)
         yield again_problems(library, words, 1, 10, range(last - 40, last + 6))
 
@@ -340,7 +340,7 @@ def memory_problems(program, folder):
         ("workers_beside_sessions::whoever_waits_at_the_end_is_answered", 1),
         ("workers_beside_sessions::eight_workers_answer_64_requests", 61),
     ):
-        yield ending_problems(library, [built_tests(program, "pool_tests"), test], step)
+        yield ending_problems(library, [built_tests(program, "test_pool"), test], step)
 
 
 NIGHT = os.path.join("examples", "night-profile")

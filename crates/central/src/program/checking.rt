@@ -8,11 +8,11 @@ use crate::program::pages::print_page;
 use crate::program::program_fault::ProgramFault;
 use crate::program::script_input::read_script;
 use crate::program::site_file::read_site_bytes;
-use checks::{
+use findings::{
     Change, Finding, ScriptCheck, Severity, check_change, check_printed, check_site,
     check_standing, exit_status, sort_by_line,
 };
-use shown::{Depth, Trace, ending_text, trace_text};
+use show_pages::{Depth, Trace, ending_text, trace_text};
 use site_rules::{Site, SiteFault, read_site};
 use std::alloc::{AllocError, AllocGlobal, Global};
 use std::fmt::Write;

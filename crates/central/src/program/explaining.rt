@@ -7,7 +7,7 @@ use crate::program::pages::{Screen, note_refused_lines, print_page, write_file};
 use crate::program::program_fault::ProgramFault;
 use crate::program::script_input::read_script;
 use crate::program::site_file::read_site_file;
-use explained::{Explained, not_counted, write_json, write_page, write_picture, write_table};
+use explain_pages::{Explained, not_counted, write_json, write_page, write_picture, write_table};
 use meaning::Ask;
 use ocpp_scalars::read_instant;
 use point_book::PointBook;

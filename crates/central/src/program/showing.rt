@@ -5,7 +5,7 @@ use crate::program::pages::{note_refused_lines, print_page};
 use crate::program::program_fault::ProgramFault;
 use crate::program::script_input::read_script;
 use crate::program::site_file::read_site_file;
-use shown::{Depth, standing_json, standing_text, trace_script};
+use show_pages::{Depth, standing_json, standing_text, trace_script};
 use std::alloc::AllocGlobal;
 use std::rt::Files;
 

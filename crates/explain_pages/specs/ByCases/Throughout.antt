@@ -1,0 +1,95 @@
+-- Of private clauses: up to when what is said of a row for a connector stays so.
+use Rattle.std.specs.Prelude.{◌≡◌, ℕ, ◌+◌, ◌<◌, ◌≤◌, true, Option, Some, None}
+use Rattle.meaning.specs.View.{point_state}
+use Rattle.meaning.specs.Cause.{RowLimit, level_of}
+use Rattle.meaning.specs.declared.cause.WhyNot.{WhyNot}
+use Rattle.explain_pages.specs.declared.explained.NoPart.{NoPart}
+use Rattle.explain_pages.specs.declared.explained.NoPart.TheVariants.{NotLeast, BehindOthers}
+use Rattle.explain_pages.specs.declared.looked.RowAsked.{RowAsked}
+use Rattle.explain_pages.specs.declared.looked.Looked.{Looked}
+use Rattle.explain_pages.specs.NotCounted.{holds_for, SaysAt, LooksAt, PrevailsOnce}
+
+-- a fact of each number from one on up to another, which is left out
+pub record IsSoUntil (fact : ℕ → Type 0) (from until : ℕ) : Type 0 where
+  pub later : from < until
+  pub each : (k : ℕ) → from ≤ k → k < until → fact k
+
+-- a reason why a row doesn't prevail holds
+abbrev pub Holds : WhyNot → Looked → ℕ → Type 0
+Holds why looked second =
+    holds_for why (point_state looked.view) looked.at looked.ask.start second looked.row.now ≡ true
+
+-- a row prevails among those of a purpose, of this level at least
+pub record Reaches (least : ℕ) (given : Option RowLimit) : Type 0 where
+  pub best : RowLimit
+  pub is : given ≡ Some best
+  pub high : least ≤ level_of best
+
+-- what a reason says of a row for the connector for which it is looked at
+abbrev pub Says : NoPart → Looked → ℕ → Type 0
+Says reason looked second =
+    SaysAt reason (point_state looked.view) looked.connector looked.ask.start second looked.row.now
+
+-- what a reason says isn't so at an instant; where that is that others come first, the row prevails
+abbrev pub Fails : NoPart → Looked → ℕ → Type 0
+Fails reason looked second = reason ≡ BehindOthers → Says NotLeast looked second
+
+-- the first second of an ask at which it isn't so, or that it is so at each
+pub record IsFailing (reason : NoPart) (looked : Looked) (second : ℕ) : Type 0 where
+  pub from : looked.ask.start ≤ second
+  pub before : second < looked.ask.start + looked.ask.duration
+  pub fails : Fails reason looked second
+
+abbrev pub FirstFailing : NoPart → Looked → Option ℕ → Type 0
+FirstFailing reason looked None =
+    (second : ℕ) → looked.ask.start ≤ second → second < looked.ask.start + looked.ask.duration
+    → Says reason looked second
+FirstFailing reason looked (Some second) = IsFailing reason looked second
+
+-- ---- over the connectors that are looked at
+
+-- what a reason says of a row for a connector
+abbrev pub SaysOf : NoPart → RowAsked → ℕ → ℕ → Type 0
+SaysOf reason row connector second =
+    SaysAt reason (point_state row.view) connector row.ask.start second row.row.now
+
+-- the row as it is looked at for a connector: what is said of it is said there
+pub record IsOf (asked : RowAsked) (number : ℕ) (looked : Looked) : Type 0 where
+  pub ask : looked.ask ≡ asked.ask
+  pub says :
+      (reason : NoPart) (second : ℕ) → Says reason looked second
+      → SaysOf reason asked number second
+
+-- a connector at which a row is looked at
+abbrev pub IsLookedAt : RowAsked → ℕ → Type 0
+IsLookedAt row connector = LooksAt (point_state row.view) row.ask.connector row.row.now connector
+
+-- the first of them, or that there is none
+abbrev pub FoundConnector : RowAsked → Option ℕ → Type 0
+FoundConnector row None = (connector : ℕ) → ¬ (IsLookedAt row connector)
+FoundConnector row (Some connector) = IsLookedAt row connector
+
+-- a connector at which it isn't so at a second
+pub record FailsOnce (reason : NoPart) (row : RowAsked) (second : ℕ) : Type 0 where
+  pub connector : ℕ
+  pub looked : IsLookedAt row connector
+  pub from : row.ask.start ≤ second
+  pub before : second < row.ask.start + row.ask.duration
+  pub fails : reason ≡ BehindOthers → SaysOf NotLeast row connector second
+
+-- it is so at each second for each connector that is looked at
+abbrev pub IsThroughout : NoPart → RowAsked → Type 0
+IsThroughout reason row =
+    (connector second : ℕ) → IsLookedAt row connector
+    → row.ask.start ≤ second → second < row.ask.start + row.ask.duration
+    → SaysOf reason row connector second
+
+-- at some second it isn't; where that is that others come first, the row prevails there
+abbrev pub FailsSomewhere : NoPart → RowAsked → Type 0
+FailsSomewhere reason row =
+    reason ≡ BehindOthers → PrevailsOnce (point_state row.view) row.ask row.row.now
+
+-- or that it is so throughout
+abbrev pub FoundFailing : NoPart → RowAsked → Option ℕ → Type 0
+FoundFailing reason row None = IsThroughout reason row
+FoundFailing reason row (Some second) = FailsOnce reason row second

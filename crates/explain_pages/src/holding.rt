@@ -1,0 +1,210 @@
+//! Up to when each reason why a profile doesn't prevail goes on to hold.
+
+ghost use Rattle.std.specs.Prelude.{◌≡◌, ◌+◌, ◌-◌, ◌<◌, true, Some, None, IfSome, is_some, if◌then◌else◌};
+ghost use Rattle.ocpp_scalars.specs.Limits.{last_second};
+ghost use Rattle.profile.specs.ChargingProfile.{anchor, offset, rate, is_before};
+ghost use Rattle.profile.specs.Row.{base};
+ghost use Rattle.meaning.specs.View.{point_state, active_since};
+ghost use Rattle.meaning.specs.Cause.{prevailing_row};
+ghost use Rattle.meaning.specs.WhyNot.{is_elsewhere, lacks_transaction, is_hidden};
+ghost use Rattle.meaning.specs.declared.cause.WhyNot.TheVariants.{PastDuration, BeforeFirstPeriod, BelowHigherLevel, BehindTxProfile};
+ghost use Rattle.explain_pages.specs.ByCases.Throughout.{IsSoUntil, Holds, Reaches};
+
+use crate::looked::Looked;
+use meaning::has_its_transaction;
+use ocpp_scalars::{Instant, LAST_SECOND};
+use profile::{Kind, Profile, Purpose, Row, is_candidate};
+use recurrence::{next_change, rate_at};
+
+/// The second behind the last instant.
+const END_OF_TIME: u64 = LAST_SECOND + 1;
+
+impl Looked<'_> {
+    /// Whether the row stands at another connector.
+    pub(crate) fn is_elsewhere(&self) -> bool
+        ensures { result ≡ is_elsewhere self.now.row.now.profile.purpose self.now.at
+            self.now.row.now.connector }
+    {
+        let stands_at = self.row.connector as usize;
+        match self.row.profile.purpose {
+            Purpose::ChargePointMaxProfile => stands_at != 0,
+            Purpose::TxDefaultProfile => stands_at != self.at && stands_at != 0,
+            Purpose::TxProfile => stands_at != self.at,
+        }
+    }
+
+    /// Whether the row needs a transaction, and there is none.
+    pub(crate) fn lacks_transaction(&self) -> bool
+        ensures { result
+            ≡ lacks_transaction (point_state self.now.view) self.now.at self.now.row.now }
+    {
+        matches!(self.row.profile.purpose, Purpose::TxProfile)
+            && self.view.active_since(self.at).is_none()
+    }
+
+    /// Whether a TxDefaultProfile of the connector's own has the level of the row.
+    pub(crate) fn is_hidden(&self) -> bool
+        ensures { result ≡ true
+            → is_hidden (point_state self.now.view) self.now.at self.now.row.now ≡ true }
+    {
+        self.row.connector == 0
+            && self.at != 0
+            && matches!(self.row.profile.purpose, Purpose::TxDefaultProfile)
+            && !is_candidate(Purpose::TxDefaultProfile, self.view.rows, self.at, self.row)
+    }
+
+    /// From where a row counts its seconds here.
+    pub(crate) fn base_of(&self, row: &Row) -> Instant
+        ensures { result ≡ base row.now (active_since (point_state self.now.view) self.now.at)
+            self.now.ask.start }
+    {
+        row.base(self.view.active_since(self.at), self.ask.start)
+    }
+
+    /// Where the row's schedule begins.
+    pub(crate) fn anchor(&self) -> Instant
+        ensures { result ≡ anchor self.now.row.now.profile (base self.now.row.now
+            (active_since (point_state self.now.view) self.now.at) self.now.ask.start) }
+    {
+        self.row.profile.anchor(self.base_of(self.row))
+    }
+
+    /// Up to when the row's schedule goes on to be over, where it is.
+    pub(crate) fn over_until(&self, instant: Instant) -> Option<u64>
+        ensures { IfSome result (IsSoUntil (Holds PastDuration self.now) instant) }
+    {
+        let profile = &self.row.profile;
+        let base = self.base_of(self.row);
+        let offset = profile.offset(base, instant)?;
+        let duration = profile.schedule.duration?;
+        if offset < u64::from(duration) {
+            return None;
+        }
+        Some(counts_on_until(profile, base, instant, offset))
+    }
+
+    /// Up to when none of the row's periods has begun, where none has.
+    pub(crate) fn ahead_until(&self, instant: Instant) -> Option<u64>
+        ensures { IfSome result (IsSoUntil (Holds BeforeFirstPeriod self.now) instant) }
+    {
+        let profile = &self.row.profile;
+        let base = self.base_of(self.row);
+        let offset = profile.offset(base, instant)?;
+        let periods = &profile.schedule.periods;
+        let first = u64::from(periods.as_slice()[0].start);
+        if first <= offset {
+            return None;
+        }
+        let turn = counts_on_until(profile, base, instant, offset);
+        let until = turn.min(instant.seconds().saturating_add(first - offset));
+        // What begins first begins behind the last of these seconds.
+        match periods.limit_in_force(offset + (until - 1 - instant.seconds())) {
+            None => Some(until),
+            Some(_) => None,
+        }
+    }
+
+    /// Up to when a profile of the row's purpose with a higher stack level goes on to have a limit.
+    pub(crate) fn above_until(&self, instant: Instant) -> Option<u64>
+        ensures { IfSome result (IsSoUntil (Holds BelowHigherLevel self.now) instant) }
+    {
+        let profile = &self.row.profile;
+        self.other_until(profile.purpose, profile.stack_level + 1, instant)
+    }
+
+    /// Up to when a TxProfile goes on to have a limit, where the row is a TxDefaultProfile.
+    pub(crate) fn tx_until(&self, instant: Instant) -> Option<u64>
+        ensures { IfSome result (IsSoUntil (Holds BehindTxProfile self.now) instant) }
+    {
+        match self.row.profile.purpose {
+            Purpose::TxDefaultProfile => self.other_until(Purpose::TxProfile, 0, instant),
+            Purpose::ChargePointMaxProfile | Purpose::TxProfile => None,
+        }
+    }
+
+    /// Up to when a row of a purpose, of this level at least, goes on to have a limit.
+    fn other_until(&self, purpose: Purpose, least: u32, instant: Instant) -> Option<u64>
+        ensures { IfSome result (IsSoUntil (λ k. Reaches least (prevailing_row purpose
+            (point_state self.now.view) self.now.at self.now.ask.start k)) instant) }
+    {
+        if !has_its_transaction(purpose, self.view.active_since(self.at)) {
+            return None;
+        }
+        for row in self.view.rows {
+            if row.profile.stack_level >= least {
+                let base = self.base_of(row);
+                if rate_at(&row.profile, base, instant).is_some()
+                    && is_candidate(purpose, self.view.rows, self.at, row)
+                {
+                    return Some(limit_until(&row.profile, base, instant));
+                }
+            }
+        }
+        None
+    }
+}
+
+/// What holds always, or never.
+pub(crate) fn always(holds: bool) -> Option<u64>
+    ensures { result ≡ (if holds then Some (last_second + 1) else None) }
+{
+    if holds { Some(END_OF_TIME) } else { None }
+}
+
+/// An instant that is still to come.
+pub(crate) fn before(bound: Option<Instant>, instant: Instant) -> Option<u64>
+    ensures { IfSome result (λ until. (instant < until) × (bound ≡ Some until)) }
+{
+    let bound = bound?;
+    if instant < bound {
+        Some(bound.seconds())
+    } else {
+        None
+    }
+}
+
+/// Up to when a profile goes on to have the limit that it has at an instant, or none.
+pub(crate) fn rate_until(profile: &Profile, base: Instant, instant: Instant) -> u64
+    ensures { IsSoUntil
+        (λ k. rate profile.now base k ≡ rate profile.now base instant) instant result }
+{
+    match next_change(profile, base, instant) {
+        Some(next) => next.seconds(),
+        None => END_OF_TIME,
+    }
+}
+
+/// Up to when a profile that has a limit at an instant goes on to have one, though not always to the last second.
+fn limit_until(profile: &Profile, base: Instant, instant: Instant) -> u64
+    requires { is_some (rate profile.now base instant) ≡ true }
+    ensures { IsSoUntil (λ k. is_some (rate profile.now base k) ≡ true) instant result }
+{
+    // A schedule without a gap and an end isn't gone through period by period.
+    if profile.schedule.duration.is_none() && profile.schedule.periods.as_slice()[0].start == 0 {
+        return valid_until(profile, instant);
+    }
+    rate_until(profile, base, instant)
+}
+
+/// The end of the validity of a profile that is valid at an instant.
+fn valid_until(profile: &Profile, instant: Instant) -> u64
+    requires { is_before instant profile.now.valid_to ≡ true }
+    ensures { IsSoUntil (λ k. is_before k profile.now.valid_to ≡ true) instant result }
+{
+    match profile.valid_to {
+        Some(to) => to.seconds(),
+        None => END_OF_TIME,
+    }
+}
+
+/// Up to when the schedule of a profile counts on from the offset that it has at an instant.
+fn counts_on_until(profile: &Profile, base: Instant, instant: Instant, at: u64) -> u64
+    requires { offset profile.now base instant ≡ Some at }
+    ensures { IsSoUntil
+        (λ k. offset profile.now base k ≡ Some (at + (k - instant))) instant result }
+{
+    match profile.kind {
+        Kind::Recurring(recurrency) => instant.seconds() + (recurrency.length() - at),
+        Kind::Absolute | Kind::Relative => END_OF_TIME,
+    }
+}

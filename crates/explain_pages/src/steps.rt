@@ -1,0 +1,111 @@
+//! Limits through time, step by step.
+
+ghost use Rattle.std.specs.Prelude.{◌≤◌, IfOk, length};
+ghost use Rattle.explain_pages.specs.Limits.{max_steps};
+
+use crate::explained::Explained;
+use meaning::Ask;
+use ocpp_scalars::Instant;
+use profile::Profile;
+use recurrence::{next_change, rate_at};
+use std::alloc::{AllocError, Global};
+
+/// The most steps of a profile's line.
+pub const MAX_STEPS: usize = 2_000;
+
+/// The most stretches that a picture or a page shows.
+pub const MAX_STRETCHES: usize = 20_000;
+
+/// A limit from a second on, or none.
+#[derive(Clone, Copy)]
+pub(crate) struct Step {
+    /// Counted from the start of the ask.
+    pub(crate) second: u32,
+    /// In tenths.
+    pub(crate) limit: Option<u32>,
+}
+
+/// Limits through an ask, each up to the next.
+#[derive(Drop)]
+pub(crate) struct Steps {
+    pub(crate) items: Vec<Step>,
+    /// The second behind the last step: the duration of the ask, or less where the steps were cut.
+    pub(crate) end: u32,
+}
+
+impl Steps {
+    /// Whether there is a limit at all.
+    pub(crate) fn has_limit(&self) -> bool {
+        self.items.iter().any(|step| step.limit.is_some())
+    }
+}
+
+/// The limits of a profile through an ask, counted from a base.
+pub(crate) fn profile_steps(
+    alloc: Global,
+    profile: &Profile,
+    base: Instant,
+    ask: &Ask,
+) -> Result<Steps, AllocError>
+    ensures bounded { IfOk result (λ steps. length steps.items.items ≤ max_steps) }
+{
+    let mut items = Vec::new(alloc);
+    let mut instant = ask.start;
+    for _ in 0..MAX_STEPS {
+        items.push(Step {
+            second: second_of(ask, instant),
+            limit: rate_at(profile, base, instant),
+        })?;
+        match next_change(profile, base, instant) {
+            Some(next) if second_of(ask, next) < ask.duration => instant = next,
+            _ => {
+                return Ok(Steps {
+                    items,
+                    end: ask.duration,
+                });
+            }
+        }
+    }
+    Ok(Steps {
+        items,
+        end: second_of(ask, instant),
+    })
+}
+
+/// The first instant of an ask at which a profile has a limit, counted from a base, or its start where it has
+/// none in it.
+pub(crate) fn first_limit(profile: &Profile, base: Instant, ask: &Ask) -> Instant {
+    let mut instant = ask.start;
+    for _ in 0..MAX_STEPS {
+        if rate_at(profile, base, instant).is_some() {
+            return instant;
+        }
+        match next_change(profile, base, instant) {
+            Some(next) if second_of(ask, next) < ask.duration => instant = next,
+            _ => return ask.start,
+        }
+    }
+    ask.start
+}
+
+/// The second of an ask at which an instant is, at most its duration.
+fn second_of(ask: &Ask, instant: Instant) -> u32 {
+    let second = instant.seconds().saturating_sub(ask.start.seconds());
+    second.min(u64::from(ask.duration)) as u32
+}
+
+/// The limits of the stretches.
+pub(crate) fn stretch_steps(alloc: Global, explained: &Explained<'_>) -> Result<Steps, AllocError> {
+    let mut items = Vec::new(alloc);
+    for stretch in explained.stretches.iter().take(MAX_STRETCHES) {
+        items.push(Step {
+            second: stretch.start,
+            limit: Some(stretch.reason.limit),
+        })?;
+    }
+    let end = match explained.stretches.get(MAX_STRETCHES) {
+        Some(stretch) => stretch.start,
+        None => explained.ask.duration,
+    };
+    Ok(Steps { items, end })
+}

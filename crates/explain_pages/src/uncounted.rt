@@ -1,0 +1,95 @@
+//! Why profiles have no part in an explained schedule.
+
+ghost use Rattle.std.specs.Prelude.{◌≡◌, ◌<◌, length, IfOk};
+ghost use Rattle.std.specs.List.{All};
+ghost use Rattle.meaning.specs.View.{point_state};
+ghost use Rattle.explain_pages.specs.NotCounted.{IsReason, IsTold};
+ghost use Rattle.explain_pages.specs.ByCases.Throughout.{IsLookedAt};
+
+use crate::entries::{telling_instant, told_by};
+use crate::explained::{NoPart, NotCounted, is_named};
+use crate::looked::RowAsked;
+use meaning::{Ask, View, WhyNot, why_not};
+use std::alloc::{AllocError, Global};
+use sweep_compiler::Stretch;
+
+/// The profiles that never set the limit in the stretches of an ask, each with its reason: that it prevails at
+/// some second of the ask and yet isn't the least, or else what holds at every second.
+pub fn not_counted(
+    alloc: Global,
+    view: &View<'_>,
+    ask: &Ask,
+    stretches: &[Stretch],
+) -> Result<Vec<NotCounted>, AllocError>
+    ensures { IfOk result (λ rest. All (IsTold (point_state view.now) ask.now) rest.items) }
+{
+    let mut rest = Vec::new(alloc);
+    for place in 0..view.rows.len() {
+        if !is_named(stretches, told_by(&view.rows[place])) {
+            rest.push(told_at(view, ask, place))?;
+        }
+    }
+    Ok(rest)
+}
+
+/// What is told of the row at a place.
+fn told_at(view: &View<'_>, ask: &Ask, place: usize) -> NotCounted
+    requires within { place < length view.now.rows.now }
+    ensures { IsTold (point_state view.now) ask.now result }
+{
+    let row = &view.rows[place];
+    let asked = RowAsked {
+        view: *view,
+        ask: *ask,
+        place,
+        row,
+    };
+    NotCounted {
+        profile: told_by(row),
+        reason: asked.reason(),
+    }
+}
+
+impl RowAsked<'_> {
+    /// Why the row never sets the limit.
+    fn reason(&self) -> NoPart
+        ensures { IsReason result (point_state self.now.view) self.now.ask self.now.row.now }
+    {
+        match self.first_connector() {
+            Some(connector) => self.reason_at(connector),
+            None => NoPart::NoActiveConnector,
+        }
+    }
+
+    /// The same, where the row is looked at at a connector: the reason that says most there, where it holds
+    /// throughout.
+    fn reason_at(&self, connector: u32) -> NoPart
+        requires looked { IsLookedAt self.now connector }
+        ensures { IsReason result (point_state self.now.view) self.now.ask self.now.row.now }
+    {
+        let instant = telling_instant(&self.view, &self.ask, self.row);
+        match why_not(&self.view, connector, self.ask.start, instant, self.place) {
+            Some(why) if self.is_throughout(NoPart::NotPrevailing(why)) => {
+                NoPart::NotPrevailing(why)
+            }
+            _ => self.reason_of_many(connector),
+        }
+    }
+
+    /// Why the row never sets the limit, where that isn't for one reason alone.
+    fn reason_of_many(&self, connector: u32) -> NoPart
+        requires looked { IsLookedAt self.now connector }
+        ensures { IsReason result (point_state self.now.view) self.now.ask self.now.row.now }
+    {
+        let behind_tx = NoPart::NotPrevailing(WhyNot::BehindTxProfile);
+        if !self.is_throughout(NoPart::BehindOthers) {
+            NoPart::NotLeast
+        } else if self.is_throughout(behind_tx) {
+            behind_tx
+        } else if self.is_throughout(NoPart::NoLimit) {
+            NoPart::NoLimit
+        } else {
+            NoPart::BehindOthers
+        }
+    }
+}

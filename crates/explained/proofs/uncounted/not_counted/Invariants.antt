@@ -1,8 +1,0 @@
--- What was told so far is right.
-use Rattle.std.specs.List.{All}
-use Rattle.meaning.specs.View.{point_state}
-use Rattle.explained.specs.NotCounted.{IsTold}
-use Rattle.explained.proofs.uncounted.not_counted.Given as goal
-
-abbrev pub invariant-loop-place : goal.invariant-loop-place
-invariant-loop-place l = All (IsTold (point_state l.view) l.ask) l.rest.items

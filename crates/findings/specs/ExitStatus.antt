@@ -1,0 +1,26 @@
+-- The exit status of a check.
+use Rattle.std.specs.Prelude.{ℕ, Bool, true, false, List, if◌then◌else◌}
+use Rattle.std.specs.List.{list_any}
+use Rattle.findings.specs.declared.finding.Severity.{Severity}
+use Rattle.findings.specs.declared.finding.Severity.TheVariants.{Fault, Warning, Remark}
+use Rattle.findings.specs.declared.finding.Finding.{Finding}
+
+abbrev pub is_fault : Severity → Bool
+is_fault Fault = true
+is_fault Warning = false
+is_fault Remark = false
+
+abbrev pub is_warning : Severity → Bool
+is_warning Fault = false
+is_warning Warning = true
+is_warning Remark = false
+
+abbrev pub has_fault : List Finding → Bool
+has_fault findings = list_any (λ (finding : Finding). is_fault finding.severity) findings
+
+abbrev pub has_warning : List Finding → Bool
+has_warning findings = list_any (λ (finding : Finding). is_warning finding.severity) findings
+
+-- 1 where there is a fault, 2 where there are warnings and no fault, and else 0: a remark counts for nothing
+abbrev pub exit_status : List Finding → ℕ
+exit_status findings = if has_fault findings then 1 else if has_warning findings then 2 else 0

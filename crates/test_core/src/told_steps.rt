@@ -1,0 +1,177 @@
+//! Steps in words, a line each, with what has to come of them.
+//!
+//! `CP1 install 70 = Accepted`: the identity of a point (`-` where the step names none), the step, its
+//! numbers, and its outcome with its number, where there is one: of a transaction, a request, a link, a call,
+//! or the tenths of the first limit that is answered. A row is a TxDefaultProfile of the whole point with one
+//! limit, and its id is the limit's number of tenths; a start is by `ann` at midnight; an ask is of connector 1
+//! for a minute from midnight on.
+
+use crate::same::{same, same_outcome};
+use test_books::{Words, begin_of, criteria_of, instant_at, row_of};
+use meaning::Composite;
+use ocpp_scalars::Refusal;
+use site_core::{Machine, Outcome, PointId, Reply, Step, Take};
+use std::alloc::Global;
+use std::process::Abort;
+
+/// The next number, 0 where no word is left.
+fn number(rt: &impl Abort, words: &mut Words<'_>) -> u64 {
+    let word = words.word();
+    if word.is_empty() {
+        return 0;
+    }
+    word.parse::<u64>().expect(rt, word)
+}
+
+/// The install of a limit.
+fn install(rt: &impl Abort, alloc: Global, point: PointId, limit: u64) -> Step {
+    let words = format!(in alloc; "id={limit} periods=0:{limit}").expect(rt, "error");
+    let row = row_of(alloc, words.as_str()).expect(rt, "error");
+    Step::Install { point, row }
+}
+
+fn start(rt: &impl Abort, alloc: Global, point: PointId, connector: u64) -> Step {
+    Step::Start {
+        point,
+        connector: u32::try_from(connector).expect(rt, "no connector"),
+        begin: begin_of(alloc, "ann", 0, 0).expect(rt, "error"),
+    }
+}
+
+fn take(rt: &impl Abort, point: PointId, seen: u64) -> Step {
+    Step::Take(Take {
+        point,
+        connector: 1,
+        start: instant_at(0).expect(rt, "no instant"),
+        duration: 60,
+        unit: None,
+        seen,
+    })
+}
+
+/// The step of a line's words.
+pub(crate) fn step_of(rt: &impl Abort, alloc: Global, text: &str) -> Step {
+    let mut words = Words::of(text);
+    let point = words.word();
+    let name = words.word();
+    let first = number(rt, &mut words);
+    match name {
+        "compile" => Step::Compile(first),
+        "answer" => Step::Answer(first),
+        "finish" => Step::Finish,
+        name => {
+            let point = PointId::copied(alloc, point).expect(rt, "error");
+            point_step(rt, alloc, point, name, (first, number(rt, &mut words)))
+        }
+    }
+}
+
+/// A step of a point.
+fn point_step(
+    rt: &impl Abort,
+    alloc: Global,
+    point: PointId,
+    name: &str,
+    (first, second): (u64, u64),
+) -> Step {
+    match name {
+        "install" => install(rt, alloc, point, first),
+        "clear" => Step::Clear {
+            point,
+            criteria: criteria_of("").expect(rt, "no criteria"),
+        },
+        "start" => start(rt, alloc, point, first),
+        "stop" => Step::Stop {
+            point,
+            transaction: i32::try_from(first).expect(rt, "no transaction"),
+        },
+        "take" => take(rt, point, first),
+        name => link_step(rt, point, name, first, second),
+    }
+}
+
+/// A step of a link.
+fn link_step(rt: &impl Abort, point: PointId, name: &str, link: u64, call: u64) -> Step {
+    match name {
+        "attach" => Step::Attach(point),
+        "send" => Step::Send { point, link },
+        "confirm" => Step::Confirm { point, link, call },
+        "lost" => Step::Lost { point, link },
+        name => rt.panic(name),
+    }
+}
+
+/// An answer that is handed out: the tenths of its first limit, or its refusal with 1.
+pub(crate) fn answer_told(answer: &Result<Composite, Refusal>) -> (&'static str, u64) {
+    match answer {
+        Ok(schedule) => match schedule.periods().first() {
+            Some(period) => ("limit", u64::from(period.limit)),
+            None => ("no limit", 0),
+        },
+        Err(refusal) => (refusal.name(), 1),
+    }
+}
+
+/// What a step replies, with its number, 0 where it has none.
+pub(crate) fn reply_told(reply: &Reply) -> (&'static str, u64) {
+    match reply {
+        Reply::Accepted => ("Accepted", 0),
+        Reply::Unknown => ("Unknown", 0),
+        Reply::Started(number) => ("Started", u64::from(number.unsigned_abs())),
+        Reply::Repeated(number) => ("Repeated", u64::from(number.unsigned_abs())),
+        Reply::Ended => ("Ended", 0),
+        Reply::NoSuch => ("NoSuch", 0),
+        Reply::Taken { number, .. } => ("Taken", *number),
+        Reply::Compiled => ("Compiled", 0),
+        Reply::Answered { answer, .. } => answer_told(answer),
+        Reply::NotYet => ("NotYet", 0),
+        Reply::Finished => ("Finished", 0),
+        Reply::Attached(link) => ("Attached", *link),
+        Reply::Sent(call) => ("Sent", call.number),
+        Reply::Nothing => ("Nothing", 0),
+        Reply::Confirmed => ("Confirmed", 0),
+        Reply::LinkLost => ("LinkLost", 0),
+    }
+}
+
+pub(crate) fn outcome_told(outcome: &Outcome) -> (&'static str, u64) {
+    match outcome {
+        Outcome::Done(reply) => reply_told(reply),
+        Outcome::Refused(refused) => (refused.refusal.name(), 0),
+    }
+}
+
+/// The step of a line, and the outcome that is wanted.
+pub(crate) fn parts_of<'a>(rt: &impl Abort, line: &'a str) -> (&'a str, (&'a str, u64)) {
+    let (step, wanted) = line.split_once(" = ").expect(rt, line);
+    let mut words = Words::of(wanted);
+    let name = words.word();
+    (step, (name, number(rt, &mut words)))
+}
+
+/// The steps of lines.
+pub(crate) fn steps_of(rt: &impl Abort, alloc: Global, lines: &str) -> Vec<Step> {
+    let mut steps = Vec::new(alloc);
+    for line in lines.lines() {
+        let (step, _) = parts_of(rt, line);
+        let step = step_of(rt, alloc, step);
+        steps.push(step).ok().expect(rt, "error: OutOfMemory");
+    }
+    steps
+}
+
+/// Runs the steps of lines, each with what has to come of it.
+pub(crate) fn run(rt: &impl Abort, alloc: Global, machine: &mut Machine, lines: &str) {
+    let steps = steps_of(rt, alloc, lines);
+    let outcomes = machine.run(steps).ok().expect(rt, "no memory");
+    same(
+        rt,
+        outcomes.len() as u64,
+        lines.lines().count() as u64,
+        "outcomes",
+    );
+    for (line, outcome) in lines.lines().zip(outcomes.iter()) {
+        let (_, wanted) = parts_of(rt, line);
+        same_outcome(rt, outcome_told(outcome), wanted, line);
+    }
+}

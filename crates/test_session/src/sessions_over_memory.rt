@@ -1,0 +1,404 @@
+//! Sessions over sockets whose bytes stand in memory, on a shared book without workers.
+
+ghost use Rattle.std.specs.Prelude.{◌≡◌};
+
+use crate::same::{holds, same, same_text};
+use crate::served_texts::{
+    ACCEPTED, ASK, CLEAR, CLEARED, HEARTBEAT, INSTALL, MOMENT, NOTED_OF_OPERATOR, NOTED_OF_POINT,
+    SCHEDULE, SET, SITE,
+};
+use crate::streams::{client_bytes, client_texts, messages_of, socket_of};
+use test_books::instant_at;
+use crossbeam_channel::{Sender, bounded};
+use ocpp_scalars::{Instant, Moments};
+use profile::Unit;
+use session::{Ended, Journal, SentText, SessionCore, serve_noted_socket, serve_socket};
+use site_rules::read_site;
+use std::alloc::Global;
+use std::marker::Brand;
+use std::process::Abort;
+use std::sync::ledger::{Blank, Ledger};
+use std::sync::{Mutex, Wait};
+use tungstenite::Message;
+use version_store::{Job, Pass, Shared};
+
+/// A clock that tells one moment, or none.
+#[derive(Clone, Copy, Debug)]
+struct Fixed(Option<Instant>);
+
+impl Moments for Fixed {
+    fn now(&self) -> Option<Instant> {
+        self.0
+    }
+}
+
+/// Ten seconds after midnight.
+fn ten_past_midnight(rt: &impl Abort) -> Fixed {
+    Fixed(Some(instant_at(10).expect(rt, "no instant")))
+}
+
+/// A shared book without workers, and the passes of its sessions.
+#[derive(Drop)]
+struct Desk<C: Ledger, A: Ledger> {
+    alloc: Global,
+    shared: Shared<C, A>,
+    passes: Vec<Pass<C, A>>,
+    /// Nobody receives what is sent.
+    jobs: Sender<Job>,
+    clock: Fixed,
+}
+
+/// What became of a session.
+#[derive(Drop)]
+struct Served {
+    ended: Ended,
+    /// What its client read.
+    texts: Vec<String>,
+    is_closed: bool,
+    changes: u64,
+    answers: u64,
+}
+
+impl Served {
+    /// It ended by a close, and its client read these texts.
+    fn tells(&self, rt: &impl Abort, wanted: &[&str]) {
+        holds(rt, self.ended == Ended::Closed, "it ended by a close");
+        holds(rt, self.is_closed, "its client was told the close");
+        same(rt, self.texts.len() as u64, wanted.len() as u64, "texts");
+        for (text, wanted) in self.texts.iter().zip(wanted) {
+            same_text(rt, text.as_str(), wanted, "a text");
+        }
+    }
+}
+
+impl<C: Ledger, A: Ledger> Desk<C, A> {
+    /// Serves the next session over a client's messages, with a socket that fails after so many calls.
+    fn serve<R: Abort + Wait>(
+        &mut self,
+        rt: &R,
+        core: SessionCore,
+        messages: Vec<Message>,
+        calls: usize,
+    ) -> Served {
+        let input = client_bytes(rt, self.alloc, messages);
+        let mut output = Vec::new(self.alloc);
+        let pass = self.passes.pop().expect(rt, "no pass");
+        let socket = socket_of(self.alloc, input.as_slice(), &mut output, calls);
+        let (ended, pass) = serve_socket(
+            rt,
+            self.alloc,
+            socket,
+            &self.shared,
+            &self.jobs,
+            core,
+            pass,
+            &self.clock,
+        );
+        let (texts, is_closed) = client_texts(rt, self.alloc, output.as_slice());
+        let totals = pass.totals();
+        Served {
+            ended,
+            texts,
+            is_closed,
+            changes: totals.changes,
+            answers: totals.answers,
+        }
+    }
+
+    /// Serves an operator, whose socket doesn't fail.
+    fn serve_operator<R: Abort + Wait>(&mut self, rt: &R, messages: Vec<Message>) -> Served {
+        let core = SessionCore::operator(self.alloc, "CP1", Unit::A).expect(rt, "error");
+        self.serve(rt, core, messages, 100)
+    }
+
+    /// Serves the point, which sends these texts and closes.
+    fn serve_point<R: Abort + Wait>(&mut self, rt: &R, texts: &[&str], calls: usize) -> Served {
+        let messages = messages_of(rt, self.alloc, texts, true);
+        let core = SessionCore::point(self.alloc, "CP1").expect(rt, "error");
+        self.serve(rt, core, messages, calls)
+    }
+
+    /// The point has no link, and so many calls wait for it.
+    fn has_lost_its_link(&self, rt: &(impl Abort + Wait), calls: u64) {
+        let book = self.shared.lock(rt);
+        let (has_link, waiting) = (book.link_of("CP1").is_some(), book.outbox_len("CP1"));
+        drop(book);
+        holds(rt, !has_link, "the link is lost");
+        same(rt, waiting as u64, calls, "calls wait");
+    }
+}
+
+fn desk_of<C: Ledger, A: Ledger>(
+    rt: &impl Abort,
+    alloc: Global,
+    blanks: (Blank, Blank),
+    clock: Fixed,
+) -> Desk<C, A>
+    requires changes { (blanks.0.name ≡ C.name) × (blanks.0.parts ≡ C.parts)
+        × (blanks.0.parts ≡ 2) }
+    requires answers { (blanks.1.name ≡ A.name) × (blanks.1.parts ≡ A.parts)
+        × (blanks.1.parts ≡ 2) }
+{
+    let (changes, answers) = blanks;
+    let site = read_site(alloc, SITE.as_bytes()).expect(rt, "no site");
+    let (shared, passes): (Shared<C, A>, _) = Shared::make(alloc, changes, answers, site, 2).expect(
+        rt, "error",
+    );
+    let (jobs, _queue) = bounded(alloc, 1).expect(rt, "error");
+    Desk {
+        alloc,
+        shared,
+        passes,
+        jobs,
+        clock,
+    }
+}
+
+/// An operator's messages, of which the second is no frame and the third is binary.
+fn messages_of_an_operator(rt: &impl Abort, alloc: Global) -> Vec<Message> {
+    let mut messages = messages_of(rt, alloc, &[INSTALL, "no frame"], false);
+    let binary = Message::binary(alloc, b"[]").expect(rt, "error");
+    messages.push(binary).ok().expect(rt, "error");
+    for message in messages_of(rt, alloc, &[ASK], true) {
+        messages.push(message).ok().expect(rt, "error");
+    }
+    messages
+}
+
+fn operator<C: Ledger, A: Ledger, R: Abort + Wait>(rt: &R, alloc: Global, blanks: (Blank, Blank))
+    requires changes { (blanks.0.name ≡ C.name) × (blanks.0.parts ≡ C.parts)
+        × (blanks.0.parts ≡ 2) }
+    requires answers { (blanks.1.name ≡ A.name) × (blanks.1.parts ≡ A.parts)
+        × (blanks.1.parts ≡ 2) }
+{
+    let mut desk: Desk<C, A> = desk_of(rt, alloc, blanks, ten_past_midnight(rt));
+    let served = desk.serve_operator(rt, messages_of_an_operator(rt, alloc));
+    served.tells(rt, &[ACCEPTED, SCHEDULE]);
+    same(rt, served.changes, 1, "changes");
+    same(rt, served.answers, 1, "answers");
+    let requests = desk.shared.lock(rt).open_requests();
+    same(rt, requests as u64, 0, "open requests");
+}
+
+#[test]
+fn an_operators_session_installs_and_asks(rt: HostRuntime) {
+    operator::<Brand, Brand, HostRuntime>(&rt, rt.alloc(), (Blank::new(2), Blank::new(2)));
+}
+
+/// An operator installs a profile. The point's session follows, and so many calls wait behind it.
+fn point_texts<C: Ledger, A: Ledger, R: Abort + Wait>(
+    rt: &R,
+    alloc: Global,
+    blanks: (Blank, Blank),
+    texts: &[&str],
+    wanted: &[&str],
+    waiting: u64,
+)
+    requires changes { (blanks.0.name ≡ C.name) × (blanks.0.parts ≡ C.parts)
+        × (blanks.0.parts ≡ 2) }
+    requires answers { (blanks.1.name ≡ A.name) × (blanks.1.parts ≡ A.parts)
+        × (blanks.1.parts ≡ 2) }
+{
+    let mut desk: Desk<C, A> = desk_of(rt, alloc, blanks, ten_past_midnight(rt));
+    let installs = messages_of(rt, alloc, &[INSTALL], true);
+    desk.serve_operator(rt, installs).tells(rt, &[ACCEPTED]);
+    desk.serve_point(rt, texts, 100).tells(rt, wanted);
+    desk.has_lost_its_link(rt, waiting);
+}
+
+#[test]
+fn a_point_is_sent_its_calls_in_turn(rt: HostRuntime) {
+    let texts = [
+        HEARTBEAT,
+        r#"[3,"1",{"status":"Accepted"}]"#,
+        CLEARED,
+        r#"[4,"1","InternalError","",{}]"#,
+        HEARTBEAT,
+    ];
+    let wanted = [MOMENT, CLEAR, SET, MOMENT];
+    let blanks = (Blank::new(2), Blank::new(2));
+    point_texts::<Brand, Brand, HostRuntime>(&rt, rt.alloc(), blanks, &texts, &wanted, 0);
+}
+
+#[test]
+fn a_start_that_is_told_again_has_its_number(rt: HostRuntime) {
+    let texts = [
+        r#"[2,"1","StartTransaction",{"connectorId":1,"idTag":"T1","meterStart":0,"timestamp":"2025-01-01T00:00:00Z"}]"#,
+        r#"[2,"2","StartTransaction",{"connectorId":1,"idTag":"t1","meterStart":0,"timestamp":"2025-01-01T00:00:00Z"}]"#,
+        r#"[2,"9","Heart"#,
+        r#"[2,"9","Foo",{}]"#,
+    ];
+    let wanted = [
+        r#"[3,"1",{"idTagInfo":{"status":"Accepted"},"transactionId":1}]"#,
+        CLEAR,
+        r#"[3,"2",{"idTagInfo":{"status":"Accepted"},"transactionId":1}]"#,
+        r#"[4,"9","NotImplemented","",{}]"#,
+    ];
+    let blanks = (Blank::new(2), Blank::new(2));
+    point_texts::<Brand, Brand, HostRuntime>(&rt, rt.alloc(), blanks, &texts, &wanted, 2);
+}
+
+/// A socket that fails after so many calls, and the point's next session. The call that was in flight when the
+/// first session ended, if one was, is sent again.
+fn failing<C: Ledger, A: Ledger, R: Abort + Wait>(
+    rt: &R,
+    alloc: Global,
+    blanks: (Blank, Blank),
+    calls: usize,
+) -> Ended
+    requires changes { (blanks.0.name ≡ C.name) × (blanks.0.parts ≡ C.parts)
+        × (blanks.0.parts ≡ 2) }
+    requires answers { (blanks.1.name ≡ A.name) × (blanks.1.parts ≡ A.parts)
+        × (blanks.1.parts ≡ 2) }
+{
+    let mut desk: Desk<C, A> = desk_of(rt, alloc, blanks, ten_past_midnight(rt));
+    let served = desk.serve_point(rt, &[HEARTBEAT, HEARTBEAT], calls);
+    desk.has_lost_its_link(rt, 1);
+    let again = desk.serve_point(rt, &[HEARTBEAT], 100);
+    again.tells(rt, &[MOMENT, CLEAR]);
+    served.ended
+}
+
+/// Whether sessions whose socket fails later end by a close, as this one did.
+fn ends_by_close(rt: &impl Abort, ended: Ended, was_closed: bool) -> bool {
+    match ended {
+        Ended::Closed => true,
+        Ended::Broken => {
+            holds(rt, !was_closed, "each later failure comes after the end");
+            false
+        }
+        Ended::OutOfMemory => rt.panic("out of memory"),
+    }
+}
+
+#[test]
+fn a_socket_that_fails_leaves_its_call_waiting(rt: HostRuntime) {
+    let mut is_closed = false;
+    for calls in 0..12usize {
+        let blanks = (Blank::new(2), Blank::new(2));
+        let ended = failing::<Brand, Brand, HostRuntime>(&rt, rt.alloc(), blanks, calls);
+        is_closed = ends_by_close(&rt, ended, is_closed);
+    }
+    holds(&rt, is_closed, "the last one closes");
+}
+
+/// A Heartbeat with so many bytes, blanks behind it.
+fn padded(rt: &impl Abort, alloc: Global, bytes: usize) -> String {
+    let mut text = String::from_str(alloc, HEARTBEAT).expect(rt, "error");
+    let blanks = bytes.saturating_sub(HEARTBEAT.len());
+    let blanks = " ".repeat(alloc, blanks).expect(rt, "error");
+    text.push_str(blanks.as_str()).expect(rt, "error");
+    text
+}
+
+/// Without a moment no text is read, and a text that is too long isn't either.
+fn unread<C: Ledger, A: Ledger, R: Abort + Wait>(rt: &R, alloc: Global, blanks: (Blank, Blank))
+    requires changes { (blanks.0.name ≡ C.name) × (blanks.0.parts ≡ C.parts)
+        × (blanks.0.parts ≡ 2) }
+    requires answers { (blanks.1.name ≡ A.name) × (blanks.1.parts ≡ A.parts)
+        × (blanks.1.parts ≡ 2) }
+{
+    let mut desk: Desk<C, A> = desk_of(rt, alloc, blanks, Fixed(None));
+    let heartbeats = messages_of(rt, alloc, &[HEARTBEAT], true);
+    let served = desk.serve_operator(rt, heartbeats);
+    holds(rt, served.ended == Ended::Broken, "no moment");
+    desk.clock = ten_past_midnight(rt);
+    let longest = padded(rt, alloc, 1_048_576);
+    let too_long = padded(rt, alloc, 1_048_577);
+    let texts = [too_long.as_str(), HEARTBEAT, longest.as_str()];
+    // The call follows the text that was dropped.
+    let served = desk.serve_point(rt, &texts, 10_000);
+    served.tells(rt, &[CLEAR, MOMENT, MOMENT]);
+}
+
+#[test]
+fn texts_that_arent_read(rt: HostRuntime) {
+    unread::<Brand, Brand, HostRuntime>(&rt, rt.alloc(), (Blank::new(2), Blank::new(2)));
+}
+
+/// What sessions noted, each text on a line of its own, and how much of it was written out.
+#[derive(Drop)]
+struct Lines<'a, R: Wait> {
+    rt: &'a R,
+    noted: Mutex<String>,
+    written: Mutex<usize>,
+}
+
+impl<R: Abort + Wait> Lines<'_, R> {
+    /// All that was noted is this, and is written out.
+    fn are(&self, wanted: &str) {
+        let noted = self.noted.lock(self.rt);
+        same_text(self.rt, noted.as_str(), wanted, "what is noted");
+        let written = self.written.lock(self.rt);
+        same(self.rt, *written as u64, wanted.len() as u64, "written out");
+    }
+}
+
+impl<R: Abort + Wait> Journal for Lines<'_, R> {
+    fn note(&self, sent: &SentText<'_>) {
+        let mut noted = self.noted.lock(self.rt);
+        noted.push_str(sent.frame()).expect(self.rt, "error");
+        noted.push_str("\n").expect(self.rt, "error");
+    }
+
+    fn write_out(&self) {
+        let noted = self.noted.lock(self.rt);
+        let mut written = self.written.lock(self.rt);
+        *written = noted.len();
+    }
+}
+
+impl<C: Ledger, A: Ledger> Desk<C, A> {
+    /// Serves the next session over a client's messages, whose texts these lines note.
+    fn serve_noting<R: Abort + Wait>(
+        &mut self,
+        rt: &R,
+        core: SessionCore,
+        messages: Vec<Message>,
+        lines: &Lines<'_, R>,
+    ) {
+        let input = client_bytes(rt, self.alloc, messages);
+        let mut output = Vec::new(self.alloc);
+        let pass = self.passes.pop().expect(rt, "no pass");
+        let socket = socket_of(self.alloc, input.as_slice(), &mut output, 100);
+        let (shared, jobs, clock) = (&self.shared, &self.jobs, &self.clock);
+        let (ended, _) = serve_noted_socket(
+            rt, self.alloc, socket, shared, jobs, core, pass, clock, lines,
+        );
+        holds(rt, ended == Ended::Closed, "it ended by a close");
+    }
+}
+
+/// A text without a step is noted where a call follows it, and else isn't.
+fn noted<C: Ledger, A: Ledger, R: Abort + Wait>(rt: &R, alloc: Global, blanks: (Blank, Blank))
+    requires changes { (blanks.0.name ≡ C.name) × (blanks.0.parts ≡ C.parts)
+        × (blanks.0.parts ≡ 2) }
+    requires answers { (blanks.1.name ≡ A.name) × (blanks.1.parts ≡ A.parts)
+        × (blanks.1.parts ≡ 2) }
+{
+    let mut desk: Desk<C, A> = desk_of(rt, alloc, blanks, ten_past_midnight(rt));
+    let lines = Lines {
+        rt,
+        noted: Mutex::new(String::new(alloc)),
+        written: Mutex::new(0),
+    };
+    let operator = SessionCore::operator(alloc, "CP1", Unit::A).expect(rt, "error");
+    desk.serve_noting(rt, operator, messages_of_an_operator(rt, alloc), &lines);
+    lines.are(NOTED_OF_OPERATOR);
+    let texts = [HEARTBEAT, HEARTBEAT, CLEARED, "no frame", HEARTBEAT];
+    let point = SessionCore::point(alloc, "CP1").expect(rt, "error");
+    desk.serve_noting(rt, point, messages_of(rt, alloc, &texts, true), &lines);
+    let noted = concat(rt, alloc, NOTED_OF_OPERATOR, NOTED_OF_POINT);
+    lines.are(noted.as_str());
+}
+
+fn concat(rt: &impl Abort, alloc: Global, one: &str, other: &str) -> String {
+    let mut text = String::from_str(alloc, one).expect(rt, "error");
+    text.push_str(other).expect(rt, "error");
+    text
+}
+
+#[test]
+fn texts_are_noted_as_their_steps_are_made(rt: HostRuntime) {
+    noted::<Brand, Brand, HostRuntime>(&rt, rt.alloc(), (Blank::new(2), Blank::new(2)));
+}
