@@ -41,7 +41,7 @@ PAGES_WITHOUT_LIMITS = [
 # Words of paths that stand for others, and what is built and so isn't in the tree.
 PLACEHOLDERS = re.compile(r"[A-Z]{4,}/|/[A-Z]{3,}\b(?!\.md)|\*|\.\.\.|/out(/|$)|^out/|^NAME|CRATE")
 FILE_ENDINGS = (".rt", ".antt", ".py", ".md", ".json", ".js", ".c", ".txt", ".edit")
-TOP_FOLDERS = ("crates/", "docs/", "examples/", "tests/", "bench/", "dist/")
+TOP_FOLDERS = ("crates/", "docs/", "examples/", "tests/", "bench/", "packaging/")
 NUMBER = re.compile(r"\d{4}-\d\d-\d\dT[\d:]+Z|-?\d[\d,]*(?:\.\d)?")
 NUMBERED = re.compile(
     r"\b(?:document|paper|request|issue|ticket|row|requirement|theorem|wrong body)s?\s+#?\d+\b(?![,.]\d)"
@@ -444,7 +444,7 @@ def edit_problems(top, files):
     text = text_of(top, page)
     found = collections.Counter()
     for path in files:
-        gate, other = re.fullmatch(r"crates/(\w+)/must-fail/[^/]+\.edit", path), re.fullmatch(r"tests/edits/(\w+)/[^/]+\.edit", path)
+        gate, other = re.fullmatch(r"crates/(\w+)/must-fail/[^/]+\.edit", path), re.fullmatch(r"crates/(\w+)/edits/[^/]+\.edit", path)
         if gate or other:
             found[(gate or other)[1], "gate" if gate else "other"] += 1
     table = re.search(r"^\| Crate \| In the gate \|.*?\n\n", text, re.DOTALL | re.MULTILINE)
@@ -453,7 +453,7 @@ def edit_problems(top, files):
         wanted = (str(found[crate, "gate"]), str(found[crate, "other"]))
         if told.get(crate) != wanted:
             yield f"{page}: {crate} has {wanted[0]} and {wanted[1]} edits, and the table says {told.get(crate)}"
-    for kind, words in (("gate", r"gate tries\s+(\d+) of them"), ("other", r"(\d+) more stand in `tests/edits/CRATE/`")):
+    for kind, words in (("gate", r"gate tries\s+(\d+) of them"), ("other", r"(\d+) more stand in `crates/CRATE/edits/`")):
         count = sum(number for (_, where), number in found.items() if where == kind)
         said = re.search(words, text)
         if not said or int(said[1]) != count:

@@ -1,4 +1,4 @@
-//! Charging profiles, as the compiler of `bench/plain` reads them.
+//! Charging profiles, as the compiler of `bench/yardstick` reads them.
 use crate::instant::Instant;
 
 #[derive(Clone)]
