@@ -1,24 +1,18 @@
 -- What the one call on the book comes to that a step of a session stands for.
-use Rattle.std.specs.Prelude.{◌≡◌}
+use Rattle.std.specs.Prelude.{◌≡◌, true}
 use Rattle.site_core.specs.declared.step.Step.{Step}
 use Rattle.site_core.specs.declared.step.Step.TheVariants as steps
 use Rattle.site_core.specs.declared.reply.Reply.TheVariants.{Taken}
 use Rattle.version_store.specs.Told.{Told}
-use Rattle.version_store.specs.Store.{StoreState}
+use Rattle.version_store.specs.Store.{StoreState, may_fold}
 use Rattle.version_store.specs.Calls.{Calls, Makes, IsRefusalOf}
 use Rattle.session.specs.declared.outcome.Performed.{Performed}
 use Rattle.session.specs.declared.outcome.Performed.TheVariants.{Job, Outcome}
 use Rattle.session.specs.declared.outcome.Outcome.TheVariants.{Made, Answered, Refused}
 
--- the steps that a text may ask for
+-- the steps that a text may ask for: neither those of workers, nor the end
 abbrev pub IsOfText : Step → Type 0
-IsOfText (steps.Install point row) = Unit {0}
-IsOfText (steps.Clear point criteria) = Unit {0}
-IsOfText (steps.Start point connector begin) = Unit {0}
-IsOfText (steps.Stop point transaction) = Unit {0}
-IsOfText (steps.Take take) = Unit {0}
-IsOfText (steps.Confirm point link call) = Unit {0}
-IsOfText _ = ⊥
+IsOfText step = may_fold step ≡ true
 
 -- a request for a schedule has seen what its session has
 abbrev pub seen_by : Told → Step → Step

@@ -23,36 +23,15 @@ pub fn perform<C: Ledger, A: Ledger>(
     ensures { Performs book.old pass.old step result book.new pass.new }
 {
     match step {
-        Step::Install { point, row } => {
-            match book.install(pass, point, row.connector, row.profile, row.moment) {
-                Ok(()) => made(Reply::Accepted),
-                Err((refusal, _)) => refused(refusal),
-            }
-        }
-        Step::Clear { point, criteria } => match book.clear(pass, point, criteria) {
-            Ok(true) => made(Reply::Accepted),
-            Ok(false) => made(Reply::Unknown),
-            Err(refusal) => refused(refusal),
-        },
-        Step::Start {
-            point,
-            connector,
-            begin,
-        } => match book.start_with_reply(pass, point, connector, begin) {
-            Ok(reply) => made(reply),
-            Err((refusal, _)) => refused(refusal),
-        },
-        Step::Stop { point, transaction } => match book.stop(pass, point, transaction) {
-            Ok(true) => made(Reply::Ended),
-            Ok(false) => made(Reply::NoSuch),
-            Err(refusal) => refused(refusal),
-        },
         Step::Take(take) => perform_take(book, pass, take),
         Step::Confirm { point, link, call } => match book.confirm(point, link, call) {
             Ok(()) => made(Reply::Confirmed),
             Err(refusal) => refused(refusal),
         },
-        _ => unreachable!(),
+        step => match book.make_step(pass, step) {
+            Ok(reply) => made(reply),
+            Err(refused_step) => refused(refused_step.refusal),
+        },
     }
 }
 

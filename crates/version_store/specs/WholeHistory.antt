@@ -1,17 +1,17 @@
 -- The laws of a store over its whole history: what was done until its base, and since. So they are the
 -- laws of the machine from its opening state on, however often the history was folded.
-use Rattle.std.specs.Prelude.{ℕ, ◌+◌, ◌≤◌, ◌≡◌, List, ◌++◌, Some}
+use Rattle.std.specs.Prelude.{ℕ, ◌+◌, ◌≤◌, ◌≡◌, List, ◌++◌, length, Some}
 use Rattle.meaning.specs.declared.ask.Ask.{Ask}
 use Rattle.site_rules.specs.Site.{place_of}
 use Rattle.point_book.specs.Book.{BookState}
 use Rattle.site_core.specs.declared.step.Step.TheVariants.{Answer}
 use Rattle.site_core.specs.declared.reply.Reply.TheVariants.{Answered}
-use Rattle.site_core.specs.State.{ScheduleAnswer, opening}
+use Rattle.site_core.specs.State.{ScheduleAnswer, IsMachine, opening, outbox_at}
 use Rattle.site_core.specs.History.{Event, Legal, takes_of, answers_of, kept_of}
 use Rattle.site_core.specs.Counts.{changes_in, answers_in}
 use Rattle.site_core.specs.Headline.{IsRightAfter}
-use Rattle.site_core.specs.OutboxOrder.{AreInSendingOrder}
-use Rattle.site_core.specs.CallOrder.{calls_sent, numbers_of_calls}
+use Rattle.site_core.specs.OutboxOrder.{AreInSendingOrder, GoesOn, calls_confirmed}
+use Rattle.site_core.specs.CallOrder.{AreKeptFrom, calls_sent, numbers_of_calls, traffic_since}
 use Rattle.version_store.specs.Store.{StoreState, IsStore}
 use Rattle.version_store.specs.Calls.{Adds, event_alone}
 
@@ -37,6 +37,20 @@ abbrev pub StoresSendInOrder : Type 0
 StoresSendInOrder = OfEachStore (λ store is whole.
     (point : List ℕ) (place : ℕ) → place_of is.site point ≡ Some place
     → AreInSendingOrder (numbers_of_calls (calls_sent is.site place whole)))
+
+-- how many calls of the point at a place were confirmed until the base
+abbrev pub confirmed_before : (store : StoreState) → IsStore store → ℕ → ℕ
+confirmed_before store is place = length (calls_confirmed (outbox_at (opening is.site) place)
+    (traffic_since (opening is.site) place is.earlier))
+
+-- Where c calls of a point were confirmed until the base, the base keeps its calls from number c on,
+-- and the calls that are sent since begin with call c or the next one: none is left out by a fold.
+-- Each later one is the one before it or the next.
+abbrev pub StoresSendOn : Type 0
+StoresSendOn = (store : StoreState) (is : IsStore store) → IsMachine store.base → (place : ℕ)
+    → AreKeptFrom store.base place (confirmed_before store is place)
+    × GoesOn (confirmed_before store is place)
+    (numbers_of_calls (calls_sent store.base.site place is.played))
 
 -- no request is lost and none is answered twice
 abbrev pub StoresAnswerOnce : Type 0

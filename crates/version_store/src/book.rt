@@ -2,7 +2,7 @@
 
 ghost use Rattle.std.specs.Prelude.{◌≡◌, ◌<◌, ◌≤◌, true, IfOk, IfErr, All, length};
 ghost use Rattle.site_core.specs.declared.step.Step.{Step};
-ghost use Rattle.site_core.specs.State.{link_of, link_to_send, outbox_len};
+ghost use Rattle.site_core.specs.State.{IsMachine, link_of, link_to_send, outbox_len};
 ghost use Rattle.site_core.specs.Step.{HasAskedConnector, is_reply_to};
 ghost use Rattle.version_store.specs.Told.{nothing_told, told_together};
 ghost use Rattle.version_store.specs.Store.{IsStore, opening_store, may_fold};
@@ -67,8 +67,8 @@ impl<C: Ledger, A: Ledger> Book<C, A> {
         Ok((Book { history, ledgers }, passes))
     }
 
-    /// Makes a step of a session.
-    fn call(&mut self, pass: &mut Pass<C, A>, step: Step) -> Result<Reply, Refused>
+    /// Makes a step of a session: what each of its calls stands for. On a refusal the step comes back.
+    pub fn make_step(&mut self, pass: &mut Pass<C, A>, step: Step) -> Result<Reply, Refused>
         requires { may_fold step ≡ true }
         ensures calls { IfOk result
             (λ reply. Calls self.old pass.old step reply self.new pass.new) }
@@ -110,9 +110,12 @@ impl<C: Ledger, A: Ledger> Book<C, A> {
 
     /// The state that the stored events begin with.
     pub fn base(&self) -> &Machine
-        ensures { result.now ≡ self.now.base }
+        ensures value { result.now ≡ self.now.base }
+        ensures machine { IsMachine self.now.base }
     {
-        self.history.base()
+        let base = self.history.base();
+        base.open_requests();
+        base
     }
 
     /// The stored events, the first one first.

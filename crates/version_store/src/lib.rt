@@ -27,4 +27,4 @@ pub use pass::Pass;
 pub use shared::Shared;
 pub use stored_event::StoredEvent;
 pub use totals::Totals;
-pub use whole_history::books_have_whole_histories;
+pub use whole_history::{books_have_whole_histories, stored_calls_go_on};

@@ -2,9 +2,12 @@
 
 ghost use Rattle.version_store.specs.WholeHistory.{StoresAreReached, StoresCountAll};
 ghost use Rattle.version_store.specs.WholeHistory.{StoresSendInOrder, StoresAnswerOnce};
-ghost use Rattle.version_store.specs.WholeHistory.{StoresHandOutRight};
+ghost use Rattle.version_store.specs.WholeHistory.{StoresHandOutRight, StoresSendOn};
 
-use site_core::{answers_are_right, histories_send_calls_in_order, requests_are_answered_once};
+use site_core::{
+    answers_are_right, histories_go_on_from_any_state, histories_send_calls_in_order,
+    requests_are_answered_once,
+};
 
 /// The laws of a book over its whole history, that until its base and that since, which is the one from the
 /// opening of its site on, however often it was folded. It is legal, and the totals are those of its
@@ -20,4 +23,13 @@ pub fn books_have_whole_histories()
     answers_are_right();
     requests_are_answered_once();
     histories_send_calls_in_order();
+}
+
+/// The law of the calls to a point since the base, for a base that is a machine's state, as `Book::base`
+/// says. Where `c` calls of the point were confirmed until then, the base keeps its calls from number `c` on,
+/// and the stored Sends begin with call `c` or the next one: no fold loses a call or sends an older one.
+pub fn stored_calls_go_on()
+    ensures { StoresSendOn }
+{
+    histories_go_on_from_any_state();
 }

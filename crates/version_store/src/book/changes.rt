@@ -4,14 +4,13 @@ ghost use Rattle.std.specs.Prelude.{◌≡◌, true, IfOk, IfErr};
 ghost use Rattle.site_core.specs.declared.step.Step.{Step};
 ghost use Rattle.site_core.specs.declared.step.Step.TheVariants as steps;
 ghost use Rattle.site_core.specs.declared.reply.Reply.{Reply};
-ghost use Rattle.site_core.specs.Step.{is_reply_to};
 ghost use Rattle.version_store.specs.Calls.{Calls, IsRefusalOf, row_of, clearing, ending, StartsAs};
 
 use crate::book::Book;
 use crate::pass::Pass;
 use ocpp_scalars::{Instant, Refusal};
 use profile::{Criteria, Profile, Row};
-use site_core::{PointId, Reply, Step};
+use site_core::{PointId, Refused, Reply, Step};
 use std::sync::ledger::Ledger;
 use transactions::Begin;
 
@@ -39,14 +38,15 @@ impl<C: Ledger, A: Ledger> Book<C, A> {
             moment,
             profile,
         };
-        let refused = match self.call(pass, Step::Install { point, row }) {
-            Ok(_) => return Ok(()),
-            Err(refused) => refused,
-        };
-        let refusal = refused.refusal;
-        match refused.step {
-            Step::Install { row, .. } => Err((refusal, row.profile)),
-            _ => unreachable!(),
+        match self.make_step(pass, Step::Install { point, row }) {
+            Ok(_) => Ok(()),
+            Err(
+                Refused {
+                    refusal,
+                    step: Step::Install { row, .. },
+                },
+            ) => Err((refusal, row.profile)),
+            Err(_) => unreachable!(),
         }
     }
 
@@ -65,7 +65,7 @@ impl<C: Ledger, A: Ledger> Book<C, A> {
             (steps.Clear point criteria) refusal) }
         ensures kept { IfErr result (λ refusal. (self.new ≡ self.old) × (pass.new ≡ pass.old)) }
     {
-        match self.call(pass, Step::Clear { point, criteria }) {
+        match self.make_step(pass, Step::Clear { point, criteria }) {
             Ok(Reply::Accepted) => Ok(true),
             Ok(Reply::Unknown) => Ok(false),
             Ok(_) => unreachable!(),
@@ -89,44 +89,23 @@ impl<C: Ledger, A: Ledger> Book<C, A> {
         ensures kept { IfErr result (λ refused. (self.new ≡ self.old) × (pass.new ≡ pass.old)) }
         ensures back { IfErr result (λ refused. refused.1 ≡ begin) }
     {
-        match self.start_with_reply(pass, point, connector, begin)? {
-            Reply::Started(number) => Ok(u64::from(number.unsigned_abs())),
-            Reply::Repeated(number) => Ok(u64::from(number.unsigned_abs())),
-            _ => unreachable!(),
-        }
-    }
-
-    /// Begins a transaction as [`Book::start`] does. The reply tells whether it began, or its start was
-    /// told again.
-    pub fn start_with_reply(
-        &mut self,
-        pass: &mut Pass<C, A>,
-        point: PointId,
-        connector: u32,
-        begin: Begin,
-    ) -> Result<Reply, (Refusal, Begin)>
-        ensures calls { IfOk result (λ reply. Calls self.old pass.old
-            (steps.Start point connector begin) reply self.new pass.new) }
-        ensures own { IfOk result
-            (λ reply. is_reply_to (steps.Start point connector begin) reply ≡ true) }
-        ensures refusal { IfErr result (λ refused. IsRefusalOf self.old
-            (steps.Start point connector begin) refused.0) }
-        ensures kept { IfErr result (λ refused. (self.new ≡ self.old) × (pass.new ≡ pass.old)) }
-        ensures back { IfErr result (λ refused. refused.1 ≡ begin) }
-    {
         let step = Step::Start {
             point,
             connector,
             begin,
         };
-        let refused = match self.call(pass, step) {
-            Ok(reply) => return Ok(reply),
-            Err(refused) => refused,
-        };
-        let refusal = refused.refusal;
-        match refused.step {
-            Step::Start { begin, .. } => Err((refusal, begin)),
-            _ => unreachable!(),
+        match self.make_step(pass, step) {
+            Ok(Reply::Started(number) | Reply::Repeated(number)) => {
+                Ok(u64::from(number.unsigned_abs()))
+            }
+            Ok(_) => unreachable!(),
+            Err(
+                Refused {
+                    refusal,
+                    step: Step::Start { begin, .. },
+                },
+            ) => Err((refusal, begin)),
+            Err(_) => unreachable!(),
         }
     }
 
@@ -145,7 +124,7 @@ impl<C: Ledger, A: Ledger> Book<C, A> {
             (steps.Stop point transaction) refusal) }
         ensures kept { IfErr result (λ refusal. (self.new ≡ self.old) × (pass.new ≡ pass.old)) }
     {
-        match self.call(pass, Step::Stop { point, transaction }) {
+        match self.make_step(pass, Step::Stop { point, transaction }) {
             Ok(Reply::Ended) => Ok(true),
             Ok(Reply::NoSuch) => Ok(false),
             Ok(_) => unreachable!(),

@@ -21,7 +21,7 @@ impl<C: Ledger, A: Ledger> Book<C, A> {
             IsRefusalOf self.old (steps.Attach point) refusal) }
         ensures kept { IfErr result (λ refusal. (self.new ≡ self.old) × (pass.new ≡ pass.old)) }
     {
-        match self.call(pass, Step::Attach(point)) {
+        match self.make_step(pass, Step::Attach(point)) {
             Ok(Reply::Attached(link)) => Ok(link),
             Ok(_) => unreachable!(),
             Err(refused) => Err(refused.refusal),

@@ -53,7 +53,7 @@ impl<C: Ledger, A: Ledger> Book<C, A> {
             unit,
             seen: pass.seen(),
         };
-        match self.call(pass, Step::Take(take)) {
+        match self.make_step(pass, Step::Take(take)) {
             Ok(Reply::Taken { number, book, ask }) => Ok(Job::new(number, book, ask)),
             Ok(_) => unreachable!(),
             Err(refused) => Err(refused.refusal),
