@@ -3,7 +3,7 @@
 ghost use Rattle.std.specs.Prelude.{◌≡◌, IfOk, IfErr};
 ghost use Rattle.ocpp_scalars.specs.declared.refusal.Refusal.{Refusal};
 ghost use Rattle.site_core.specs.Right.{IsRight};
-ghost use Rattle.compile_pool.specs.Wait.{ToldOneAnswer};
+ghost use Rattle.compile_pool.specs.Wait.{CountsOneAnswer};
 
 use ocpp_scalars::Refusal;
 use std::sync::Wait;
@@ -20,7 +20,7 @@ pub fn wait_answer<C: Ledger, A: Ledger, R: Wait>(
 ) -> Result<Answer, Refusal>
     ensures numbered { IfOk result (λ answer. answer.number ≡ number) }
     ensures right { IfOk result (λ answer. IsRight answer.book answer.ask answer.answer) }
-    ensures told { IfOk result (λ answer. ToldOneAnswer pass.old pass.new) }
+    ensures counts { IfOk result (λ answer. CountsOneAnswer pass.old pass.new) }
     ensures refusal { IfErr result (λ refusal. refusal ≡ Refusal.UnknownRequest) }
     ensures kept { IfErr result (λ refusal. pass.new ≡ pass.old) }
 {

@@ -3,7 +3,7 @@ use Rattle.std.proofs.Common.{◌≡◌, List, ℕ, Option, None, Result, Ok, Er
 use Rattle.meaning.specs.declared.ask.Ask.{Ask}
 use Rattle.site_core.specs.Right.{IsRight}
 use Rattle.version_store.specs.Answers.{RequestedJob, HandedAnswer}
-use Rattle.version_store.specs.Told.{Told}
+use Rattle.version_store.specs.Passes.{PassState}
 use Rattle.texts.specs.SentText.{Sent}
 use Rattle.site_core.specs.declared.step.Step.{Step}
 use Rattle.session.specs.declared.outcome.Outcome.{Outcome}
@@ -26,7 +26,7 @@ answered job handed number book ask right =
     }
 
 -- the answer to a request that was taken
-pub of_job : {E : Type 0} (was : Told) (step : Step) (job : RequestedJob) (result : Result Outcome E)
+pub of_job : {E : Type 0} (was : PassState) (step : Step) (job : RequestedJob) (result : Result Outcome E)
     → IsPerformed was step (performs.Job job) → IfOk result (IsOutcomeOfJob job)
     → IfOk result (IsOutcomeOf was step)
 of_job was step job (Ok outcome) performed is =
@@ -34,13 +34,13 @@ of_job was step job (Ok outcome) performed is =
 of_job was step job (Err ended) performed is = tt
 
 -- and what any other step came to
-pub of_outcome : (was : Told) (step : Step) (outcome : Outcome)
+pub of_outcome : (was : PassState) (step : Step) (outcome : Outcome)
     → IsPerformed was step (performs.Outcome outcome) → IsOutcomeOf was step outcome
 of_outcome was step outcome performed =
     record { performed = performs.Outcome outcome; is_performed = performed; comes = refl }
 
 -- the answer to a text whose step was taken out and made
-pub served : (session : SessionState) (was : Told) (text : Sent) (todo : TodoState)
+pub served : (session : SessionState) (was : PassState) (text : Sent) (todo : TodoState)
     (outcome : Option Outcome) (answer : Option (List ℕ))
     → IsTodo session text.moment text.frame todo → HasOutcome was todo.step outcome
     → answer ≡ answer_text session (record todo { step = None }) outcome

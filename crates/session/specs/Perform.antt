@@ -3,7 +3,7 @@ use Rattle.std.specs.Prelude.{◌≡◌, true}
 use Rattle.site_core.specs.declared.step.Step.{Step}
 use Rattle.site_core.specs.declared.step.Step.TheVariants as steps
 use Rattle.site_core.specs.declared.reply.Reply.TheVariants.{Taken}
-use Rattle.version_store.specs.Told.{Told}
+use Rattle.version_store.specs.Passes.{PassState}
 use Rattle.version_store.specs.Store.{StoreState, may_fold}
 use Rattle.version_store.specs.Calls.{Calls, Makes, IsRefusalOf}
 use Rattle.session.specs.declared.outcome.Performed.{Performed}
@@ -15,21 +15,21 @@ abbrev pub IsOfText : Step → Type 0
 IsOfText step = may_fold step ≡ true
 
 -- a request for a schedule has seen what its session has
-abbrev pub seen_by : Told → Step → Step
+abbrev pub seen_by : PassState → Step → Step
 seen_by was (steps.Take take) = steps.Take (record take { seen = was.seen })
 seen_by was step = step
 
 -- A Take gives the job of the request that is kept, and no reply. Any other step gives the reply of
--- the call that it stands for. A refused one changes nothing. What a session was told doesn't
+-- the call that it stands for. A refused one changes nothing. What a pass counts doesn't
 -- change with what its point confirms.
-abbrev pub Performs : StoreState → Told → Step → Performed → StoreState → Told → Type 0
-Performs old was step (Job job) new told =
-    Calls old was (seen_by was step) (Taken job.number job.book job.ask) new told
-Performs old was (steps.Take take) (Outcome (Made reply)) new told = ⊥
-Performs old was (steps.Confirm point link call) (Outcome (Made reply)) new told =
-    Makes old (steps.Confirm point link call) reply new × (told ≡ was)
-Performs old was step (Outcome (Made reply)) new told =
-    Calls old was (seen_by was step) reply new told
-Performs old was step (Outcome (Answered handed)) new told = ⊥
-Performs old was step (Outcome (Refused refusal)) new told =
-    IsRefusalOf old (seen_by was step) refusal × (new ≡ old) × (told ≡ was)
+abbrev pub Performs : StoreState → PassState → Step → Performed → StoreState → PassState → Type 0
+Performs old was step (Job job) new pass =
+    Calls old was (seen_by was step) (Taken job.number job.book job.ask) new pass
+Performs old was (steps.Take take) (Outcome (Made reply)) new pass = ⊥
+Performs old was (steps.Confirm point link call) (Outcome (Made reply)) new pass =
+    Makes old (steps.Confirm point link call) reply new × (pass ≡ was)
+Performs old was step (Outcome (Made reply)) new pass =
+    Calls old was (seen_by was step) reply new pass
+Performs old was step (Outcome (Answered handed)) new pass = ⊥
+Performs old was step (Outcome (Refused refusal)) new pass =
+    IsRefusalOf old (seen_by was step) refusal × (new ≡ old) × (pass ≡ was)

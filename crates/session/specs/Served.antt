@@ -4,7 +4,7 @@ use Rattle.ocpp_scalars.specs.declared.refusal.Refusal.TheVariants.{OutOfMemory,
 use Rattle.site_core.specs.declared.step.Step.{Step}
 use Rattle.site_core.specs.Right.{IsRight}
 use Rattle.version_store.specs.Answers.{RequestedJob, HandedAnswer}
-use Rattle.version_store.specs.Told.{Told}
+use Rattle.version_store.specs.Passes.{PassState}
 use Rattle.version_store.specs.Store.{StoreState, IsStore}
 use Rattle.texts.specs.SentText.{Sent}
 use Rattle.session.specs.declared.outcome.Outcome.{Outcome}
@@ -35,29 +35,29 @@ ComesTo (performs.Job job) outcome = IsOutcomeOfJob job outcome
 ComesTo (performs.Outcome made) outcome = outcome ≡ made
 
 -- The one call that a step stands for was made on the book while the session had it.
-pub record IsPerformed (was : Told) (step : Step) (performed : Performed) : Type 0 where
+pub record IsPerformed (was : PassState) (step : Step) (performed : Performed) : Type 0 where
   pub old : StoreState
   pub new : StoreState
-  pub told : Told
+  pub pass : PassState
   pub store : IsStore old
-  pub performs : Performs old was step performed new told
+  pub performs : Performs old was step performed new pass
 
 -- The outcome of a session's own step: for a request of a schedule, the answer that is right for
 -- what its point had at this very Take.
-pub record IsOutcomeOf (was : Told) (step : Step) (outcome : Outcome) : Type 0 where
+pub record IsOutcomeOf (was : PassState) (step : Step) (outcome : Outcome) : Type 0 where
   pub performed : Performed
   pub is_performed : IsPerformed was step performed
   pub comes : ComesTo performed outcome
 
 -- a text without a step has no outcome
-abbrev pub HasOutcome : Told → Option Step → Option Outcome → Type 0
+abbrev pub HasOutcome : PassState → Option Step → Option Outcome → Type 0
 HasOutcome was None None = Unit {0}
 HasOutcome was (Some step) (Some outcome) = IsOutcomeOf was step outcome
 HasOutcome was _ _ = ⊥
 
--- what answers a text of a session that was told so much: the text that is owed for what was asked,
+-- what answers a text of a session with this pass: the text that is owed for what was asked,
 -- with the outcome of the step that was asked for
-pub record IsServed (session : SessionState) (was : Told) (text : Sent) (answer : Option (List ℕ))
+pub record IsServed (session : SessionState) (was : PassState) (text : Sent) (answer : Option (List ℕ))
     : Type 0 where
   pub todo : TodoState
   pub outcome : Option Outcome

@@ -18,7 +18,7 @@ use Rattle.site_core.specs.Limits.{max_number, max_requests}
 use Rattle.site_core.specs.State.{MachineState, book_at}
 use Rattle.site_core.specs.Ask.{is_other_unit, ask_at}
 use Rattle.site_core.specs.Step.{Made, stepped, no_answer, found_place, refusal_to_take, taking, unless}
-use Rattle.version_store.specs.Told.{Told}
+use Rattle.version_store.specs.Passes.{PassState}
 use Rattle.version_store.specs.Store.{StoreState}
 use Rattle.version_store.specs.Calls.{IsRefusalTo, IsRefusalOf, IsBehind}
 
@@ -130,7 +130,7 @@ step_behind old take seen found is = go old.is_stopped (place_of old.site take.p
     go false None is = absurd (cc is)
     go false (Some place) is = takes_behind old take place seen found is
 
-pub behind_shown : (store : StoreState) (was : Told) (take : Take) (refusal : Refusal)
+pub behind_shown : (store : StoreState) (was : PassState) (take : Take) (refusal : Refusal)
     → take.seen ≡ was.seen → IsRefusalOf store (steps.Take take) refusal
     → (seen found : ℕ) → refusal ≡ Behind seen found
     → IsBehind store.present.numbers.version was.seen seen found

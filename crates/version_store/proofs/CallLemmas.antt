@@ -11,9 +11,9 @@ use Rattle.site_core.specs.Step.{Made, Steps, IsRefusalOf, stepped, no_answer, i
 use Rattle.site_core.specs.StoredHistory.{event_of, MayBeGiven}
 use Rattle.site_core.specs.Theory.Steps.{CompileOrOther, is_compile, is_other, compile_or_other}
 use Rattle.version_store.specs.Limits.{fold_from}
-use Rattle.version_store.specs.Told.{totals_after, no_totals}
+use Rattle.version_store.specs.Passes.{totals_after, no_totals}
 use Rattle.version_store.specs.Store.{StoreState, IsStore, with_event, folded, folded_for, may_fold, folds}
-use Rattle.version_store.specs.Calls.{Adds, Tells, IsRefusalTo, event_alone}
+use Rattle.version_store.specs.Calls.{Adds, RepliesAlone, IsRefusalTo, event_alone}
 use Rattle.version_store.specs.ByCases.Laws.{Laws}
 use Rattle.version_store.proofs.HistoryLemmas.{made_with, store_goes_on}
 
@@ -26,13 +26,13 @@ refusal_shown store step (Ok made) refusal is = absurd (cc is)
 refusal_shown store step (Err cause) refusal is = cc is
 
 -- a refusal of the machine is one of the store
-pub refusal_told : (store : StoreState) (step : Step) (result : Result Made Refusal)
+pub refusal_shown : (store : StoreState) (step : Step) (result : Result Made Refusal)
     (refusal : Refusal) → IsRefusalOf result refusal → IsRefusalTo store step result refusal
-refusal_told store step (Ok made) refusal cause = (
+refusal_shown store step (Ok made) refusal cause = (
   ap (λ (b : Bool). b || (is_event store.present made.reply && folds store step)) cause.0,
   cause.1,
 )
-refusal_told store step (Err first) refusal cause = cause
+refusal_shown store step (Err first) refusal cause = cause
 
 -- where an event folds the history, memory may be wanting
 pub refused_fold : (store : StoreState) (step : Step) (result : Result Made Refusal)
@@ -130,13 +130,13 @@ left_alone laws old step reply after can is steps =
     let made = made_of_step old step reply after can steps in
     laws.changes old after step reply steps (event_of_step old step false reply after is made)
 
-pub tells_alone : Laws → (old : StoreState) (step : Step) (reply : Reply)
+pub replies_alone : Laws → (old : StoreState) (step : Step) (reply : Reply)
     → may_fold step ≡ true → outlook old.present step ≡ Ok false
-    → Steps old.present step reply old.present → Tells old step reply old
-tells_alone laws old step reply can is steps =
+    → Steps old.present step reply old.present → RepliesAlone old step reply old
+replies_alone laws old step reply can is steps =
     let made = made_of_step old.present step reply old.present can steps in
     record {
-      told = made;
+      made = made;
       no_event = event_of_step old.present step false reply old.present is made;
       kept = refl;
     }

@@ -17,7 +17,7 @@ use Rattle.site_core.specs.State.{ScheduleAnswer}
 use Rattle.site_core.specs.Step.{Made, stepped, no_answer, is_event, unchanged, wants_memory}
 use Rattle.site_core.specs.StoredHistory.{StoredEvent, made_of}
 use Rattle.site_core.specs.Post.{Posts}
-use Rattle.version_store.specs.Told.{Told, told_after}
+use Rattle.version_store.specs.Passes.{PassState, pass_after}
 use Rattle.version_store.specs.Store.{StoreState, with_event, folded_for, folds}
 
 -- One event is added, after the history was folded where it had to be; the state and the reply are what
@@ -30,8 +30,8 @@ pub record Adds (old : StoreState) (stored : StoredEvent) (reply : Reply) (new :
       (record { reply = reply; after = new.present })
 
 -- the machine's reply alone, which is no event
-pub record Tells (old : StoreState) (step : Step) (reply : Reply) (new : StoreState) : Type 0 where
-  pub told : stepped no_answer old.present step ≡ Ok (unchanged old.present reply)
+pub record RepliesAlone (old : StoreState) (step : Step) (reply : Reply) (new : StoreState) : Type 0 where
+  pub made : stepped no_answer old.present step ≡ Ok (unchanged old.present reply)
   pub no_event : is_event old.present reply ≡ false
   pub kept : new ≡ old
 
@@ -44,7 +44,7 @@ abbrev pub compile_event : ℕ → ScheduleAnswer → StoredEvent
 compile_event number answer = record { step = steps.Compile number; answer = answer }
 
 abbrev pub Makes : StoreState → Step → Reply → StoreState → Type 0
-Makes old step reply new = Adds old (event_alone step) reply new ⊎ Tells old step reply new
+Makes old step reply new = Adds old (event_alone step) reply new ⊎ RepliesAlone old step reply new
 
 -- Whether what a step comes to may want memory: the step itself, or the fold of the history before
 -- its event.
@@ -61,11 +61,11 @@ IsRefusalTo old step (Ok made) refusal =
 abbrev pub IsRefusalOf : StoreState → Step → Refusal → Type 0
 IsRefusalOf old step refusal = IsRefusalTo old step (stepped no_answer old.present step) refusal
 
--- a call of a session: what it makes, and what the session was told then
-pub record Calls (old : StoreState) (was : Told) (step : Step) (reply : Reply) (new : StoreState)
-    (told : Told) : Type 0 where
+-- a call of a session: what it makes, and what its pass counts then
+pub record Calls (old : StoreState) (was : PassState) (step : Step) (reply : Reply) (new : StoreState)
+    (pass : PassState) : Type 0 where
   pub makes : Makes old step reply new
-  pub tells : told ≡ told_after was reply new.present.numbers.version
+  pub counts : pass ≡ pass_after was reply new.present.numbers.version
 
 -- a posted answer, which the event has too
 pub record PostsTo (old : StoreState) (number : ℕ) (brought : CompiledAnswer) (new : StoreState)
@@ -90,16 +90,16 @@ abbrev pub ending : Bool → Reply
 ending true = Ended
 ending false = NoSuch
 
--- A start gives the number of the transaction that began, or of the one that is told again. This system
+-- A start gives the number of the transaction that began, or of the one that is retransmitted. This system
 -- draws them from 1 on.
-pub record StartsAs (old : StoreState) (was : Told) (step : Step) (given : ℕ) (new : StoreState)
-    (told : Told) : Type 0 where
+pub record StartsAs (old : StoreState) (was : PassState) (step : Step) (given : ℕ) (new : StoreState)
+    (pass : PassState) : Type 0 where
   pub id : ℤ
   pub number : given ≡ unsigned_abs id
-  pub calls : Calls old was step (Started id) new told ⊎ Calls old was step (Repeated id) new told
+  pub calls : Calls old was step (Started id) new pass ⊎ Calls old was step (Repeated id) new pass
 
 -- a Take that has seen what its session has seen
-abbrev pub take_of : List ℕ → ℕ → Instant → ℕ → Option Unit → Told → Take
+abbrev pub take_of : List ℕ → ℕ → Instant → ℕ → Option Unit → PassState → Take
 take_of point connector start duration unit was = record {
   point = point;
   connector = connector;

@@ -1,5 +1,5 @@
 pub mod Limits
-pub mod Told
+pub mod Passes
 pub mod Store
 pub mod Calls
 pub mod Answers

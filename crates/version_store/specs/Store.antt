@@ -12,7 +12,7 @@ use Rattle.site_core.specs.Counts.{changes_in, answers_in}
 use Rattle.site_core.specs.Headline.{KeepsRight, HasItsBook, AnsweredOnceStopped}
 use Rattle.version_store.specs.declared.totals.Totals.{Totals}
 use Rattle.version_store.specs.Limits.{fold_from, room}
-use Rattle.version_store.specs.Told.{no_totals, totals_after}
+use Rattle.version_store.specs.Passes.{no_totals, totals_after}
 
 pub record StoreState : Type 0 where
   -- the state that the stored history begins with, and the changes and answers until then

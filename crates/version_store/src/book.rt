@@ -4,7 +4,7 @@ ghost use Rattle.std.specs.Prelude.{◌≡◌, ◌<◌, ◌≤◌, true, IfOk, I
 ghost use Rattle.site_core.specs.declared.step.Step.{Step};
 ghost use Rattle.site_core.specs.State.{IsMachine, link_of, link_to_send, outbox_len};
 ghost use Rattle.site_core.specs.Step.{HasAskedConnector, is_reply_to};
-ghost use Rattle.version_store.specs.Told.{nothing_told, told_together};
+ghost use Rattle.version_store.specs.Passes.{unused_pass, totals_together};
 ghost use Rattle.version_store.specs.Store.{IsStore, opening_store, may_fold};
 ghost use Rattle.version_store.specs.Calls.{Calls, IsRefusalOf};
 
@@ -45,7 +45,7 @@ impl<C: Ledger, A: Ledger> Model for Book<C, A> {
 }
 
 impl<C: Ledger, A: Ledger> Book<C, A> {
-    /// The book of a site where nothing was done yet, with a pass for each session, which was told nothing.
+    /// The book of a site where nothing was done yet, with a pass for each session, which counts nothing yet.
     pub fn make(
         alloc: Global,
         changes: Blank,
@@ -59,7 +59,7 @@ impl<C: Ledger, A: Ledger> Book<C, A> {
             × (answers.parts ≡ sessions) }
         ensures book { IfOk result (λ made. made.0 ≡ opening_store site) }
         ensures passes { IfOk result (λ made. length made.1.items ≡ sessions) }
-        ensures told { IfOk result (λ made. All (λ pass. pass ≡ nothing_told) made.1.items) }
+        ensures unused { IfOk result (λ made. All (λ pass. pass ≡ unused_pass) made.1.items) }
     {
         let history = History::new(alloc, site)?;
         let (ledgers, changed, answered) = Ledgers::open(changes, answers);
@@ -86,12 +86,12 @@ impl<C: Ledger, A: Ledger> Book<C, A> {
     }
 
     /// Ends the book. With the passes of all its sessions, the numbers of changes that were made and of
-    /// answers that were handed out are what those sessions were told together.
+    /// answers that were handed out are what those passes count together.
     pub fn settle(self, passes: Vec<Pass<C, A>>) -> Totals
         requires changes { C.parts ≤ length passes.items }
         requires answers { A.parts ≤ length passes.items }
         ensures own { result ≡ self.made }
-        ensures together { result ≡ told_together passes.items }
+        ensures together { result ≡ totals_together passes.items }
     {
         let totals = self.totals();
         self.ledgers.settle(passes);

@@ -7,11 +7,11 @@ ghost use Rattle.site_core.specs.declared.reply.Reply.{Reply};
 ghost use Rattle.site_core.specs.Step.{HasAskedConnector, is_reply_to, outlook};
 ghost use Rattle.site_core.specs.Requests.{request_of};
 ghost use Rattle.site_core.specs.Post.{IsRefusedPost};
-ghost use Rattle.version_store.specs.Told.{no_totals, totals_after};
+ghost use Rattle.version_store.specs.Passes.{no_totals, totals_after};
 ghost use Rattle.version_store.specs.Answers.{HandsOutRight};
 ghost use Rattle.version_store.specs.Limits.{fold_from};
 ghost use Rattle.version_store.specs.Store.{IsStore, opening_store, may_fold};
-ghost use Rattle.version_store.specs.Calls.{Adds, Tells, Makes, IsRefusalOf, PostsTo, event_alone};
+ghost use Rattle.version_store.specs.Calls.{Adds, RepliesAlone, Makes, IsRefusalOf, PostsTo, event_alone};
 
 use crate::folded::{EventRoom, Folded};
 use crate::laws::machine_laws;
@@ -47,7 +47,7 @@ pub(crate) struct History {
 
 impl Model for History {
     ghost use Rattle.std.specs.Prelude.{◌≤◌, vec_capacity};
-    ghost use Rattle.version_store.specs.Told.{no_totals, totals_after};
+    ghost use Rattle.version_store.specs.Passes.{no_totals, totals_after};
     ghost use Rattle.version_store.specs.Answers.{HandsOutRight};
     ghost use Rattle.version_store.specs.Limits.{room};
     ghost use Rattle.version_store.specs.Store.{StoreState, IsStore, HasRoom};
@@ -156,7 +156,7 @@ impl History {
                 self.gather_calls();
                 self.make_folded(step)
             }
-            Ok(false) => Ok(self.tell(step)),
+            Ok(false) => Ok(self.reply_alone(step)),
             Err(refusal) => Err(Refused { refusal, step }),
         }
     }
@@ -196,10 +196,10 @@ impl History {
     }
 
     /// Makes a step that is no event.
-    fn tell(&mut self, step: Step) -> Reply
+    fn reply_alone(&mut self, step: Step) -> Reply
         requires can_fold { may_fold step ≡ true }
         requires told { outlook self.old.present step ≡ Ok false }
-        ensures tells { Tells self.old step result self.new }
+        ensures replies { RepliesAlone self.old step result self.new }
         ensures own { is_reply_to step result ≡ true }
         ensures asked { HasAskedConnector result }
         ensures counts { no_totals ≡ totals_after no_totals result }

@@ -1,7 +1,7 @@
 //! The counting of changes and answers over all sessions.
 
 ghost use Rattle.std.specs.Prelude.{◌≡◌, ◌≤◌, length};
-ghost use Rattle.version_store.specs.Told.{no_totals, totals_after, told_after, told_together};
+ghost use Rattle.version_store.specs.Passes.{no_totals, totals_after, pass_after, totals_together};
 
 use crate::pass::Pass;
 use crate::totals::Totals;
@@ -52,26 +52,26 @@ impl<C: Ledger, A: Ledger> Ledgers<C, A> {
         (ledgers, all_changed, all_answered)
     }
 
-    /// Counts what a call of a session was told, after which the totals are these, at this version.
+    /// Counts a call of a session in its pass, after which the totals are these, at this version.
     pub fn count(&mut self, pass: &mut Pass<C, A>, reply: &Reply, totals: Totals, version: u64)
         requires { totals ≡ totals_after self.old reply.now }
         ensures totals { self.new ≡ totals }
-        ensures told { pass.new ≡ told_after pass.old reply.now version }
+        ensures counts { pass.new ≡ pass_after pass.old reply.now version }
     {
-        let told = Totals::of(reply);
+        let counted = Totals::of(reply);
         self.changed.audit(&mut pass.changed);
         self.answered.audit(&mut pass.answered);
-        self.changed.add(&mut pass.changed, told.changes);
-        self.answered.add(&mut pass.answered, told.answers);
+        self.changed.add(&mut pass.changed, counted.changes);
+        self.answered.add(&mut pass.answered, counted.answers);
         pass.totals = pass.totals.after(reply);
         pass.seen = pass.seen.max(version);
     }
 
-    /// Ends the counting: all passes together were told the totals.
+    /// Ends the counting: all passes together count the totals.
     pub fn settle(self, passes: Vec<Pass<C, A>>)
         requires changes { C.parts ≤ length passes.items }
         requires answers { A.parts ≤ length passes.items }
-        ensures { told_together passes.items ≡ self }
+        ensures { totals_together passes.items ≡ self }
     {
         let Ledgers {
             mut changed,

@@ -1,14 +1,14 @@
-//! What a session was told.
+//! What a session's calls have made and been answered.
 
 ghost use Rattle.std.specs.Prelude.{◌≡◌, IfOk, All, length};
-ghost use Rattle.version_store.specs.Told.{nothing_told};
+ghost use Rattle.version_store.specs.Passes.{unused_pass};
 
 use crate::totals::Totals;
 use std::alloc::{AllocError, Global};
 use std::marker::Model;
 use std::sync::ledger::{Ledger, Share};
 
-/// What one session was told: the changes and the answers of its own calls, and the newest version of the store
+/// What one session counts: the changes and the answers of its own calls, and the newest version of the store
 /// that it has seen. It fits only the book that it was made with.
 #[derive(Drop)]
 pub struct Pass<C: Ledger, A: Ledger> {
@@ -21,9 +21,9 @@ pub struct Pass<C: Ledger, A: Ledger> {
 
 impl<C: Ledger, A: Ledger> Model for Pass<C, A> {
     ghost use Rattle.std.specs.Prelude.{◌≡◌};
-    ghost use Rattle.version_store.specs.Told.{Told};
+    ghost use Rattle.version_store.specs.Passes.{PassState};
 
-    ghost Value = { Told };
+    ghost Value = { PassState };
 
     ghost view = { λ pass. record { totals = pass.totals; seen = pass.seen } };
 
@@ -33,11 +33,11 @@ impl<C: Ledger, A: Ledger> Model for Pass<C, A> {
 }
 
 impl<C: Ledger, A: Ledger> Pass<C, A> {
-    /// Of a session that was told nothing yet.
+    /// Of a session that has made no call yet.
     pub(crate) fn new(changed: Share<C>, answered: Share<A>) -> Pass<C, A>
         requires parts { (changed.parts ≡ 1) × (answered.parts ≡ 1) }
         requires amounts { (changed.amount ≡ 0) × (answered.amount ≡ 0) }
-        ensures { result ≡ nothing_told }
+        ensures { result ≡ unused_pass }
     {
         Pass {
             changed,
@@ -47,7 +47,7 @@ impl<C: Ledger, A: Ledger> Pass<C, A> {
         }
     }
 
-    /// Its parts of the book's changes and answers, each with what it was told of them.
+    /// Its parts of the book's changes and answers, each with what it counts of them.
     pub(crate) fn into_shares(self) -> (Share<C>, Share<A>)
         ensures parts { (result.0.parts ≡ 1) × (result.1.parts ≡ 1) }
         ensures changes { result.0.amount ≡ self.totals.changes }
@@ -81,7 +81,7 @@ pub(crate) fn passes_of<C: Ledger, A: Ledger>(
     requires parts { (changed.parts ≡ sessions) × (answered.parts ≡ sessions) }
     requires amounts { (changed.amount ≡ 0) × (answered.amount ≡ 0) }
     ensures passes { IfOk result (λ passes. length passes.items ≡ sessions) }
-    ensures told { IfOk result (λ passes. All (λ pass. pass ≡ nothing_told) passes.items) }
+    ensures unused { IfOk result (λ passes. All (λ pass. pass ≡ unused_pass) passes.items) }
 {
     let mut passes = Vec::new(alloc);
     for _session in 0..sessions {

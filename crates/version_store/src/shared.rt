@@ -4,7 +4,7 @@ ghost use Rattle.std.specs.Prelude.{◌≡◌, ◌<◌, ◌≤◌, false, IfOk, 
 ghost use Rattle.std.specs.Sync.Mutex.{mutex_guard_value};
 ghost use Rattle.version_store.specs.Answers.{awaits};
 ghost use Rattle.version_store.specs.Store.{IsStore};
-ghost use Rattle.version_store.specs.Told.{nothing_told, told_together};
+ghost use Rattle.version_store.specs.Passes.{unused_pass, totals_together};
 
 use crate::book::Book;
 use crate::missing::Missing;
@@ -41,7 +41,7 @@ impl<C: Ledger, A: Ledger> Model for Shared<C, A> {
 }
 
 impl<C: Ledger, A: Ledger> Shared<C, A> {
-    /// The book of a site where nothing was done yet, with a pass for each session, which was told nothing.
+    /// The book of a site where nothing was done yet, with a pass for each session, which counts nothing yet.
     pub fn make(
         alloc: Global,
         changes: Blank,
@@ -56,7 +56,7 @@ impl<C: Ledger, A: Ledger> Shared<C, A> {
         requires some { 0 < sessions }
         ensures sessions { IfOk result (λ made. made.0 ≡ sessions) }
         ensures passes { IfOk result (λ made. length made.1.items ≡ sessions) }
-        ensures told { IfOk result (λ made. All (λ pass. pass ≡ nothing_told) made.1.items) }
+        ensures unused { IfOk result (λ made. All (λ pass. pass ≡ unused_pass) made.1.items) }
     {
         let (book, passes) = Book::make(alloc, changes, answers, site, sessions)?;
         let shared = Shared {
@@ -127,9 +127,9 @@ impl<C: Ledger, A: Ledger> Shared<C, A> {
     }
 
     /// Ends the book. With all passes that were made, the numbers of changes that were made and of answers
-    /// that were handed out, which are what their sessions were told together.
+    /// that were handed out, which are what their passes count together.
     pub fn settle(self, passes: Vec<Pass<C, A>>) -> Result<Totals, Missing>
-        ensures together { IfOk result (λ totals. totals ≡ told_together passes.items) }
+        ensures together { IfOk result (λ totals. totals ≡ totals_together passes.items) }
         ensures whole { IfOk result (λ totals. self ≤ length passes.items) }
         ensures missing { IfErr result (λ missing.
             (missing.given ≡ length passes.items) × (missing.made ≡ self)

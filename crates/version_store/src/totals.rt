@@ -2,7 +2,7 @@
 
 ghost use Rattle.std.specs.Prelude.{◌≡◌, ◌+◌, ◌<◌, ◌^◌};
 ghost use Rattle.site_core.specs.Step.{counted};
-ghost use Rattle.version_store.specs.Told.{no_totals, totals_after};
+ghost use Rattle.version_store.specs.Passes.{no_totals, totals_after};
 
 use site_core::{Counted, Reply};
 
@@ -23,7 +23,7 @@ impl Totals {
         }
     }
 
-    /// What a reply alone tells of.
+    /// What a reply alone counts.
     pub(crate) fn of(reply: &Reply) -> Totals
         ensures { result ≡ totals_after no_totals reply.now }
     {
@@ -35,16 +35,16 @@ impl Totals {
         Totals { changes, answers }
     }
 
-    /// With what a reply tells of.
+    /// With what a reply counts.
     pub(crate) fn after(self, reply: &Reply) -> Totals
         requires changes { self.changes + (counted reply.now).changes < 2 ^ 64 }
         requires answers { self.answers + (counted reply.now).answers < 2 ^ 64 }
         ensures { result ≡ totals_after self reply.now }
     {
-        let told = Totals::of(reply);
+        let counted = Totals::of(reply);
         Totals {
-            changes: self.changes + told.changes,
-            answers: self.answers + told.answers,
+            changes: self.changes + counted.changes,
+            answers: self.answers + counted.answers,
         }
     }
 }

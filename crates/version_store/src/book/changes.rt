@@ -74,7 +74,7 @@ impl<C: Ledger, A: Ledger> Book<C, A> {
     }
 
     /// Begins a transaction at a connector of a point (chapter 4.8), or gives the number again of a start
-    /// that is told again. On a refusal what began comes back.
+    /// that is retransmitted. On a refusal what began comes back.
     pub fn start(
         &mut self,
         pass: &mut Pass<C, A>,

@@ -1,4 +1,4 @@
--- What the session was told so far is no less than what it was told before its first text.
+-- What the session counts so far is no less than what it counted before its first text.
 use Rattle.session.specs.Serving.{KeepsPass}
 use Rattle.session.proofs.serving.serve_texts.Given as goal
 

@@ -8,33 +8,33 @@ use Rattle.version_store.specs.declared.totals.Totals.{Totals}
 abbrev pub no_totals : Totals
 no_totals = record { changes = 0; answers = 0 }
 
--- with what a reply tells of
+-- with what a reply counts
 abbrev pub totals_after : Totals → Reply → Totals
 totals_after old reply = record {
   changes = old.changes + (counted reply).changes;
   answers = old.answers + (counted reply).answers;
 }
 
--- what a session was told
-pub record Told : Type 0 where
+-- what a session counts
+pub record PassState : Type 0 where
   -- the changes and answers of its own calls
   pub totals : Totals
   -- the newest version of the store that it has seen
   pub seen : ℕ
 
-abbrev pub nothing_told : Told
-nothing_told = record { totals = no_totals; seen = 0 }
+abbrev pub unused_pass : PassState
+unused_pass = record { totals = no_totals; seen = 0 }
 
 -- after a call with this reply, which left the store at this version
-abbrev pub told_after : Told → Reply → ℕ → Told
-told_after old reply version = record {
+abbrev pub pass_after : PassState → Reply → ℕ → PassState
+pass_after old reply version = record {
   totals = totals_after old.totals reply;
   seen = max old.seen version;
 }
 
--- what sessions were told together
-abbrev pub told_together : List Told → Totals
-told_together sessions = record {
-  changes = sum_by (λ (told : Told). told.totals.changes) sessions;
-  answers = sum_by (λ (told : Told). told.totals.answers) sessions;
+-- what sessions count together
+abbrev pub totals_together : List PassState → Totals
+totals_together sessions = record {
+  changes = sum_by (λ (pass : PassState). pass.totals.changes) sessions;
+  answers = sum_by (λ (pass : PassState). pass.totals.answers) sessions;
 }

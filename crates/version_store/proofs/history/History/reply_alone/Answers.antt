@@ -6,9 +6,9 @@ use Rattle.site_core.specs.Step.{Steps, stepped, no_answer}
 use Rattle.version_store.specs.contracts.history.History.{the_view}
 use Rattle.version_store.specs.Limits.{room}
 use Rattle.version_store.specs.Store.{StoreState, IsStore, HasRoom}
-use Rattle.version_store.specs.Calls.{Tells}
-use Rattle.version_store.proofs.CallLemmas.{outlook_of_same, never_refused, left_alone, tells_alone, nothing_counted}
-use Rattle.version_store.proofs.history.History.tell.Goals as goal
+use Rattle.version_store.specs.Calls.{RepliesAlone}
+use Rattle.version_store.proofs.CallLemmas.{outlook_of_same, never_refused, left_alone, replies_alone, nothing_counted}
+use Rattle.version_store.proofs.history.History.reply_alone.Goals as goal
 
 pub unreachable-requires : goal.unreachable-requires
 unreachable-requires c =
@@ -38,16 +38,16 @@ steps_of : (c : goal.In-Ok)
 steps_of c = subst (λ (p : MachineState). Steps c.self.inside.present c.args.step c.in-Ok.reply p)
     (left c) c.in-Ok.ensures.made
 
-pub returns-clause-tells : goal.returns-clause-tells
-returns-clause-tells c =
+pub returns-clause-replies : goal.returns-clause-replies
+returns-clause-replies c =
     let told = outlook_of_same c.args.self.now _ c.args.step false c.self.view_is c.requires.told
     in
-    let tells = tells_alone c.machine_laws.ensures (the_view c.self.inside) c.args.step
+    let tells = replies_alone c.machine_laws.ensures (the_view c.self.inside) c.args.step
     c.in-Ok.reply c.requires.can_fold told (steps_of c) in
-    subst (λ (s : StoreState). Tells s c.args.step c.in-Ok.reply (with_present c c.step.new.self))
+    subst (λ (s : StoreState). RepliesAlone s c.args.step c.in-Ok.reply (with_present c c.step.new.self))
     c.self.view_is
     (subst (λ (p : MachineState).
-    Tells (the_view c.self.inside) c.args.step c.in-Ok.reply (with_present c p)) (sym (left c)) tells)
+    RepliesAlone (the_view c.self.inside) c.args.step c.in-Ok.reply (with_present c p)) (sym (left c)) tells)
 
 pub returns-clause-counts : goal.returns-clause-counts
 returns-clause-counts c =
