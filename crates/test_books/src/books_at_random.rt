@@ -2,7 +2,7 @@
 
 use crate::fixtures::{instant_at, row_of};
 use crate::same::holds;
-use crate::told_books::{begin, point};
+use crate::scripted_books::{begin, point};
 use meaning::{Ask, compile_plain, reason_at};
 use ocpp_scalars::Instant;
 use point_book::PointBook;
@@ -80,7 +80,7 @@ fn put_periods(rt: &impl Abort, text: &mut String, number: u32) {
     );
 }
 
-/// A row by the bits of a number, told in words: all that it does lies within some minutes.
+/// A row by the bits of a number, in words: all that it does lies within some minutes.
 fn row(rt: &impl Abort, alloc: Global, id: u32, number: u32) -> Row {
     let mut text = format!(in alloc; "id={id} ").expect(rt, "error");
     put_purpose(rt, &mut text, number);

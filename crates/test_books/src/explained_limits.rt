@@ -1,10 +1,10 @@
 //! Limits and schedules with what sets them, and why a profile doesn't prevail: worked by hand. The lines are
-//! those of `told_books.rt`, each stretch with its start, its end and its reason.
+//! those of `scripted_books.rt`, each stretch with its start, its end and its reason.
 
 use crate::fixtures::instant_at;
+use crate::reason_words::put_reason;
 use crate::same::{holds, same_text};
-use crate::told_books::{play, rows_of};
-use crate::told_reasons::put_reason;
+use crate::scripted_books::{play, rows_of};
 use crate::words::Words;
 use meaning::{Ask, Reason, View, reason_at, why_not};
 use ocpp_scalars::Instant;
@@ -205,8 +205,8 @@ fn expect_why(rt: &impl Abort, alloc: Global, view: &View<'_>, lines: &str) {
         let connector = words.number().expect(rt, line);
         let second = words.instant().expect(rt, line);
         let place = words.number().expect(rt, line) as usize;
-        let told = why(rt, alloc, view, (connector, second), place);
-        same_text(rt, told.as_str(), words.word(), line);
+        let said = why(rt, alloc, view, (connector, second), place);
+        same_text(rt, said.as_str(), words.word(), line);
     }
 }
 
@@ -218,11 +218,11 @@ fn why(
     place: usize,
 ) -> String {
     assert!(rt; place < view.rows.len());
-    let told = match why_not(view, connector, instant(rt, 0), second, place) {
+    let said = match why_not(view, connector, instant(rt, 0), second, place) {
         Some(why) => format!(in alloc; "{why:?}"),
         None => format!(in alloc; "prevails"),
     };
-    told.expect(rt, "error")
+    said.expect(rt, "error")
 }
 
 const IDLE: &str = "\

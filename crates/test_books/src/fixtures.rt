@@ -1,7 +1,7 @@
-//! What tests are made of: instants, profiles and their rows told in words, starts of transactions, site
+//! What tests are made of: instants, profiles and their rows in words, starts of transactions, site
 //! files. Tables in words are data, which nothing has to be proved of.
 
-use crate::words::{Told, instant_of};
+use crate::words::{KeyedWords, instant_of};
 use ocpp_scalars::{IdTag, Instant, Refusal};
 use profile::{
     Criteria, Period, PeriodList, Profile, ProfileKind, ProfileParts, Purpose, Row, ScheduleParts,
@@ -16,7 +16,7 @@ pub const LONGEST_TAG: &str = "🔌🔌🔌🔌🔌🔌🔌🔌🔌🔌🔌🔌�
 
 /// Why there isn't what words tell of.
 #[derive(Clone, Copy, Debug, PartialEq, Eq)]
-pub enum Untold {
+pub enum UnreadWords {
     /// They can't be read.
     Words,
     /// It is no profile.
@@ -25,43 +25,43 @@ pub enum Untold {
     OutOfMemory,
 }
 
-impl From<AllocError> for Untold {
-    fn from(_error: AllocError) -> Untold {
-        Untold::OutOfMemory
+impl From<AllocError> for UnreadWords {
+    fn from(_error: AllocError) -> UnreadWords {
+        UnreadWords::OutOfMemory
     }
 }
 
-impl<T: Drop> From<AllocFailed<T>> for Untold {
-    fn from(_failed: AllocFailed<T>) -> Untold {
-        Untold::OutOfMemory
+impl<T: Drop> From<AllocFailed<T>> for UnreadWords {
+    fn from(_failed: AllocFailed<T>) -> UnreadWords {
+        UnreadWords::OutOfMemory
     }
 }
 
 /// Of a text in memory that is written.
-impl From<fmt::Error> for Untold {
-    fn from(_error: fmt::Error) -> Untold {
-        Untold::OutOfMemory
+impl From<fmt::Error> for UnreadWords {
+    fn from(_error: fmt::Error) -> UnreadWords {
+        UnreadWords::OutOfMemory
     }
 }
 
 /// The instant so many seconds after midnight.
-pub fn instant_at(second: u64) -> Result<Instant, Untold> {
-    instant_of(second).ok_or(Untold::Words)
+pub fn instant_at(second: u64) -> Result<Instant, UnreadWords> {
+    instant_of(second).ok_or(UnreadWords::Words)
 }
 
-/// The criteria told in words: `id=`, `connector=`, `purpose=`, `level=`. What isn't told isn't given.
-pub fn criteria_of(words: &str) -> Result<Criteria, Untold> {
-    let mut told = Told::of(words);
+/// The criteria in words: `id=`, `connector=`, `purpose=`, `level=`. What isn't said isn't given.
+pub fn criteria_of(words: &str) -> Result<Criteria, UnreadWords> {
+    let mut keyed = KeyedWords::of(words);
     let criteria = Criteria {
-        id: told.whole("id="),
-        connector: told.number("connector="),
-        purpose: told.name("purpose="),
-        stack_level: told.number("level="),
+        id: keyed.whole("id="),
+        connector: keyed.number("connector="),
+        purpose: keyed.name("purpose="),
+        stack_level: keyed.number("level="),
     };
-    if told.is_read() {
+    if keyed.is_read() {
         Ok(criteria)
     } else {
-        Err(Untold::Words)
+        Err(UnreadWords::Words)
     }
 }
 
@@ -74,7 +74,7 @@ fn period(start: u32, limit: u32) -> Period {
 }
 
 /// The period of `3600:80`, its start and its limit.
-fn period_told(word: &str) -> Option<Period> {
+fn period_of_word(word: &str) -> Option<Period> {
     let (start, limit) = word.split_once(':')?;
     let start = start.parse::<u32>().ok()?;
     let limit = limit.parse::<u32>().ok()?;
@@ -82,19 +82,19 @@ fn period_told(word: &str) -> Option<Period> {
 }
 
 /// The periods of `periods=0:160,3600:80`.
-fn periods_told(alloc: Global, told: &str) -> Result<Vec<Period>, Untold> {
+fn periods_of_words(alloc: Global, keyed: &str) -> Result<Vec<Period>, UnreadWords> {
     let mut periods = Vec::new(alloc);
-    for word in told.split(',') {
-        match period_told(word) {
+    for word in keyed.split(',') {
+        match period_of_word(word) {
             Some(period) => periods.push(period)?,
-            None => return Err(Untold::Words),
+            None => return Err(UnreadWords::Words),
         }
     }
     Ok(periods)
 }
 
 /// 200 periods of so many seconds, of 6 A and 10 A by turns.
-fn periods_by_turns(alloc: Global, seconds: u32) -> Result<Vec<Period>, Untold> {
+fn periods_by_turns(alloc: Global, seconds: u32) -> Result<Vec<Period>, UnreadWords> {
     let mut periods = Vec::new(alloc);
     for index in 0..200u32 {
         let limit = if index % 2 == 0 { 60 } else { 100 };
@@ -103,74 +103,79 @@ fn periods_by_turns(alloc: Global, seconds: u32) -> Result<Vec<Period>, Untold> 
     Ok(periods)
 }
 
-fn period_list(alloc: Global, told: &mut Told<'_>) -> Result<PeriodList, Untold> {
-    let periods = match told.number("turns=") {
+fn period_list(alloc: Global, keyed: &mut KeyedWords<'_>) -> Result<PeriodList, UnreadWords> {
+    let periods = match keyed.number("turns=") {
         Some(seconds) => periods_by_turns(alloc, seconds),
-        None => periods_told(alloc, told.value("periods=").unwrap_or("0:160")),
+        None => periods_of_words(alloc, keyed.value("periods=").unwrap_or("0:160")),
     };
     match PeriodList::try_new(periods?) {
         Ok(list) => Ok(list),
-        Err(_) => Err(Untold::Words),
+        Err(_) => Err(UnreadWords::Words),
     }
 }
 
-fn parts_of(told: &mut Told<'_>, periods: PeriodList) -> ProfileParts {
+fn parts_of(keyed: &mut KeyedWords<'_>, periods: PeriodList) -> ProfileParts {
     let schedule = ScheduleParts {
-        duration: told.number("duration="),
-        start: told.instant("start="),
-        unit: told.name("unit=").unwrap_or(Unit::A),
+        duration: keyed.number("duration="),
+        start: keyed.instant("start="),
+        unit: keyed.name("unit=").unwrap_or(Unit::A),
         periods,
         min_charging_rate: None,
     };
     ProfileParts {
-        id: told.whole("id=").unwrap_or(1),
-        transaction: told.whole("transaction="),
-        stack_level: told.number("level=").unwrap_or(0),
-        purpose: told.name("purpose=").unwrap_or(Purpose::TxDefaultProfile),
-        kind: told.name("kind=").unwrap_or(ProfileKind::Absolute),
-        recurrency: told.name("recurrency="),
-        valid_from: told.instant("from="),
-        valid_to: told.instant("to="),
+        id: keyed.whole("id=").unwrap_or(1),
+        transaction: keyed.whole("transaction="),
+        stack_level: keyed.number("level=").unwrap_or(0),
+        purpose: keyed.name("purpose=").unwrap_or(Purpose::TxDefaultProfile),
+        kind: keyed.name("kind=").unwrap_or(ProfileKind::Absolute),
+        recurrency: keyed.name("recurrency="),
+        valid_from: keyed.instant("from="),
+        valid_to: keyed.instant("to="),
         schedule,
     }
 }
 
-fn profile_told(alloc: Global, told: &mut Told<'_>) -> Result<Profile, Untold> {
-    let periods = period_list(alloc, told)?;
-    let parts = parts_of(told, periods);
-    if !told.is_read() {
-        return Err(Untold::Words);
+fn keyed_profile(alloc: Global, keyed: &mut KeyedWords<'_>) -> Result<Profile, UnreadWords> {
+    let periods = period_list(alloc, keyed)?;
+    let parts = parts_of(keyed, periods);
+    if !keyed.is_read() {
+        return Err(UnreadWords::Words);
     }
     match Profile::try_new(parts) {
         Ok(profile) => Ok(profile),
-        Err((refusal, _)) => Err(Untold::Refused(refusal)),
+        Err((refusal, _)) => Err(UnreadWords::Refused(refusal)),
     }
 }
 
-/// The profile told in words: `id=`, `purpose=`, `level=`, `transaction=`, `kind=`, `recurrency=`, `from=`
+/// The profile in words: `id=`, `purpose=`, `level=`, `transaction=`, `kind=`, `recurrency=`, `from=`
 /// and `to=` (its validity), `duration=`, `start=`, `unit=`, and `periods=0:160,3600:80` or `turns=432`: 200
-/// periods of so many seconds, of 6 A and 10 A by turns. Instants count from midnight. What isn't told is
+/// periods of so many seconds, of 6 A and 10 A by turns. Instants count from midnight. What isn't said is
 /// that of an Absolute TxDefaultProfile of 16 A without a start, of id 1 and level 0.
-pub fn profile_of(alloc: Global, words: &str) -> Result<Profile, Untold> {
-    profile_told(alloc, &mut Told::of(words))
+pub fn profile_of(alloc: Global, words: &str) -> Result<Profile, UnreadWords> {
+    keyed_profile(alloc, &mut KeyedWords::of(words))
 }
 
-/// The row of a profile told in words, with `connector=` and `moment=`, of the whole point and from
-/// midnight where these aren't told.
-pub fn row_of(alloc: Global, words: &str) -> Result<Row, Untold> {
+/// The row of a profile in words, with `connector=` and `moment=`, of the whole point and from
+/// midnight where these aren't said.
+pub fn row_of(alloc: Global, words: &str) -> Result<Row, UnreadWords> {
     let midnight = instant_at(0)?;
-    let mut told = Told::of(words);
-    let connector = told.number("connector=").unwrap_or(0);
-    let moment = told.instant("moment=").unwrap_or(midnight);
+    let mut keyed = KeyedWords::of(words);
+    let connector = keyed.number("connector=").unwrap_or(0);
+    let moment = keyed.instant("moment=").unwrap_or(midnight);
     Ok(Row {
         connector,
         moment,
-        profile: profile_told(alloc, &mut told)?,
+        profile: keyed_profile(alloc, &mut keyed)?,
     })
 }
 
 /// A start by an idTag, so many seconds after midnight.
-pub fn begin_of(alloc: Global, tag: &str, meter_start: i32, second: u64) -> Result<Begin, Untold> {
+pub fn begin_of(
+    alloc: Global,
+    tag: &str,
+    meter_start: i32,
+    second: u64,
+) -> Result<Begin, UnreadWords> {
     let timestamp = instant_at(second)?;
     match IdTag::try_new(String::from_str(alloc, tag)?) {
         Ok(id_tag) => Ok(Begin {
@@ -178,12 +183,12 @@ pub fn begin_of(alloc: Global, tag: &str, meter_start: i32, second: u64) -> Resu
             meter_start,
             timestamp,
         }),
-        Err(_) => Err(Untold::Words),
+        Err(_) => Err(UnreadWords::Words),
     }
 }
 
 /// The limits of so many connectors of 32 A, as a site file has them.
-fn limits_text(alloc: Global, connectors: usize) -> Result<String, Untold> {
+fn limits_text(alloc: Global, connectors: usize) -> Result<String, UnreadWords> {
     let mut text = String::from_str(alloc, "32")?;
     for _ in 1..connectors {
         text.push_str(",32")?;
@@ -198,7 +203,7 @@ pub fn site_text(
     points: usize,
     connectors: usize,
     width: usize,
-) -> Result<String, Untold> {
+) -> Result<String, UnreadWords> {
     let limits = limits_text(alloc, connectors)?;
     let mut text = String::from_str(alloc, r#"{"unit":"A","points":["#)?;
     for place in 0..points {

@@ -7,7 +7,7 @@ mod fixtures;
 mod words;
 
 pub use fixtures::{
-    LONGEST_TAG, Untold, begin_of, criteria_of, instant_at, profile_of, row_of, site_text,
+    LONGEST_TAG, UnreadWords, begin_of, criteria_of, instant_at, profile_of, row_of, site_text,
 };
 pub use words::{MIDNIGHT, Words};
 
@@ -24,6 +24,8 @@ mod places_and_levels;
 #[cfg(test)]
 mod point_books;
 #[cfg(test)]
+mod reason_words;
+#[cfg(test)]
 mod rows_of_a_point;
 #[cfg(test)]
 mod same;
@@ -32,10 +34,8 @@ mod schedules_by_seconds;
 #[cfg(test)]
 mod schedules_by_sweeps;
 #[cfg(test)]
+mod scripted_books;
+#[cfg(test)]
 mod site_files;
 #[cfg(test)]
 mod starts_and_stops;
-#[cfg(test)]
-mod told_books;
-#[cfg(test)]
-mod told_reasons;

@@ -39,9 +39,9 @@ fn change(rt: &impl Abort, profile: &Profile, base: Instant, at: Instant, word: 
 }
 
 fn expect_changes(rt: &impl Abort, alloc: Global, line: &str) {
-    let (told, rest) = line.split_once(" | ").expect(rt, line);
+    let (said, rest) = line.split_once(" | ").expect(rt, line);
     let (instants, changes) = rest.split_once(" | ").expect(rt, line);
-    let profile = profile_of(alloc, told).expect(rt, told);
+    let profile = profile_of(alloc, said).expect(rt, said);
     let mut words = Words::of(instants);
     let base = words.instant().expect(rt, line);
     let mut instant = words.instant().expect(rt, line);

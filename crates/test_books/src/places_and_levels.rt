@@ -37,8 +37,8 @@ fn put_places(rt: &impl Abort, text: &mut String, places: Places<'_>) {
 }
 
 fn places_in_words(rt: &impl Abort, alloc: Global, line: &str) -> String {
-    let (told, rest) = line.split_once(" | ").expect(rt, line);
-    let profile = profile_of(alloc, told).expect(rt, told);
+    let (said, rest) = line.split_once(" | ").expect(rt, line);
+    let profile = profile_of(alloc, said).expect(rt, said);
     let mut words = Words::of(rest);
     let base = words.instant().expect(rt, line);
     let after = words.instant().expect(rt, line);
@@ -71,8 +71,8 @@ const LEVELS: &str = "\
 
 /// Sets the rate of a level, and compares what prevails then.
 fn set_level(rt: &impl Abort, alloc: Global, levels: &mut InForce, line: &str) {
-    let (told, wanted) = line.split_once(" = ").expect(rt, line);
-    let (level, rate) = told.split_once(':').expect(rt, line);
+    let (said, wanted) = line.split_once(" = ").expect(rt, line);
+    let (level, rate) = said.split_once(':').expect(rt, line);
     let level = level.parse::<u32>().expect(rt, line);
     // What is no number is `-`.
     levels.set(level, rate.parse::<u32>().ok()).expect(rt, line);

@@ -1,8 +1,8 @@
-//! Changes and refusals from outside, and that memory suffices. The lines are those of `told_books.rt`.
+//! Changes and refusals from outside, and that memory suffices. The lines are those of `scripted_books.rt`.
 
 use crate::fixtures::LONGEST_TAG;
 use crate::same::{holds, same};
-use crate::told_books::{begin, play, play_on, point};
+use crate::scripted_books::{begin, play, play_on, point};
 use point_book::PointBook;
 use std::alloc::Global;
 use std::process::Abort;
@@ -61,7 +61,7 @@ fn has_room_for_its_connectors_and_rows(rt: HostRuntime) {
 }
 
 /// Two connectors with transactions 1 and 2, a TxProfile at each, and two other rows; and then a start that is
-/// told again, and one that isn't.
+/// retransmitted, and one that isn't.
 const STARTS: &str = "\
 point 320 2 160
 start 1 ann 0 1 = 1

@@ -2,7 +2,7 @@
 
 use crate::fixtures::{instant_at, row_of};
 use crate::same::{holds, same, same_text};
-use crate::told_books::{periods_of, rows_of};
+use crate::scripted_books::{periods_of, rows_of};
 use crate::words::Words;
 use meaning::{Ask, View, compile_plain, limit_at};
 use ocpp_scalars::{Instant, Refusal};

@@ -1,7 +1,7 @@
 //! Schedules from outside with their turns, beside the plain compiler, and that memory suffices. The lines are
-//! those of `told_books.rt`.
+//! those of `scripted_books.rt`.
 
-use crate::told_books::{begin, play, play_on, point};
+use crate::scripted_books::{begin, play, play_on, point};
 use point_book::PointBook;
 use std::alloc::Global;
 use std::process::Abort;

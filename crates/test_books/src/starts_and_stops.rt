@@ -12,7 +12,7 @@ fn table(rt: &impl Abort, alloc: Global, connectors: u32) -> ActiveTable {
 }
 
 /// Makes the start of a line: its connector, idTag, meterStart and second after midnight. What it was: 0
-/// where it begins a new transaction, of which `next` is the number, or else the number told again.
+/// where it begins a new transaction, of which `next` is the number, or else the number given again.
 fn start(rt: &impl Abort, alloc: Global, table: &mut ActiveTable, line: &str, next: i32) -> i32 {
     let mut words = Words::of(line);
     let connector = words.number().expect(rt, line);
@@ -41,7 +41,7 @@ const STARTS: &str = "\
 3 \u{c9} -5 3600 = 0
 3  0 0 = 0";
 
-/// A start that is told again changes nothing.
+/// A start that is retransmitted changes nothing.
 fn expect_start(rt: &impl Abort, alloc: Global, table: &mut ActiveTable, line: &str, next: i32) {
     let (words, wanted) = line.split_once(" = ").expect(rt, line);
     let before = table.copy().expect(rt, "error");

@@ -55,20 +55,20 @@ impl<'a> Words<'a> {
 
 /// Words such as `id=1 level=3`, in any order.
 #[derive(Clone, Copy)]
-pub(crate) struct Told<'a> {
+pub(crate) struct KeyedWords<'a> {
     words: &'a str,
     is_read: bool,
 }
 
-impl<'a> Told<'a> {
-    pub(crate) fn of(words: &'a str) -> Told<'a> {
-        Told {
+impl<'a> KeyedWords<'a> {
+    pub(crate) fn of(words: &'a str) -> KeyedWords<'a> {
+        KeyedWords {
             words,
             is_read: true,
         }
     }
 
-    /// Whether each value that was looked for so far could be read, or isn't told.
+    /// Whether each value that was looked for so far could be read, or isn't said.
     pub(crate) fn is_read(&self) -> bool {
         self.is_read
     }

@@ -6,8 +6,8 @@ ghost use Rattle.std.specs.Prelude.{◌≡◌};
 use crate::obeying_point::RandomNumbers;
 use crate::runs::opening;
 use crate::same::{holds, same_outcome};
-use crate::told_calls::Desk;
-use crate::told_steps::{reply_told, step_of};
+use crate::scripted_calls::Desk;
+use crate::scripted_steps::{reply_words, step_of};
 use ocpp_scalars::Refusal;
 use site_core::{Machine, Step};
 use std::alloc::{AllocError, Global};
@@ -126,8 +126,8 @@ impl Course {
     }
 
     /// Takes note of what came of a step.
-    fn note(&mut self, told: (&'static str, u64)) {
-        match told {
+    fn note(&mut self, said: (&'static str, u64)) {
+        match said {
             ("Started", number) => self.transaction = number,
             ("Taken", number) => self.request = number,
             ("Sent", number) => self.call = number,
@@ -136,9 +136,9 @@ impl Course {
     }
 }
 
-fn machine_told(machine: &mut Machine, step: Step) -> (&'static str, u64) {
+fn machine_words(machine: &mut Machine, step: Step) -> (&'static str, u64) {
     match machine.step(step) {
-        Ok(reply) => reply_told(&reply),
+        Ok(reply) => reply_words(&reply),
         Err(refused) => (refused.refusal.name(), 0),
     }
 }
@@ -152,12 +152,12 @@ fn step_both<C: Ledger, A: Ledger>(
 ) -> (&'static str, u64) {
     let step = step_of(rt, desk.alloc, words);
     let other = step.copy(desk.alloc).expect(rt, "error");
-    let told = desk.told(step);
-    same_outcome(rt, told, machine_told(machine, other), words);
+    let said = desk.comes_to(step);
+    same_outcome(rt, said, machine_words(machine, other), words);
     holds(rt, read_machine(machine) == read_book(desk), words);
     holds(rt, desk.pass.totals() == desk.book.totals(), words);
-    holds(rt, told.0 != Refusal::OutOfMemory.name(), "memory");
-    told
+    holds(rt, said.0 != Refusal::OutOfMemory.name(), "memory");
+    said
 }
 
 /// A random step on both.
@@ -169,8 +169,8 @@ fn random_step<C: Ledger, A: Ledger>(
 ) {
     let words = course.words(rt, desk.alloc, machine);
     let stored = desk.book.stored();
-    let told = step_both(rt, desk, machine, words.as_str());
-    course.note(told);
+    let said = step_both(rt, desk, machine, words.as_str());
+    course.note(said);
     if desk.book.stored() < stored {
         course.folds = course.folds.saturating_add(1);
     }

@@ -2,8 +2,7 @@
 //! memory is proved whatever its contract says.
 
 use crate::same::{holds, same, same_text};
-use crate::told_steps::run;
-use test_books::{LONGEST_TAG, begin_of, instant_at, row_of, site_text};
+use crate::scripted_steps::run;
 use meaning::Composite;
 use messages::{Response, ScheduleResponse, write_response};
 use ocpp_scalars::Refusal;
@@ -12,6 +11,7 @@ use site_core::{Machine, PointId, Reply, Step, Take};
 use site_rules::read_site;
 use std::alloc::Global;
 use std::process::Abort;
+use test_books::{LONGEST_TAG, begin_of, instant_at, row_of, site_text};
 
 const SITE: &str =
     r#"{"unit":"A","points":[{"id":"CP1","ceiling":32.0,"connectors":[16.0,16.0]}]}"#;

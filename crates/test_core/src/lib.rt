@@ -23,8 +23,8 @@ mod runs;
 #[cfg(test)]
 mod same;
 #[cfg(test)]
+mod scripted_calls;
+#[cfg(test)]
+mod scripted_steps;
+#[cfg(test)]
 mod stored_histories;
-#[cfg(test)]
-mod told_calls;
-#[cfg(test)]
-mod told_steps;

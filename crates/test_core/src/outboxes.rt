@@ -2,12 +2,12 @@
 //! sending is made again, so that the tests pass whichever of these is refused.
 
 use crate::same::{holds, same};
-use test_books::profile_of;
 use messages::{Call, CallBody};
 use profile::Criteria;
 use site_core::{Outbox, PreparedCall};
 use std::alloc::{AllocError, Global};
 use std::process::Abort;
+use test_books::profile_of;
 
 fn clear(id: i32) -> CallBody {
     CallBody::Clear(Criteria {

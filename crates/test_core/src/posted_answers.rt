@@ -2,7 +2,7 @@
 
 use crate::runs::opening;
 use crate::same::{holds, same};
-use crate::told_steps::{run, step_of};
+use crate::scripted_steps::{run, step_of};
 use meaning::{Ask, Composite};
 use ocpp_scalars::Refusal;
 use point_book::PointBook;

@@ -3,12 +3,12 @@
 
 use crate::obeying_point::{Keys, RandomNumbers, lasting, obey};
 use crate::same::{holds, same};
-use test_books::{begin_of, instant_at, row_of};
 use profile::{Purpose, Row};
 use site_core::{Machine, PointId, Reply, Step, Take};
 use site_rules::read_site;
 use std::alloc::Global;
 use std::process::Abort;
+use test_books::{begin_of, instant_at, row_of};
 
 const SITE: &str =
     r#"{"unit":"A","points":[{"id":"CP1","ceiling":32.0,"connectors":[16.0,16.0]}]}"#;

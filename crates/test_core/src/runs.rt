@@ -1,7 +1,7 @@
 //! Runs of steps with what comes of each, steps at the last numbers, and steps to which memory is refused.
 
 use crate::same::{holds, same, same_outcome, same_text};
-use crate::told_steps::{parts_of, reply_told, run, step_of, steps_of};
+use crate::scripted_steps::{parts_of, reply_words, run, step_of, steps_of};
 use ocpp_scalars::Refusal;
 use site_core::{MAX_NUMBER, Machine, Numbers, Outcome, RunFault, Step};
 use site_rules::{Site, read_site};
@@ -289,7 +289,7 @@ fn links_end(rt: HostRuntime) {
 /// What comes of a step that has to be made: else the test fails with these words and the refusal.
 fn reply(rt: &impl Abort, machine: &mut Machine, step: Step, words: &str) -> (&'static str, u64) {
     match machine.step(step) {
-        Ok(reply) => reply_told(&reply),
+        Ok(reply) => reply_words(&reply),
         Err(refused) => rt.panic(format_args!("{words}: {}", refused.refusal)),
     }
 }
@@ -299,7 +299,7 @@ fn reply(rt: &impl Abort, machine: &mut Machine, step: Step, words: &str) -> (&'
 fn made(rt: &impl Abort, machine: &mut Machine, step: Step) -> (&'static str, u64) {
     let before = (machine.version(), machine.open_requests());
     match machine.step(step) {
-        Ok(reply) => reply_told(&reply),
+        Ok(reply) => reply_words(&reply),
         Err(refused) => {
             holds(rt, refused.refusal == Refusal::OutOfMemory, "a refusal");
             let now = (machine.version(), machine.open_requests());
@@ -359,9 +359,9 @@ fn run_again(rt: &impl Abort, machine: &mut Machine, steps: Vec<Step>) -> Vec<Ou
 }
 
 /// What came of one of four takes. Where memory was refused to it, the other three are made, and it is made now.
-fn take_told(rt: &impl Abort, machine: &mut Machine, outcome: Outcome) -> (&'static str, u64) {
+fn take_words(rt: &impl Abort, machine: &mut Machine, outcome: Outcome) -> (&'static str, u64) {
     match outcome {
-        Outcome::Done(reply) => reply_told(&reply),
+        Outcome::Done(reply) => reply_words(&reply),
         Outcome::Refused(refused) => {
             same(rt, machine.open_requests() as u64, 3, "open requests");
             made(rt, machine, refused.step)
@@ -380,8 +380,8 @@ fn a_run_goes_on_where_memory_was_refused(rt: HostRuntime) {
     for outcome in outcomes {
         let is_done = matches!(outcome, Outcome::Done(_));
         let wanted = if is_done { number.saturating_add(1) } else { 4 };
-        let told = take_told(&rt, &mut machine, outcome);
-        same_outcome(&rt, told, ("Taken", wanted), "a take");
+        let said = take_words(&rt, &mut machine, outcome);
+        same_outcome(&rt, said, ("Taken", wanted), "a take");
         number = if is_done { wanted } else { number };
     }
     same(&rt, machine.open_requests() as u64, 4, "open requests");
@@ -410,9 +410,9 @@ fn make_way(rt: &impl Abort, alloc: Global, machine: &mut Machine) {
 }
 
 /// What came of a step.
-fn told(machine: &mut Machine, step: Step) -> (&'static str, u64) {
+fn comes_to(machine: &mut Machine, step: Step) -> (&'static str, u64) {
     match machine.step(step) {
-        Ok(reply) => reply_told(&reply),
+        Ok(reply) => reply_words(&reply),
         Err(refused) => (refused.refusal.name(), 0),
     }
 }
@@ -427,9 +427,9 @@ fn a_step_without_an_event_wants_no_memory(rt: HostRuntime) {
     let steps = steps_of(&rt, rt.alloc(), WITHOUT_AN_EVENT);
     for (step, line) in steps.into_iter().zip(WITHOUT_AN_EVENT.lines()) {
         let (_, wanted) = parts_of(&rt, line);
-        same_outcome(&rt, told(&mut machine, step), wanted, line);
+        same_outcome(&rt, comes_to(&mut machine, step), wanted, line);
     }
-    let taken = told(&mut machine, take);
+    let taken = comes_to(&mut machine, take);
     let is_taken = taken == ("Taken", 1) || taken == ("OutOfMemory", 0);
     holds(&rt, is_taken, taken.0);
 }
@@ -450,7 +450,7 @@ CP1 attach = event
 CP1 send 1 = Superseded
 - finish = event";
 
-fn outlook_told(machine: &Machine, step: &Step) -> &'static str {
+fn outlook_words(machine: &Machine, step: &Step) -> &'static str {
     match machine.outlook(step) {
         Ok(true) => "event",
         Ok(false) => "answer",
@@ -464,6 +464,6 @@ fn what_would_come_of_a_step_can_be_asked(rt: HostRuntime) {
     for line in AT_THE_OPENING.lines() {
         let (step, wanted) = parts_of(&rt, line);
         let step = step_of(&rt, rt.alloc(), step);
-        same_text(&rt, outlook_told(&machine, &step), wanted.0, line);
+        same_text(&rt, outlook_words(&machine, &step), wanted.0, line);
     }
 }

@@ -3,9 +3,8 @@
 ghost use Rattle.std.specs.Prelude.{◌≡◌};
 
 use crate::same::{holds, same, same_outcome};
-use crate::told_calls::{Back, Desk};
-use crate::told_steps::{parts_of, step_of, steps_of};
-use test_books::begin_of;
+use crate::scripted_calls::{Back, Desk};
+use crate::scripted_steps::{parts_of, step_of, steps_of};
 use ocpp_scalars::Refusal;
 use site_core::{PointId, Step};
 use std::alloc::Global;
@@ -13,6 +12,7 @@ use std::marker::Brand;
 use std::process::Abort;
 use std::sync::ledger::{Blank, Ledger};
 use sweep_compiler::Compiled;
+use test_books::begin_of;
 use version_store::Totals;
 
 /// What is done at a new desk.
@@ -62,8 +62,8 @@ fn play(rt: &impl Abort, alloc: Global, story: Story) {
 }
 
 /// How many events are stored.
-fn stored<C: Ledger, A: Ledger>(rt: &impl Abort, desk: &Desk<C, A>, wanted: usize, told: &str) {
-    same(rt, desk.book.stored() as u64, wanted as u64, told);
+fn stored<C: Ledger, A: Ledger>(rt: &impl Abort, desk: &Desk<C, A>, wanted: usize, said: &str) {
+    same(rt, desk.book.stored() as u64, wanted as u64, said);
 }
 
 /// How many changes and answers the book counts, and the session's pass.
@@ -139,7 +139,7 @@ fn start<C: Ledger, A: Ledger>(rt: &impl Abort, desk: &mut Desk<C, A>, meter: i3
         begin: begin_of(desk.alloc, "ann", meter, 0).expect(rt, "error"),
     };
     let wanted = ("Started", u64::from(meter.unsigned_abs()));
-    same_outcome(rt, desk.told(step), wanted, "a start");
+    same_outcome(rt, desk.comes_to(step), wanted, "a start");
 }
 
 /// 5,000 starts, each with its own meter.
@@ -383,12 +383,12 @@ fn made<C: Ledger, A: Ledger>(
 ) -> (&'static str, u64) {
     let before = kept(desk);
     match desk.call(step) {
-        Ok(told) => told,
+        Ok(said) => said,
         Err((refusal, back)) => {
             holds(rt, refusal == Refusal::OutOfMemory, refusal.name());
             holds(rt, kept(desk) == before, "what a refusal leaves");
             let again = with_back(step_of(rt, desk.alloc, words), back);
-            desk.told(again)
+            desk.comes_to(again)
         }
     }
 }
@@ -413,8 +413,8 @@ fn refused_memory<C: Ledger, A: Ledger>(rt: &impl Abort, desk: &mut Desk<C, A>) 
     let steps = steps_of(rt, desk.alloc, OF_EACH_KIND);
     for (step, line) in steps.into_iter().zip(OF_EACH_KIND.lines()) {
         let (words, wanted) = parts_of(rt, line);
-        let told = made(rt, desk, step, words);
-        holds(rt, told == wanted || told == ("OutOfMemory", 1), line);
+        let said = made(rt, desk, step, words);
+        holds(rt, said == wanted || said == ("OutOfMemory", 1), line);
     }
     stored(rt, desk, 13, "after all kinds");
     counted(rt, desk, 4, 1);

@@ -1,7 +1,6 @@
 //! Pictures and pages, by the parts that can be found by hand.
 
 use crate::samples::{Point, ask, by, profile, stretch};
-use test_books::instant_at;
 use explain_pages::{
     Explained, NoPart, NotCounted, is_named, sentence, telling_instant, told_by, write_json,
     write_page, write_picture, write_table,
@@ -11,6 +10,7 @@ use profile::{Purpose, Unit};
 use std::alloc::Global;
 use std::process::Abort;
 use std::test::Fail;
+use test_books::instant_at;
 
 /// That a text has each line of some others in it.
 fn expect(rt: &impl Abort, text: &str, wanted: &str) {

@@ -1,7 +1,6 @@
 //! The session that sits before the workers: it takes requests, sends their jobs, changes what points have, and waits
 //! for answers.
 
-use test_books::{instant_at, profile_of};
 use compile_pool::wait_answer;
 use crossbeam_channel::Sender;
 use ocpp_scalars::Refusal;
@@ -10,9 +9,10 @@ use std::alloc::Global;
 use std::sync::Wait;
 use std::sync::ledger::Ledger;
 use std::test::Fail;
+use test_books::{instant_at, profile_of};
 use version_store::{Job, Pass, Shared};
 
-/// What a session has at hand. Its points are told by their places in the site file.
+/// What a session has at hand. Its points are named by their places in the site file.
 #[derive(Drop)]
 pub(crate) struct Desk<'a, C: Ledger, A: Ledger> {
     pub(crate) alloc: Global,

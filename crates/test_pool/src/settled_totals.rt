@@ -1,9 +1,8 @@
-//! What all sessions were told together.
+//! What all sessions count together.
 
 ghost use Rattle.std.specs.Prelude.{◌≡◌};
 
 use crate::two_sessions::{Counted, Installs, count_on_two_threads};
-use test_books::{instant_at, profile_of, site_text};
 use profile::Profile;
 use site_rules::{Site, read_site};
 use std::alloc::Global;
@@ -13,6 +12,7 @@ use std::sync::Wait;
 use std::sync::ledger::{Blank, Ledger};
 use std::test::Fail;
 use std::thread::Threads;
+use test_books::{instant_at, profile_of, site_text};
 use version_store::{Missing, Pass, Shared, Totals};
 
 fn site(alloc: Global) -> Result<Site, Fail> {
@@ -100,7 +100,7 @@ fn counted<C: Ledger + Send + Sync, A: Ledger + Send + Sync, R: Abort + Threads 
         passes.pop().ok_or("no pass")?,
     );
     if one.totals().changes != 0 || other.totals().changes != 0 {
-        return Err("not told nothing")?;
+        return Err("not said nothing")?;
     }
     let counted = counted_by(rt, alloc, shared, (one, other), &profile)?;
     let totals = Totals {

@@ -3,7 +3,6 @@
 ghost use Rattle.std.specs.Prelude.{◌≡◌};
 
 use crate::desk::Desk;
-use test_books::site_text;
 use compile_pool::{MAX_JOBS, wait_answer};
 use crossbeam_channel::bounded;
 use ocpp_scalars::Refusal;
@@ -16,6 +15,7 @@ use std::sync::ledger::{Blank, Ledger};
 use std::test::Fail;
 use std::thread;
 use std::thread::Threads;
+use test_books::site_text;
 use version_store::{Pass, Shared};
 
 /// How many turns the sessions are left to begin to wait; each yields.

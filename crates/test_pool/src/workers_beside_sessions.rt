@@ -4,7 +4,6 @@ ghost use Rattle.std.specs.Prelude.{◌≡◌, ◌≤◌};
 
 use crate::desk::Desk;
 use crate::gates::{Held, HoldingGate};
-use test_books::site_text;
 use compile_pool::{MAX_JOBS, run_pool};
 use crossbeam_channel::{Receiver, Sender, bounded};
 use ocpp_scalars::Refusal;
@@ -17,6 +16,7 @@ use std::sync::ledger::{Blank, Ledger};
 use std::test::Fail;
 use std::thread;
 use std::thread::Threads;
+use test_books::site_text;
 use version_store::{Job, Pass, Shared, Totals};
 
 /// The ceiling of each connector, in tenths.

@@ -5,7 +5,6 @@ ghost use Rattle.session.specs.Perform.{IsOfText};
 
 use crate::same::same_text;
 use crate::served_texts::{ACCEPTED, ASK, INSTALL, SCHEDULE, SITE};
-use test_books::instant_at;
 use ocppj_frame::ReadingMemory;
 use profile::Unit;
 use session::{Outcome, Performed, SessionCore, Todo, perform};
@@ -16,6 +15,7 @@ use std::marker::Brand;
 use std::process::Abort;
 use std::sync::ledger::{Blank, Ledger};
 use sweep_compiler::Compiled;
+use test_books::instant_at;
 use version_store::{Book, Job, Pass};
 
 /// One session on a book of its own.

@@ -8,7 +8,6 @@ use crate::served_texts::{
     SCHEDULE, SET, SITE,
 };
 use crate::streams::{client_bytes, client_texts, messages_of, socket_of};
-use test_books::instant_at;
 use crossbeam_channel::{Sender, bounded};
 use ocpp_scalars::{Instant, Moments};
 use profile::Unit;
@@ -19,6 +18,7 @@ use std::marker::Brand;
 use std::process::Abort;
 use std::sync::ledger::{Blank, Ledger};
 use std::sync::{Mutex, Wait};
+use test_books::instant_at;
 use tungstenite::Message;
 use version_store::{Job, Pass, Shared};
 
@@ -63,7 +63,7 @@ impl Served {
     /// It ended by a close, and its client read these texts.
     fn tells(&self, rt: &impl Abort, wanted: &[&str]) {
         holds(rt, self.ended == Ended::Closed, "it ended by a close");
-        holds(rt, self.is_closed, "its client was told the close");
+        holds(rt, self.is_closed, "its client was said the close");
         same(rt, self.texts.len() as u64, wanted.len() as u64, "texts");
         for (text, wanted) in self.texts.iter().zip(wanted) {
             same_text(rt, text.as_str(), wanted, "a text");
@@ -221,7 +221,7 @@ fn a_point_is_sent_its_calls_in_turn(rt: HostRuntime) {
 }
 
 #[test]
-fn a_start_that_is_told_again_has_its_number(rt: HostRuntime) {
+fn a_retransmitted_start_has_its_number(rt: HostRuntime) {
     let texts = [
         r#"[2,"1","StartTransaction",{"connectorId":1,"idTag":"T1","meterStart":0,"timestamp":"2025-01-01T00:00:00Z"}]"#,
         r#"[2,"2","StartTransaction",{"connectorId":1,"idTag":"t1","meterStart":0,"timestamp":"2025-01-01T00:00:00Z"}]"#,

@@ -1,9 +1,9 @@
 //! A caller of `site_core`.
 
-use test_books::{instant_at, row_of};
 use site_core::{Machine, Outcome, PointId, Reply, Step, Take};
 use site_rules::read_site;
 use std::test::Fail;
+use test_books::{instant_at, row_of};
 
 const SITE: &str = r#"{"unit":"A","points":[{"id":"CP1","ceiling":63.0,"connectors":[32.0]}]}"#;
 

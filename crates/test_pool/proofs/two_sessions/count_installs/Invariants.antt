@@ -1,4 +1,4 @@
--- What was counted so far is what the session was told.
+-- What was counted so far is what the session counts.
 use Rattle.std.proofs.Common.{◌≡◌, ◌≤◌}
 use Rattle.test_pool.proofs.two_sessions.count_installs.Given as goal
 

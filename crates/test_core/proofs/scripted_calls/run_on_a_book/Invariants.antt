@@ -1,5 +1,5 @@
 -- The ledgers are those of the two blanks.
-use Rattle.test_core.proofs.told_calls.run_on_a_book.Given as goal
+use Rattle.test_core.proofs.scripted_calls.run_on_a_book.Given as goal
 
 abbrev pub ghosts-run_at-C-Ledger : goal.ghosts-run_at-C-Ledger
 ghosts-run_at-C-Ledger g a = record { name = a.changes.name; parts = a.changes.parts }

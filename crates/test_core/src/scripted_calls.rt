@@ -1,10 +1,10 @@
-//! Told steps as the calls of a session on a `Book`, so that the same lines run there and on a `Machine`.
+//! KeyedWords steps as the calls of a session on a `Book`, so that the same lines run there and on a `Machine`.
 
 ghost use Rattle.std.specs.Prelude.{◌≡◌};
 
 use crate::runs::{opening, site};
 use crate::same::{same, same_outcome};
-use crate::told_steps::{answer_told, parts_of, step_of};
+use crate::scripted_steps::{answer_words, parts_of, step_of};
 use ocpp_scalars::Refusal;
 use profile::{Criteria, Profile, Row};
 use site_core::{PointId, Reply, Step, Take};
@@ -85,7 +85,7 @@ impl<C: Ledger, A: Ledger> Desk<C, A> {
                 Ok(("Finished", 0))
             }
             other => match self.bare_call(other) {
-                Ok(told) => Ok(told),
+                Ok(said) => Ok(said),
                 Err(refusal) => Err((refusal, Back::Nothing)),
             },
         }
@@ -137,7 +137,7 @@ impl<C: Ledger, A: Ledger> Desk<C, A> {
 
     fn answer(&mut self, number: u64) -> Called {
         match self.book.collect(&mut self.pass, number) {
-            Ok(Some(answer)) => Ok(answer_told(answer.answer())),
+            Ok(Some(answer)) => Ok(answer_words(answer.answer())),
             Ok(None) => Ok(("NotYet", 0)),
             Err(refusal) => Err(refusal),
         }
@@ -173,7 +173,7 @@ impl<C: Ledger, A: Ledger> Desk<C, A> {
         }
     }
 
-    /// A start that is told again is no change.
+    /// A start that is retransmitted is no change.
     fn start(&mut self, point: PointId, connector: u32, begin: Begin) -> Made {
         let before = self.pass.totals();
         match self.book.start(&mut self.pass, point, connector, begin) {
@@ -222,10 +222,10 @@ impl<C: Ledger, A: Ledger> Desk<C, A> {
         }
     }
 
-    /// What comes of the call of a step, told.
-    pub(crate) fn told(&mut self, step: Step) -> (&'static str, u64) {
+    /// What comes of the call of a step, in words.
+    pub(crate) fn comes_to(&mut self, step: Step) -> (&'static str, u64) {
         match self.call(step) {
-            Ok(told) => told,
+            Ok(said) => said,
             Err((refusal, _)) => (refusal.name(), 0),
         }
     }
@@ -234,7 +234,7 @@ impl<C: Ledger, A: Ledger> Desk<C, A> {
     fn run_line(&mut self, rt: &impl Abort, line: &str) {
         let (step, wanted) = parts_of(rt, line);
         let step = step_of(rt, self.alloc, step);
-        same_outcome(rt, self.told(step), wanted, line);
+        same_outcome(rt, self.comes_to(step), wanted, line);
     }
 
     /// Makes the calls of lines, each with what has to come of it.

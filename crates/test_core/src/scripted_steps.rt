@@ -7,12 +7,12 @@
 //! for a minute from midnight on.
 
 use crate::same::{same, same_outcome};
-use test_books::{Words, begin_of, criteria_of, instant_at, row_of};
 use meaning::Composite;
 use ocpp_scalars::Refusal;
 use site_core::{Machine, Outcome, PointId, Reply, Step, Take};
 use std::alloc::Global;
 use std::process::Abort;
+use test_books::{Words, begin_of, criteria_of, instant_at, row_of};
 
 /// The next number, 0 where no word is left.
 fn number(rt: &impl Abort, words: &mut Words<'_>) -> u64 {
@@ -102,7 +102,7 @@ fn link_step(rt: &impl Abort, point: PointId, name: &str, link: u64, call: u64) 
 }
 
 /// An answer that is handed out: the tenths of its first limit, or its refusal with 1.
-pub(crate) fn answer_told(answer: &Result<Composite, Refusal>) -> (&'static str, u64) {
+pub(crate) fn answer_words(answer: &Result<Composite, Refusal>) -> (&'static str, u64) {
     match answer {
         Ok(schedule) => match schedule.periods().first() {
             Some(period) => ("limit", u64::from(period.limit)),
@@ -113,7 +113,7 @@ pub(crate) fn answer_told(answer: &Result<Composite, Refusal>) -> (&'static str,
 }
 
 /// What a step replies, with its number, 0 where it has none.
-pub(crate) fn reply_told(reply: &Reply) -> (&'static str, u64) {
+pub(crate) fn reply_words(reply: &Reply) -> (&'static str, u64) {
     match reply {
         Reply::Accepted => ("Accepted", 0),
         Reply::Unknown => ("Unknown", 0),
@@ -123,7 +123,7 @@ pub(crate) fn reply_told(reply: &Reply) -> (&'static str, u64) {
         Reply::NoSuch => ("NoSuch", 0),
         Reply::Taken { number, .. } => ("Taken", *number),
         Reply::Compiled => ("Compiled", 0),
-        Reply::Answered { answer, .. } => answer_told(answer),
+        Reply::Answered { answer, .. } => answer_words(answer),
         Reply::NotYet => ("NotYet", 0),
         Reply::Finished => ("Finished", 0),
         Reply::Attached(link) => ("Attached", *link),
@@ -134,9 +134,9 @@ pub(crate) fn reply_told(reply: &Reply) -> (&'static str, u64) {
     }
 }
 
-pub(crate) fn outcome_told(outcome: &Outcome) -> (&'static str, u64) {
+pub(crate) fn outcome_words(outcome: &Outcome) -> (&'static str, u64) {
     match outcome {
-        Outcome::Done(reply) => reply_told(reply),
+        Outcome::Done(reply) => reply_words(reply),
         Outcome::Refused(refused) => (refused.refusal.name(), 0),
     }
 }
@@ -172,6 +172,6 @@ pub(crate) fn run(rt: &impl Abort, alloc: Global, machine: &mut Machine, lines: 
     );
     for (line, outcome) in lines.lines().zip(outcomes.iter()) {
         let (_, wanted) = parts_of(rt, line);
-        same_outcome(rt, outcome_told(outcome), wanted, line);
+        same_outcome(rt, outcome_words(outcome), wanted, line);
     }
 }

@@ -1,10 +1,10 @@
-//! A point's book told in lines, each with what has to come of it behind ` =`, where anything does.
+//! A point's book in lines, each with what has to come of it behind ` =`, where anything does.
 //!
 //! | Line | What is done, and what comes of it |
 //! |---|---|
 //! | `point 630 2 320` | a new book of a ceiling and so many connectors of a ceiling each; the first is this one |
 //! | `row id=1 level=3` | a row is installed: why it is refused, if it is, and then nothing has changed |
-//! | `start 1 ann 100 7` | a start at a connector, by an idTag, so many seconds after midnight, with a number for it, which comes back unless the start is told again: then `again` with the number that it has |
+//! | `start 1 ann 100 7` | a start at a connector, by an idTag, so many seconds after midnight, with a number for it, which comes back unless the start is retransmitted: then `again` with the number that it has |
 //! | `stop 7` | the transaction of a number ends: at which connector, `-` at none |
 //! | `clear level=3` | rows are cleared by criteria: how many |
 //! | `rows` | the chargingProfileIds of the rows, in their order |
@@ -18,8 +18,8 @@
 ghost use Rattle.std.specs.Prelude.{◌≤◌, length};
 
 use crate::fixtures::{begin_of, criteria_of, row_of};
+use crate::reason_words::put_stretch;
 use crate::same::{holds, same, same_text};
-use crate::told_reasons::put_stretch;
 use crate::words::Words;
 use meaning::{Ask, Composite, compile_plain};
 use ocpp_scalars::Refusal;
@@ -68,8 +68,8 @@ pub(crate) fn play_on(rt: &impl Abort, alloc: Global, book: &mut PointBook, line
 }
 
 fn play_line(rt: &impl Abort, alloc: Global, book: &mut PointBook, whole: &str) {
-    let (told, wanted) = whole.split_once(" =").unwrap_or((whole, ""));
-    let mut words = Words::of(told);
+    let (said, wanted) = whole.split_once(" =").unwrap_or((whole, ""));
+    let mut words = Words::of(said);
     let verb = words.word();
     let line = Line {
         alloc,
@@ -168,11 +168,11 @@ fn start(rt: &impl Abort, book: &mut PointBook, mut line: Line<'_>) -> String {
     let tag = line.words.word();
     let second = line.words.long().expect(rt, line.whole);
     let next = line.words.whole().expect(rt, line.whole);
-    let told = match begin(rt, line.alloc, book, (connector, tag, second), next) {
+    let said = match begin(rt, line.alloc, book, (connector, tag, second), next) {
         Began::Fresh => format!(in line.alloc; "{next}"),
         Began::Repeat(number) => format!(in line.alloc; "again {number}"),
     };
-    told.expect(rt, line.whole)
+    said.expect(rt, line.whole)
 }
 
 fn stop(rt: &impl Abort, book: &mut PointBook, mut line: Line<'_>) -> String {
@@ -234,14 +234,14 @@ fn alike(rt: &impl Abort, book: &PointBook, line: Line<'_>) -> String {
 fn counts(rt: &impl Abort, book: &PointBook, mut line: Line<'_>) -> String {
     let ask = ask_of(rt, book, &mut line);
     let mut turns = Turns::new();
-    let told = match compile(line.alloc, book, &ask, &mut turns) {
+    let said = match compile(line.alloc, book, &ask, &mut turns) {
         Ok(schedule) => { format!(in line.alloc; "{} {}", schedule.periods().len(), turns.count()) }
         Err(refusal) => format!(in line.alloc; "{refusal} {}", turns.count()),
     };
-    told.expect(rt, line.whole)
+    said.expect(rt, line.whole)
 }
 
-fn answer_told(rt: &impl Abort, alloc: Global, answer: &Result<Composite, Refusal>) -> String {
+fn answer_words(rt: &impl Abort, alloc: Global, answer: &Result<Composite, Refusal>) -> String {
     match answer {
         Ok(schedule) => periods_of(rt, alloc, schedule),
         Err(refusal) => text_of(rt, alloc, refusal.name()),
@@ -254,10 +254,10 @@ fn twice(rt: &impl Abort, book: &PointBook, mut line: Line<'_>) -> String {
     let compiled = Compiled::make(line.alloc, asked, ask);
     holds(rt, *compiled.ask() == ask, line.whole);
     let (answer, again) = compiled.into_answers();
-    let told = answer_told(rt, line.alloc, &answer);
-    let told_again = answer_told(rt, line.alloc, &again);
-    same_text(rt, told_again.as_str(), told.as_str(), line.whole);
-    told
+    let said = answer_words(rt, line.alloc, &answer);
+    let said_again = answer_words(rt, line.alloc, &again);
+    same_text(rt, said_again.as_str(), said.as_str(), line.whole);
+    said
 }
 
 fn explained(rt: &impl Abort, book: &PointBook, mut line: Line<'_>) -> String {
