@@ -1,4 +1,4 @@
-//! Callers of libraries, one for each: their pages in docs/libraries/ show them.
+//! Callers of libraries, one for each: the READMEs of their crates link to them.
 
 mod limits;
 mod profiles;

@@ -1,3 +1,3 @@
-//! Callers of libraries, one for each: their pages in docs/libraries/ show them.
+//! Callers of libraries, one for each: the READMEs of their crates link to them.
 
 mod machines;
