@@ -45,6 +45,7 @@ impl Model for Todo {
 
 impl Todo {
     /// What is to be done for what a text asks.
+    #[tactic(auto, using(crate::proofs::TodoLemmas::of_call))]
     pub(crate) fn asked(peer: Peer, asked: Asked) -> Todo
         requires { AsksByCall asked }
         ensures { result ≡ todo_asked peer asked }
