@@ -4,10 +4,9 @@
 use crate::call_check::has_no_criterion;
 use crate::finding::{Finding, Place};
 use meaning::PrevailingProfile;
-use messages::{Action, ActionKind, CallFault, read_fields};
+use messages::{Action, ActionKind, CallFault, purpose_name, read_fields};
 use ocpp_scalars::Refusal;
 use ocppj_frame::{Frame, FrameFault, Node, ReadingMemory, read_frame};
-use page_parts::purpose_name;
 use profile::{Criteria, Purpose};
 use std::alloc::{AllocError, Global};
 

@@ -6,8 +6,8 @@ use crate::line_text::LineText;
 use crate::never::never_rated;
 use crate::report::Report;
 use crate::sentences::never_sentence;
+use crate::words::{instant_text, tenths_text};
 use ocpp_scalars::{Instant, Refusal};
-use page_parts::{instant_text, tenths_text};
 use profile::{Kind, Period, Profile, ProfileKind, ProfileParts, Purpose, Recurrency};
 use site_rules::{Site, SitePoint, admit};
 use std::alloc::{AllocError, Global};
@@ -150,7 +150,7 @@ fn warn_ceiling(
     if !periods.iter().all(|period| period.limit > ceiling) {
         return Ok(());
     }
-    let ceiling = tenths_text(report.alloc, ceiling)?;
+    let ceiling = tenths_text(report.alloc, u64::from(ceiling))?;
     let message = format!(in report.alloc;
         "each limit of this profile is above the ceiling of the site file there, {ceiling}: it never lowers anything"
     )?;

@@ -2,7 +2,7 @@
 
 use crate::answer::{Answer, answer_of, fault_of, refusal_of};
 use crate::sentences::{call_sentence, sentence};
-use crate::shown::shown;
+use crate::words::excerpt;
 use ocppj_frame::{FrameFault, ReadingMemory, read_tree};
 use std::alloc::{AllocError, Global};
 
@@ -46,6 +46,6 @@ fn fault_sentence(alloc: Global, code: &str, field: &str) -> Result<Option<Strin
     if field.is_empty() {
         return Ok(Some(format!(in alloc; "{code}: {why}")?));
     }
-    let field = shown(alloc, field)?;
+    let field = excerpt(alloc, field)?;
     Ok(Some(format!(in alloc; "{code}: {field}: {why}")?))
 }

@@ -64,7 +64,7 @@ fn check_frame(alloc: Global, text: &str, frame: Frame<'_>) -> Result<SentCheck,
             action,
             payload,
             ..
-        } => match operators_action(action.as_str()) {
+        } => match ActionKind::of_sender(Side::Operator, action.as_str()) {
             Some(kind) => check_fields(alloc, text, kind, payload.root()),
             None => no_operators_action(alloc, action.as_str()),
         },
@@ -88,8 +88,7 @@ pub fn json_break(alloc: Global, text: &str) -> Result<Option<String>, AllocErro
 /// An action of this name is none of an operator's.
 fn no_operators_action(alloc: Global, name: &str) -> Result<SentCheck, AllocError> {
     let mut report = Report::new(alloc);
-    let is_known = ActionKind::named(name).is_some();
-    refuse_action(&mut report, Side::Operator, name, is_known)?;
+    refuse_action(&mut report, Side::Operator, name)?;
     Ok(SentCheck {
         no_call: None,
         findings: report.into_findings(),
@@ -104,15 +103,6 @@ fn nothing_said(alloc: Global, no_call: Option<String>) -> Result<SentCheck, All
         findings: Vec::new(alloc),
         clears_by_mistake: false,
     })
-}
-
-/// The action of a name, if it is an operator's.
-fn operators_action(name: &str) -> Option<ActionKind> {
-    let kind = ActionKind::named(name)?;
-    match kind.side() {
-        Side::Operator => Some(kind),
-        Side::Point => None,
-    }
 }
 
 /// Checks the fields of a CALL.

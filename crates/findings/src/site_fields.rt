@@ -3,9 +3,9 @@
 use crate::finding::Finding;
 use crate::json_outline::{Label, Outline, Part, Span};
 use crate::payload_fields::stands_before;
-use crate::shown::shown;
 use crate::similar::similar_name;
 use crate::text_place::place_in_text;
+use crate::words::excerpt;
 use std::alloc::{AllocError, Global};
 
 /// The fields of a site.
@@ -206,7 +206,7 @@ pub(crate) fn unknown_message(
     name: &str,
     meant: Option<&str>,
 ) -> Result<String, AllocError> {
-    let name = shown(alloc, name)?;
+    let name = excerpt(alloc, name)?;
     match meant {
         Some(meant) => format!(in alloc;
             "\"{name}\" is no field that is looked at (\"{meant}\" is one)"

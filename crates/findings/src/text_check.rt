@@ -7,7 +7,7 @@ use crate::json_outline::outline_of;
 use crate::line_text::{LineText, Sender};
 use crate::report::Report;
 use crate::sentences::{call_sentence, line_sentence};
-use crate::shown::shown;
+use crate::words::excerpt;
 use messages::CallFault;
 use ocpp_scalars::character_count;
 use ocppj_frame::{
@@ -108,8 +108,8 @@ fn check_reply(
         return Ok(());
     };
     let alloc = report.alloc;
-    let id = shown(alloc, id)?;
-    let status = shown(alloc, status)?;
+    let id = excerpt(alloc, id)?;
+    let status = excerpt(alloc, status)?;
     let message = format!(in alloc;
         "the point answers call \"{id}\" with {status}: the central system keeps what the call is of, so its schedules say more than the point does"
     )?;
@@ -124,7 +124,7 @@ pub(crate) fn not_composite(
 ) -> Result<(), AllocError> {
     let fault = LineFault::NotComposite;
     let rule = line_sentence(fault);
-    let frame = shown(report.alloc, text.frame)?;
+    let frame = excerpt(report.alloc, text.frame)?;
     let message = format!(in report.alloc; "{fault}: {rule}, and {why}: {frame}")?;
     report.fault(FaultName::Line(fault), message)
 }
@@ -135,7 +135,7 @@ fn check_malformed(report: &mut Report, text: &LineText<'_>) -> Result<(), Alloc
         return not_composite(report, text, "it is malformed");
     }
     let sentence = call_sentence(CallFault::FormationViolation);
-    let frame = shown(report.alloc, text.frame)?;
+    let frame = excerpt(report.alloc, text.frame)?;
     let message = format!(in report.alloc; "FormationViolation: {sentence}: {frame}")?;
     report.fault(FaultName::Call(CallFault::FormationViolation), message)
 }
@@ -151,7 +151,7 @@ fn check_dropped(
     if text.sender == Sender::Hold {
         return not_composite(report, text, why.as_str());
     }
-    let frame = shown(report.alloc, text.frame)?;
+    let frame = excerpt(report.alloc, text.frame)?;
     let message = format!(in report.alloc;
         "the text is no message and is dropped without a word: {why}: {frame}"
     )?;

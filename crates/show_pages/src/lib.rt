@@ -3,7 +3,6 @@
 #![tactic(auto)]
 
 mod call_of_point;
-mod call_words;
 mod ending;
 mod json_standing;
 mod profile_words;

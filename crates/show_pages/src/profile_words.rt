@@ -1,8 +1,8 @@
 //! What a table says of a profile.
 
-use crate::words::{seconds_text, text};
+use crate::words::{instant_text, seconds_text, tenths_text, text};
+use messages::{kind_name, recurrency_name, unit_name};
 use ocpp_scalars::Instant;
-use page_parts::{instant_text, kind_name, recurrency_name, tenths_text, unit_name};
 use profile::{Kind, Profile, Purpose, Row};
 use std::alloc::{AllocError, Global};
 

@@ -1,13 +1,12 @@
 //! What stands at each charge point, as tables for people.
 
 use crate::call_of_point::{WaitingCall, waiting_calls};
-use crate::call_words::{action_name, profiles_text};
 use crate::profile_words::{from_text, kind_text, periods_text, until_text};
 use crate::table::Table;
 use crate::trace::Trace;
 use crate::traced_calls::RejectedCall;
-use crate::words::text;
-use page_parts::{instant_text, purpose_name};
+use crate::words::{instant_text, text};
+use messages::{CallBody, purpose_name, push_subject};
 use point_book::PointBook;
 use replay::Playing;
 use site_core::{Machine, Outbox};
@@ -96,7 +95,7 @@ fn push_empty_point(
     write!(out, "{id}: no profile, no transaction; {calls_line}")?;
     if let Some(waiting) = calls.first() {
         let number = waiting.call.number;
-        let action = action_name(&waiting.call.body);
+        let action = waiting.call.body.action();
         let state = state_name(waiting);
         write!(out, " (call {number}, {action}, {state})")?;
     }
@@ -180,12 +179,19 @@ fn call_table(alloc: Global, calls: &[WaitingCall]) -> Result<Table, AllocError>
     for waiting in calls {
         table.push([
             waiting.call.number.to_string(alloc)?,
-            text(alloc, action_name(&waiting.call.body))?,
-            profiles_text(alloc, &waiting.call.body)?,
+            text(alloc, waiting.call.body.action())?,
+            subject_text(alloc, &waiting.call.body)?,
             text(alloc, state_name(waiting))?,
         ])?;
     }
     Ok(table)
+}
+
+/// Which profiles a call is about.
+fn subject_text(alloc: Global, body: &CallBody) -> Result<String, AllocError> {
+    let mut out = String::new(alloc);
+    push_subject(&mut out, body)?;
+    Ok(out)
 }
 
 /// Whether a call went out.

@@ -1,8 +1,7 @@
 //! What became of a charge point's calls, line after line.
 
-use crate::call_words::{action_name, profiles_text};
 use crate::reply::rejection_in;
-use messages::Call;
+use messages::{Call, push_subject};
 use ocppj_frame::ReadingMemory;
 use std::alloc::{AllocError, Global};
 
@@ -77,9 +76,9 @@ impl PointCalls {
     /// A call went out behind the line of this number.
     pub(crate) fn sent(&mut self, alloc: Global, call: &Call, line: u64) -> Result<(), AllocError> {
         let number = call.number;
-        let action = action_name(&call.body);
-        let profiles = profiles_text(alloc, &call.body)?;
-        let what = format!(in alloc; "{action}, {profiles}")?;
+        let action = call.body.action();
+        let mut what = format!(in alloc; "{action}, ")?;
+        push_subject(&mut what, &call.body)?;
         self.in_flight = Some(SentCall { number, what, line });
         self.waiting.retain(|added| added.number > number);
         Ok(())
