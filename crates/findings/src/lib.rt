@@ -2,6 +2,7 @@
 #![tactic(auto)]
 
 mod answer;
+mod broken_json;
 mod call_check;
 mod change_check;
 mod field_fault;
@@ -9,6 +10,7 @@ mod finding;
 mod found;
 mod hidden;
 mod json_fault;
+mod json_lexeme;
 mod json_outline;
 mod line_hints;
 mod line_text;

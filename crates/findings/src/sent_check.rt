@@ -1,5 +1,9 @@
 //! What is wrong with an operator's text by itself, before it is sent.
 
+ghost use Rattle.std.specs.Prelude.{◌≡◌, ◌↔◌, IfOk, IsSome, None};
+ghost use Rattle.ocppj_frame.specs.Read.{tree_of_text};
+
+use crate::broken_json::break_of;
 use crate::call_check::{
     has_fields, has_no_criterion, refuse_action, unknown_fields, warn_of_clear, warn_repeated,
     warn_unknown,
@@ -7,7 +11,6 @@ use crate::call_check::{
 use crate::field_fault::field_fault_message;
 use crate::finding::{FaultName, Finding};
 use crate::json_fault::json_fault_text;
-use crate::json_outline::outline_of;
 use crate::profile_check::check_sent_profile;
 use crate::report::Report;
 use crate::text_check::why_dropped;
@@ -76,8 +79,10 @@ fn check_frame(alloc: Global, text: &str, frame: Frame<'_>) -> Result<SentCheck,
 }
 
 /// Where the JSON of a text breaks, if it does: the line and the column, and what is wanted there.
-pub fn json_break(alloc: Global, text: &str) -> Result<Option<String>, AllocError> {
-    let Some(fault) = outline_of(alloc, text)?.fault else {
+pub fn json_break(alloc: Global, text: &str) -> Result<Option<String>, AllocError>
+    ensures { IfOk result (λ told. IsSome told ↔ (tree_of_text text.now ≡ None)) }
+{
+    let Some(fault) = break_of(alloc, text)? else {
         return Ok(None);
     };
     let place = place_in_text(text, fault.offset);

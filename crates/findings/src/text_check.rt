@@ -1,9 +1,9 @@
 //! What is wrong with a text that a line of a script brings, as a frame (OCPP-J 1.6, chapter 4).
 
+use crate::broken_json::first_break;
 use crate::call_check::{Call, check_call};
 use crate::finding::FaultName;
 use crate::json_fault::{JsonFault, json_fault_text};
-use crate::json_outline::outline_of;
 use crate::line_text::{LineText, Sender};
 use crate::report::Report;
 use crate::sentences::{call_sentence, line_sentence};
@@ -168,10 +168,7 @@ pub(crate) fn why_dropped(
     match read_tree(memory, frame) {
         Ok(tree) => String::from_str(alloc, why_no_message(tree.root())),
         Err(FrameFault::OutOfMemory) => Err(AllocError),
-        Err(_) => match outline_of(alloc, frame)?.fault {
-            Some(fault) => broken_at(alloc, frame, before, &fault),
-            None => String::from_str(alloc, "it isn't JSON"),
-        },
+        Err(_) => broken_at(alloc, frame, before, &first_break(alloc, frame)?),
     }
 }
 
