@@ -17,7 +17,8 @@ IsNeverRated profile = (base instant : ℕ) → rate profile base instant ≡ No
 
 -- no period of its schedule has begun at an offset before this one
 abbrev pub HasNoPeriodBefore : Profile → ℕ → Type 0
-HasNoPeriodBefore profile end = (offset : ℕ) → offset < end → limit_in profile.schedule.periods offset ≡ None
+HasNoPeriodBefore profile end =
+    (offset : ℕ) → offset < end → limit_in profile.schedule.periods offset ≡ None
 
 -- ---- the causes, by the fields of OCPP 1.6, chapter 7
 
@@ -77,7 +78,8 @@ recurs_after Relative = None
 
 -- each period starts when the day or the week of a Recurring schedule is over, or later
 abbrev pub has_periods_past_recurrence : Profile → Bool
-has_periods_past_recurrence profile = start_past profile.schedule.periods (recurs_after profile.kind)
+has_periods_past_recurrence profile =
+    start_past profile.schedule.periods (recurs_after profile.kind)
 
 -- the first cause that holds, in the order in which they are sought; none where none of them holds
 abbrev pub why_never_rated : Profile → Option NeverRated

@@ -1,5 +1,5 @@
-//! Where a JSON text (RFC 8259) breaks: the first character that can't stand where it stands. The library reads the
-//! tokens; how they nest, and where within a token it breaks, is sought here.
+//! Where a JSON text (RFC 8259) breaks: the first character that can't stand where it stands. The
+//! library reads the tokens; how they nest, and where within a token it breaks, is sought here.
 
 ghost use Rattle.std.specs.Prelude.{◌≡◌, ◌↔◌, IfOk, IsSome, None};
 ghost use Rattle.ocppj_frame.specs.Read.{tree_of_text};
@@ -120,14 +120,16 @@ impl Walk {
                 self.wanted = Wanted::Value;
                 Ok(None)
             }
-            Token::String(_) | Token::Number(_) | Token::Bool(_) | Token::Null if self.wants_value() =>
-                Ok(self.end_value(lexeme.comma)),
+            token if is_scalar(token) && self.wants_value() => Ok(self.end_value(lexeme.comma)),
             _ => Ok(Some(self.break_in(bytes, lexeme.start))),
         }
     }
 
     fn wants_value(&self) -> bool {
-        matches!(self.wanted, Wanted::Value | Wanted::NextValue | Wanted::ValueOrEnd)
+        matches!(
+            self.wanted,
+            Wanted::Value | Wanted::NextValue | Wanted::ValueOrEnd
+        )
     }
 
     fn wants_name(&self) -> bool {
@@ -188,7 +190,8 @@ impl Walk {
         }
     }
 
-    /// Where the text breaks at a token that can't stand there: at its begin, within it, or behind it.
+    /// Where the text breaks at a token that can't stand there: at its begin, within it, or behind
+    /// it.
     fn break_in(&self, bytes: &[u8], start: usize) -> Break {
         let may_begin = match bytes.get(start) {
             Some(b'"') => self.wants_name() || self.wants_value(),
@@ -213,6 +216,14 @@ impl Walk {
             Err(broken) => broken,
         }
     }
+}
+
+/// Whether it is a whole value.
+fn is_scalar(token: Token<'_>) -> bool {
+    matches!(
+        token,
+        Token::String(_) | Token::Number(_) | Token::Bool(_) | Token::Null
+    )
 }
 
 /// The first offset from this one on at which no blank stands.

@@ -52,7 +52,8 @@ fn field_of(fault: CallFault) -> Option<FieldName> {
     }
 }
 
-/// The outermost object of a payload that has a field of this name in its table, down to where objects are there.
+/// The outermost object of a payload that has a field of this name in its table, down to where
+/// objects are there.
 fn place_of_field<'node, 'memory>(
     alloc: Global,
     payload: PayloadObject<'node, 'memory>,

@@ -89,7 +89,10 @@ pub(crate) fn json_fault_text(alloc: Global, fault: &JsonFault) -> Result<String
 
 /// Whether a character is seen where it is printed.
 fn is_printable(character: char) -> bool {
-    !matches!(character, '\u{0}'..='\u{20}' | '\u{7f}'..='\u{a0}' | '\u{2000}'..='\u{200f}' | '\u{feff}')
+    match character {
+        '\u{0}'..='\u{20}' | '\u{7f}'..='\u{a0}' | '\u{2000}'..='\u{200f}' | '\u{feff}' => false,
+        _ => true,
+    }
 }
 
 /// How a common mistake is mended.

@@ -1,4 +1,5 @@
-//! Where a string, a number or a word of JSON (RFC 8259) ends, or where it breaks. Offsets count bytes.
+//! Where a string, a number or a word of JSON (RFC 8259) ends, or where it breaks. Offsets count
+//! bytes.
 
 use crate::json_fault::Wanted;
 
@@ -118,7 +119,8 @@ fn escape_end(bytes: &[u8], start: usize) -> Result<usize, Break> {
     }
 }
 
-/// The end of an escape from behind `\u`, and of the other half where it is the first one of a surrogate pair.
+/// The end of an escape from behind `\u`, and of the other half where it is the first one of a
+/// surrogate pair.
 fn surrogates_end(bytes: &[u8], start: usize) -> Result<usize, Break> {
     let end = start.saturating_add(4);
     match code_at(bytes, start)? {

@@ -15,8 +15,8 @@ pub(crate) struct Span {
 pub(crate) enum Label {
     /// The whole text.
     Root,
-    /// The member whose name begins here, behind its quote. The stretch is as long as the name, so it is the name
-    /// where that has no escape, and has a backslash else.
+    /// The member whose name begins here, behind its quote. The stretch is as long as the name, so
+    /// it is the name where that has no escape, and has a backslash else.
     Member(Span),
     /// The entry at this index, from 0.
     Entry(usize),

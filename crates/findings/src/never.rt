@@ -22,7 +22,8 @@ pub enum NeverRated {
     PeriodsPastRecurrence,
 }
 
-/// Why a profile never has a rate: the first of the causes of [`NeverRated`] that holds, if one does.
+/// Why a profile never has a rate: the first of the causes of [`NeverRated`] that holds, if one
+/// does.
 pub fn never_rated(profile: &Profile) -> Option<NeverRated>
     ensures cause { result ≡ why_never_rated profile.now }
     ensures never { OnSome result (IsNeverRated profile.now) }

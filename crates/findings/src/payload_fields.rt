@@ -9,7 +9,8 @@ use std::alloc::{AllocError, Global};
 /// The most fields of a text that are told.
 const MAX_TOLD: usize = 20;
 
-/// An object of a payload, or a list of objects, with the fields that are looked at in each of them.
+/// An object of a payload, or a list of objects, with the fields that are looked at in each of
+/// them.
 #[derive(Clone, Copy)]
 enum PayloadPart {
     Object(&'static [FieldRow]),

@@ -6,8 +6,8 @@ use crate::words::excerpt;
 use ocppj_frame::{FrameFault, ReadingMemory, read_tree};
 use std::alloc::{AllocError, Global};
 
-/// What an answer's refusal means: its name and its sentence, with the field that it is of where it has one.
-/// None where the answer refuses nothing, or by a name that isn't this system's.
+/// What an answer's refusal means: its name and its sentence, with the field that it is of where it
+/// has one. None where the answer refuses nothing, or by a name that isn't this system's.
 pub fn answer_sentence(alloc: Global, answer: &str) -> Result<Option<String>, AllocError> {
     let mut memory = ReadingMemory::new(alloc);
     match read_tree(&mut memory, answer) {

@@ -26,16 +26,16 @@ use std::alloc::{AllocError, Global};
 pub struct SentCheck {
     /// Why it is no CALL, where it isn't one.
     pub no_call: Option<String>,
-    /// What is wrong with its action, its fields and its profile by themselves; fields that count for nothing or
-    /// stand twice; and a clear that clears more than it seems to.
+    /// What is wrong with its action, its fields and its profile by themselves; fields that count
+    /// for nothing or stand twice; and a clear that clears more than it seems to.
     pub findings: Vec<Finding>,
-    /// Whether it is a ClearChargingProfile that would clear everything by mistake: its payload has fields, and
-    /// none of them is a criterion, since they are others or null.
+    /// Whether it is a ClearChargingProfile that would clear everything by mistake: its payload has
+    /// fields, and none of them is a criterion, since they are others or null.
     pub clears_by_mistake: bool,
 }
 
-/// Checks an operator's text by itself: nothing is known of the site, or of what the point has. A text that is no
-/// CALL has no findings.
+/// Checks an operator's text by itself: nothing is known of the site, or of what the point has. A
+/// text that is no CALL has no findings.
 pub fn check_sent(alloc: Global, text: &str) -> Result<SentCheck, AllocError> {
     let mut memory = ReadingMemory::new(alloc);
     match check_message(alloc, &mut memory, text)? {

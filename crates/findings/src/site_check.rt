@@ -18,8 +18,9 @@ use std::alloc::{AllocError, Global};
 /// The most points of a site.
 const MAX_POINTS: usize = 1_000;
 
-/// All faults of a site file in the order in which they are checked, and then the warnings and remarks. The
-/// first fault is the one that `site_rules::read_site` names, and there is none where it reads a site.
+/// All faults of a site file in the order in which they are checked, and then the warnings and
+/// remarks. The first fault is the one that `site_rules::read_site` names, and there is none where
+/// it reads a site.
 pub fn check_site(alloc: Global, bytes: &[u8]) -> Result<Vec<Finding>, AllocError> {
     if bytes.len() > MAX_SITE_BYTES {
         return alone(alloc, too_large(alloc, bytes.len())?);

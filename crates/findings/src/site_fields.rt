@@ -113,7 +113,8 @@ fn owner_of(text: &str, outline: &Outline, object: usize) -> Option<Option<usize
     }
 }
 
-/// Warns of the fields of the site and of its points that stand twice in their object, a hundred at the most.
+/// Warns of the fields of the site and of its points that stand twice in their object, a hundred at
+/// the most.
 pub(crate) fn warn_repeated_fields(
     alloc: Global,
     text: &str,
@@ -137,7 +138,8 @@ pub(crate) fn warn_repeated_fields(
     Ok(())
 }
 
-/// The name of this part, and where it begins, if it is a field of the site or of a point and stands there again.
+/// The name of this part, and where it begins, if it is a field of the site or of a point and
+/// stands there again.
 fn repeated_field(
     text: &str,
     outline: &Outline,

@@ -222,7 +222,8 @@ fn ceiling_of(entry: Node<'_, '_>) -> Option<u32> {
     }
 }
 
-/// The connectors of most points have more together than the point; it is worth a look all the same.
+/// The connectors of most points have more together than the point; it is worth a look all the
+/// same.
 fn remark_together(
     alloc: Global,
     point: PointFields<'_, '_>,

@@ -15,8 +15,8 @@ use site_core::{Machine, Outbox};
 use std::alloc::{AllocError, Global};
 use transactions::Transaction;
 
-/// What stands at each point after a script, in the order of the site file, which requests are held, and how many
-/// lines had a fault.
+/// What stands at each point after a script, in the order of the site file, which requests are
+/// held, and how many lines had a fault.
 pub fn standing_json(alloc: Global, trace: &Trace<'_>) -> Result<String, AllocError> {
     let mut page = Page {
         alloc,
@@ -215,7 +215,8 @@ impl Page {
         self.json.string(text.as_str())
     }
 
-    /// The values and fields of a JSON text. A writer takes no text as it is, so it goes over token by token.
+    /// The values and fields of a JSON text. A writer takes no text as it is, so it goes over token
+    /// by token.
     fn write_text(&mut self, text: &str) -> Result<(), AllocError> {
         let mut reader = Reader::new(text, &mut self.scratch)?;
         // Each token has a byte at least.

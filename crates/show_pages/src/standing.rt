@@ -12,8 +12,9 @@ use replay::Playing;
 use site_core::{Machine, Outbox};
 use std::alloc::{AllocError, Global};
 
-/// What stands at each point after a script, in the order of the site file, and which requests are held: profiles,
-/// transactions, the calls that wait and those that the point rejected. A point with nothing has one line.
+/// What stands at each point after a script, in the order of the site file, and which requests are
+/// held: profiles, transactions, the calls that wait and those that the point rejected. A point
+/// with nothing has one line.
 pub fn standing_text(alloc: Global, trace: &Trace<'_>) -> Result<String, AllocError> {
     let playing = trace.playing();
     let machine = playing.machine();
@@ -83,7 +84,8 @@ fn push_rejected(
     table.push_to(out, 4)
 }
 
-/// Appends the one line of a point with neither profiles nor transactions, and one call that waits at the most.
+/// Appends the one line of a point with neither profiles nor transactions, and one call that waits
+/// at the most.
 fn push_empty_point(
     alloc: Global,
     out: &mut String,

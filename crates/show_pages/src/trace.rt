@@ -49,7 +49,8 @@ pub struct HeldLine {
     pub point: String,
 }
 
-/// A script that is played, with what became of the calls to each point and, if wanted, what each line printed.
+/// A script that is played, with what became of the calls to each point and, if wanted, what each
+/// line printed.
 #[derive(Drop)]
 pub struct Trace<'a> {
     alloc: Global,
