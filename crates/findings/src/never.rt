@@ -3,7 +3,7 @@
 ghost use Rattle.std.specs.Prelude.{◌≡◌, IsTrue, OnSome, Some};
 ghost use Rattle.findings.specs.NeverRated.{IsNeverRated, HasNoPeriodBefore, why_never_rated, has_empty_validity, is_valid_before_start, is_valid_after_end, has_no_duration, has_periods_past_duration, has_periods_past_recurrence, start_past};
 
-use profile::{Kind, Profile};
+use profile::{Kind, Period, Profile};
 
 /// Why a profile has a rate at no second, whatever it counts its seconds from.
 #[derive(Clone, Copy, Debug, PartialEq, Eq)]
@@ -129,10 +129,11 @@ fn start_past(profile: &Profile, end: u64) -> bool
     ensures exact { result ≡ start_past profile.now.schedule.periods (Some end) }
     ensures before { IsTrue result → HasNoPeriodBefore profile.now end }
 {
-    profile
-        .schedule
-        .periods
-        .as_slice()
-        .iter()
-        .all(|period| end <= u64::from(period.start))
+    start_from(profile.schedule.periods.as_slice(), end)
+}
+
+fn start_from(periods: &[Period], end: u64) -> bool
+    ensures { result ≡ start_past periods.now (Some end) }
+{
+    periods.iter().all(|period| end <= u64::from(period.start))
 }

@@ -62,14 +62,15 @@ impl PointCalls {
         })
     }
 
-    /// The line of this number added a call.
-    pub(crate) fn added(&mut self, line: u64) -> Result<(), AllocError> {
-        let number = self.count;
-        self.count = number.saturating_add(1);
-        self.waiting.push(AddedCall {
-            number,
-            line: Some(line),
-        })?;
+    /// The line of this number added the calls that come before the next number.
+    pub(crate) fn added(&mut self, next: u64, line: u64) -> Result<(), AllocError> {
+        for number in self.count..next {
+            self.waiting.push(AddedCall {
+                number,
+                line: Some(line),
+            })?;
+        }
+        self.count = self.count.max(next);
         Ok(())
     }
 
