@@ -1,18 +1,17 @@
--- Where no period has begun at an offset, none has begun before it.
-use Rattle.std.proofs.Common.{◌≡◌, ℕ, ◌≤◌, nat_le, Bool, true, false, cond, List, [], ◌∷◌, filter, None, option_map, refl, arith}
+-- Where each period starts at an end or later, none has begun before it.
+use Rattle.std.proofs.Common.{◌≡◌, ℕ, ◌<◌, nat_le, true, false, List, [], ◌∷◌, None, refl, arith}
+use Rattle.std.specs.List.{list_all}
+use Rattle.std.proofs.lemmas.Bool.{and_parts}
 use Rattle.std.proofs.lemmas.Bool.Decides.{nat_tests}
 use Rattle.profile.specs.declared.period.Period.{Period}
-use Rattle.profile.specs.Greatest.{greatest}
 use Rattle.profile.specs.Periods.{limit_in}
 
-pub none_earlier : (periods : List Period) (offset earlier : ℕ) → limit_in periods offset ≡ None → earlier ≤ offset → limit_in periods earlier ≡ None
-none_earlier [] offset earlier none before = refl
-none_earlier (p ∷ ps) offset earlier none before = go (nat_le p.start offset) refl none (λ rest. none_earlier ps offset earlier rest before)
-  where
-    go : (begun : Bool) → nat_le p.start offset ≡ begun
-        → option_map (λ (p : Period). p.limit) (greatest (λ (p : Period). p.start) (cond begun (p ∷ filter (λ (p : Period). nat_le p.start offset) ps) (filter (λ (p : Period). nat_le p.start offset) ps))) ≡ None
-        → (limit_in ps offset ≡ None → limit_in ps earlier ≡ None) → limit_in (p ∷ ps) earlier ≡ None
-    go true is none rest = cc
-    go false is none rest =
-        let later : nat_le p.start earlier ≡ false = grind (arith, nat_tests) in
-        rw later (rest none)
+pub none_before : (periods : List Period) (end offset : ℕ)
+    → list_all (λ (p : Period). nat_le end p.start) periods ≡ true → offset < end
+    → limit_in periods offset ≡ None
+none_before [] end offset all before = refl
+none_before (p ∷ ps) end offset all before =
+    let parts = and_parts (nat_le end p.start) (list_all (λ (p : Period). nat_le end p.start) ps) all in
+    let first = parts.0 in
+    let later : nat_le p.start offset ≡ false = grind (arith, nat_tests) in
+    rw later (none_before ps end offset parts.1 before)

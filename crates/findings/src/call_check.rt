@@ -5,18 +5,17 @@ use crate::finding::FaultName;
 use crate::json_outline::outline_of;
 use crate::line_hints::point_hint;
 use crate::line_text::{LineText, Sender};
-use crate::payload_fields::{
-    PayloadPart, UnknownField, repeated_payload_fields, unknown_payload_fields,
-};
+use crate::payload_fields::{UnknownField, repeated_payload_fields, unknown_payload_fields};
+use crate::payload_objects::{PayloadObject, names_of};
 use crate::printed_check::depends_on_state;
 use crate::profile_check::check_install;
 use crate::report::Report;
 use crate::sentences::sentence;
-use crate::shown::shown;
 use crate::similar::similar_name;
 use crate::text_check::not_composite;
+use crate::words::excerpt;
 use crate::zone_check::remark_unzoned;
-use messages::{Action, ActionKind, CallFault, ScheduleRequest, Side, read_fields};
+use messages::{Action, ActionKind, CallFault, ScheduleRequest, Side, fields_of, read_fields};
 use ocpp_scalars::Refusal;
 use ocppj_frame::Node;
 use profile::{Criteria, Unit};
@@ -31,58 +30,17 @@ pub(crate) struct Call<'a, 'node, 'memory> {
     pub payload: Node<'node, 'memory>,
 }
 
-/// An operator's actions.
-const OPERATOR_ACTIONS: [&str; 3] = [
-    "SetChargingProfile",
-    "ClearChargingProfile",
-    "GetCompositeSchedule",
-];
-
-/// A point's actions.
-const POINT_ACTIONS: [&str; 10] = [
-    "BootNotification",
-    "Heartbeat",
-    "Authorize",
-    "StartTransaction",
-    "StopTransaction",
-    "StatusNotification",
-    "MeterValues",
-    "FirmwareStatusNotification",
-    "DiagnosticsStatusNotification",
-    "DataTransfer",
-];
-
 /// Checks a CALL.
 pub(crate) fn check_call(report: &mut Report, call: &Call<'_, '_, '_>) -> Result<(), AllocError> {
     let kind = ActionKind::named(call.action);
     if call.text.sender == Sender::Hold && kind != Some(ActionKind::GetCompositeSchedule) {
         return not_composite(report, call.text, "it is a CALL of another action");
     }
-    match kind {
-        Some(kind) if is_of_sender(kind, call.text.sender) => { check_action(report, call, kind) }
-        _ => check_not_implemented(report, call, kind.is_some()),
+    let sender = call.text.sender.side();
+    match ActionKind::of_sender(sender, call.action) {
+        Some(kind) => check_action(report, call, kind),
+        None => refuse_action(report, sender, call.action),
     }
-}
-
-/// Whether an action is the sender's.
-fn is_of_sender(kind: ActionKind, sender: Sender) -> bool {
-    match (kind.side(), sender) {
-        (Side::Operator, Sender::Operator | Sender::Hold) | (Side::Point, Sender::Point) => true,
-        _ => false,
-    }
-}
-
-/// An action that its sender doesn't have.
-fn check_not_implemented(
-    report: &mut Report,
-    call: &Call<'_, '_, '_>,
-    is_known: bool,
-) -> Result<(), AllocError> {
-    let sender = match call.text.sender {
-        Sender::Operator | Sender::Hold => Side::Operator,
-        Sender::Point => Side::Point,
-    };
-    refuse_action(report, sender, call.action, is_known)
 }
 
 /// That an action of this name is none of a side, and which one was probably meant.
@@ -90,21 +48,21 @@ pub(crate) fn refuse_action(
     report: &mut Report,
     sender: Side,
     name: &str,
-    is_known: bool,
 ) -> Result<(), AllocError> {
     let alloc = report.alloc;
-    let (sender, actions): (&str, &[&str]) = match sender {
-        Side::Operator => ("an operator", &OPERATOR_ACTIONS),
-        Side::Point => ("a point", &POINT_ACTIONS),
+    let actions = actions_of(alloc, sender)?;
+    let sender = match sender {
+        Side::Operator => "an operator",
+        Side::Point => "a point",
     };
-    let action = shown(alloc, name)?;
-    let message = match similar_name(alloc, name, actions)? {
+    let action = excerpt(alloc, name)?;
+    let message = match similar_name(alloc, name, actions.as_slice())? {
         Some(meant) => {
             format!(in alloc;
                 "NotImplemented: \"{action}\" is no action of {sender} (\"{meant}\" is one)"
             )?
         }
-        None if is_known => {
+        None if ActionKind::named(name).is_some() => {
             format!(in alloc;
                 "NotImplemented: \"{action}\" is an action of the other side, not of {sender}"
             )?
@@ -116,41 +74,65 @@ pub(crate) fn refuse_action(
     report.fault(FaultName::Call(CallFault::NotImplemented), message)
 }
 
+/// The names of a side's actions.
+fn actions_of(alloc: Global, side: Side) -> Result<Vec<&'static str>, AllocError> {
+    let mut names = Vec::new(alloc);
+    for kind in ActionKind::all() {
+        if kind.side().is_same(side) {
+            names.push(kind.name())?;
+        }
+    }
+    Ok(names)
+}
+
 /// Checks the fields of an action, and what it asks for.
 fn check_action(
     report: &mut Report,
     call: &Call<'_, '_, '_>,
     kind: ActionKind,
 ) -> Result<(), AllocError> {
-    let site = call.text.site;
     let alloc = report.alloc;
-    if matches!(kind.side(), Side::Operator) {
+    if kind.side().is_same(Side::Operator) {
         warn_repeated(report, call.text.frame, kind)?;
     }
     match read_fields(alloc, kind, call.payload) {
-        Ok(Action::SetChargingProfile { connector, profile }) => {
-            warn_unknown(report, call.text.frame, kind)?;
-            remark_unzoned(report, call.payload)?;
-            check_install(report, call.text, connector, profile)
-        }
-        Ok(Action::ClearChargingProfile(criteria)) => check_clear(report, site, call, &criteria),
-        Ok(Action::GetCompositeSchedule(request)) => {
-            warn_unknown(report, call.text.frame, kind)?;
-            check_ask(report, call.text, &request)
-        }
-        Ok(Action::StartTransaction(start)) => {
-            check_start(report, site, call.text, start.connector)
-        }
-        Ok(_) => Ok(()),
+        Ok(action) => check_asked(report, call, kind, action),
         Err(CallFault::Refused(Refusal::OutOfMemory)) => Err(AllocError),
         Err(fault) => {
             let message = field_fault_message(alloc, call.payload, kind, fault)?;
             report.fault(FaultName::Call(fault), message)?;
-            if matches!(kind.side(), Side::Operator) {
+            if kind.side().is_same(Side::Operator) {
                 warn_unknown(report, call.text.frame, kind)?;
             }
             Ok(())
         }
+    }
+}
+
+/// Checks what an action asks for, whose fields are right.
+fn check_asked(
+    report: &mut Report,
+    call: &Call<'_, '_, '_>,
+    kind: ActionKind,
+    action: Action,
+) -> Result<(), AllocError> {
+    // Of a clear's fields more is said.
+    if kind.side().is_same(Side::Operator) && kind != ActionKind::ClearChargingProfile {
+        warn_unknown(report, call.text.frame, kind)?;
+        let payload = PayloadObject {
+            fields: fields_of(kind),
+            node: call.payload,
+        };
+        remark_unzoned(report, payload)?;
+    }
+    match action {
+        Action::SetChargingProfile { connector, profile } => {
+            check_install(report, call.text, connector, profile)
+        }
+        Action::ClearChargingProfile(criteria) => check_clear(report, call, &criteria),
+        Action::GetCompositeSchedule(request) => check_ask(report, call.text, &request),
+        Action::StartTransaction(start) => check_start(report, call.text, start.connector),
+        _ => Ok(()),
     }
 }
 
@@ -189,8 +171,9 @@ pub(crate) fn warn_unknown(
 ) -> Result<(), AllocError> {
     let alloc = report.alloc;
     for field in &unknown_fields(alloc, frame, kind)? {
-        let name = shown(alloc, field.name)?;
-        let message = match similar_name(alloc, field.name, field.part.fields())? {
+        let name = excerpt(alloc, field.name)?;
+        let known = names_of(alloc, field.fields)?;
+        let message = match similar_name(alloc, field.name, known.as_slice())? {
             Some(meant) => {
                 format!(in alloc;
                     "\"{name}\" is no field of OCPP there and counts for nothing (\"{meant}\" is one)"
@@ -208,11 +191,11 @@ pub(crate) fn warn_unknown(
 /// A ClearChargingProfile, which clears all that matches what is given.
 fn check_clear(
     report: &mut Report,
-    site: &Site,
     call: &Call<'_, '_, '_>,
     criteria: &Criteria,
 ) -> Result<(), AllocError> {
     let alloc = report.alloc;
+    let site = call.text.site;
     if site.place_of(call.text.point).is_none() {
         let fault = CallFault::Refused(Refusal::UnknownPoint);
         let message = unknown_point_message(report, site, call.text.point)?;
@@ -235,7 +218,7 @@ pub(crate) fn warn_of_clear(
         return report.warn(message);
     }
     for field in unknown {
-        let name = shown(alloc, field.name)?;
+        let name = excerpt(alloc, field.name)?;
         let message = format!(in alloc;
             "\"{name}\" is no criterion and counts for nothing, so more may be CLEARED than is meant: id, connectorId, chargingProfilePurpose and stackLevel are the criteria"
         )?;
@@ -255,9 +238,10 @@ pub(crate) fn has_no_criterion(criteria: &Criteria) -> bool {
 /// The fields of a clear without a criterion that are one by their name: they are null.
 fn null_criteria(alloc: Global, payload: Node<'_, '_>) -> Result<Vec<&'static str>, AllocError> {
     let mut names = Vec::new(alloc);
-    for name in PayloadPart::Payload(ActionKind::ClearChargingProfile).fields() {
+    for row in fields_of(ActionKind::ClearChargingProfile) {
+        let name = row.name().text();
         if payload.field(name).is_some() {
-            names.push(*name)?;
+            names.push(name)?;
         }
     }
     Ok(names)
@@ -283,7 +267,7 @@ fn clears_all_message(
         "a clear without a criterion clears EVERYTHING that the point has, a fuse limit (ChargePointMaxProfile) too",
     )?;
     for field in unknown {
-        let name = shown(alloc, field.name)?;
+        let name = excerpt(alloc, field.name)?;
         let meant = criterion_meant(alloc, field.name)?;
         let hint = match meant {
             Some(meant) => format!(in alloc; "; \"{name}\" isn't one (\"{meant}\" is)")?,
@@ -306,8 +290,8 @@ fn criterion_meant(alloc: Global, name: &str) -> Result<Option<&'static str>, Al
         "purpose" => Ok(Some("chargingProfilePurpose")),
         "level" => Ok(Some("stackLevel")),
         _ => {
-            let kind = PayloadPart::Payload(ActionKind::ClearChargingProfile);
-            similar_name(alloc, name, kind.fields())
+            let criteria = names_of(alloc, fields_of(ActionKind::ClearChargingProfile))?;
+            similar_name(alloc, name, criteria.as_slice())
         }
     }
 }
@@ -320,7 +304,7 @@ pub(crate) fn unknown_point_message(
 ) -> Result<String, AllocError> {
     let alloc = report.alloc;
     let hint = point_hint(report, site, id)?;
-    let id = shown(alloc, id)?;
+    let id = excerpt(alloc, id)?;
     format!(in alloc; "UnknownPoint: the site has no point \"{id}\"{hint}")
 }
 
@@ -408,13 +392,8 @@ pub(crate) fn reject(
 }
 
 /// A StartTransaction at a connector that the point lacks.
-fn check_start(
-    report: &mut Report,
-    site: &Site,
-    text: &LineText<'_>,
-    connector: u32,
-) -> Result<(), AllocError> {
-    let Some(point) = point_of(site, text) else {
+fn check_start(report: &mut Report, text: &LineText<'_>, connector: u32) -> Result<(), AllocError> {
+    let Some(point) = point_of(text.site, text) else {
         return Ok(());
     };
     let count = point.ceilings.len();

@@ -1,13 +1,12 @@
-//! What a line changes at a charge point beside what it says: a profile whose place another takes, and a fuse limit
-//! that a clear takes along.
+//! What a line changes at a charge point beside what it says: a profile whose place another takes,
+//! and a fuse limit that a clear takes along.
 
 use crate::call_check::has_no_criterion;
 use crate::finding::{Finding, Place};
 use meaning::PrevailingProfile;
-use messages::{Action, ActionKind, CallFault, read_fields};
+use messages::{Action, ActionKind, CallFault, purpose_name, read_fields};
 use ocpp_scalars::Refusal;
 use ocppj_frame::{Frame, FrameFault, Node, ReadingMemory, read_frame};
-use page_parts::purpose_name;
 use profile::{Criteria, Purpose};
 use std::alloc::{AllocError, Global};
 
@@ -24,8 +23,8 @@ pub struct Change<'a> {
     pub gone: &'a [PrevailingProfile],
 }
 
-/// What is found in a change: which profiles an install took the place of, and which ChargePointMaxProfiles a clear
-/// by other criteria took along.
+/// What is found in a change: which profiles an install took the place of, and which
+/// ChargePointMaxProfiles a clear by other criteria took along.
 pub fn check_change(alloc: Global, change: &Change<'_>) -> Result<Vec<Finding>, AllocError> {
     let mut findings = Vec::new(alloc);
     if let Some(came) = change.came {
@@ -84,7 +83,8 @@ fn named(alloc: Global, profile: PrevailingProfile) -> Result<String, AllocError
     format!(in alloc; "{purpose} {id} (stack level {level}, at connector {connector})")
 }
 
-/// Whether a text is a ClearChargingProfile with criteria, but none that says which profile or purpose is meant.
+/// Whether a text is a ClearChargingProfile with criteria, but none that says which profile or
+/// purpose is meant.
 fn clears_at_large(alloc: Global, text: &str) -> Result<bool, AllocError> {
     let mut memory = ReadingMemory::new(alloc);
     match read_frame(&mut memory, text) {
@@ -116,7 +116,8 @@ fn has_large_criteria(alloc: Global, payload: Node<'_, '_>) -> Result<bool, Allo
     }
 }
 
-/// Whether a clear has criteria, but neither id nor purpose. Of a clear without any it is said before.
+/// Whether a clear has criteria, but neither id nor purpose. Of a clear without any it is said
+/// before.
 fn is_at_large(criteria: &Criteria) -> bool {
     criteria.id.is_none() && criteria.purpose.is_none() && !has_no_criterion(criteria)
 }

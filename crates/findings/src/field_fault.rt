@@ -1,16 +1,16 @@
 //! The field at which a CALL is at fault: where it stands, what stands there and what is wanted.
 
 use crate::found::{LIMIT, Wish, field_message};
-use crate::payload_fields::PayloadPart;
-use messages::{ActionKind, CallFault, FieldName};
-use ocppj_frame::{Field, Node, list_field, object_field, tenths_field, whole_field};
+use crate::payload_objects::{MAX_DEPTH, PayloadList, PayloadObject, row_named};
+use messages::{ActionKind, CallFault, FieldKind, FieldName, FieldRow, fields_of};
+use ocppj_frame::{Field, Node, tenths_field, whole_field};
 use std::alloc::{AllocError, Global};
 
-/// A field, by the way to it and the object that it stands in.
+/// An object of a payload, and the way to it.
 #[derive(Drop)]
-struct FieldPlace<'node, 'memory> {
+struct ObjectPlace<'node, 'memory> {
     path: String,
-    object: Node<'node, 'memory>,
+    object: PayloadObject<'node, 'memory>,
 }
 
 /// The CALLERROR of a fault, with its field.
@@ -21,142 +21,139 @@ pub(crate) fn field_fault_message(
     fault: CallFault,
 ) -> Result<String, AllocError> {
     let code = fault.code();
-    let field = match fault {
-        CallFault::OccurenceConstraintViolation(field)
-        | CallFault::TypeConstraintViolation(field)
-        | CallFault::PropertyConstraintViolation(field) => field,
-        CallFault::FormationViolation | CallFault::NotImplemented | CallFault::Refused(_) => {
-            return String::from_str(alloc, code);
-        }
+    let Some(field) = field_of(fault) else {
+        return String::from_str(alloc, code);
     };
     let name = field.text();
-    let part = part_of_field(kind, field);
-    let FieldPlace { path, object } = place_of_part(alloc, payload, part)?;
+    let payload = PayloadObject {
+        fields: fields_of(kind),
+        node: payload,
+    };
+    let ObjectPlace { path, object } = place_of_field(alloc, payload, name)?;
+    let Some(row) = row_named(object.fields, name) else {
+        return format!(in alloc; "{code}: {name}");
+    };
     let wish = Wish {
         field: name,
-        wanted: wanted_of(field),
+        wanted: wanted_of(row),
         hint: None,
     };
-    let message = field_message(alloc, object.field(name), &wish)?;
+    let message = field_message(alloc, object.node.field(name), &wish)?;
     format!(in alloc; "{code}: {path}{message}")
 }
 
-/// In which part of a payload a field stands.
-fn part_of_field(kind: ActionKind, field: FieldName) -> PayloadPart {
-    let payload = PayloadPart::Payload(kind);
-    if kind != ActionKind::SetChargingProfile {
-        return payload;
-    }
-    match field {
-        FieldName::ConnectorId | FieldName::CsChargingProfiles => payload,
-        FieldName::ChargingProfileId
-        | FieldName::TransactionId
-        | FieldName::StackLevel
-        | FieldName::ChargingProfilePurpose
-        | FieldName::ChargingProfileKind
-        | FieldName::RecurrencyKind
-        | FieldName::ValidFrom
-        | FieldName::ValidTo
-        | FieldName::ChargingSchedule => PayloadPart::Profile,
-        FieldName::Duration
-        | FieldName::StartSchedule
-        | FieldName::ChargingRateUnit
-        | FieldName::ChargingSchedulePeriod
-        | FieldName::MinChargingRate => PayloadPart::Schedule,
-        FieldName::StartPeriod | FieldName::Limit | FieldName::NumberPhases => PayloadPart::Period,
-        FieldName::Id | FieldName::IdTag | FieldName::MeterStart | FieldName::Timestamp => payload,
+/// The field that a fault is of.
+fn field_of(fault: CallFault) -> Option<FieldName> {
+    match fault {
+        CallFault::OccurenceConstraintViolation(field)
+        | CallFault::TypeConstraintViolation(field)
+        | CallFault::PropertyConstraintViolation(field) => Some(field),
+        CallFault::FormationViolation | CallFault::NotImplemented | CallFault::Refused(_) => None,
     }
 }
 
-/// The way to a part of a payload, down to where it is there.
-fn place_of_part<'node, 'memory>(
+/// The outermost object of a payload that has a field of this name in its table, down to where
+/// objects are there.
+fn place_of_field<'node, 'memory>(
     alloc: Global,
-    payload: Node<'node, 'memory>,
-    part: PayloadPart,
-) -> Result<FieldPlace<'node, 'memory>, AllocError> {
-    let mut place = FieldPlace {
+    payload: PayloadObject<'node, 'memory>,
+    name: &str,
+) -> Result<ObjectPlace<'node, 'memory>, AllocError> {
+    let mut place = ObjectPlace {
         path: String::new(alloc),
         object: payload,
     };
-    if matches!(part, PayloadPart::Payload(_)) {
-        return Ok(place);
-    }
-    let Field::Value(profile) = object_field(payload, "csChargingProfiles") else {
-        return Ok(place);
-    };
-    place.path.push_str("csChargingProfiles.")?;
-    place.object = profile;
-    if part == PayloadPart::Profile {
-        return Ok(place);
-    }
-    let Field::Value(schedule) = object_field(profile, "chargingSchedule") else {
-        return Ok(place);
-    };
-    place.path.push_str("chargingSchedule.")?;
-    place.object = schedule;
-    if part == PayloadPart::Schedule {
-        return Ok(place);
-    }
-    if let Some((index, period)) = first_bad_period(schedule) {
-        let step = format!(in alloc; "chargingSchedulePeriod[{index}].")?;
-        place.path.push_str(step.as_str())?;
-        place.object = period;
+    for _ in 0..MAX_DEPTH {
+        if row_named(place.object.fields, name).is_some() {
+            break;
+        }
+        if let Some((field, object)) = place.object.inner() {
+            let field = field.text();
+            write!(place.path, "{field}.")?;
+            place.object = object;
+        } else if let Some((list, index, object)) = first_bad(place.object, name) {
+            let field = list.name.text();
+            write!(place.path, "{field}[{index}].")?;
+            place.object = object;
+        } else {
+            break;
+        }
     }
     Ok(place)
 }
 
-/// The first period with a field at fault, and its index.
-fn first_bad_period<'node, 'memory>(
-    schedule: Node<'node, 'memory>,
-) -> Option<(usize, Node<'node, 'memory>)> {
-    let Field::Value(entries) = list_field(schedule, "chargingSchedulePeriod") else {
-        return None;
-    };
+/// The first object in the list of an object with a fault at this field, its index, and the list.
+fn first_bad<'node, 'memory>(
+    object: PayloadObject<'node, 'memory>,
+    name: &str,
+) -> Option<
+    (
+        PayloadList<'node, 'memory>,
+        usize,
+        PayloadObject<'node, 'memory>,
+    ),
+> {
+    let list = object.list()?;
+    let row = row_named(list.fields, name)?;
     let mut index: usize = 0;
-    for entry in entries.iter() {
-        if !is_period(entry) {
-            return Some((index, entry));
+    for entry in list.entries.iter() {
+        if !is_right(entry, row) {
+            let object = PayloadObject {
+                fields: list.fields,
+                node: entry,
+            };
+            return Some((list, index, object));
         }
         index = index.saturating_add(1);
     }
     None
 }
 
-/// Whether the fields of a period are right.
-fn is_period(entry: Node<'_, '_>) -> bool {
-    let is_started = matches!(whole_field(entry, "startPeriod"), Field::Value(start) if start >= 0);
-    let is_limited = matches!(tenths_field(entry, "limit"), Field::Value(_));
-    let has_phases = match whole_field(entry, "numberPhases") {
-        Field::Absent => true,
-        Field::Value(phases) => phases >= 0,
-        Field::WrongKind | Field::WrongValue => false,
-    };
-    is_started && is_limited && has_phases
+/// Whether a field of an object in a list is right. No list has objects with fields of other kinds.
+fn is_right(object: Node<'_, '_>, row: FieldRow) -> bool {
+    let name = row.name().text();
+    match row.kind() {
+        FieldKind::WholeFromZero => match whole_field(object, name) {
+            Field::Value(number) => number >= 0,
+            Field::Absent => may_be_absent(row),
+            Field::WrongKind | Field::WrongValue => false,
+        },
+        FieldKind::Tenths => match tenths_field(object, name) {
+            Field::Value(_) => true,
+            Field::Absent => may_be_absent(row),
+            Field::WrongKind | Field::WrongValue => false,
+        },
+        _ => true,
+    }
 }
 
-/// What is wanted at a field.
-fn wanted_of(field: FieldName) -> &'static str {
-    match field {
-        FieldName::ChargingProfileId
-        | FieldName::TransactionId
-        | FieldName::Id
-        | FieldName::MeterStart => { "a whole number from -2147483648 to 2147483647" }
+fn may_be_absent(row: FieldRow) -> bool {
+    matches!(row, FieldRow::Optional(_, _))
+}
+
+/// What is wanted at a field: by what it counts, and else by its kind.
+fn wanted_of(row: FieldRow) -> &'static str {
+    match row.name() {
         FieldName::StackLevel => "a whole number from 0 to 99",
-        FieldName::ConnectorId | FieldName::NumberPhases => "a whole number from 0 on",
         FieldName::Duration | FieldName::StartPeriod => "a whole number of seconds from 0 on",
-        FieldName::Limit | FieldName::MinChargingRate => LIMIT,
-        FieldName::ChargingProfileKind => "\"Absolute\", \"Recurring\" or \"Relative\"",
-        FieldName::ChargingProfilePurpose => {
+        _ => wanted_of_kind(row.kind()),
+    }
+}
+
+fn wanted_of_kind(kind: FieldKind) -> &'static str {
+    match kind {
+        FieldKind::Whole => "a whole number from -2147483648 to 2147483647",
+        FieldKind::WholeFromZero => "a whole number from 0 on",
+        FieldKind::Tenths => LIMIT,
+        FieldKind::Time => "an instant such as \"2025-01-31T18:00:00Z\"",
+        FieldKind::IdToken => "a text of at most 20 characters",
+        FieldKind::PurposeName => {
             "\"ChargePointMaxProfile\", \"TxDefaultProfile\" or \"TxProfile\""
         }
-        FieldName::ChargingRateUnit => "\"A\" or \"W\"",
-        FieldName::RecurrencyKind => "\"Daily\" or \"Weekly\"",
-        FieldName::ChargingSchedule | FieldName::CsChargingProfiles => "an object",
-        FieldName::ChargingSchedulePeriod => "a list of 1 to 200 objects",
-        FieldName::IdTag => "a text of at most 20 characters",
-        FieldName::StartSchedule
-        | FieldName::Timestamp
-        | FieldName::ValidFrom
-        | FieldName::ValidTo => "an instant such as \"2025-01-31T18:00:00Z\"",
+        FieldKind::KindName => "\"Absolute\", \"Recurring\" or \"Relative\"",
+        FieldKind::RecurrencyName => "\"Daily\" or \"Weekly\"",
+        FieldKind::UnitName => "\"A\" or \"W\"",
+        FieldKind::Object(_) => "an object",
+        FieldKind::Objects(_) => "a list of 1 to 200 objects",
     }
 }

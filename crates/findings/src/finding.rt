@@ -132,8 +132,9 @@ impl fmt::Display for Finding {
     }
 }
 
-/// Puts the findings in a script, from different passes over it, in the order of its lines. Those of one line
-/// stay in their order. What belongs to no line stands first, and what points have at the end stands last.
+/// Puts the findings in a script, from different passes over it, in the order of its lines. Those
+/// of one line stay in their order. What belongs to no line stands first, and what points have at
+/// the end stands last.
 pub fn sort_by_line(findings: &mut Vec<Finding>) -> Result<(), AllocError> {
     findings.sort_by_key(|finding| line_of(&finding.place))
 }
@@ -147,8 +148,8 @@ fn line_of(place: &Place) -> u64 {
     }
 }
 
-/// The exit status of a check: 0 where all is well, 1 where there is a fault, 2 where there are warnings
-/// alone. A remark counts for nothing.
+/// The exit status of a check: 0 where all is well, 1 where there is a fault, 2 where there are
+/// warnings alone. A remark counts for nothing.
 pub fn exit_status(findings: &[Finding]) -> u8
     ensures { result ≡ exit_status findings.now }
 {

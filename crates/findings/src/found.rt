@@ -1,6 +1,6 @@
 //! What stands at a field, and what is wanted there, in words.
 
-use crate::shown::shown;
+use crate::words::excerpt;
 use ocppj_frame::Node;
 use std::alloc::{AllocError, Global};
 
@@ -27,7 +27,7 @@ pub(crate) fn field_message(
     let found = what_stands(alloc, node)?;
     match wish.hint {
         Some(hint) if node.is_none() => {
-            let hint = shown(alloc, hint)?;
+            let hint = excerpt(alloc, hint)?;
             format!(in alloc;
                 "{field}: {found}; {wanted} is wanted (is \"{hint}\" meant to be it?)"
             )
@@ -47,11 +47,11 @@ pub(crate) fn what_stands(alloc: Global, node: Option<Node<'_, '_>>) -> Result<S
         return String::from_str(alloc, "it is absent");
     };
     if let Some(text) = node.text() {
-        let text = shown(alloc, text)?;
+        let text = excerpt(alloc, text)?;
         return format!(in alloc; "\"{text}\" is a text");
     }
     if let Some(number) = node.number() {
-        let number = shown(alloc, number)?;
+        let number = excerpt(alloc, number)?;
         return format!(in alloc; "{number} is a number");
     }
     String::from_str(alloc, kind_that_stands(node))

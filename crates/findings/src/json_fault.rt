@@ -72,7 +72,7 @@ pub(crate) fn json_fault_text(alloc: Global, fault: &JsonFault) -> Result<String
     let wanted = fault.wanted;
     let mut text = match fault.found {
         None => format!(in alloc; "{wanted}, and the text ends")?,
-        Some(found) if is_shown(found) => format!(in alloc;
+        Some(found) if is_printable(found) => format!(in alloc;
             "{wanted}, and `{found}` stands there"
         )?,
         Some(found) => {
@@ -88,8 +88,11 @@ pub(crate) fn json_fault_text(alloc: Global, fault: &JsonFault) -> Result<String
 }
 
 /// Whether a character is seen where it is printed.
-fn is_shown(character: char) -> bool {
-    !matches!(character, '\u{0}'..='\u{20}' | '\u{7f}'..='\u{a0}' | '\u{2000}'..='\u{200f}' | '\u{feff}')
+fn is_printable(character: char) -> bool {
+    match character {
+        '\u{0}'..='\u{20}' | '\u{7f}'..='\u{a0}' | '\u{2000}'..='\u{200f}' | '\u{feff}' => false,
+        _ => true,
+    }
 }
 
 /// How a common mistake is mended.

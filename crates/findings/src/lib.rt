@@ -2,6 +2,7 @@
 #![tactic(auto)]
 
 mod answer;
+mod broken_json;
 mod call_check;
 mod change_check;
 mod field_fault;
@@ -9,11 +10,13 @@ mod finding;
 mod found;
 mod hidden;
 mod json_fault;
+mod json_lexeme;
 mod json_outline;
 mod line_hints;
 mod line_text;
 mod never;
 mod payload_fields;
+mod payload_objects;
 mod printed_check;
 mod profile_check;
 mod refused_answer;
@@ -21,7 +24,6 @@ mod report;
 mod script_check;
 mod sent_check;
 mod sentences;
-mod shown;
 mod similar;
 mod site_check;
 mod site_fields;
@@ -30,6 +32,7 @@ mod standing_check;
 mod text_check;
 mod text_place;
 mod together;
+mod words;
 mod zone_check;
 
 pub use change_check::{Change, check_change};

@@ -3,8 +3,8 @@
 use crate::line_text::utf8_of;
 use crate::report::Report;
 use crate::sentences::line_sentence;
-use crate::shown::shown;
 use crate::similar::{is_similar, similar_name};
+use crate::words::excerpt;
 use ocpp_scalars::{InstantFault, read_instant};
 use replay::LineFault;
 use site_rules::Site;
@@ -33,14 +33,14 @@ pub(crate) fn mistake_message(
         LineFault::BadLine => {
             let hint = form_hint(alloc, text)?;
             let rule = line_sentence(fault);
-            let text = shown(alloc, text)?;
+            let text = excerpt(alloc, text)?;
             format!(in alloc; "{fault}: {hint}; {rule}: {text}")
         }
         LineFault::BadInstant => bad_instant(alloc, word_at(text, 0)),
         LineFault::UnknownPoint => {
             let id = word_at(text, 2);
             let hint = point_hint(report, site, id)?;
-            let id = shown(alloc, id)?;
+            let id = excerpt(alloc, id)?;
             format!(in alloc; "{fault}: the site has no point \"{id}\"{hint}")
         }
         LineFault::NotComposite | LineFault::UnknownRequest => {
@@ -63,7 +63,7 @@ fn bad_instant(alloc: Global, word: &str) -> Result<String, AllocError> {
     };
     let fault = LineFault::BadInstant;
     let rule = line_sentence(fault);
-    let word = shown(alloc, word)?;
+    let word = excerpt(alloc, word)?;
     format!(in alloc; "{fault}: \"{word}\" {hint}; {rule}")
 }
 
@@ -81,7 +81,7 @@ fn form_hint(alloc: Global, text: &str) -> Result<String, AllocError> {
     if WORDS.contains(&word) {
         return String::from_str(alloc, words_hint(word));
     }
-    let found = shown(alloc, word)?;
+    let found = excerpt(alloc, word)?;
     match similar_name(alloc, word, &WORDS)? {
         Some(meant) => {
             format!(in alloc; "the second word is \"{found}\"; \"{meant}\" is probably meant")

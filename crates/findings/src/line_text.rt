@@ -17,6 +17,16 @@ pub(crate) enum Sender {
     Hold,
 }
 
+impl Sender {
+    /// Whose text it is.
+    pub(crate) fn side(self) -> Side {
+        match self {
+            Sender::Operator | Sender::Hold => Side::Operator,
+            Sender::Point => Side::Point,
+        }
+    }
+}
+
 /// A text that a line brings, and what came of it.
 #[derive(Clone, Copy)]
 pub(crate) struct LineText<'a> {

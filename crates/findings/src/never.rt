@@ -1,9 +1,9 @@
 //! Whether a charging profile never has a rate, and why.
 
-ghost use Rattle.std.specs.Prelude.{◌≡◌, IsTrue, OnSome};
-ghost use Rattle.findings.specs.NeverRated.{IsNeverRated, HasNoPeriodBefore};
+ghost use Rattle.std.specs.Prelude.{◌≡◌, IsTrue, OnSome, Some};
+ghost use Rattle.findings.specs.NeverRated.{IsNeverRated, HasNoPeriodBefore, why_never_rated, has_empty_validity, is_valid_before_start, is_valid_after_end, has_no_duration, has_periods_past_duration, has_periods_past_recurrence, start_past};
 
-use profile::{Kind, Profile};
+use profile::{Kind, Period, Profile};
 
 /// Why a profile has a rate at no second, whatever it counts its seconds from.
 #[derive(Clone, Copy, Debug, PartialEq, Eq)]
@@ -22,9 +22,11 @@ pub enum NeverRated {
     PeriodsPastRecurrence,
 }
 
-/// Why a profile never has a rate, if one of the causes of [`NeverRated`] holds.
+/// Why a profile never has a rate: the first of the causes of [`NeverRated`] that holds, if one
+/// does.
 pub fn never_rated(profile: &Profile) -> Option<NeverRated>
-    ensures { OnSome result (IsNeverRated profile.now) }
+    ensures cause { result ≡ why_never_rated profile.now }
+    ensures never { OnSome result (IsNeverRated profile.now) }
 {
     if has_empty_validity(profile) {
         return Some(NeverRated::EmptyValidity);
@@ -35,27 +37,22 @@ pub fn never_rated(profile: &Profile) -> Option<NeverRated>
     if is_valid_after_end(profile) {
         return Some(NeverRated::ValidAfterEnd);
     }
-    if has_no_period_in_duration(profile) {
-        return Some(cause_of_duration(profile));
+    if has_no_duration(profile) {
+        return Some(NeverRated::NoDuration);
     }
-    if has_no_period_in_recurrence(profile) {
+    if has_periods_past_duration(profile) {
+        return Some(NeverRated::PeriodsPastDuration);
+    }
+    if has_periods_past_recurrence(profile) {
         return Some(NeverRated::PeriodsPastRecurrence);
     }
     None
 }
 
-/// Which of the two causes it is where no period starts within the duration.
-fn cause_of_duration(profile: &Profile) -> NeverRated {
-    if profile.schedule.duration == Some(0) {
-        NeverRated::NoDuration
-    } else {
-        NeverRated::PeriodsPastDuration
-    }
-}
-
 /// Whether validTo isn't after validFrom.
 fn has_empty_validity(profile: &Profile) -> bool
-    ensures { IsTrue result → IsNeverRated profile.now }
+    ensures exact { result ≡ has_empty_validity profile.now }
+    ensures never { IsTrue result → IsNeverRated profile.now }
 {
     match (profile.valid_from, profile.valid_to) {
         (Some(from), Some(to)) => to <= from,
@@ -65,7 +62,8 @@ fn has_empty_validity(profile: &Profile) -> bool
 
 /// Whether validTo isn't after startSchedule.
 fn is_valid_before_start(profile: &Profile) -> bool
-    ensures { IsTrue result → IsNeverRated profile.now }
+    ensures exact { result ≡ is_valid_before_start profile.now }
+    ensures never { IsTrue result → IsNeverRated profile.now }
 {
     match (profile.schedule.start, profile.valid_to) {
         (Some(start), Some(to)) => to <= start,
@@ -75,7 +73,8 @@ fn is_valid_before_start(profile: &Profile) -> bool
 
 /// Whether an Absolute schedule is over before the profile becomes valid.
 fn is_valid_after_end(profile: &Profile) -> bool
-    ensures { IsTrue result → IsNeverRated profile.now }
+    ensures exact { result ≡ is_valid_after_end profile.now }
+    ensures never { IsTrue result → IsNeverRated profile.now }
 {
     let (Some(start), Some(duration), Some(from)) = (
         profile.schedule.start,
@@ -92,32 +91,49 @@ fn is_valid_after_end(profile: &Profile) -> bool
     }
 }
 
-/// Whether no period starts within the duration.
-fn has_no_period_in_duration(profile: &Profile) -> bool
-    ensures { IsTrue result → IsNeverRated profile.now }
+/// Whether the duration is 0.
+fn has_no_duration(profile: &Profile) -> bool
+    ensures exact { result ≡ has_no_duration profile.now }
+    ensures never { IsTrue result → IsNeverRated profile.now }
 {
     match profile.schedule.duration {
-        Some(duration) => has_no_period_before(profile, u64::from(duration)),
+        Some(duration) => duration == 0,
+        None => false,
+    }
+}
+
+/// Whether no period starts within the duration.
+fn has_periods_past_duration(profile: &Profile) -> bool
+    ensures exact { result ≡ has_periods_past_duration profile.now }
+    ensures never { IsTrue result → IsNeverRated profile.now }
+{
+    match profile.schedule.duration {
+        Some(duration) => start_past(profile, u64::from(duration)),
         None => false,
     }
 }
 
 /// Whether no period starts within the day or the week of a Recurring schedule.
-fn has_no_period_in_recurrence(profile: &Profile) -> bool
-    ensures { IsTrue result → IsNeverRated profile.now }
+fn has_periods_past_recurrence(profile: &Profile) -> bool
+    ensures exact { result ≡ has_periods_past_recurrence profile.now }
+    ensures never { IsTrue result → IsNeverRated profile.now }
 {
     match profile.kind {
-        Kind::Recurring(recurrency) => has_no_period_before(profile, recurrency.length()),
+        Kind::Recurring(recurrency) => start_past(profile, recurrency.length()),
         Kind::Absolute | Kind::Relative => false,
     }
 }
 
-/// Whether no period has begun at any offset before this one, in seconds.
-fn has_no_period_before(profile: &Profile, end: u64) -> bool
-    ensures { IsTrue result → HasNoPeriodBefore profile.now end }
+/// Whether each period starts at this offset or later, in seconds.
+fn start_past(profile: &Profile, end: u64) -> bool
+    ensures exact { result ≡ start_past profile.now.schedule.periods (Some end) }
+    ensures before { IsTrue result → HasNoPeriodBefore profile.now end }
 {
-    if end == 0 {
-        return true;
-    }
-    profile.schedule.periods.limit_in_force(end - 1).is_none()
+    start_from(profile.schedule.periods.as_slice(), end)
+}
+
+fn start_from(periods: &[Period], end: u64) -> bool
+    ensures { result ≡ start_past periods.now (Some end) }
+{
+    periods.iter().all(|period| end <= u64::from(period.start))
 }

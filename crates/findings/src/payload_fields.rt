@@ -1,68 +1,45 @@
 //! Fields of an operator's payload that nothing looks at, and those that stand there twice.
 
 use crate::json_outline::{Label, Outline, Part};
+use crate::payload_objects::row_named;
 use crate::site_fields::text_of;
-use messages::ActionKind;
+use messages::{ActionKind, FieldKind, FieldRow, fields_in, fields_of};
 use std::alloc::{AllocError, Global};
 
 /// The most fields of a text that are told.
 const MAX_TOLD: usize = 20;
 
-/// An object of a payload, or a list of objects.
-#[derive(Clone, Copy, Debug, PartialEq, Eq)]
-pub(crate) enum PayloadPart {
-    Payload(ActionKind),
-    Profile,
-    Schedule,
-    PeriodList,
-    Period,
+/// An object of a payload, or a list of objects, with the fields that are looked at in each of
+/// them.
+#[derive(Clone, Copy)]
+enum PayloadPart {
+    Object(&'static [FieldRow]),
+    List(&'static [FieldRow]),
 }
 
 impl PayloadPart {
     /// The fields that are looked at in it.
-    pub(crate) fn fields(self) -> &'static [&'static str] {
+    fn fields(self) -> &'static [FieldRow] {
         match self {
-            PayloadPart::Payload(ActionKind::SetChargingProfile) => {
-                &["connectorId", "csChargingProfiles"]
-            }
-            PayloadPart::Payload(ActionKind::ClearChargingProfile) => {
-                &["id", "connectorId", "chargingProfilePurpose", "stackLevel"]
-            }
-            PayloadPart::Payload(ActionKind::GetCompositeSchedule) => {
-                &["connectorId", "duration", "chargingRateUnit"]
-            }
-            PayloadPart::Payload(_) | PayloadPart::PeriodList => &[],
-            PayloadPart::Profile => &[
-                "chargingProfileId",
-                "transactionId",
-                "stackLevel",
-                "chargingProfilePurpose",
-                "chargingProfileKind",
-                "recurrencyKind",
-                "validFrom",
-                "validTo",
-                "chargingSchedule",
-            ],
-            PayloadPart::Schedule => &[
-                "duration",
-                "startSchedule",
-                "chargingRateUnit",
-                "chargingSchedulePeriod",
-                "minChargingRate",
-            ],
-            PayloadPart::Period => &["startPeriod", "limit", "numberPhases"],
+            PayloadPart::Object(fields) => fields,
+            PayloadPart::List(_) => &[],
         }
     }
 
     /// What its member of this name is.
     fn member(self, name: &str) -> Option<PayloadPart> {
-        match (self, name) {
-            (PayloadPart::Payload(ActionKind::SetChargingProfile), "csChargingProfiles") => {
-                Some(PayloadPart::Profile)
-            }
-            (PayloadPart::Profile, "chargingSchedule") => Some(PayloadPart::Schedule),
-            (PayloadPart::Schedule, "chargingSchedulePeriod") => Some(PayloadPart::PeriodList),
+        match row_named(self.fields(), name)?.kind() {
+            FieldKind::Object(kind) => Some(PayloadPart::Object(fields_in(kind))),
+            FieldKind::Objects(kind) => Some(PayloadPart::List(fields_in(kind))),
             _ => None,
+        }
+    }
+
+    /// What an entry of it is.
+    fn entry(self) -> Option<PayloadPart> {
+        match self {
+            PayloadPart::List(fields) => Some(PayloadPart::Object(fields)),
+            PayloadPart::Object(_) => None,
         }
     }
 }
@@ -70,7 +47,8 @@ impl PayloadPart {
 /// A field that nothing looks at.
 #[derive(Clone, Copy)]
 pub(crate) struct UnknownField<'text> {
-    pub part: PayloadPart,
+    /// The fields that are looked at in its object.
+    pub fields: &'static [FieldRow],
     pub name: &'text str,
 }
 
@@ -85,11 +63,14 @@ pub(crate) fn unknown_payload_fields<'text>(
     let mut unknown = Vec::new(alloc);
     for part in &outline.parts {
         match (owner_of(&known, part), name_of(text, part)) {
-            (Some(owner), Some(name)) if !owner.fields().contains(&name) => {
+            (Some(owner), Some(name)) if row_named(owner.fields(), name).is_none() => {
                 if unknown.len() >= MAX_TOLD {
                     break;
                 }
-                unknown.push(UnknownField { part: owner, name })?;
+                unknown.push(UnknownField {
+                    fields: owner.fields(),
+                    name,
+                })?;
             }
             _ => {}
         }
@@ -108,7 +89,7 @@ pub(crate) fn repeated_payload_fields<'text>(
     let mut repeated = Vec::new(alloc);
     for (index, part) in outline.parts.iter().enumerate() {
         match (owner_of(&known, part), name_of(text, part)) {
-            (Some(owner), Some(name)) if owner.fields().contains(&name) => {
+            (Some(owner), Some(name)) if row_named(owner.fields(), name).is_some() => {
                 if repeated.len() >= MAX_TOLD {
                     break;
                 }
@@ -186,8 +167,10 @@ fn part_of(
 ) -> Option<PayloadPart> {
     match (part.label, owner) {
         (Label::Member(_), Some(owner)) => owner.member(name_of(text, part)?),
-        (Label::Entry(_), Some(PayloadPart::PeriodList)) => Some(PayloadPart::Period),
-        (Label::Entry(3), None) if is_root(outline, part) => Some(PayloadPart::Payload(kind)),
+        (Label::Entry(_), Some(owner)) => owner.entry(),
+        (Label::Entry(3), None) if is_root(outline, part) => {
+            Some(PayloadPart::Object(fields_of(kind)))
+        }
         _ => None,
     }
 }

@@ -21,8 +21,9 @@ pub(crate) fn depends_on_state(refusal: Refusal) -> bool {
     )
 }
 
-/// What is wrong by what a replay prints at the line of this number, beside what `check_script` finds in the
-/// line itself: the refusals that depend on the point's state, and clears that match nothing.
+/// What is wrong by what a replay prints at the line of this number, beside what `check_script`
+/// finds in the line itself: the refusals that depend on the point's state, and clears that match
+/// nothing.
 pub fn check_printed(
     alloc: Global,
     line: u64,

@@ -6,8 +6,8 @@ use crate::line_text::LineText;
 use crate::never::never_rated;
 use crate::report::Report;
 use crate::sentences::never_sentence;
+use crate::words::{instant_text, tenths_text};
 use ocpp_scalars::{Instant, Refusal};
-use page_parts::{instant_text, tenths_text};
 use profile::{Kind, Period, Profile, ProfileKind, ProfileParts, Purpose, Recurrency};
 use site_rules::{Site, SitePoint, admit};
 use std::alloc::{AllocError, Global};
@@ -44,7 +44,8 @@ pub(crate) fn check_install(
     warn_rates(report, text.moment, &profile)
 }
 
-/// What is said of an install's profile by itself, whose fields are right: nothing is known of the site or of the moment.
+/// What is said of an install's profile by itself, whose fields are right: nothing is known of the
+/// site or of the moment.
 pub(crate) fn check_sent_profile(
     report: &mut Report,
     parts: ProfileParts,
@@ -150,15 +151,16 @@ fn warn_ceiling(
     if !periods.iter().all(|period| period.limit > ceiling) {
         return Ok(());
     }
-    let ceiling = tenths_text(report.alloc, ceiling)?;
+    let ceiling = tenths_text(report.alloc, u64::from(ceiling))?;
     let message = format!(in report.alloc;
         "each limit of this profile is above the ceiling of the site file there, {ceiling}: it never lowers anything"
     )?;
     report.warn(message)
 }
 
-/// The highest ceiling that a profile could lower, in tenths: the point's for the whole point, else the lower
-/// of the point's and the connector's, of the highest connector where it stands for all of them.
+/// The highest ceiling that a profile could lower, in tenths: the point's for the whole point, else
+/// the lower of the point's and the connector's, of the highest connector where it stands for all
+/// of them.
 fn highest_ceiling(point: SitePoint<'_>, connector: u32, purpose: Purpose) -> u32 {
     if matches!(purpose, Purpose::ChargePointMaxProfile) {
         return point.ceiling;
@@ -257,8 +259,8 @@ fn warn_recurrence(
     }
 }
 
-/// That a Daily or Weekly profile sets no limit from one offset of its day or week to another: by the clock where that
-/// is known, and else in seconds.
+/// That a Daily or Weekly profile sets no limit from one offset of its day or week to another: by
+/// the clock where that is known, and else in seconds.
 fn warn_gap(
     report: &mut Report,
     profile: &Profile,

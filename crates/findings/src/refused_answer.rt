@@ -2,12 +2,12 @@
 
 use crate::answer::{Answer, answer_of, fault_of, refusal_of};
 use crate::sentences::{call_sentence, sentence};
-use crate::shown::shown;
+use crate::words::excerpt;
 use ocppj_frame::{FrameFault, ReadingMemory, read_tree};
 use std::alloc::{AllocError, Global};
 
-/// What an answer's refusal means: its name and its sentence, with the field that it is of where it has one.
-/// None where the answer refuses nothing, or by a name that isn't this system's.
+/// What an answer's refusal means: its name and its sentence, with the field that it is of where it
+/// has one. None where the answer refuses nothing, or by a name that isn't this system's.
 pub fn answer_sentence(alloc: Global, answer: &str) -> Result<Option<String>, AllocError> {
     let mut memory = ReadingMemory::new(alloc);
     match read_tree(&mut memory, answer) {
@@ -46,6 +46,6 @@ fn fault_sentence(alloc: Global, code: &str, field: &str) -> Result<Option<Strin
     if field.is_empty() {
         return Ok(Some(format!(in alloc; "{code}: {why}")?));
     }
-    let field = shown(alloc, field)?;
+    let field = excerpt(alloc, field)?;
     Ok(Some(format!(in alloc; "{code}: {field}: {why}")?))
 }

@@ -1,5 +1,9 @@
 //! What is wrong with an operator's text by itself, before it is sent.
 
+ghost use Rattle.std.specs.Prelude.{◌≡◌, ◌↔◌, IfOk, IsSome, None};
+ghost use Rattle.ocppj_frame.specs.Read.{tree_of_text};
+
+use crate::broken_json::break_of;
 use crate::call_check::{
     has_fields, has_no_criterion, refuse_action, unknown_fields, warn_of_clear, warn_repeated,
     warn_unknown,
@@ -7,7 +11,6 @@ use crate::call_check::{
 use crate::field_fault::field_fault_message;
 use crate::finding::{FaultName, Finding};
 use crate::json_fault::json_fault_text;
-use crate::json_outline::outline_of;
 use crate::profile_check::check_sent_profile;
 use crate::report::Report;
 use crate::text_check::why_dropped;
@@ -23,16 +26,16 @@ use std::alloc::{AllocError, Global};
 pub struct SentCheck {
     /// Why it is no CALL, where it isn't one.
     pub no_call: Option<String>,
-    /// What is wrong with its action, its fields and its profile by themselves; fields that count for nothing or
-    /// stand twice; and a clear that clears more than it seems to.
+    /// What is wrong with its action, its fields and its profile by themselves; fields that count
+    /// for nothing or stand twice; and a clear that clears more than it seems to.
     pub findings: Vec<Finding>,
-    /// Whether it is a ClearChargingProfile that would clear everything by mistake: its payload has fields, and
-    /// none of them is a criterion, since they are others or null.
+    /// Whether it is a ClearChargingProfile that would clear everything by mistake: its payload has
+    /// fields, and none of them is a criterion, since they are others or null.
     pub clears_by_mistake: bool,
 }
 
-/// Checks an operator's text by itself: nothing is known of the site, or of what the point has. A text that is no
-/// CALL has no findings.
+/// Checks an operator's text by itself: nothing is known of the site, or of what the point has. A
+/// text that is no CALL has no findings.
 pub fn check_sent(alloc: Global, text: &str) -> Result<SentCheck, AllocError> {
     let mut memory = ReadingMemory::new(alloc);
     match check_message(alloc, &mut memory, text)? {
@@ -64,7 +67,7 @@ fn check_frame(alloc: Global, text: &str, frame: Frame<'_>) -> Result<SentCheck,
             action,
             payload,
             ..
-        } => match operators_action(action.as_str()) {
+        } => match ActionKind::of_sender(Side::Operator, action.as_str()) {
             Some(kind) => check_fields(alloc, text, kind, payload.root()),
             None => no_operators_action(alloc, action.as_str()),
         },
@@ -76,8 +79,10 @@ fn check_frame(alloc: Global, text: &str, frame: Frame<'_>) -> Result<SentCheck,
 }
 
 /// Where the JSON of a text breaks, if it does: the line and the column, and what is wanted there.
-pub fn json_break(alloc: Global, text: &str) -> Result<Option<String>, AllocError> {
-    let Some(fault) = outline_of(alloc, text)?.fault else {
+pub fn json_break(alloc: Global, text: &str) -> Result<Option<String>, AllocError>
+    ensures { IfOk result (λ told. IsSome told ↔ (tree_of_text text.now ≡ None)) }
+{
+    let Some(fault) = break_of(alloc, text)? else {
         return Ok(None);
     };
     let place = place_in_text(text, fault.offset);
@@ -88,8 +93,7 @@ pub fn json_break(alloc: Global, text: &str) -> Result<Option<String>, AllocErro
 /// An action of this name is none of an operator's.
 fn no_operators_action(alloc: Global, name: &str) -> Result<SentCheck, AllocError> {
     let mut report = Report::new(alloc);
-    let is_known = ActionKind::named(name).is_some();
-    refuse_action(&mut report, Side::Operator, name, is_known)?;
+    refuse_action(&mut report, Side::Operator, name)?;
     Ok(SentCheck {
         no_call: None,
         findings: report.into_findings(),
@@ -104,15 +108,6 @@ fn nothing_said(alloc: Global, no_call: Option<String>) -> Result<SentCheck, All
         findings: Vec::new(alloc),
         clears_by_mistake: false,
     })
-}
-
-/// The action of a name, if it is an operator's.
-fn operators_action(name: &str) -> Option<ActionKind> {
-    let kind = ActionKind::named(name)?;
-    match kind.side() {
-        Side::Operator => Some(kind),
-        Side::Point => None,
-    }
 }
 
 /// Checks the fields of a CALL.

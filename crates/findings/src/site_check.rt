@@ -1,9 +1,10 @@
 //! All that is wrong with a site file.
 
+use crate::broken_json::first_break;
 use crate::finding::{FaultName, Finding, Place};
 use crate::found::{Wish, field_message, message_of, what_stands};
 use crate::json_fault::json_fault_text;
-use crate::json_outline::{Outline, outline_of};
+use crate::json_outline::outline_of;
 use crate::site_fields::{unknown_site_fields, warn_repeated_fields};
 use crate::site_point::{CheckedSite, KnownIds, check_point};
 use crate::text_place::place_in_text;
@@ -17,8 +18,9 @@ use std::alloc::{AllocError, Global};
 /// The most points of a site.
 const MAX_POINTS: usize = 1_000;
 
-/// All faults of a site file in the order in which they are checked, and then the warnings and remarks. The
-/// first fault is the one that `site_rules::read_site` names, and there is none where it reads a site.
+/// All faults of a site file in the order in which they are checked, and then the warnings and
+/// remarks. The first fault is the one that `site_rules::read_site` names, and there is none where
+/// it reads a site.
 pub fn check_site(alloc: Global, bytes: &[u8]) -> Result<Vec<Finding>, AllocError> {
     if bytes.len() > MAX_SITE_BYTES {
         return alone(alloc, too_large(alloc, bytes.len())?);
@@ -52,23 +54,18 @@ fn site_fault(place: Place, fault: SiteFault, message: String) -> Finding {
 
 /// Checks a site file that is UTF-8.
 fn check_site_text(alloc: Global, text: &str) -> Result<Vec<Finding>, AllocError> {
-    let outline = outline_of(alloc, text)?;
     let mut memory = ReadingMemory::new(alloc);
     match read_tree(&mut memory, text) {
-        Ok(tree) => check_tree(alloc, text, &outline, tree.root()),
+        Ok(tree) => check_tree(alloc, text, tree.root()),
         Err(FrameFault::OutOfMemory) => Err(AllocError),
-        Err(_) => alone(alloc, not_json(alloc, text, &outline)?),
+        Err(_) => alone(alloc, not_json(alloc, text)?),
     }
 }
 
 /// Checks the tree of a site file.
-fn check_tree(
-    alloc: Global,
-    text: &str,
-    outline: &Outline,
-    root: Node<'_, '_>,
-) -> Result<Vec<Finding>, AllocError> {
-    let names = unknown_site_fields(alloc, text, outline)?;
+fn check_tree(alloc: Global, text: &str, root: Node<'_, '_>) -> Result<Vec<Finding>, AllocError> {
+    let outline = outline_of(alloc, text)?;
+    let names = unknown_site_fields(alloc, text, &outline)?;
     let mut checked = CheckedSite {
         alloc,
         names: &names,
@@ -78,22 +75,15 @@ fn check_tree(
     check_root(&mut checked, root)?;
     let CheckedSite { mut findings, .. } = checked;
     names.warn(alloc, text, &mut findings)?;
-    warn_repeated_fields(alloc, text, outline, &mut findings)?;
+    warn_repeated_fields(alloc, text, &outline, &mut findings)?;
     Ok(findings)
 }
 
 /// Where the text breaks.
-fn not_json(alloc: Global, text: &str, outline: &Outline) -> Result<Finding, AllocError> {
-    match &outline.fault {
-        Some(fault) => {
-            let place = place_in_text(text, fault.offset);
-            Ok(site_fault(place, SiteFault::NotJson, json_fault_text(alloc, fault)?))
-        }
-        None => {
-            let message = String::from_str(alloc, "it isn't JSON")?;
-            Ok(site_fault(Place::File, SiteFault::NotJson, message))
-        }
-    }
+fn not_json(alloc: Global, text: &str) -> Result<Finding, AllocError> {
+    let fault = first_break(alloc, text)?;
+    let place = place_in_text(text, fault.offset);
+    Ok(site_fault(place, SiteFault::NotJson, json_fault_text(alloc, &fault)?))
 }
 
 /// Checks the object of a site file.

@@ -3,9 +3,9 @@
 use crate::finding::Finding;
 use crate::json_outline::{Label, Outline, Part, Span};
 use crate::payload_fields::stands_before;
-use crate::shown::shown;
 use crate::similar::similar_name;
 use crate::text_place::place_in_text;
+use crate::words::excerpt;
 use std::alloc::{AllocError, Global};
 
 /// The fields of a site.
@@ -113,7 +113,8 @@ fn owner_of(text: &str, outline: &Outline, object: usize) -> Option<Option<usize
     }
 }
 
-/// Warns of the fields of the site and of its points that stand twice in their object, a hundred at the most.
+/// Warns of the fields of the site and of its points that stand twice in their object, a hundred at
+/// the most.
 pub(crate) fn warn_repeated_fields(
     alloc: Global,
     text: &str,
@@ -137,7 +138,8 @@ pub(crate) fn warn_repeated_fields(
     Ok(())
 }
 
-/// The name of this part, and where it begins, if it is a field of the site or of a point and stands there again.
+/// The name of this part, and where it begins, if it is a field of the site or of a point and
+/// stands there again.
 fn repeated_field(
     text: &str,
     outline: &Outline,
@@ -206,7 +208,7 @@ pub(crate) fn unknown_message(
     name: &str,
     meant: Option<&str>,
 ) -> Result<String, AllocError> {
-    let name = shown(alloc, name)?;
+    let name = excerpt(alloc, name)?;
     match meant {
         Some(meant) => format!(in alloc;
             "\"{name}\" is no field that is looked at (\"{meant}\" is one)"

@@ -2,12 +2,11 @@
 
 use crate::finding::{FaultName, Finding, Place};
 use crate::found::{LIMIT, Wish, field_message, message_of, what_stands};
-use crate::shown::{shown, sum_text};
 use crate::site_fields::SiteNames;
+use crate::words::{excerpt, tenths_text};
 use indexmap::IndexMap;
 use ocpp_scalars::read_tenths;
 use ocppj_frame::{Entries, Field, Node, list_field, tenths_field, text_field};
-use page_parts::tenths_text;
 use site_rules::SiteFault;
 use std::alloc::{AllocError, Global};
 
@@ -86,7 +85,7 @@ impl PointFields<'_, '_> {
     /// Where it stands, with its identity where that is a text.
     fn place(self, alloc: Global) -> Result<Place, AllocError> {
         let id = match text_field(self.fields, "id") {
-            Field::Value(id) if !id.is_empty() => Some(shown(alloc, id)?),
+            Field::Value(id) if !id.is_empty() => Some(excerpt(alloc, id)?),
             _ => None,
         };
         Ok(Place::Point {
@@ -223,7 +222,8 @@ fn ceiling_of(entry: Node<'_, '_>) -> Option<u32> {
     }
 }
 
-/// The connectors of most points have more together than the point; it is worth a look all the same.
+/// The connectors of most points have more together than the point; it is worth a look all the
+/// same.
 fn remark_together(
     alloc: Global,
     point: PointFields<'_, '_>,
@@ -231,8 +231,8 @@ fn remark_together(
     together: u64,
 ) -> Result<Finding, AllocError> {
     let place = point.place(alloc)?;
-    let together = sum_text(alloc, together)?;
-    let ceiling = tenths_text(alloc, ceiling)?;
+    let together = tenths_text(alloc, together)?;
+    let ceiling = tenths_text(alloc, u64::from(ceiling))?;
     let message = format!(in alloc;
         "the connectors' ceilings are {together} together, more than the point's {ceiling}; each connector alone is bounded by the point's"
     )?;

@@ -2,17 +2,18 @@
 
 use crate::finding::{Finding, Place, Severity};
 use crate::hidden::is_hidden_everywhere;
-use crate::shown::sum_text;
 use crate::together::{Excess, worst_excess};
+use crate::words::{instant_text, tenths_text};
 use meaning::View;
-use page_parts::{instant_text, tenths_text, unit_name};
+use messages::unit_name;
 use point_book::PointBook;
 use profile::{Row, Unit};
 use std::alloc::{AllocError, Global};
 
-/// What is amiss with what the point of an identity has: TxDefaultProfiles for all connectors that each connector's
-/// own one hides, and where the schedules of connectors together go furthest beyond the ChargePointMaxProfile. Where no
-/// profile of a connector prevails there, so that the ceilings of the site file alone go beyond it, that is a remark.
+/// What is amiss with what the point of an identity has: TxDefaultProfiles for all connectors that
+/// each connector's own one hides, and where the schedules of connectors together go furthest
+/// beyond the ChargePointMaxProfile. Where no profile of a connector prevails there, so that the
+/// ceilings of the site file alone go beyond it, that is a remark.
 pub fn check_standing(
     alloc: Global,
     unit: Unit,
@@ -94,9 +95,9 @@ fn excess_message(alloc: Global, unit: Unit, excess: &Excess<'_>) -> Result<Stri
         "ceilings"
     };
     let unit = unit_name(unit);
-    let together = sum_text(alloc, excess.together)?;
+    let together = tenths_text(alloc, excess.together)?;
     let since = instant_text(alloc, excess.instant)?;
-    let limit = tenths_text(alloc, excess.limit)?;
+    let limit = tenths_text(alloc, u64::from(excess.limit))?;
     let id = excess.most.profile.id;
     format!(in alloc;
         "if all connectors charge, their {what} let them draw {together} {unit} together from {since} on, more than the {limit} {unit} of ChargePointMaxProfile {id}: nothing here divides that among them"

@@ -1,13 +1,13 @@
 //! What is wrong with a text that a line of a script brings, as a frame (OCPP-J 1.6, chapter 4).
 
+use crate::broken_json::first_break;
 use crate::call_check::{Call, check_call};
 use crate::finding::FaultName;
 use crate::json_fault::{JsonFault, json_fault_text};
-use crate::json_outline::outline_of;
 use crate::line_text::{LineText, Sender};
 use crate::report::Report;
 use crate::sentences::{call_sentence, line_sentence};
-use crate::shown::shown;
+use crate::words::excerpt;
 use messages::CallFault;
 use ocpp_scalars::character_count;
 use ocppj_frame::{
@@ -108,8 +108,8 @@ fn check_reply(
         return Ok(());
     };
     let alloc = report.alloc;
-    let id = shown(alloc, id)?;
-    let status = shown(alloc, status)?;
+    let id = excerpt(alloc, id)?;
+    let status = excerpt(alloc, status)?;
     let message = format!(in alloc;
         "the point answers call \"{id}\" with {status}: the central system keeps what the call is of, so its schedules say more than the point does"
     )?;
@@ -124,7 +124,7 @@ pub(crate) fn not_composite(
 ) -> Result<(), AllocError> {
     let fault = LineFault::NotComposite;
     let rule = line_sentence(fault);
-    let frame = shown(report.alloc, text.frame)?;
+    let frame = excerpt(report.alloc, text.frame)?;
     let message = format!(in report.alloc; "{fault}: {rule}, and {why}: {frame}")?;
     report.fault(FaultName::Line(fault), message)
 }
@@ -135,7 +135,7 @@ fn check_malformed(report: &mut Report, text: &LineText<'_>) -> Result<(), Alloc
         return not_composite(report, text, "it is malformed");
     }
     let sentence = call_sentence(CallFault::FormationViolation);
-    let frame = shown(report.alloc, text.frame)?;
+    let frame = excerpt(report.alloc, text.frame)?;
     let message = format!(in report.alloc; "FormationViolation: {sentence}: {frame}")?;
     report.fault(FaultName::Call(CallFault::FormationViolation), message)
 }
@@ -151,7 +151,7 @@ fn check_dropped(
     if text.sender == Sender::Hold {
         return not_composite(report, text, why.as_str());
     }
-    let frame = shown(report.alloc, text.frame)?;
+    let frame = excerpt(report.alloc, text.frame)?;
     let message = format!(in report.alloc;
         "the text is no message and is dropped without a word: {why}: {frame}"
     )?;
@@ -168,10 +168,7 @@ pub(crate) fn why_dropped(
     match read_tree(memory, frame) {
         Ok(tree) => String::from_str(alloc, why_no_message(tree.root())),
         Err(FrameFault::OutOfMemory) => Err(AllocError),
-        Err(_) => match outline_of(alloc, frame)?.fault {
-            Some(fault) => broken_at(alloc, frame, before, &fault),
-            None => String::from_str(alloc, "it isn't JSON"),
-        },
+        Err(_) => broken_at(alloc, frame, before, &first_break(alloc, frame)?),
     }
 }
 

@@ -19,7 +19,8 @@ pub(crate) struct Excess<'a> {
     /// The ChargePointMaxProfile that prevails, and its limit in tenths.
     pub most: &'a Row,
     pub limit: u32,
-    /// Whether a profile of a connector has a part in it, and not the ceilings of the site file alone.
+    /// Whether a profile of a connector has a part in it, and not the ceilings of the site file
+    /// alone.
     pub is_scheduled: bool,
 }
 
@@ -63,8 +64,9 @@ struct Week<'a> {
     duration: u32,
 }
 
-/// Where the schedules of the connectors together say most beyond the prevailing ChargePointMaxProfile (chapter 3.13),
-/// and of several such instants the first. A week from the last install on is looked at.
+/// Where the schedules of the connectors together say most beyond the prevailing
+/// ChargePointMaxProfile (chapter 3.13), and of several such instants the first. A week from the
+/// last install on is looked at.
 pub(crate) fn worst_excess(
     alloc: Global,
     book: &PointBook,
@@ -82,7 +84,8 @@ pub(crate) fn worst_excess(
     Ok(excess_of(&week, overrun))
 }
 
-/// The week from the last moment on at which a profile was installed, where one is a ChargePointMaxProfile.
+/// The week from the last moment on at which a profile was installed, where one is a
+/// ChargePointMaxProfile.
 fn week_of(book: &PointBook) -> Option<Week<'_>> {
     let mut last = None;
     let mut is_bounded = false;
@@ -126,7 +129,8 @@ fn later_by(asked: Instant, second: u32) -> Option<Instant> {
     Instant::try_new(asked.seconds().saturating_add(u64::from(second)))
 }
 
-/// The ChargePointMaxProfile that prevails at an instant: of those with a limit the one of the highest level.
+/// The ChargePointMaxProfile that prevails at an instant: of those with a limit the one of the
+/// highest level.
 fn most_at(book: &PointBook, asked: Instant, instant: Instant) -> Option<Most<'_>> {
     for row in book.candidates(Purpose::ChargePointMaxProfile, 0) {
         if let Some(limit) = rate_at(&row.profile, row.base(None, asked), instant) {
@@ -149,7 +153,8 @@ fn next_most_turn(week: &Week<'_>, instant: Instant) -> Option<u32> {
     u32::try_from(second).ok()
 }
 
-/// Appends where the limits of connectors turn. Those of connectors that are alike turn together, and are found once.
+/// Appends where the limits of connectors turn. Those of connectors that are alike turn together,
+/// and are found once.
 fn push_limit_turns<'a>(
     alloc: Global,
     turns: &mut Vec<WeekTurn<'a>>,
@@ -187,8 +192,9 @@ fn count_alike(view: &View<'_>, connector: u32) -> u64 {
     count
 }
 
-/// Whether the limits of two connectors are the same: it is one connector, or they have the same ceiling, transactions
-/// that began at the same moment or none, and neither has a profile of its own.
+/// Whether the limits of two connectors are the same: it is one connector, or they have the same
+/// ceiling, transactions that began at the same moment or none, and neither has a profile of its
+/// own.
 fn are_alike(view: &View<'_>, one: u32, other: u32) -> bool {
     if one == other {
         return true;

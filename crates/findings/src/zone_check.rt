@@ -1,24 +1,43 @@
-//! Instants of a profile that have no zone, and so count as UTC.
+//! Instants of an operator's payload that have no zone, and so count as UTC.
 
+use crate::payload_objects::{MAX_DEPTH, PayloadObject};
 use crate::report::Report;
-use ocppj_frame::{Field, Node, object_field, text_field};
+use messages::{FieldKind, FieldRow};
+use ocppj_frame::{Field, text_field};
 use std::alloc::AllocError;
 
-/// Remarks on the instants of a SetChargingProfile's payload without a zone.
-pub(crate) fn remark_unzoned(report: &mut Report, payload: Node<'_, '_>) -> Result<(), AllocError> {
-    let Field::Value(profile) = object_field(payload, "csChargingProfiles") else {
-        return Ok(());
-    };
-    remark_field(report, profile, "validFrom")?;
-    remark_field(report, profile, "validTo")?;
-    match object_field(profile, "chargingSchedule") {
-        Field::Value(schedule) => remark_field(report, schedule, "startSchedule"),
-        _ => Ok(()),
+/// Remarks on the instants of a payload without a zone.
+pub(crate) fn remark_unzoned(
+    report: &mut Report,
+    payload: PayloadObject<'_, '_>,
+) -> Result<(), AllocError> {
+    let mut object = payload;
+    for _ in 0..=MAX_DEPTH {
+        remark_fields(report, object)?;
+        match object.inner() {
+            Some((_, inner)) => object = inner,
+            None => break,
+        }
     }
+    Ok(())
 }
 
-fn remark_field(report: &mut Report, owner: Node<'_, '_>, name: &str) -> Result<(), AllocError> {
-    match text_field(owner, name) {
+fn remark_fields(report: &mut Report, object: PayloadObject<'_, '_>) -> Result<(), AllocError> {
+    for row in object.fields {
+        if row.kind() == FieldKind::Time {
+            remark_field(report, object, *row)?;
+        }
+    }
+    Ok(())
+}
+
+fn remark_field(
+    report: &mut Report,
+    object: PayloadObject<'_, '_>,
+    row: FieldRow,
+) -> Result<(), AllocError> {
+    let name = row.name().text();
+    match text_field(object.node, name) {
         Field::Value(text) if !has_zone(text) => {
             let message = format!(in report.alloc; "{name} has no zone and counts as UTC")?;
             report.remark_at(report.line(), message)

@@ -1,9 +1,8 @@
-//! What stands at each charge point after the lines of a script, as tables for people and as JSON; what each line
-//! printed; and what was left undone at the end of a script, in sentences.
+//! What stands at each charge point after the lines of a script, as tables for people and as JSON;
+//! what each line printed; and what was left undone at the end of a script, in sentences.
 #![tactic(auto)]
 
 mod call_of_point;
-mod call_words;
 mod ending;
 mod json_standing;
 mod profile_words;

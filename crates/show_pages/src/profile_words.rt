@@ -1,8 +1,8 @@
 //! What a table says of a profile.
 
-use crate::words::{seconds_text, text};
+use crate::words::{instant_text, seconds_text, tenths_text, text};
+use messages::{kind_name, recurrency_name, unit_name};
 use ocpp_scalars::Instant;
-use page_parts::{instant_text, kind_name, recurrency_name, tenths_text, unit_name};
 use profile::{Kind, Profile, Purpose, Row};
 use std::alloc::{AllocError, Global};
 
@@ -18,8 +18,8 @@ pub fn kind_text(alloc: Global, kind: Kind) -> Result<String, AllocError> {
     }
 }
 
-/// From when on a row counts: the later of validFrom and the start of its schedule. `started` is the start of the active
-/// transaction at the row's connector.
+/// From when on a row counts: the later of validFrom and the start of its schedule. `started` is
+/// the start of the active transaction at the row's connector.
 pub fn from_text(alloc: Global, row: &Row, started: Option<Instant>) -> Result<String, AllocError> {
     match (start_of(row, started), row.profile.valid_from) {
         (Some(start), Some(from)) => instant_text(alloc, start.max(from)),
@@ -32,8 +32,8 @@ pub fn from_text(alloc: Global, row: &Row, started: Option<Instant>) -> Result<S
     }
 }
 
-/// Where a row's schedule starts: at its startSchedule, or where it has none, a ChargePointMaxProfile at its install and
-/// any other at the start of a transaction.
+/// Where a row's schedule starts: at its startSchedule, or where it has none, a
+/// ChargePointMaxProfile at its install and any other at the start of a transaction.
 fn start_of(row: &Row, started: Option<Instant>) -> Option<Instant> {
     match (row.profile.schedule.start, row.profile.purpose) {
         (Some(start), _) => Some(start),
@@ -42,7 +42,8 @@ fn start_of(row: &Row, started: Option<Instant>) -> Option<Instant> {
     }
 }
 
-/// Until when a row counts: validTo, or the end of a schedule that doesn't recur, whichever comes first.
+/// Until when a row counts: validTo, or the end of a schedule that doesn't recur, whichever comes
+/// first.
 pub fn until_text(
     alloc: Global,
     row: &Row,

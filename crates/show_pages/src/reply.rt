@@ -3,8 +3,8 @@
 use ocppj_frame::{Field, Frame, FrameFault, Payload, ReadingMemory, read_frame, text_field};
 use std::alloc::{AllocError, Global};
 
-/// Why a call wasn't done, in the point's words: the status of its reply, or `CALLERROR`. `None` where the text is no
-/// such reply.
+/// Why a call wasn't done, in the point's words: the status of its reply, or `CALLERROR`. `None`
+/// where the text is no such reply.
 pub fn rejection_in(
     alloc: Global,
     memory: &mut ReadingMemory,
@@ -18,8 +18,8 @@ pub fn rejection_in(
     }
 }
 
-/// The status of a reply, where it is `Rejected` or `NotSupported` (chapter 7, ChargingProfileStatus). That no profile
-/// matched, `Unknown`, leaves nothing undone.
+/// The status of a reply, where it is `Rejected` or `NotSupported` (chapter 7,
+/// ChargingProfileStatus). That no profile matched, `Unknown`, leaves nothing undone.
 fn status_of_rejection(alloc: Global, payload: &Payload<'_>) -> Result<Option<String>, AllocError> {
     match text_field(payload.root(), "status") {
         Field::Value(status) if status == "Rejected" || status == "NotSupported" => {

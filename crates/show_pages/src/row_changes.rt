@@ -38,7 +38,8 @@ impl PointRows {
         }
     }
 
-    /// Takes in the rows that the point has now. Returns what came and what is gone, where something changed.
+    /// Takes in the rows that the point has now. Returns what came and what is gone, where
+    /// something changed.
     pub(crate) fn follow(
         &mut self,
         alloc: Global,

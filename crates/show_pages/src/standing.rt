@@ -1,20 +1,20 @@
 //! What stands at each charge point, as tables for people.
 
 use crate::call_of_point::{WaitingCall, waiting_calls};
-use crate::call_words::{action_name, profiles_text};
 use crate::profile_words::{from_text, kind_text, periods_text, until_text};
 use crate::table::Table;
 use crate::trace::Trace;
 use crate::traced_calls::RejectedCall;
-use crate::words::text;
-use page_parts::{instant_text, purpose_name};
+use crate::words::{instant_text, text};
+use messages::{CallBody, purpose_name, push_subject};
 use point_book::PointBook;
 use replay::Playing;
 use site_core::{Machine, Outbox};
 use std::alloc::{AllocError, Global};
 
-/// What stands at each point after a script, in the order of the site file, and which requests are held: profiles,
-/// transactions, the calls that wait and those that the point rejected. A point with nothing has one line.
+/// What stands at each point after a script, in the order of the site file, and which requests are
+/// held: profiles, transactions, the calls that wait and those that the point rejected. A point
+/// with nothing has one line.
 pub fn standing_text(alloc: Global, trace: &Trace<'_>) -> Result<String, AllocError> {
     let playing = trace.playing();
     let machine = playing.machine();
@@ -84,7 +84,8 @@ fn push_rejected(
     table.push_to(out, 4)
 }
 
-/// Appends the one line of a point with neither profiles nor transactions, and one call that waits at the most.
+/// Appends the one line of a point with neither profiles nor transactions, and one call that waits
+/// at the most.
 fn push_empty_point(
     alloc: Global,
     out: &mut String,
@@ -96,7 +97,7 @@ fn push_empty_point(
     write!(out, "{id}: no profile, no transaction; {calls_line}")?;
     if let Some(waiting) = calls.first() {
         let number = waiting.call.number;
-        let action = action_name(&waiting.call.body);
+        let action = waiting.call.body.action();
         let state = state_name(waiting);
         write!(out, " (call {number}, {action}, {state})")?;
     }
@@ -180,12 +181,19 @@ fn call_table(alloc: Global, calls: &[WaitingCall]) -> Result<Table, AllocError>
     for waiting in calls {
         table.push([
             waiting.call.number.to_string(alloc)?,
-            text(alloc, action_name(&waiting.call.body))?,
-            profiles_text(alloc, &waiting.call.body)?,
+            text(alloc, waiting.call.body.action())?,
+            subject_text(alloc, &waiting.call.body)?,
             text(alloc, state_name(waiting))?,
         ])?;
     }
     Ok(table)
+}
+
+/// Which profiles a call is about.
+fn subject_text(alloc: Global, body: &CallBody) -> Result<String, AllocError> {
+    let mut out = String::new(alloc);
+    push_subject(&mut out, body)?;
+    Ok(out)
 }
 
 /// Whether a call went out.

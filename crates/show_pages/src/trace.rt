@@ -49,7 +49,8 @@ pub struct HeldLine {
     pub point: String,
 }
 
-/// A script that is played, with what became of the calls to each point and, if wanted, what each line printed.
+/// A script that is played, with what became of the calls to each point and, if wanted, what each
+/// line printed.
 #[derive(Drop)]
 pub struct Trace<'a> {
     alloc: Global,
@@ -194,23 +195,22 @@ impl<'a> Trace<'a> {
             return Ok(());
         }
         let machine = self.playing.machine();
-        let Some(place) = machine.site().place_of(sent.point()) else {
+        let (Some(place), Some(outbox)) = (
+            machine.site().place_of(sent.point()),
+            machine.outbox_of(sent.point()),
+        ) else {
             return Ok(());
         };
+        let next_call = outbox.first_number().saturating_add(outbox.len() as u64);
         let Some(calls) = self.points.get_mut(place) else {
             return Ok(());
         };
-        match change {
-            PointChange::Nothing => Ok(()),
-            PointChange::Confirmed => {
-                calls.confirmed(self.alloc, &mut self.memory, played.number, sent.frame())
-            }
-            PointChange::Profiles => {
-                calls.added(played.number)?;
-                self.follow_rows(place, sent, played.number)
-            }
-            PointChange::Transaction => self.follow_rows(place, sent, played.number),
+        if change == PointChange::Confirmed {
+            return calls.confirmed(self.alloc, &mut self.memory, played.number, sent.frame());
         }
+        // Whatever the line changed, the point tells its calls and profiles.
+        calls.added(next_call, played.number)?;
+        self.follow_rows(place, sent, played.number)
     }
 
     /// Takes in which profiles came to the point at a place and which are gone.

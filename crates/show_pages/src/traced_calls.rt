@@ -1,8 +1,7 @@
 //! What became of a charge point's calls, line after line.
 
-use crate::call_words::{action_name, profiles_text};
 use crate::reply::rejection_in;
-use messages::Call;
+use messages::{Call, push_subject};
 use ocppj_frame::ReadingMemory;
 use std::alloc::{AllocError, Global};
 
@@ -63,23 +62,24 @@ impl PointCalls {
         })
     }
 
-    /// The line of this number added a call.
-    pub(crate) fn added(&mut self, line: u64) -> Result<(), AllocError> {
-        let number = self.count;
-        self.count = number.saturating_add(1);
-        self.waiting.push(AddedCall {
-            number,
-            line: Some(line),
-        })?;
+    /// The line of this number added the calls that come before the next number.
+    pub(crate) fn added(&mut self, next: u64, line: u64) -> Result<(), AllocError> {
+        for number in self.count..next {
+            self.waiting.push(AddedCall {
+                number,
+                line: Some(line),
+            })?;
+        }
+        self.count = self.count.max(next);
         Ok(())
     }
 
     /// A call went out behind the line of this number.
     pub(crate) fn sent(&mut self, alloc: Global, call: &Call, line: u64) -> Result<(), AllocError> {
         let number = call.number;
-        let action = action_name(&call.body);
-        let profiles = profiles_text(alloc, &call.body)?;
-        let what = format!(in alloc; "{action}, {profiles}")?;
+        let action = call.body.action();
+        let mut what = format!(in alloc; "{action}, ")?;
+        push_subject(&mut what, &call.body)?;
         self.in_flight = Some(SentCall { number, what, line });
         self.waiting.retain(|added| added.number > number);
         Ok(())

@@ -1,5 +1,6 @@
-//! Small texts: numbers, lengths of time and cut texts.
+//! Small texts: instants, limits, numbers, lengths of time and cut texts.
 
+use ocpp_scalars::{Instant, push_instant, push_tenths};
 use std::alloc::{AllocError, Global};
 
 /// A copy of a text.
@@ -7,7 +8,21 @@ pub fn text(alloc: Global, text: &str) -> Result<String, AllocError> {
     String::from_str(alloc, text)
 }
 
-/// So many seconds in the largest unit that says them exactly, as `8 h`.
+/// An instant, as `2025-01-31T18:00:00Z`.
+pub fn instant_text(alloc: Global, instant: Instant) -> Result<String, AllocError> {
+    let mut out = String::new(alloc);
+    push_instant(&mut out, instant)?;
+    Ok(out)
+}
+
+/// A limit, which is given in tenths, as `16.0`.
+pub fn tenths_text(alloc: Global, tenths: u32) -> Result<String, AllocError> {
+    let mut out = String::new(alloc);
+    push_tenths(&mut out, tenths)?;
+    Ok(out)
+}
+
+/// A number of seconds in the largest unit that says them exactly, as `8 h`.
 pub fn seconds_text(alloc: Global, seconds: u32) -> Result<String, AllocError> {
     if seconds == 0 || seconds % 60 != 0 {
         return format!(in alloc; "{seconds} s");

@@ -34,8 +34,8 @@ impl Read for Pieces<'_> {
     }
 }
 
-/// Accepts a byte a call. The call of one number is interrupted, a flush too, and after so many calls each
-/// fails.
+/// Accepts a byte a call. The call of one number is interrupted, a flush too, and after so many
+/// calls each fails.
 #[derive(Drop)]
 struct Bytes {
     accepted: Vec<u8>,

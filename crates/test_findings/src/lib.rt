@@ -1,5 +1,5 @@
-//! Tests of `checks`, and of devices that fail at a replay (`replay`). They stand here, since a crate with tests of its own
-//! is proved twice.
+//! Tests of `findings`, and of devices that fail at a replay (`replay`). They stand here, since a
+//! crate with tests of its own is proved twice.
 #![tactic(auto)]
 
 #[cfg(test)]

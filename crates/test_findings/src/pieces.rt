@@ -13,8 +13,8 @@ fn has_piece(rt: &impl Abort, alloc: Global, finding: &Finding, piece: Option<&s
     }
 }
 
-/// Whether each finding has its piece of the wanted ones, which stand one behind the other with ` + ` between them; and
-/// `-` where nothing is to be found.
+/// Whether each finding has its piece of the wanted ones, which stand one behind the other with ` +
+/// ` between them; and `-` where nothing is to be found.
 fn have_pieces(rt: &impl Abort, alloc: Global, findings: &[Finding], wanted: &str) -> bool {
     if wanted == "-" {
         return findings.is_empty();

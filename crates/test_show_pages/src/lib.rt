@@ -1,4 +1,4 @@
-//! The tests of `shown`: an ordinary day and two small scripts, with tables made by hand.
+//! Tests of `show_pages`: an ordinary day and two small scripts, with tables made by hand.
 #![tactic(auto)]
 
 #[cfg(test)]

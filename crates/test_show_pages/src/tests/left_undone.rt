@@ -1,4 +1,5 @@
-//! A point that rejects a call, a request that is never released, a call that never goes out, and a faulty line.
+//! A point that rejects a call, a request that is never released, a call that never goes out, and a
+//! faulty line.
 
 use super::{json_of, table_of, trace_of};
 use std::test::Fail;

@@ -1,4 +1,5 @@
-//! Two points, a name and an idTag that JSON escapes or that aren't ASCII, and more periods than a table shows.
+//! Two points, a name and an idTag that JSON escapes or that aren't ASCII, and more periods than a
+//! table shows.
 
 use super::{json_of, table_of};
 use std::test::Fail;

@@ -1,4 +1,5 @@
-//! From when and until when a profile counts: by its schedule or by its validity, whichever is narrower.
+//! From when and until when a profile counts: by its schedule or by its validity, whichever is
+//! narrower.
 
 use super::table_of;
 use std::test::Fail;

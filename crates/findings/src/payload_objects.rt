@@ -1,0 +1,79 @@
+//! The objects of a payload, each with the table of its fields.
+
+use messages::{FieldKind, FieldName, FieldRow, fields_in};
+use ocppj_frame::{Entries, Field, Node, list_field, object_field};
+use std::alloc::{AllocError, Global};
+
+/// How deep objects stand in a payload at the most: a profile, its schedule and a period.
+pub(crate) const MAX_DEPTH: usize = 3;
+
+/// A payload, or an object inside.
+#[derive(Clone, Copy)]
+pub(crate) struct PayloadObject<'node, 'memory> {
+    /// The fields that are looked at in it.
+    pub fields: &'static [FieldRow],
+    pub node: Node<'node, 'memory>,
+}
+
+/// A list of objects in a payload.
+#[derive(Clone, Copy)]
+pub(crate) struct PayloadList<'node, 'memory> {
+    /// The field that holds it.
+    pub name: FieldName,
+    /// The fields that are looked at in each of its objects.
+    pub fields: &'static [FieldRow],
+    pub entries: Entries<'node, 'memory>,
+}
+
+impl<'node, 'memory> PayloadObject<'node, 'memory> {
+    /// The object that stands in this one, with its field. No table has two.
+    pub(crate) fn inner(self) -> Option<(FieldName, PayloadObject<'node, 'memory>)> {
+        for row in self.fields {
+            if let FieldKind::Object(kind) = row.kind() {
+                if let Field::Value(node) = object_field(self.node, row.name().text()) {
+                    let fields = fields_in(kind);
+                    return Some((row.name(), PayloadObject { fields, node }));
+                }
+            }
+        }
+        None
+    }
+
+    /// The list of objects that stands in this one. No table has two.
+    pub(crate) fn list(self) -> Option<PayloadList<'node, 'memory>> {
+        for row in self.fields {
+            if let FieldKind::Objects(kind) = row.kind() {
+                if let Field::Value(entries) = list_field(self.node, row.name().text()) {
+                    return Some(PayloadList {
+                        name: row.name(),
+                        fields: fields_in(kind),
+                        entries,
+                    });
+                }
+            }
+        }
+        None
+    }
+}
+
+/// The field of this name.
+pub(crate) fn row_named(fields: &[FieldRow], name: &str) -> Option<FieldRow> {
+    for row in fields {
+        if row.name().text() == name {
+            return Some(*row);
+        }
+    }
+    None
+}
+
+/// The names of fields, in their order.
+pub(crate) fn names_of(
+    alloc: Global,
+    fields: &[FieldRow],
+) -> Result<Vec<&'static str>, AllocError> {
+    let mut names = Vec::with_capacity(alloc, fields.len())?;
+    for row in fields {
+        names.push(row.name().text())?;
+    }
+    Ok(names)
+}
