@@ -1,12 +1,12 @@
 //! Explained schedules made by hand.
 
-use test_books::{instant_at, row_of};
 use meaning::{Ask, Cause, PrevailingProfile, Reason, Share, Shares, View};
 use ocpp_scalars::Instant;
 use profile::{Purpose, Row};
 use std::alloc::Global;
 use std::test::Fail;
 use sweep_compiler::Stretch;
+use test_books::{instant_at, row_of};
 
 /// A point of 63 A with two connectors of 32 A, no transaction, and rows.
 #[derive(Drop)]
