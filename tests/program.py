@@ -384,12 +384,31 @@ def explain_problems(program, folder):
         ("past the calendar", [*DAY[:4], "--start", "9999-12-31T23:59:59Z", *DAY[6:]], [], words + b"it would end past the year 9999\n"),
         ("a picture of another kind", DAY, ["--picture", "p.png"], words + b"the name of a picture's file ends in .svg or .html\n"),
     ):
-        yield f"explain: {name}", list(differences(explain(*more, day=day), b"", error, 4))
-    error = words + b"the name of a picture's file ends in .svg or .html\n"
-    done = run(program, ["explain", "--site", os.path.join(folder, "none"), *DAY, "--picture", "p.png"], b"")
-    yield "explain: a picture of another kind, and no site file", list(differences(done, b"", error, 4))
+        # Each is told before the script is read: a folder as standard input can't be.
+        done = run_on(program, ["explain", "--site", site, *day, *more], folder, False)
+        yield f"explain: {name}", list(differences(done, b"", error, 4))
+    yield from explain_order_problems(program, folder)
     done = explain("--picture", os.path.join(folder, "none", "p.svg"))
     yield "explain: a picture that can't be written", list(differences(done, b"", b"central: device: write\n", 3))
+
+
+def explain_order_problems(program, folder):
+    """The order of `explain`'s faults: the command line, the site file, what is named in it, and then the script."""
+    none, bad, good = (os.path.join(folder, name) for name in ("none", "blank", "good"))
+    other, noon = ["--point", "CP9", *DAY[2:]], [*DAY[:4], "--start", "noon", *DAY[6:]]
+    picture = b"central: command line: the name of a picture's file ends in .svg or .html\n"
+    instant = b"central: command line: --start is no instant, such as 2025-01-01T12:00:00Z\n"
+    point = b"central: command line: no such point in the site file\n"
+    for name, site, more, error, status in (
+        ("a picture of another kind, and no site file", none, [*DAY, "--picture", "p.png"], picture, 4),
+        ("no instant, and no site file", none, noon, instant, 4),
+        ("no site file, and no such point", none, other, f"central: {none}: it isn't there, is a folder, or may not be read\n".encode() + b"central: device: read\n", 3),
+        ("a site file with a fault, and no such point", bad, other, b"central: site: NotAnObject\n", 1),
+        ("no such point, and a script that can't be read", good, other, point, 4),
+        ("a script that can't be read", good, DAY, b"central: device: read\n", 3),
+    ):
+        done = run_on(program, ["explain", "--site", site, *more], folder, False)
+        yield f"explain: {name}", list(differences(done, b"", error, status))
 
 
 def drawn_problems(program, folder):
@@ -427,8 +446,32 @@ def check_and_show_problems(program, folder):
     shown = run(program, ["show", "--site", good], heartbeat)
     ok = shown.returncode == 0 and b"CP1" in shown.stdout and b"1 in flight" in shown.stdout
     yield "show", [] if ok else [f"{shown}"]
+    yield from refused_line_problems(program, good)
     told = json.loads(run(program, ["show", "--site", good, "--at", "0", "--json"], heartbeat).stdout)
     yield "show for programs", [] if "CP1" in json.dumps(told) else [f"{told}"]
+
+
+def refused_line_problems(program, site):
+    """How many lines were refused stands on standard error. A schedule that is too long isn't counted: it isn't made."""
+    periods = ",".join(f'{{"startPeriod":{step * 432},"limit":{6 + step % 2}}}' for step in range(200))
+    install = (
+        '2025-01-01T00:00:00Z operator CP1 [2,"i","SetChargingProfile",{"connectorId":0,"csChargingProfiles":{"chargingProfileId":1,'
+        '"stackLevel":0,"chargingProfilePurpose":"TxDefaultProfile","chargingProfileKind":"Recurring","recurrencyKind":"Daily",'
+        f'"chargingSchedule":{{"startSchedule":"2025-01-01T00:00:00Z","chargingRateUnit":"A","chargingSchedulePeriod":[{periods}]}}}}}}]\n'
+    ).encode()
+    too_long = b'2025-01-01T00:00:00Z operator CP1 [2,"l","GetCompositeSchedule",{"connectorId":1,"duration":604800}]\n'
+    played = run(program, ["replay", "--site", site], install + too_long).stdout
+    yield "an ask whose schedule is too long", [] if b"ResultTooLong" in played else [repr(played)]
+    checked = run(program, ["check", "--site", site], install + too_long).stdout
+    yield "check of an ask whose schedule is too long", [] if b"ResultTooLong" in checked else [repr(checked)]
+    for name, command in (("show", ["show", "--site", site]), ("explain", ["explain", "--site", site, *DAY])):
+        done = run(program, command, install + too_long)
+        ok = done.returncode == 0 and done.stdout and not done.stderr
+        yield f"{name} of an ask whose schedule is too long", [] if ok else [f"{done}"]
+        done = run(program, command, install + CLEAR.replace(b"CP1", b"CP9") + too_long + b"x\n")
+        note = b"central: 2 of the script's lines have a fault or were refused: central check says which\n"
+        ok = done.returncode == 0 and done.stdout and done.stderr == note
+        yield f"{name} of lines that were refused", [] if ok else [f"{done}"]
 
 
 def built_tests(program, crate):

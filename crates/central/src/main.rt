@@ -8,10 +8,9 @@ mod program;
 
 use crate::program::calling::call_site;
 use crate::program::checking::check_file;
-use crate::program::command_line::{Explaining, Job, job_of};
+use crate::program::command_line::{Job, job_of};
 use crate::program::explaining::explain_file;
 use crate::program::pages::Screen;
-use crate::program::picture_name::check_picture_name;
 use crate::program::pointing::run_point;
 use crate::program::program_fault::{ProgramFault, summary_status};
 use crate::program::replaying::replay_file;
@@ -87,7 +86,11 @@ fn do_job<
             let status = run_point(rt, pointing);
             naming(rt, pointing.site, status)
         }
-        Ok(Job::Explain(explaining)) => explain_named(rt, screen, explaining),
+        Ok(Job::Explain(explaining)) => {
+            let explained = explain_file(rt, screen, explaining);
+            naming(rt, explaining.site, explained)?;
+            Ok(0)
+        }
         Ok(Job::Check(checking)) => {
             let status = check_file(rt, checking);
             naming(rt, checking.site, status)
@@ -99,18 +102,6 @@ fn do_job<
         }
         Err(error) => refuse(rt, error),
     }
-}
-
-/// Explains what the command line asks, once a picture's name is one. Returns the exit status.
-fn explain_named<R: Files + Input + Print + Eprint + AllocGlobal>(
-    rt: &R,
-    screen: Screen,
-    explaining: Explaining<'_>,
-) -> Result<u8, ProgramFault> {
-    check_picture_name(explaining.picture)?;
-    let explained = explain_file(rt, screen, explaining);
-    naming(rt, explaining.site, explained)?;
-    Ok(0)
 }
 
 /// Names the file that a job couldn't read, if that is why it stopped.

@@ -1,8 +1,8 @@
 -- What is so for one connector, as it is said of all that are looked at.
 use Rattle.std.proofs.Common.{◌≡◌, ℕ, ◌+◌, ◌<◌, ◌≤◌, Option, Some, None, subst, sym}
 use Rattle.meaning.specs.declared.ask.Ask.{Ask}
-use Rattle.explain_pages.specs.declared.explained.NoPart.{NoPart}
-use Rattle.explain_pages.specs.declared.explained.NoPart.TheVariants.{NotLeast}
+use Rattle.explain_pages.specs.declared.explained_ask.NoPart.{NoPart}
+use Rattle.explain_pages.specs.declared.explained_ask.NoPart.TheVariants.{NotLeast}
 use Rattle.explain_pages.specs.declared.looked.Looked.{Looked}
 use Rattle.explain_pages.specs.declared.looked.RowAsked.{RowAsked}
 use Rattle.explain_pages.specs.ByCases.Throughout.{IsOf, IsFailing, FirstFailing, IsLookedAt, SaysOf, FailsOnce, FoundFailing}

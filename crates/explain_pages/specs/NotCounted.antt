@@ -12,9 +12,9 @@ use Rattle.meaning.specs.declared.cause.WhyNot.TheVariants.{OtherConnector, NoTr
 use Rattle.meaning.specs.View.{PointState, active_since}
 use Rattle.meaning.specs.Cause.{profile_of, counts_for, prevailing_row}
 use Rattle.meaning.specs.WhyNot.{why_not, is_elsewhere, lacks_transaction, is_hidden, is_above}
-use Rattle.explain_pages.specs.declared.explained.NoPart.{NoPart}
-use Rattle.explain_pages.specs.declared.explained.NoPart.TheVariants.{NotPrevailing, NotLeast, NoActiveConnector, NoLimit, BehindOthers}
-use Rattle.explain_pages.specs.declared.explained.NotCounted.{NotCounted}
+use Rattle.explain_pages.specs.declared.explained_ask.NoPart.{NoPart}
+use Rattle.explain_pages.specs.declared.explained_ask.NoPart.TheVariants.{NotPrevailing, NotLeast, NoActiveConnector, NoLimit, BehindOthers}
+use Rattle.explain_pages.specs.declared.explained_ask.NotCounted.{NotCounted}
 
 -- ---- at one second
 

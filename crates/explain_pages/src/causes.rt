@@ -2,7 +2,7 @@
 
 use crate::drawing::{Sketch, push_letter};
 use crate::entries::{Entry, place_of};
-use crate::explained::Explained;
+use crate::explained_ask::ExplainedAsk;
 use crate::markup::push_escaped;
 use crate::scale::{BOTTOM, LEFT, Scale};
 use crate::steps::MAX_STRETCHES;
@@ -64,7 +64,7 @@ impl<'a> Field<'a> {
 fn push_field(
     alloc: Global,
     out: &mut String,
-    explained: &Explained<'_>,
+    explained: &ExplainedAsk<'_>,
     field: Field<'_>,
 ) -> Result<(), AllocError> {
     let (x, width, height) = (field.left, field.breadth, LOWER - UPPER);

@@ -1,7 +1,7 @@
 //! The cells of a table of stretches.
 
 use crate::clock::{ClockTime, needs_seconds, push_date, push_time};
-use crate::explained::Explained;
+use crate::explained_ask::ExplainedAsk;
 use crate::words::{push_length, push_limit, push_why};
 use std::alloc::{AllocError, Global};
 use sweep_compiler::Stretch;
@@ -23,14 +23,14 @@ pub(crate) struct Cells {
 /// Makes the cells of one stretch after another.
 #[derive(Drop)]
 pub(crate) struct CellMaker<'a> {
-    explained: &'a Explained<'a>,
+    explained: &'a ExplainedAsk<'a>,
     with_seconds: bool,
     /// The day on which the stretch before begins.
     day: Option<u64>,
 }
 
 impl<'a> CellMaker<'a> {
-    pub(crate) fn new(explained: &'a Explained<'a>) -> CellMaker<'a> {
+    pub(crate) fn new(explained: &'a ExplainedAsk<'a>) -> CellMaker<'a> {
         CellMaker {
             explained,
             with_seconds: needs_seconds(explained),
@@ -74,7 +74,7 @@ impl<'a> CellMaker<'a> {
 /// The cells of all stretches.
 pub(crate) fn all_cells(
     alloc: Global,
-    explained: &Explained<'_>,
+    explained: &ExplainedAsk<'_>,
 ) -> Result<Vec<Cells>, AllocError> {
     let mut maker = CellMaker::new(explained);
     let mut all = Vec::new(alloc);

@@ -1,6 +1,6 @@
 //! Times of day and dates in UTC.
 
-use crate::explained::Explained;
+use crate::explained_ask::ExplainedAsk;
 use ocpp_scalars::{Instant, LAST_SECOND, push_instant};
 use std::alloc::{AllocError, Global};
 
@@ -86,7 +86,7 @@ pub(crate) fn weekday(day: u64) -> &'static str {
 }
 
 /// Whether a time in the stretches isn't a whole minute.
-pub(crate) fn needs_seconds(explained: &Explained<'_>) -> bool {
+pub(crate) fn needs_seconds(explained: &ExplainedAsk<'_>) -> bool {
     for stretch in explained.stretches {
         if explained.moment(stretch.start) % 60 != 0 || explained.moment(stretch.end) % 60 != 0 {
             return true;

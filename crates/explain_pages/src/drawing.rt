@@ -2,20 +2,20 @@
 
 use crate::clock::{DAY, push_date, push_time, weekday};
 use crate::entries::{Entry, Line};
-use crate::explained::Explained;
+use crate::explained_ask::ExplainedAsk;
 use crate::scale::{BOTTOM, LEFT, RIGHT, Scale, TOP};
 use crate::steps::Steps;
 use crate::ticks::{MOST_LIMITS, MOST_TIMES, time_step};
 use meaning::Cause;
+use messages::unit_name;
 use ocpp_scalars::{push_integer, push_tenths};
-use page_parts::unit_name;
 use profile::Unit;
 use std::alloc::{AllocError, Global};
 
 /// What a picture is drawn of.
 #[derive(Clone, Copy)]
 pub(crate) struct Sketch<'a> {
-    pub(crate) explained: &'a Explained<'a>,
+    pub(crate) explained: &'a ExplainedAsk<'a>,
     pub(crate) scale: Scale,
     pub(crate) entries: &'a [Entry],
     /// The limits of the stretches.
@@ -148,7 +148,7 @@ fn push_limit_tick(
 pub(crate) fn push_time_axis(
     alloc: Global,
     out: &mut String,
-    explained: &Explained<'_>,
+    explained: &ExplainedAsk<'_>,
     scale: Scale,
 ) -> Result<(), AllocError> {
     let step = u64::from(time_step(explained.ask.duration).max(1));
@@ -165,7 +165,7 @@ pub(crate) fn push_time_axis(
 }
 
 /// The second of an ask at which a moment is, at most its duration.
-fn second_at(explained: &Explained<'_>, moment: u64) -> u32 {
+fn second_at(explained: &ExplainedAsk<'_>, moment: u64) -> u32 {
     let second = moment.saturating_sub(explained.moment(0));
     second.min(u64::from(explained.ask.duration)) as u32
 }
@@ -188,7 +188,7 @@ fn push_time_tick(out: &mut String, x: u64, moment: u64, step: u64) -> Result<()
 fn push_dates(
     alloc: Global,
     out: &mut String,
-    explained: &Explained<'_>,
+    explained: &ExplainedAsk<'_>,
     scale: Scale,
 ) -> Result<(), AllocError> {
     let (start, end) = (explained.moment(0), explained.end());

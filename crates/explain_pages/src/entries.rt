@@ -3,7 +3,7 @@
 ghost use Rattle.std.specs.Prelude.{◌≡◌};
 ghost use Rattle.meaning.specs.Cause.{profile_of};
 
-use crate::explained::Explained;
+use crate::explained_ask::ExplainedAsk;
 use crate::steps::{MAX_STRETCHES, Steps, first_limit, profile_steps};
 use meaning::{Ask, Cause, PrevailingProfile, View, has_its_transaction};
 use ocpp_scalars::Instant;
@@ -31,7 +31,7 @@ pub(crate) enum Line {
 /// The profiles that have a limit in the time of the ask, the ceilings, and what else sets a limit.
 pub(crate) fn entries_of(
     alloc: Global,
-    explained: &Explained<'_>,
+    explained: &ExplainedAsk<'_>,
 ) -> Result<Vec<Entry>, AllocError> {
     let mut entries = Vec::new(alloc);
     for row in explained.view.rows {
@@ -60,7 +60,7 @@ pub(crate) fn place_of(entries: &[Entry], cause: Cause) -> Option<usize> {
 /// The entry of a profile, where it may set a limit and has one in the time of the ask.
 fn profile_entry(
     alloc: Global,
-    explained: &Explained<'_>,
+    explained: &ExplainedAsk<'_>,
     row: &Row,
 ) -> Result<Option<Entry>, AllocError> {
     let mut steps = None;
@@ -71,13 +71,13 @@ fn profile_entry(
 }
 
 /// Whether a row may set a limit of the ask: it stands for its connector, and has the transaction that it needs.
-fn may_count(explained: &Explained<'_>, row: &Row) -> bool {
+fn may_count(explained: &ExplainedAsk<'_>, row: &Row) -> bool {
     let started = started_for(&explained.view, &explained.ask, row);
     applies(explained, row) && has_its_transaction(row.profile.purpose, started)
 }
 
 /// The steps of a row in the time of the ask.
-fn steps_of(alloc: Global, explained: &Explained<'_>, row: &Row) -> Result<Steps, AllocError> {
+fn steps_of(alloc: Global, explained: &ExplainedAsk<'_>, row: &Row) -> Result<Steps, AllocError> {
     let ask = &explained.ask;
     let base = row.base(started_for(&explained.view, ask, row), ask.start);
     profile_steps(alloc, &row.profile, base, ask)
@@ -108,7 +108,7 @@ pub fn told_by(row: &Row) -> PrevailingProfile
 }
 
 /// Whether a row stands for the connector of the ask.
-fn applies(explained: &Explained<'_>, row: &Row) -> bool {
+fn applies(explained: &ExplainedAsk<'_>, row: &Row) -> bool {
     let connector = explained.ask.connector;
     connector == 0 || row.connector == 0 || row.connector == connector
 }
@@ -133,7 +133,7 @@ pub fn telling_instant(view: &View<'_>, ask: &Ask, row: &Row) -> Instant {
     first_limit(&row.profile, base, ask)
 }
 
-fn push_ceilings(entries: &mut Vec<Entry>, explained: &Explained<'_>) -> Result<(), AllocError> {
+fn push_ceilings(entries: &mut Vec<Entry>, explained: &ExplainedAsk<'_>) -> Result<(), AllocError> {
     let connector = explained.ask.connector as usize;
     if connector > 0 {
         if let Some(ceiling) = explained.view.ceilings.get(connector - 1) {

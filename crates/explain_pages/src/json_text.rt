@@ -1,120 +1,165 @@
 //! The same for programs, as JSON (RFC 8259).
 
-use crate::explained::{Explained, NotCounted};
+use crate::explained_ask::{ExplainedAsk, NotCounted};
 use crate::words::{reason_name, sentence};
+use json::{Writer, is_number};
 use meaning::{Cause, PrevailingProfile, Share};
-use ocpp_scalars::Instant;
-use page_parts::{JsonWriter, purpose_name, unit_name};
+use messages::{purpose_name, unit_name};
+use ocpp_scalars::{Instant, push_instant, push_tenths};
 use std::alloc::{AllocError, Global};
 use sweep_compiler::Stretch;
 
 /// An explained schedule as one line of JSON: `point`, `connector`, `unit`, `start`, `duration` in seconds,
 /// `stretches`, each with `start`, `end`, `limit`, `cause` and `shares`, and `notCounted`. Limits have one
 /// decimal, instants are texts (RFC 3339), and an `end` behind the last instant is null.
-pub fn write_json(alloc: Global, explained: &Explained<'_>) -> Result<String, AllocError> {
-    let mut json = JsonWriter::new(alloc);
-    json.begin('{')?;
-    json.key("point")?;
-    json.text(explained.point)?;
-    json.key("connector")?;
-    json.plain(explained.ask.connector)?;
-    json.key("unit")?;
-    json.text(unit_name(explained.unit))?;
-    json.key("start")?;
-    push_moment(&mut json, explained.moment(0))?;
-    json.key("duration")?;
-    json.plain(explained.ask.duration)?;
-    json.key("stretches")?;
-    json.begin('[')?;
+pub fn write_json(alloc: Global, explained: &ExplainedAsk<'_>) -> Result<String, AllocError> {
+    let mut line = JsonLine::new(alloc);
+    line.out.begin_object()?;
+    line.push_asked(explained)?;
+    line.out.key("stretches")?;
+    line.out.begin_array()?;
     for stretch in explained.stretches {
-        push_stretch(&mut json, explained, stretch)?;
+        line.push_stretch(explained, stretch)?;
     }
-    json.end(']')?;
-    json.key("notCounted")?;
-    json.begin('[')?;
+    line.out.end_array()?;
+    line.out.key("notCounted")?;
+    line.out.begin_array()?;
     for one in explained.not_counted {
-        push_not_counted(&mut json, one)?;
+        line.push_not_counted(one)?;
     }
-    json.end(']')?;
-    json.end('}')?;
-    let mut text = json.into_text();
-    text.push('\n')?;
-    Ok(text)
+    line.out.end_array()?;
+    line.out.end_object()?;
+    line.into_text()
 }
 
-fn push_stretch(
-    json: &mut JsonWriter,
-    explained: &Explained<'_>,
-    stretch: &Stretch,
-) -> Result<(), AllocError> {
-    json.begin('{')?;
-    json.key("start")?;
-    push_moment(json, explained.moment(stretch.start))?;
-    json.key("end")?;
-    push_moment(json, explained.moment(stretch.end))?;
-    push_limit(json, stretch.reason.limit, stretch.reason.cause)?;
-    json.key("shares")?;
-    json.begin('[')?;
-    for share in stretch.reason.shares.as_slice() {
-        push_share(json, share)?;
-    }
-    json.end(']')?;
-    json.end('}')
+/// A line of JSON that is being written. The library's writer sets the commas.
+#[derive(Drop)]
+struct JsonLine {
+    out: Writer,
+    alloc: Global,
 }
 
-fn push_share(json: &mut JsonWriter, share: &Share) -> Result<(), AllocError> {
-    json.begin('{')?;
-    json.key("connector")?;
-    json.plain(share.connector)?;
-    push_limit(json, share.limit, share.cause)?;
-    json.end('}')
-}
-
-/// Appends the fields `limit` and `cause`.
-fn push_limit(json: &mut JsonWriter, limit: u32, cause: Cause) -> Result<(), AllocError> {
-    json.key("limit")?;
-    json.tenths(limit)?;
-    json.key("cause")?;
-    json.begin('{')?;
-    json.key("kind")?;
-    match cause {
-        Cause::Profile(profile) => {
-            json.text("Profile")?;
-            push_profile(json, profile)?;
+impl JsonLine {
+    fn new(alloc: Global) -> JsonLine {
+        JsonLine {
+            out: Writer::new(Vec::new(alloc)),
+            alloc,
         }
-        Cause::ConnectorCeiling => json.text("ConnectorCeiling")?,
-        Cause::PointCeiling => json.text("PointCeiling")?,
-        Cause::Sum => json.text("Sum")?,
     }
-    json.end('}')
-}
 
-/// Appends the fields of a profile.
-fn push_profile(json: &mut JsonWriter, profile: PrevailingProfile) -> Result<(), AllocError> {
-    json.key("chargingProfileId")?;
-    json.plain(profile.id)?;
-    json.key("purpose")?;
-    json.text(purpose_name(profile.purpose))?;
-    json.key("stackLevel")?;
-    json.plain(profile.stack_level)?;
-    json.key("connector")?;
-    json.plain(profile.connector)
-}
+    /// The line, ended.
+    fn into_text(self) -> Result<String, AllocError> {
+        let mut bytes = self.out.into_inner();
+        bytes.push(b'\n')?;
+        match String::from_utf8(bytes) {
+            Ok(text) => Ok(text),
+            // JSON that was written so is UTF-8.
+            Err(_) => Err(AllocError),
+        }
+    }
 
-fn push_not_counted(json: &mut JsonWriter, one: &NotCounted) -> Result<(), AllocError> {
-    json.begin('{')?;
-    push_profile(json, one.profile)?;
-    json.key("reason")?;
-    json.text(reason_name(one.reason))?;
-    json.key("sentence")?;
-    json.text(sentence(one.reason))?;
-    json.end('}')
-}
+    /// Appends the fields that say what was asked.
+    fn push_asked(&mut self, explained: &ExplainedAsk<'_>) -> Result<(), AllocError> {
+        self.out.key("point")?;
+        self.out.string(explained.point)?;
+        self.out.key("connector")?;
+        self.out.u64(u64::from(explained.ask.connector))?;
+        self.out.key("unit")?;
+        self.out.string(unit_name(explained.unit))?;
+        self.out.key("start")?;
+        self.push_moment(explained.moment(0))?;
+        self.out.key("duration")?;
+        self.out.u64(u64::from(explained.ask.duration))
+    }
 
-/// Appends a moment, in seconds since 1970, as a text, or null behind the last instant.
-fn push_moment(json: &mut JsonWriter, moment: u64) -> Result<(), AllocError> {
-    match Instant::try_new(moment) {
-        Some(instant) => json.instant(instant),
-        None => json.null(),
+    fn push_stretch(
+        &mut self,
+        explained: &ExplainedAsk<'_>,
+        stretch: &Stretch,
+    ) -> Result<(), AllocError> {
+        self.out.begin_object()?;
+        self.out.key("start")?;
+        self.push_moment(explained.moment(stretch.start))?;
+        self.out.key("end")?;
+        self.push_moment(explained.moment(stretch.end))?;
+        self.push_limit(stretch.reason.limit, stretch.reason.cause)?;
+        self.out.key("shares")?;
+        self.out.begin_array()?;
+        for share in stretch.reason.shares.as_slice() {
+            self.push_share(share)?;
+        }
+        self.out.end_array()?;
+        self.out.end_object()
+    }
+
+    fn push_share(&mut self, share: &Share) -> Result<(), AllocError> {
+        self.out.begin_object()?;
+        self.out.key("connector")?;
+        self.out.u64(u64::from(share.connector))?;
+        self.push_limit(share.limit, share.cause)?;
+        self.out.end_object()
+    }
+
+    /// Appends the fields `limit` and `cause`.
+    fn push_limit(&mut self, limit: u32, cause: Cause) -> Result<(), AllocError> {
+        self.out.key("limit")?;
+        self.push_tenths(limit)?;
+        self.out.key("cause")?;
+        self.out.begin_object()?;
+        self.out.key("kind")?;
+        match cause {
+            Cause::Profile(profile) => {
+                self.out.string("Profile")?;
+                self.push_profile(profile)?;
+            }
+            Cause::ConnectorCeiling => self.out.string("ConnectorCeiling")?,
+            Cause::PointCeiling => self.out.string("PointCeiling")?,
+            Cause::Sum => self.out.string("Sum")?,
+        }
+        self.out.end_object()
+    }
+
+    /// Appends the fields of a profile.
+    fn push_profile(&mut self, profile: PrevailingProfile) -> Result<(), AllocError> {
+        self.out.key("chargingProfileId")?;
+        self.out.i64(i64::from(profile.id))?;
+        self.out.key("purpose")?;
+        self.out.string(purpose_name(profile.purpose))?;
+        self.out.key("stackLevel")?;
+        self.out.u64(u64::from(profile.stack_level))?;
+        self.out.key("connector")?;
+        self.out.u64(u64::from(profile.connector))
+    }
+
+    fn push_not_counted(&mut self, one: &NotCounted) -> Result<(), AllocError> {
+        self.out.begin_object()?;
+        self.push_profile(one.profile)?;
+        self.out.key("reason")?;
+        self.out.string(reason_name(one.reason))?;
+        self.out.key("sentence")?;
+        self.out.string(sentence(one.reason))?;
+        self.out.end_object()
+    }
+
+    /// Appends so many tenths, as a number.
+    fn push_tenths(&mut self, tenths: u32) -> Result<(), AllocError> {
+        let mut text = String::new(self.alloc);
+        push_tenths(&mut text, tenths)?;
+        // It always is one: the writer asks for the test, since no clause joins both forms of numbers.
+        if is_number(text.as_str()) {
+            self.out.number(text.as_str())
+        } else {
+            self.out.string(text.as_str())
+        }
+    }
+
+    /// Appends a moment, in seconds since 1970, as a text, or null behind the last instant.
+    fn push_moment(&mut self, moment: u64) -> Result<(), AllocError> {
+        let Some(instant) = Instant::try_new(moment) else {
+            return self.out.null();
+        };
+        let mut text = String::new(self.alloc);
+        push_instant(&mut text, instant)?;
+        self.out.string(text.as_str())
     }
 }

@@ -3,7 +3,7 @@
 use crate::causes::LOWER;
 use crate::drawing::{Sketch, ceiling_class, push_letter, push_style};
 use crate::entries::{Entry, Line};
-use crate::explained::Explained;
+use crate::explained_ask::ExplainedAsk;
 use crate::markup::push_escaped;
 use crate::scale::{LEFT, Scale};
 use crate::steps::Steps;
@@ -88,7 +88,7 @@ fn push_text(out: &mut String, text: &str, middle: u64) -> Result<(), AllocError
 /// What an entry is, and what of its line the picture doesn't show.
 fn entry_text(
     alloc: Global,
-    explained: &Explained<'_>,
+    explained: &ExplainedAsk<'_>,
     scale: Scale,
     entry: &Entry,
 ) -> Result<String, AllocError> {
@@ -114,7 +114,7 @@ fn entry_text(
 pub(crate) fn push_cut(
     alloc: Global,
     out: &mut String,
-    explained: &Explained<'_>,
+    explained: &ExplainedAsk<'_>,
     steps: &Steps,
 ) -> Result<(), AllocError> {
     if steps.end >= explained.ask.duration {

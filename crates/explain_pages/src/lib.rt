@@ -1,4 +1,4 @@
-//! Explained schedules, for people and for programs: a table with the reason of each limit, the same as JSON,
+//! ExplainedAsk schedules, for people and for programs: a table with the reason of each limit, the same as JSON,
 //! and a picture as SVG or as an HTML page. Nothing here decides: it prints the stretches that it is given.
 #![tactic(auto)]
 
@@ -7,7 +7,7 @@ mod cells;
 mod clock;
 mod drawing;
 mod entries;
-mod explained;
+mod explained_ask;
 mod holding;
 mod json_text;
 mod legend;
@@ -29,7 +29,7 @@ mod words;
 mod wrapping;
 
 pub use entries::{telling_instant, told_by};
-pub use explained::{Explained, NoPart, NotCounted, is_named};
+pub use explained_ask::{ExplainedAsk, NoPart, NotCounted, is_named};
 pub use json_text::write_json;
 pub use length::{Length, length_of};
 pub use page::write_page;

@@ -5,7 +5,7 @@ ghost use Rattle.meaning.specs.View.{point_state};
 ghost use Rattle.explain_pages.specs.NotCounted.{is_of_one, is_of_active};
 ghost use Rattle.explain_pages.specs.ByCases.Throughout.{FoundConnector, FoundFailing, IsOf, IsThroughout, FailsSomewhere};
 
-use crate::explained::NoPart;
+use crate::explained_ask::NoPart;
 use crate::looked::{Looked, RowAsked};
 use ocpp_scalars::Instant;
 use profile::Purpose;

@@ -1,7 +1,7 @@
 //! The page: the picture with the table below it, as HTML.
 
 use crate::cells::{CellMaker, Cells};
-use crate::explained::{Explained, NotCounted};
+use crate::explained_ask::{ExplainedAsk, NotCounted};
 use crate::markup::{push_element, push_escaped};
 use crate::picture::{push_more, push_picture};
 use crate::steps::MAX_STRETCHES;
@@ -14,7 +14,7 @@ use std::alloc::{AllocError, Global};
 /// An explained schedule as a page, a whole HTML file that loads nothing: the picture, the stretches in a table
 /// (the first `MAX_STRETCHES`; where there are more, the page says so), and the profiles that never set the
 /// limit.
-pub fn write_page(alloc: Global, explained: &Explained<'_>) -> Result<String, AllocError> {
+pub fn write_page(alloc: Global, explained: &ExplainedAsk<'_>) -> Result<String, AllocError> {
     let mut out = String::new(alloc);
     let title = heading(alloc, explained)?;
     out.push_str("<!DOCTYPE html>\n<html lang=\"en\">\n<head>\n<meta charset=\"utf-8\">\n")?;
@@ -48,7 +48,7 @@ const HEAD: &str = r#"<h2 id="stretches">Each limit, and why</h2>
 fn push_table(
     alloc: Global,
     out: &mut String,
-    explained: &Explained<'_>,
+    explained: &ExplainedAsk<'_>,
 ) -> Result<(), AllocError> {
     out.push_str(HEAD)?;
     let mut maker = CellMaker::new(explained);

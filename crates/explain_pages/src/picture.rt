@@ -4,7 +4,7 @@ use crate::causes::push_causes;
 use crate::cells::CellMaker;
 use crate::drawing::{Sketch, push_entry_line, push_limit_axis, push_limit_line, push_time_axis};
 use crate::entries::entries_of;
-use crate::explained::Explained;
+use crate::explained_ask::ExplainedAsk;
 use crate::legend::{lower_edge, push_legend};
 use crate::letters::push_letters;
 use crate::markup::{push_element, push_escaped};
@@ -13,8 +13,8 @@ use crate::steps::stretch_steps;
 use crate::styles::PICTURE;
 use crate::table::{heading, place, push_moment};
 use crate::words::push_length;
+use messages::unit_name;
 use ocpp_scalars::push_integer;
-use page_parts::unit_name;
 use std::alloc::{AllocError, Global};
 
 /// So many stretches are told in a picture's description.
@@ -24,7 +24,7 @@ const TOLD: usize = 12;
 /// the ceilings, each with its own dashes and a letter, and below the times what sets each limit. A profile's
 /// line has at most `MAX_STEPS` steps and the limit at most `MAX_STRETCHES`; where one is cut, the picture
 /// says so.
-pub fn write_picture(alloc: Global, explained: &Explained<'_>) -> Result<String, AllocError> {
+pub fn write_picture(alloc: Global, explained: &ExplainedAsk<'_>) -> Result<String, AllocError> {
     let mut out = String::from_str(alloc, "<?xml version=\"1.0\" encoding=\"UTF-8\"?>\n")?;
     push_picture(alloc, &mut out, explained)?;
     Ok(out)
@@ -34,7 +34,7 @@ pub fn write_picture(alloc: Global, explained: &Explained<'_>) -> Result<String,
 pub(crate) fn push_picture(
     alloc: Global,
     out: &mut String,
-    explained: &Explained<'_>,
+    explained: &ExplainedAsk<'_>,
 ) -> Result<(), AllocError> {
     let entries = entries_of(alloc, explained)?;
     let limit = stretch_steps(alloc, explained)?;
@@ -65,7 +65,11 @@ fn push_opening(out: &mut String, height: u64) -> Result<(), AllocError> {
 }
 
 /// Appends title and description.
-fn push_told(alloc: Global, out: &mut String, explained: &Explained<'_>) -> Result<(), AllocError> {
+fn push_told(
+    alloc: Global,
+    out: &mut String,
+    explained: &ExplainedAsk<'_>,
+) -> Result<(), AllocError> {
     let title = heading(alloc, explained)?;
     push_element(
         out,
@@ -97,7 +101,11 @@ pub(crate) fn push_more(out: &mut String, count: usize, told: usize) -> Result<(
 }
 
 /// Appends what is shown, above the field.
-fn push_head(alloc: Global, out: &mut String, explained: &Explained<'_>) -> Result<(), AllocError> {
+fn push_head(
+    alloc: Global,
+    out: &mut String,
+    explained: &ExplainedAsk<'_>,
+) -> Result<(), AllocError> {
     let head = place(alloc, explained)?;
     write!(out, "<text class=\"head\" x=\"{LEFT}\" y=\"30\">")?;
     push_escaped(out, head.as_str())?;

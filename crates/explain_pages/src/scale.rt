@@ -3,7 +3,7 @@
 ghost use Rattle.std.specs.Prelude.{◌≤◌};
 
 use crate::entries::{Entry, Line};
-use crate::explained::Explained;
+use crate::explained_ask::ExplainedAsk;
 use crate::steps::Steps;
 use crate::table::largest_limit;
 use crate::ticks::limit_step;
@@ -35,7 +35,7 @@ pub(crate) struct Scale {
 impl Scale {
     /// The scale on which the limits have their room. A profile or a ceiling of more than twice the largest
     /// limit isn't counted: a ceiling is left out then, and a profile is drawn at the upper edge.
-    pub(crate) fn of(explained: &Explained<'_>, entries: &[Entry]) -> Scale {
+    pub(crate) fn of(explained: &ExplainedAsk<'_>, entries: &[Entry]) -> Scale {
         let limit = largest_limit(explained);
         let bound = match limit {
             0 => u32::MAX,

@@ -3,7 +3,7 @@
 ghost use Rattle.std.specs.Prelude.{◌≤◌, IfOk, length};
 ghost use Rattle.explain_pages.specs.Limits.{max_steps};
 
-use crate::explained::Explained;
+use crate::explained_ask::ExplainedAsk;
 use meaning::Ask;
 use ocpp_scalars::Instant;
 use profile::Profile;
@@ -95,7 +95,10 @@ fn second_of(ask: &Ask, instant: Instant) -> u32 {
 }
 
 /// The limits of the stretches.
-pub(crate) fn stretch_steps(alloc: Global, explained: &Explained<'_>) -> Result<Steps, AllocError> {
+pub(crate) fn stretch_steps(
+    alloc: Global,
+    explained: &ExplainedAsk<'_>,
+) -> Result<Steps, AllocError> {
     let mut items = Vec::new(alloc);
     for stretch in explained.stretches.iter().take(MAX_STRETCHES) {
         items.push(Step {

@@ -4,11 +4,11 @@ ghost use Rattle.std.specs.Prelude.{◌≤◌};
 
 use crate::cells::{Cells, all_cells};
 use crate::clock::{ClockTime, needs_seconds, push_date, push_time};
-use crate::explained::{Explained, NotCounted};
+use crate::explained_ask::{ExplainedAsk, NotCounted};
 use crate::words::{push_length, push_profile, sentence};
 use crate::wrapping::{Margins, push_left, push_lines, push_right, push_times};
+use messages::unit_name;
 use ocpp_scalars::push_integer;
-use page_parts::unit_name;
 use std::alloc::{AllocError, Global};
 
 /// The fewest columns of a bar, and the most.
@@ -19,7 +19,7 @@ const BAR: (usize, usize) = (8, 40);
 /// terminal are given, no line is broader than they are (unless one word is), and bars show the limits.
 pub fn write_table(
     alloc: Global,
-    explained: &Explained<'_>,
+    explained: &ExplainedAsk<'_>,
     columns: Option<usize>,
 ) -> Result<String, AllocError> {
     let mut out = String::new(alloc);
@@ -33,7 +33,7 @@ pub fn write_table(
 fn push_heading(
     alloc: Global,
     out: &mut String,
-    explained: &Explained<'_>,
+    explained: &ExplainedAsk<'_>,
     columns: Option<usize>,
 ) -> Result<(), AllocError> {
     let mut text = heading(alloc, explained)?;
@@ -45,7 +45,7 @@ fn push_heading(
 }
 
 /// What is explained: the point, the connector, and from when until when.
-pub(crate) fn heading(alloc: Global, explained: &Explained<'_>) -> Result<String, AllocError> {
+pub(crate) fn heading(alloc: Global, explained: &ExplainedAsk<'_>) -> Result<String, AllocError> {
     let mut text = place(alloc, explained)?;
     text.push_str(", from ")?;
     push_moment(alloc, &mut text, explained, 0)?;
@@ -58,7 +58,7 @@ pub(crate) fn heading(alloc: Global, explained: &Explained<'_>) -> Result<String
 }
 
 /// The point and the connector.
-pub(crate) fn place(alloc: Global, explained: &Explained<'_>) -> Result<String, AllocError> {
+pub(crate) fn place(alloc: Global, explained: &ExplainedAsk<'_>) -> Result<String, AllocError> {
     let mut text = String::from_str(alloc, explained.point)?;
     if explained.ask.connector == 0 {
         text.push_str(", connector 0 (the whole point)")?;
@@ -73,7 +73,7 @@ pub(crate) fn place(alloc: Global, explained: &Explained<'_>) -> Result<String, 
 pub(crate) fn push_moment(
     alloc: Global,
     out: &mut String,
-    explained: &Explained<'_>,
+    explained: &ExplainedAsk<'_>,
     second: u32,
 ) -> Result<(), AllocError> {
     let time = ClockTime::of(explained.moment(second));
@@ -187,7 +187,7 @@ struct Sheet<'a> {
 fn push_stretches(
     alloc: Global,
     out: &mut String,
-    explained: &Explained<'_>,
+    explained: &ExplainedAsk<'_>,
     columns: Option<usize>,
 ) -> Result<(), AllocError> {
     let all = all_cells(alloc, explained)?;
@@ -211,7 +211,7 @@ fn push_stretches(
 }
 
 /// The largest limit of the stretches, in tenths.
-pub(crate) fn largest_limit(explained: &Explained<'_>) -> u32 {
+pub(crate) fn largest_limit(explained: &ExplainedAsk<'_>) -> u32 {
     let mut largest = 0;
     for stretch in explained.stretches {
         largest = stretch.reason.limit.max(largest);

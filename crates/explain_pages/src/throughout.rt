@@ -1,10 +1,10 @@
 //! Up to when what is said of a row for a connector stays so.
 
 ghost use Rattle.std.specs.Prelude.{IfSome, MatchOption};
-ghost use Rattle.explain_pages.specs.declared.explained.NoPart.TheVariants.{NoLimit, BehindOthers};
+ghost use Rattle.explain_pages.specs.declared.explained_ask.NoPart.TheVariants.{NoLimit, BehindOthers};
 ghost use Rattle.explain_pages.specs.ByCases.Throughout.{IsSoUntil, Holds, Says, Fails, FirstFailing};
 
-use crate::explained::NoPart;
+use crate::explained_ask::NoPart;
 use crate::holding::{always, before, rate_until};
 use crate::looked::Looked;
 use meaning::{WhyNot, why_not};

@@ -7,7 +7,7 @@ ghost use Rattle.explain_pages.specs.NotCounted.{IsReason, IsTold};
 ghost use Rattle.explain_pages.specs.ByCases.Throughout.{IsLookedAt};
 
 use crate::entries::{telling_instant, told_by};
-use crate::explained::{NoPart, NotCounted, is_named};
+use crate::explained_ask::{NoPart, NotCounted, is_named};
 use crate::looked::RowAsked;
 use meaning::{Ask, View, WhyNot, why_not};
 use std::alloc::{AllocError, Global};

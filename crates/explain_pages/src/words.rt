@@ -1,10 +1,10 @@
 //! Limits, causes and reasons in words. The sentences of reasons stand here and nowhere else.
 
-use crate::explained::NoPart;
+use crate::explained_ask::NoPart;
 use crate::length::length_of;
 use meaning::{Cause, PrevailingProfile, Reason, Share, WhyNot};
+use messages::{purpose_name, unit_name};
 use ocpp_scalars::{push_integer, push_tenths};
-use page_parts::{purpose_name, unit_name};
 use profile::Unit;
 use std::alloc::AllocError;
 

@@ -4,3 +4,4 @@ pub mod held;
 pub mod machine_steps;
 pub mod most_periods;
 pub mod player;
+pub mod wanted;

@@ -20,8 +20,10 @@ const SHOWN_CHARACTERS: usize = 60;
 /// How much is kept of a script.
 #[derive(Clone, Copy, Debug, PartialEq, Eq)]
 pub enum Depth {
-    /// What its lines lead to. No schedule is made that nobody looks at.
+    /// What its lines lead to. No schedule is made for an ask, while none is held.
     State,
+    /// Which lines were refused, too. A schedule is made where one may be too long.
+    Refusals,
     /// What each line printed, too.
     Lines,
 }
@@ -121,7 +123,8 @@ impl<'a> Trace<'a> {
     /// Plays the next line, if one is left.
     pub fn next(&mut self) -> Result<Option<PlayedLine<'a>>, AllocError> {
         match self.depth {
-            Depth::State => self.playing.skim_next(),
+            Depth::State => self.playing.follow_next(),
+            Depth::Refusals => self.playing.skim_next(),
             Depth::Lines => self.playing.play_next(),
         }
     }

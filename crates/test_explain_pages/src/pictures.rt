@@ -2,7 +2,7 @@
 
 use crate::samples::{Point, ask, by, profile, stretch};
 use explain_pages::{
-    Explained, NoPart, NotCounted, is_named, sentence, telling_instant, told_by, write_json,
+    ExplainedAsk, NoPart, NotCounted, is_named, sentence, telling_instant, told_by, write_json,
     write_page, write_picture, write_table,
 };
 use meaning::{Cause, WhyNot};
@@ -37,7 +37,7 @@ role="img" aria-labelledby="picture-title picture-description"
 fn pictures_and_pages(rt: HostRuntime) -> Result<(), Fail> {
     let alloc = rt.alloc();
     let point = Point::with_rows(alloc, "start=0 periods=0:160,43200:400")?;
-    let explained = Explained {
+    let explained = ExplainedAsk {
         point: "<a&b>",
         unit: Unit::A,
         ask: ask(1, 0, 86_400)?,
@@ -93,7 +93,7 @@ fn a_hundred_profiles(rt: HostRuntime) -> Result<(), Fail> {
         lines.push_str("kind=Recurring recurrency=Daily start=0 turns=432\n")?;
     }
     let point = Point::with_rows(alloc, lines.as_str())?;
-    let explained = Explained {
+    let explained = ExplainedAsk {
         point: "CP1",
         unit: Unit::W,
         ask: ask(1, 0, 604_800)?,
@@ -118,7 +118,7 @@ fn too_many_stretches(rt: HostRuntime) -> Result<(), Fail> {
         let limit = second % 2 * 10;
         stretches.push(stretch(alloc, second, second + 1, limit, Cause::PointCeiling))?;
     }
-    let explained = Explained {
+    let explained = ExplainedAsk {
         point: "CP1",
         unit: Unit::A,
         ask: ask(1, 0, 20_001)?,
@@ -174,7 +174,7 @@ fn expect_everywhere(rt: &impl Abort, alloc: Global, reason: NoPart) -> Result<(
     let stretches = [stretch(alloc, 0, 60, 630, by(2, Purpose::TxProfile, 2))];
     assert!(rt; !is_named(&stretches, never));
     assert!(rt; is_named(&stretches, profile(2, Purpose::TxProfile, 2)));
-    let explained = Explained {
+    let explained = ExplainedAsk {
         point: "CP1",
         unit: Unit::A,
         ask: ask(1, 0, 60)?,

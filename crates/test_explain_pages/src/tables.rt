@@ -1,7 +1,7 @@
 //! Tables for people, against those made by hand.
 
 use crate::samples::{Point, ask, by, profile, stretch, sum};
-use explain_pages::{Explained, NoPart, NotCounted, push_length, write_json, write_table};
+use explain_pages::{ExplainedAsk, NoPart, NotCounted, push_length, write_json, write_table};
 use meaning::{Cause, PrevailingProfile, Share, WhyNot};
 use ocpp_scalars::LAST_SECOND;
 use profile::{Purpose, Unit};
@@ -93,7 +93,7 @@ fn tables_fit_the_terminal(rt: HostRuntime) -> Result<(), Fail> {
         stretch(alloc, 79_200, 108_000, 60, night),
         stretch(alloc, 108_000, 172_800, 320, Cause::ConnectorCeiling),
     ];
-    let explained = Explained {
+    let explained = ExplainedAsk {
         point: "CP1",
         unit: Unit::A,
         ask: ask(1, 0, 172_800)?,
@@ -156,7 +156,7 @@ fn a_sum_has_its_shares(rt: HostRuntime) -> Result<(), Fail> {
         profile: profile(-5, Purpose::ChargePointMaxProfile, 0),
         reason: NoPart::NotLeast,
     }];
-    let explained = Explained {
+    let explained = ExplainedAsk {
         point: "a\"\\é",
         unit: Unit::W,
         ask: ask(0, 0, 45)?,
@@ -165,7 +165,7 @@ fn a_sum_has_its_shares(rt: HostRuntime) -> Result<(), Fail> {
         not_counted: &[],
     };
     assert_eq!(rt; write_table(alloc, &explained, None)?.as_str(), SUM_TABLE);
-    let with_never = Explained {
+    let with_never = ExplainedAsk {
         not_counted: &never,
         ..explained
     };
@@ -190,7 +190,7 @@ fn the_calendar_ends(rt: HostRuntime) -> Result<(), Fail> {
     let point = Point::with_rows(alloc, "")?;
     let stretches = [stretch(alloc, 0, 60, 630, Cause::PointCeiling)];
     let before = LAST_SECOND - 59 - test_books::MIDNIGHT;
-    let explained = Explained {
+    let explained = ExplainedAsk {
         point: "CP1",
         unit: Unit::A,
         ask: ask(2, before, 60)?,

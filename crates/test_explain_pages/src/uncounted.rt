@@ -1,7 +1,7 @@
 //! Why profiles have no part, against reasons found by hand.
 
 use crate::samples::{Point, ask, stretch};
-use explain_pages::{Explained, not_counted, write_json};
+use explain_pages::{ExplainedAsk, not_counted, write_json};
 use meaning::Cause;
 use profile::Unit;
 use std::alloc::Global;
@@ -56,7 +56,7 @@ fn reasons_of(alloc: Global, asked: &str, rows: &str) -> Result<String, Fail> {
         stretch(alloc, 43_200, 86_400, 310, Cause::PointCeiling),
     ];
     let rest = not_counted(alloc, &point.view(), &ask, &stretches)?;
-    let explained = Explained {
+    let explained = ExplainedAsk {
         point: "CP1",
         unit: Unit::A,
         ask,

@@ -3,11 +3,11 @@
 use crate::program::command_line::Calling;
 use crate::program::payload_file::read_payload_file;
 use crate::program::program_fault::ProgramFault;
-use findings::{SentCheck, Severity, answer_sentence, check_sent, json_break};
 use client::{
     Address, ClientFault, Lines, OperatorClient, Outcome, ask_call, clear_call, connect,
     set_profile_call,
 };
+use findings::{SentCheck, Severity, answer_sentence, check_sent, json_break};
 use std::alloc::AllocGlobal;
 use std::fmt::Display;
 use std::io;

@@ -72,7 +72,7 @@ fn push_played(
     let depth = if with_trace {
         Depth::Lines
     } else {
-        Depth::State
+        Depth::Refusals
     };
     let mut trace = Trace::new(alloc, script, site, depth)?;
     let mut findings = find_in_lines(alloc, script, &mut trace)?;

@@ -4,38 +4,90 @@ ghost use Rattle.std.specs.Prelude.{◌≤◌, length};
 
 use crate::program::command_line::Explaining;
 use crate::program::pages::{Screen, note_refused_lines, print_page, write_file};
+use crate::program::picture_name::{PictureForm, picture_form};
 use crate::program::program_fault::ProgramFault;
 use crate::program::script_input::read_script;
 use crate::program::site_file::read_site_file;
-use explain_pages::{Explained, not_counted, write_json, write_page, write_picture, write_table};
+use explain_pages::{
+    ExplainedAsk, not_counted, write_json, write_page, write_picture, write_table,
+};
 use meaning::Ask;
 use ocpp_scalars::read_instant;
 use point_book::PointBook;
 use profile::Unit;
 use replay::play_quietly;
-use std::alloc::{AllocGlobal, Global};
+use site_rules::Site;
+use std::alloc::AllocGlobal;
 use std::rt::Files;
 use sweep_compiler::{Turns, explain};
 
-/// Says why the limits of a connector are what they are after a script.
+/// Says why the limits of a connector are what they are after a script. A picture's name, the instants, the site file
+/// and what isn't in it are told before the script is read.
 pub fn explain_file<R: Files + Input + Print + Eprint + AllocGlobal>(
     rt: &R,
     screen: Screen,
     explaining: Explaining<'_>,
 ) -> Result<(), ProgramFault> {
+    let picture = picture_of(&explaining)?;
     let ask = ask_of(&explaining)?;
     let site = read_site_file(rt, explaining.site)?;
+    check_connector(&site, explaining.point, ask.connector)?;
     let unit = site.unit();
     let script = read_script(rt)?;
     let played = play_quietly(rt.alloc(), script.as_slice(), site, explaining.last_line)?;
     let Some(book) = played.machine().book_of(explaining.point) else {
         return Err(ProgramFault::NoSuchPoint);
     };
+    // A book has the connectors of its point in the site: so much is known from the check above, though no clause
+    // says it.
     if ask.connector > book.connectors() {
         return Err(ProgramFault::NoSuchConnector);
     }
     note_refused_lines(rt, &played);
-    print_explained(rt, screen, &explaining, unit, book, &ask)
+    let told = Told {
+        explaining: &explaining,
+        unit,
+        picture,
+    };
+    print_explained(rt, screen, told, book, &ask)
+}
+
+/// A picture that is wanted.
+#[derive(Clone, Copy)]
+struct Picture<'a> {
+    path: &'a str,
+    form: PictureForm,
+}
+
+/// How an explanation is told.
+#[derive(Clone, Copy)]
+struct Told<'a> {
+    explaining: &'a Explaining<'a>,
+    unit: Unit,
+    picture: Option<Picture<'a>>,
+}
+
+/// The picture that the options want.
+fn picture_of<'a>(explaining: &Explaining<'a>) -> Result<Option<Picture<'a>>, ProgramFault> {
+    let Some(path) = explaining.picture else {
+        return Ok(None);
+    };
+    let form = picture_form(path)?;
+    Ok(Some(Picture { path, form }))
+}
+
+/// Refuses a point that the site hasn't, and a connector that the point hasn't.
+fn check_connector(site: &Site, point: &str, connector: u32) -> Result<(), ProgramFault> {
+    let Some(place) = site.place_of(point) else {
+        return Err(ProgramFault::NoSuchPoint);
+    };
+    let Some(found) = site.point(place) else {
+        return Err(ProgramFault::NoSuchPoint);
+    };
+    if connector as usize > found.ceilings.len() {
+        return Err(ProgramFault::NoSuchConnector);
+    }
+    Ok(())
 }
 
 /// What the options ask.
@@ -60,8 +112,7 @@ fn ask_of(explaining: &Explaining<'_>) -> Result<Ask, ProgramFault> {
 fn print_explained<R: Files + Print + AllocGlobal>(
     rt: &R,
     screen: Screen,
-    explaining: &Explaining<'_>,
-    unit: Unit,
+    told: Told<'_>,
     book: &PointBook,
     ask: &Ask,
 ) -> Result<(), ProgramFault>
@@ -71,36 +122,25 @@ fn print_explained<R: Files + Print + AllocGlobal>(
     let explanation = explain(alloc, book, ask, &mut Turns::new())?;
     let view = book.view();
     let rest = not_counted(alloc, &view, ask, explanation.stretches())?;
-    let explained = Explained {
-        point: explaining.point,
-        unit,
+    let explained = ExplainedAsk {
+        point: told.explaining.point,
+        unit: told.unit,
         ask: *ask,
         view,
         stretches: explanation.stretches(),
         not_counted: rest.as_slice(),
     };
-    if let Some(path) = explaining.picture {
-        write_file(rt, path, picture_of(alloc, path, &explained)?.as_str())?;
+    if let Some(picture) = told.picture {
+        let drawn = match picture.form {
+            PictureForm::Svg => write_picture(alloc, &explained)?,
+            PictureForm::Html => write_page(alloc, &explained)?,
+        };
+        write_file(rt, picture.path, drawn.as_str())?;
     }
-    let page = if explaining.json {
+    let page = if told.explaining.json {
         write_json(alloc, &explained)?
     } else {
         write_table(alloc, &explained, screen.columns())?
     };
     print_page(rt, page.as_str())
-}
-
-/// The picture of an explanation, in the form that the name of its file asks for.
-fn picture_of(
-    alloc: Global,
-    path: &str,
-    explained: &Explained<'_>,
-) -> Result<String, ProgramFault> {
-    if path.ends_with(".svg") {
-        return Ok(write_picture(alloc, explained)?);
-    }
-    if path.ends_with(".html") {
-        return Ok(write_page(alloc, explained)?);
-    }
-    Err(ProgramFault::NoPicture)
 }

@@ -1,13 +1,22 @@
-//! The name of a picture's file.
+//! The name of a picture's file, which says in which form it is drawn.
 
 use crate::program::program_fault::ProgramFault;
 
-/// Refuses a name that ends in neither form of a picture.
-pub fn check_picture_name(picture: Option<&str>) -> Result<(), ProgramFault> {
-    match picture {
-        Some(path) if !path.ends_with(".svg") && !path.ends_with(".html") => {
-            Err(ProgramFault::NoPicture)
-        }
-        _ => Ok(()),
+/// The form of a picture.
+#[derive(Clone, Copy, Debug, PartialEq, Eq)]
+pub enum PictureForm {
+    Svg,
+    /// A page with the picture and the table.
+    Html,
+}
+
+/// The form that the name of a picture's file asks for by its ending.
+pub fn picture_form(path: &str) -> Result<PictureForm, ProgramFault> {
+    if path.ends_with(".svg") {
+        return Ok(PictureForm::Svg);
     }
+    if path.ends_with(".html") {
+        return Ok(PictureForm::Html);
+    }
+    Err(ProgramFault::NoPicture)
 }

@@ -3,8 +3,8 @@ use Rattle.std.specs.Prelude.{◌≡◌, ℕ, ◌+◌, ◌<◌, ◌≤◌, true,
 use Rattle.meaning.specs.View.{point_state}
 use Rattle.meaning.specs.Cause.{RowLimit, level_of}
 use Rattle.meaning.specs.declared.cause.WhyNot.{WhyNot}
-use Rattle.explain_pages.specs.declared.explained.NoPart.{NoPart}
-use Rattle.explain_pages.specs.declared.explained.NoPart.TheVariants.{NotLeast, BehindOthers}
+use Rattle.explain_pages.specs.declared.explained_ask.NoPart.{NoPart}
+use Rattle.explain_pages.specs.declared.explained_ask.NoPart.TheVariants.{NotLeast, BehindOthers}
 use Rattle.explain_pages.specs.declared.looked.RowAsked.{RowAsked}
 use Rattle.explain_pages.specs.declared.looked.Looked.{Looked}
 use Rattle.explain_pages.specs.NotCounted.{holds_for, SaysAt, LooksAt, PrevailsOnce}

@@ -6,6 +6,7 @@ ghost use Rattle.site_core.specs.declared.step.Step.TheVariants as steps;
 ghost use Rattle.replay.specs.ByCases.MachineSteps.{ComesOf, IsAsked, is_memory, LeadsTo, MayBeSkimmed};
 
 use crate::player::most_periods::most_periods;
+use crate::player::wanted::Wanted;
 use meaning::{Ask, MAX_COMPOSITE_PERIODS, exact_schedules};
 use messages::Call;
 use ocpp_scalars::Refusal;
@@ -36,14 +37,18 @@ pub fn step_at_once(machine: &mut Machine, step: Step) -> Result<StepOutcome, Al
     }
 }
 
-/// Makes a Take, and answers its request at once, for the state that it leads to alone.
-pub fn skim_take(machine: &mut Machine, take: Take) -> Result<StepOutcome, AllocError>
+/// Makes a Take, and answers its request at once, for what is wanted of it alone.
+pub fn skim_take(
+    machine: &mut Machine,
+    take: Take,
+    wanted: Wanted,
+) -> Result<StepOutcome, AllocError>
     ensures { IfOk result (λ outcome.
         LeadsTo (stepped_at_once machine.old (steps.Take take)) outcome machine.new) }
 {
     // The request is gone again at once, so its answer makes no difference to the state: that to an ask of one
     // second does as well.
-    if makes_no_difference(machine, &take) {
+    if makes_no_difference(machine, &take, wanted) {
         let outcome = step_at_once(machine, Step::Take(first_second(take)))?;
         return Ok(outcome);
     }
@@ -51,9 +56,8 @@ pub fn skim_take(machine: &mut Machine, take: Take) -> Result<StepOutcome, Alloc
     Ok(outcome)
 }
 
-/// Whether an ask has no more periods than an answer may have, and no other request is kept: then its answer makes no
-/// difference. That it is too long would be told, so nothing is left out where that may be.
-fn makes_no_difference(machine: &Machine, take: &Take) -> bool
+/// Whether no other request is kept, and nothing of the answer to an ask is wanted: then it makes no difference.
+fn makes_no_difference(machine: &Machine, take: &Take, wanted: Wanted) -> bool
     ensures { IsTrue result → MayBeSkimmed machine.now take.now }
 {
     if machine.open_requests() > 0 {
@@ -65,14 +69,18 @@ fn makes_no_difference(machine: &Machine, take: &Take) -> bool
     let Ok(_second) = Ask::try_new(take.connector, take.start, 1) else {
         return false;
     };
-    is_surely_short(machine, take.point.as_str(), &ask)
+    is_unwanted(machine, take.point.as_str(), &ask, wanted)
 }
 
-/// Whether the schedule of an ask surely has no more periods than an answer may have.
-fn is_surely_short(machine: &Machine, point: &str, ask: &Ask) -> bool {
-    match machine.book_of(point) {
-        Some(book) => most_periods(&book.view(), ask) <= MAX_COMPOSITE_PERIODS as u64,
-        None => false,
+/// Whether nothing of the answer to an ask is wanted: whether it is too long is known without it where it surely has no
+/// more periods than an answer may have.
+fn is_unwanted(machine: &Machine, point: &str, ask: &Ask, wanted: Wanted) -> bool {
+    match (wanted, machine.book_of(point)) {
+        (Wanted::State, _) => true,
+        (Wanted::Refusal, Some(book)) => {
+            most_periods(&book.view(), ask) <= MAX_COMPOSITE_PERIODS as u64
+        }
+        (Wanted::Refusal, None) => false,
     }
 }
 

@@ -13,6 +13,7 @@ use crate::player::machine_steps::{
     StepOutcome, attach_once, confirm_call, hand_out, send_first, skim_take, step_at_once,
     step_exactly,
 };
+use crate::player::wanted::Wanted;
 use messages::Call;
 use ocppj_frame::{MessageId, ReadingMemory};
 use site_core::{Machine, PointId, Step, Take};
@@ -125,13 +126,13 @@ impl Player {
         step_at_once(&mut self.machine, step)
     }
 
-    /// Makes a Take and answers its request at once, for the state that it leads to alone: where it can do without,
-    /// no schedule is made but of the first second.
-    pub fn skim_take(&mut self, take: Take) -> Result<StepOutcome, AllocError>
+    /// Makes a Take and answers its request at once, for what is wanted of it alone: where it can do without, no
+    /// schedule is made but of the first second.
+    pub fn skim_take(&mut self, take: Take, wanted: Wanted) -> Result<StepOutcome, AllocError>
         ensures { IfOk result (λ outcome. Skims self.old
             (stepped_at_once self.old.machine (steps.Take take)) outcome self.new) }
     {
-        skim_take(&mut self.machine, take)
+        skim_take(&mut self.machine, take, wanted)
     }
 
     /// Answers the request of a number.

@@ -6,6 +6,7 @@ ghost use Rattle.replay.specs.PrintedLine.{printed_text, printed_texts};
 
 use crate::script::line::LineFault;
 use messages::{Call, Response, push_call, push_response};
+use ocpp_scalars::Refusal;
 use ocppj_frame::MessageId;
 use site_core::PointId;
 use std::alloc::{AllocError, Global};
@@ -24,12 +25,14 @@ pub enum PrintedLine {
 }
 
 impl PrintedLine {
-    /// Whether it names a fault of its line, or is an answer that refuses a text.
+    /// Whether it names a fault of its line, or is an answer that refuses a text. That a schedule is too long is none: it
+    /// changes nothing, as the schedule wouldn't, and isn't known where none is made.
     pub fn is_refusal(&self) -> bool {
         match self {
             PrintedLine::Fault { .. } => true,
             PrintedLine::Answer { response, .. } => {
-                matches!(response, Response::Rejected(_) | Response::Error(_))
+                !matches!(response, Response::Rejected(Refusal::ResultTooLong))
+                    && matches!(response, Response::Rejected(_) | Response::Error(_))
             }
             PrintedLine::Call { .. } | PrintedLine::Held(_) => false,
         }

@@ -6,6 +6,7 @@ ghost use Rattle.replay.specs.Quiet.{played_up_to};
 
 use crate::player::held::Held;
 use crate::player::player::Player;
+use crate::player::wanted::Wanted;
 use crate::script::lines::split_line;
 use crate::script::play::play_line;
 use crate::script::played_line::{LineOutcome, PlayedLine};
@@ -24,7 +25,7 @@ pub struct Playing<'a> {
     /// The number of the next line.
     number: u64,
     script_faults: u64,
-    /// The lines that have a fault, or a text that was refused.
+    /// The lines that have a fault, or a text that was refused; an ask whose schedule is too long isn't counted.
     refused_lines: u64,
 }
 
@@ -79,7 +80,7 @@ impl<'a> Playing<'a> {
     }
 
     /// Plays the next line, if one is left, but for schedules: none is told of what it printed, and none is made where
-    /// the outcome is known without. Out of memory the script can't go on.
+    /// that an ask isn't refused is known without. Out of memory the script can't go on.
     pub fn skim_next(&mut self) -> Result<Option<PlayedLine<'a>>, AllocError>
         ensures { IfOk result (λ line. IsNext self.old line self.new) }
     {
@@ -87,7 +88,22 @@ impl<'a> Playing<'a> {
             return Ok(None);
         }
         let (line, others) = split_line(self.rest);
-        let played = skim_line(&mut self.player, self.number, line)?;
+        let played = skim_line(&mut self.player, self.number, line, Wanted::Refusal)?;
+        self.pass(&played.outcome, others);
+        Ok(Some(played))
+    }
+
+    /// Plays the next line, if one is left, for what it leads to: no schedule is made for an ask that is answered at
+    /// once while no other is held, and none is told of what the line printed, nor that one is too long. Out of memory
+    /// the script can't go on.
+    pub fn follow_next(&mut self) -> Result<Option<PlayedLine<'a>>, AllocError>
+        ensures { IfOk result (λ line. IsNext self.old line self.new) }
+    {
+        if self.rest.is_empty() {
+            return Ok(None);
+        }
+        let (line, others) = split_line(self.rest);
+        let played = skim_line(&mut self.player, self.number, line, Wanted::State)?;
         self.pass(&played.outcome, others);
         Ok(Some(played))
     }
@@ -139,7 +155,8 @@ impl<'a> Playing<'a> {
         self.script_faults
     }
 
-    /// How many of the lines so far have a fault or a text that was refused, by what they printed.
+    /// How many of the lines so far have a fault or a text that was refused, by what they printed. An ask whose
+    /// schedule is too long isn't among them, since that isn't known where none was made. No clause says this number.
     pub fn refused_lines(&self) -> u64 {
         self.refused_lines
     }
@@ -152,8 +169,9 @@ impl<'a> Playing<'a> {
     }
 }
 
-/// Plays a script on a site up to the line of a number, or the whole of it, and prints nothing. What
-/// stands then is what the definition of a script's play says of these lines. A script that is shorter is played whole.
+/// Plays a script on a site up to the line of a number, or the whole of it, and prints nothing: so no schedule is made
+/// for an ask that is answered at once while no other is held. What stands then is what the definition of a script's
+/// play says of these lines. A script that is shorter is played whole.
 pub fn play_quietly(
     alloc: Global,
     script: &[u8],
@@ -170,7 +188,7 @@ pub fn play_quietly(
 {
     let mut playing = Playing::new(alloc, script, site)?;
     while playing.is_up_to(last_line) {
-        let Some(_) = playing.skim_next()? else {
+        let Some(_) = playing.follow_next()? else {
             return Ok(playing);
         };
     }

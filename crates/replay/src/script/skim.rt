@@ -7,6 +7,7 @@ ghost use Rattle.replay.specs.Play.{asked_handled, text_handled, text_played, sa
 ghost use Rattle.replay.specs.Play.{LeadsTo};
 
 use crate::player::player::Player;
+use crate::player::wanted::Wanted;
 use crate::script::line::ScriptLine;
 use crate::script::play::{asked_outcome, read_outcome, said_on, step_outcome, text_outcome};
 use crate::script::played_line::{LineOutcome, PlayedLine};
@@ -17,11 +18,12 @@ use std::alloc::AllocError;
 use texts::{Asked, SentText};
 
 /// Plays the line of this number, but for schedules: none is told of what it printed, and none is made for an
-/// ask that is answered at once, where the outcome is known without. After an error the script can't go on.
+/// ask that is answered at once, where what is wanted is known without. After an error the script can't go on.
 pub fn skim_line<'a>(
     player: &mut Player,
     number: u64,
     line: &'a [u8],
+    wanted: Wanted,
 ) -> Result<PlayedLine<'a>, AllocError>
     ensures number { IfOk result (λ played. played.number ≡ number) }
     ensures line { IfOk result (λ played. played.line.now ≡ line.entry.now) }
@@ -32,7 +34,7 @@ pub fn skim_line<'a>(
 {
     let said = said_on(player.site(), line);
     let mut outcome = match &said {
-        Some(Ok(ScriptLine::Text(text))) => skim_text(player, text)?,
+        Some(Ok(ScriptLine::Text(text))) => skim_text(player, text, wanted)?,
         said => read_outcome(player, number, said)?,
     };
     outcome.printed.retain(|line| !has_schedule(line));
@@ -56,21 +58,25 @@ fn has_schedule(line: &PrintedLine) -> bool {
 }
 
 /// What comes of a text, but for schedules. Only an operator asks for one.
-fn skim_text(player: &mut Player, text: &SentText<'_>) -> Result<LineOutcome, AllocError>
+fn skim_text(
+    player: &mut Player,
+    text: &SentText<'_>,
+    wanted: Wanted,
+) -> Result<LineOutcome, AllocError>
     ensures { IfOk result (λ outcome. LeadsTo
         (text_played (text_handled player.old text.now.sender text.now)) outcome player.new) }
 {
     match text.sender() {
         Side::Operator => {
             let asked = player.asked_of(text)?;
-            skim_asked(player, asked)
+            skim_asked(player, asked, wanted)
         }
         Side::Point => text_outcome(player, text),
     }
 }
 
 /// What comes of what a text asks for, but for schedules.
-fn skim_asked(player: &mut Player, asked: Asked) -> Result<LineOutcome, AllocError>
+fn skim_asked(player: &mut Player, asked: Asked, wanted: Wanted) -> Result<LineOutcome, AllocError>
     requires { AsksNoCompile asked }
     ensures { IfOk result (λ outcome. LeadsTo
         (text_played (asked_handled player.old asked)) outcome player.new) }
@@ -79,7 +85,7 @@ fn skim_asked(player: &mut Player, asked: Asked) -> Result<LineOutcome, AllocErr
         Asked::Step { id, kind, step } => match step {
             Step::Take(take) => {
                 let unit = player.site().unit();
-                let outcome = player.skim_take(take)?;
+                let outcome = player.skim_take(take, wanted)?;
                 step_outcome(player.alloc(), unit, id, kind, outcome)
             }
             step => asked_outcome(player, Asked::Step { id, kind, step }),

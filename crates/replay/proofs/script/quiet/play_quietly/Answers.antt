@@ -29,19 +29,19 @@ pub loop-last_line-preserved-in-Some : goal.loop-last_line-preserved-in-Some
 loop-last_line-preserved-in-Some c =
     let before = c.loop-last_line.invariant in
     let old = c.loop-last_line.playing in
-    let next : IsNextLine old c.in-Some.field-0 c.skim_next.new.self = rw c.in-Some.is at c.in_ok-skim_next.ensures in
+    let next : IsNextLine old c.in-Some.field-0 c.follow_next.new.self = rw c.in-Some.is at c.in_ok-follow_next.ensures in
     let line = c.in-Some.field-0.line.now in
     let sofar : Played = record { number = old.number; faults = old.faults; lines = before.0; state = old.state } in
     let all = played_up_to c.args.site c.args.script.now c.args.last_line in
     let wanted = sym c.is_up_to.ensures ∙ c.loop-last_line-test.true in
-    let whole = next_played c.args.last_line sofar all old.rest line c.skim_next.new.self.rest wanted next.first before.1 in
+    let whole = next_played c.args.last_line sofar all old.rest line c.follow_next.new.self.rest wanted next.first before.1 in
     (before.0 ++ (line_played old.state old.number line).printed, rw (next.next, next.faults, sym next.led.after) whole)
 
 pub returns-in_default-clause-state : goal.returns-in_default-clause-state
 returns-in_default-clause-state c =
     let before = c.loop-last_line.invariant in
     let old = c.loop-last_line.playing in
-    let end = rw c.in_default.is at c.in_ok-skim_next.ensures in
+    let end = rw c.in_default.is at c.in_ok-follow_next.ensures in
     let none = ap (lines_left c.args.last_line old.number) end.0 ∙ no_lines_left c.args.last_line old.number in
     let all = all_played c.args.last_line (so_far old before.0) (played_up_to c.args.site c.args.script.now c.args.last_line) (script_lines old.rest) none before.1 in
     ap (λ (p : PlayingState). p.state) end.1 ∙ ap (λ (p : Played). p.state) all
@@ -50,7 +50,7 @@ pub returns-in_default-clause-faults : goal.returns-in_default-clause-faults
 returns-in_default-clause-faults c =
     let before = c.loop-last_line.invariant in
     let old = c.loop-last_line.playing in
-    let end = rw c.in_default.is at c.in_ok-skim_next.ensures in
+    let end = rw c.in_default.is at c.in_ok-follow_next.ensures in
     let none = ap (lines_left c.args.last_line old.number) end.0 ∙ no_lines_left c.args.last_line old.number in
     let all = all_played c.args.last_line (so_far old before.0) (played_up_to c.args.site c.args.script.now c.args.last_line) (script_lines old.rest) none before.1 in
     ap (λ (p : PlayingState). p.faults) end.1 ∙ ap (λ (p : Played). p.faults) all
@@ -59,7 +59,7 @@ pub returns-in_default-clause-number : goal.returns-in_default-clause-number
 returns-in_default-clause-number c =
     let before = c.loop-last_line.invariant in
     let old = c.loop-last_line.playing in
-    let end = rw c.in_default.is at c.in_ok-skim_next.ensures in
+    let end = rw c.in_default.is at c.in_ok-follow_next.ensures in
     let none = ap (lines_left c.args.last_line old.number) end.0 ∙ no_lines_left c.args.last_line old.number in
     let all = all_played c.args.last_line (so_far old before.0) (played_up_to c.args.site c.args.script.now c.args.last_line) (script_lines old.rest) none before.1 in
     ap (λ (p : PlayingState). p.number) end.1 ∙ ap (λ (p : Played). p.number) all
@@ -87,5 +87,5 @@ returns-clause-number c =
 
 pub loop-last_line-smaller-in-Some : goal.loop-last_line-smaller-in-Some
 loop-last_line-smaller-in-Some c =
-    let next : IsNextLine c.loop-last_line.playing c.in-Some.field-0 c.skim_next.new.self = rw c.in-Some.is at c.in_ok-skim_next.ensures in
+    let next : IsNextLine c.loop-last_line.playing c.in-Some.field-0 c.follow_next.new.self = rw c.in-Some.is at c.in_ok-follow_next.ensures in
     omega (arith, ap length next.first)

@@ -8,7 +8,7 @@ use sweep_compiler::Stretch;
 
 /// What is explained: an ask of a point's schedule (chapter 5.7), with the stretches that answer it.
 #[derive(Clone, Copy)]
-pub struct Explained<'a> {
+pub struct ExplainedAsk<'a> {
     /// The identity of the charge point.
     pub point: &'a str,
     /// The unit of the site's limits.
@@ -44,7 +44,7 @@ pub enum NoPart {
     NoActiveConnector,
 }
 
-impl Explained<'_> {
+impl ExplainedAsk<'_> {
     /// The second behind the last one of the ask, in seconds since 1970.
     pub(crate) fn end(&self) -> u64
         ensures value { result ≡ self.now.ask.start + self.now.ask.duration }
