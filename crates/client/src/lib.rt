@@ -14,7 +14,7 @@ mod terminal_point;
 pub use connecting::{Address, Connection, connect};
 pub use fault::ClientFault;
 pub use lines::Lines;
-pub use operator::{OperatorClient, Outcome};
+pub use operator::{CallEnd, OperatorClient};
 pub use operator_texts::{ask_call, clear_call, set_profile_call};
 pub use point_lines::{PointLine, point_line};
 pub use terminal_point::TerminalPoint;

@@ -13,7 +13,7 @@ use tungstenite::{MaskKeys, Utf8Bytes, WebSocket};
 
 /// What became of a text.
 #[derive(Drop)]
-pub enum Outcome {
+pub enum CallEnd {
     /// It was answered, neither by an error nor as Rejected.
     Accepted,
     /// It was answered by a CALLERROR, or as Rejected: by this text.
@@ -45,9 +45,9 @@ impl<S: Read + Write + OpenStream + Drop, K: MaskKeys + Drop> OperatorClient<S, 
         rt: &R,
         writer: &mut W,
         text: &str,
-    ) -> Result<Outcome, ClientFault> {
+    ) -> Result<CallEnd, ClientFault> {
         let Some(id) = id_of_call(&mut self.memory, text)? else {
-            return Ok(Outcome::NotACall);
+            return Ok(CallEnd::NotACall);
         };
         send(self.alloc, &mut self.socket, text)?;
         for _message in rt.forever() {
@@ -56,8 +56,8 @@ impl<S: Read + Write + OpenStream + Drop, K: MaskKeys + Drop> OperatorClient<S, 
             };
             write_line(writer, answer.as_str())?;
             match verdict_of(&mut self.memory, answer.as_str(), &id)? {
-                Some(Verdict::Accepted) => return Ok(Outcome::Accepted),
-                Some(Verdict::Refused) => return Ok(Outcome::Refused(answer)),
+                Some(Verdict::Accepted) => return Ok(CallEnd::Accepted),
+                Some(Verdict::Refused) => return Ok(CallEnd::Refused(answer)),
                 None => {}
             }
         }

@@ -2,7 +2,7 @@
 //! and a fuse limit that a clear takes along.
 
 use crate::call_check::has_no_criterion;
-use crate::finding::{Finding, Place};
+use crate::finding::{Finding, Location};
 use meaning::PrevailingProfile;
 use messages::{Action, ActionKind, CallFault, purpose_name, read_fields};
 use ocpp_scalars::Refusal;
@@ -12,7 +12,7 @@ use std::alloc::{AllocError, Global};
 
 /// What a line changed in the profiles of its point.
 #[derive(Clone, Copy)]
-pub struct Change<'a> {
+pub struct RowChange<'a> {
     /// The line's number, from 1.
     pub number: u64,
     /// The line's frame.
@@ -25,7 +25,7 @@ pub struct Change<'a> {
 
 /// What is found in a change: which profiles an install took the place of, and which
 /// ChargePointMaxProfiles a clear by other criteria took along.
-pub fn check_change(alloc: Global, change: &Change<'_>) -> Result<Vec<Finding>, AllocError> {
+pub fn check_change(alloc: Global, change: &RowChange<'_>) -> Result<Vec<Finding>, AllocError> {
     let mut findings = Vec::new(alloc);
     if let Some(came) = change.came {
         for gone in change.gone {
@@ -48,7 +48,7 @@ fn replaced(
     came: PrevailingProfile,
     gone: PrevailingProfile,
 ) -> Result<Finding, AllocError> {
-    let place = Place::Line(number);
+    let place = Location::Line(number);
     let name = named(alloc, gone)?;
     if came.id != gone.id {
         let message = format!(in alloc;
@@ -71,7 +71,7 @@ fn cleared_too(alloc: Global, number: u64, gone: PrevailingProfile) -> Result<Fi
     let message = format!(in alloc;
         "this clears {name} too: name id or chargingProfilePurpose, if that isn't meant"
     )?;
-    Ok(Finding::warning(Place::Line(number), message))
+    Ok(Finding::warning(Location::Line(number), message))
 }
 
 /// A profile by its purpose, its id and where it stands.

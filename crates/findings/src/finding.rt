@@ -23,7 +23,7 @@ pub enum Severity {
 
 /// Where a finding stands.
 #[derive(Debug, PartialEq, Eq, Drop)]
-pub enum Place {
+pub enum Location {
     /// The whole file.
     File,
     /// A character of the file, both counted from 1.
@@ -53,7 +53,7 @@ pub enum FaultName {
 #[derive(Debug, Drop)]
 pub struct Finding {
     pub severity: Severity,
-    pub place: Place,
+    pub place: Location,
     /// The name that the fault has elsewhere, if it has one.
     pub name: Option<FaultName>,
     /// What was found and what is wanted, in one line.
@@ -62,7 +62,7 @@ pub struct Finding {
 
 impl Finding {
     /// A fault that has a name elsewhere.
-    pub(crate) fn fault(place: Place, name: FaultName, message: String) -> Finding {
+    pub(crate) fn fault(place: Location, name: FaultName, message: String) -> Finding {
         Finding {
             severity: Severity::Fault,
             place,
@@ -72,7 +72,7 @@ impl Finding {
     }
 
     /// A warning.
-    pub(crate) fn warning(place: Place, message: String) -> Finding {
+    pub(crate) fn warning(place: Location, message: String) -> Finding {
         Finding {
             severity: Severity::Warning,
             place,
@@ -82,7 +82,7 @@ impl Finding {
     }
 
     /// A remark.
-    pub(crate) fn remark(place: Place, message: String) -> Finding {
+    pub(crate) fn remark(place: Location, message: String) -> Finding {
         Finding {
             severity: Severity::Remark,
             place,
@@ -102,20 +102,20 @@ impl fmt::Display for Severity {
     }
 }
 
-impl fmt::Display for Place {
+impl fmt::Display for Location {
     fn fmt<W: fmt::Write>(&self, f: &mut fmt::Formatter<W>) -> fmt::Result {
         match self {
-            Place::File => f.write_str("the file"),
-            Place::Character { line, column } => write!(f, "line {line}, column {column}"),
-            Place::Point { index, id } => {
+            Location::File => f.write_str("the file"),
+            Location::Character { line, column } => write!(f, "line {line}, column {column}"),
+            Location::Point { index, id } => {
                 write!(f, "points[{index}]")?;
                 match id {
                     Some(id) => write!(f, " ({id})"),
                     None => Ok(()),
                 }
             }
-            Place::Line(number) => write!(f, "line {number}"),
-            Place::End(point) => write!(f, "{point}, at the end"),
+            Location::Line(number) => write!(f, "line {number}"),
+            Location::End(point) => write!(f, "{point}, at the end"),
         }
     }
 }
@@ -140,11 +140,11 @@ pub fn sort_by_line(findings: &mut Vec<Finding>) -> Result<(), AllocError> {
 }
 
 /// The line of the script, or what sorts a finding before or behind all lines.
-fn line_of(place: &Place) -> u64 {
+fn line_of(place: &Location) -> u64 {
     match place {
-        Place::Line(number) => *number,
-        Place::File | Place::Character { .. } | Place::Point { .. } => 0,
-        Place::End(_) => u64::MAX,
+        Location::Line(number) => *number,
+        Location::File | Location::Character { .. } | Location::Point { .. } => 0,
+        Location::End(_) => u64::MAX,
     }
 }
 

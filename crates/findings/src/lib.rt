@@ -1,7 +1,6 @@
 //! What is wrong with a site file and with a script, said for people before they are used.
 #![tactic(auto)]
 
-mod answer;
 mod broken_json;
 mod call_check;
 mod change_check;
@@ -20,6 +19,7 @@ mod payload_objects;
 mod printed_check;
 mod profile_check;
 mod refused_answer;
+mod rejection;
 mod report;
 mod script_check;
 mod sent_check;
@@ -35,8 +35,8 @@ mod together;
 mod words;
 mod zone_check;
 
-pub use change_check::{Change, check_change};
-pub use finding::{FaultName, Finding, Place, Severity, exit_status, sort_by_line};
+pub use change_check::{RowChange, check_change};
+pub use finding::{FaultName, Finding, Location, Severity, exit_status, sort_by_line};
 pub use never::{NeverRated, never_rated};
 pub use printed_check::check_printed;
 pub use refused_answer::answer_sentence;

@@ -1,6 +1,6 @@
 //! What a replay prints at a line, where only the state of the point by then can tell it.
 
-use crate::finding::{FaultName, Finding, Place};
+use crate::finding::{FaultName, Finding, Location};
 use crate::sentences::sentence;
 use messages::{CallFault, Response};
 use ocpp_scalars::Refusal;
@@ -71,7 +71,7 @@ fn refused(
     }
     let why = sentence(refusal);
     let message = format!(in alloc; "{refusal}: {why}")?;
-    Ok(Some(Finding::fault(Place::Line(line), name, message)))
+    Ok(Some(Finding::fault(Location::Line(line), name, message)))
 }
 
 /// A clear that matched nothing.
@@ -80,5 +80,5 @@ fn cleared_nothing(alloc: Global, line: u64) -> Result<Option<Finding>, AllocErr
         alloc,
         "this clears nothing: the point has no profile that matches its criteria",
     )?;
-    Ok(Some(Finding::warning(Place::Line(line), message)))
+    Ok(Some(Finding::warning(Location::Line(line), message)))
 }

@@ -1,6 +1,6 @@
 //! What the refusal in an answer means, for an operator who got it.
 
-use crate::answer::{Answer, answer_of, fault_of, refusal_of};
+use crate::rejection::{Rejection, fault_of, refusal_of, rejection_of};
 use crate::sentences::{call_sentence, sentence};
 use crate::words::excerpt;
 use ocppj_frame::{FrameFault, ReadingMemory, read_tree};
@@ -11,20 +11,23 @@ use std::alloc::{AllocError, Global};
 pub fn answer_sentence(alloc: Global, answer: &str) -> Result<Option<String>, AllocError> {
     let mut memory = ReadingMemory::new(alloc);
     match read_tree(&mut memory, answer) {
-        Ok(tree) => sentence_of(alloc, answer_of(tree.root())),
+        Ok(tree) => sentence_of(alloc, rejection_of(tree.root())),
         Err(FrameFault::OutOfMemory) => Err(AllocError),
         Err(_) => Ok(None),
     }
 }
 
-fn sentence_of(alloc: Global, answer: Option<Answer<'_>>) -> Result<Option<String>, AllocError> {
+fn sentence_of(alloc: Global, answer: Option<Rejection<'_>>) -> Result<Option<String>, AllocError> {
     match answer {
-        Some(Answer::Rejected(reason)) => refusal_sentence(alloc, reason),
-        Some(Answer::Error { code, description }) => match refusal_sentence(alloc, description)? {
+        Some(Rejection::Rejected(reason)) => refusal_sentence(alloc, reason),
+        Some(Rejection::Error { code, description }) => match refusal_sentence(
+            alloc,
+            description,
+        )? {
             Some(sentence) => Ok(Some(sentence)),
             None => fault_sentence(alloc, code, description),
         },
-        Some(Answer::Unknown) | None => Ok(None),
+        Some(Rejection::Unknown) | None => Ok(None),
     }
 }
 

@@ -1,6 +1,6 @@
 //! The findings in a script, gathered line by line.
 
-use crate::finding::{FaultName, Finding, Place};
+use crate::finding::{FaultName, Finding, Location};
 use std::alloc::{AllocError, Global};
 
 /// How often an identity is compared with all those of the site.
@@ -47,21 +47,21 @@ impl Report {
 
     /// A fault in this line.
     pub(crate) fn fault(&mut self, name: FaultName, message: String) -> Result<(), AllocError> {
-        let place = Place::Line(self.line);
+        let place = Location::Line(self.line);
         self.findings.push(Finding::fault(place, name, message))?;
         Ok(())
     }
 
     /// A warning of this line.
     pub(crate) fn warn(&mut self, message: String) -> Result<(), AllocError> {
-        let place = Place::Line(self.line);
+        let place = Location::Line(self.line);
         self.findings.push(Finding::warning(place, message))?;
         Ok(())
     }
 
     /// A remark on the line of a number.
     pub(crate) fn remark_at(&mut self, line: u64, message: String) -> Result<(), AllocError> {
-        let place = Place::Line(line);
+        let place = Location::Line(line);
         self.findings.push(Finding::remark(place, message))?;
         Ok(())
     }

@@ -1,6 +1,6 @@
 //! What is wrong with a script, as far as each of its texts says it.
 
-use crate::finding::{FaultName, Finding, Place};
+use crate::finding::{FaultName, Finding, Location};
 use crate::line_hints::mistake_message;
 use crate::line_text::LineText;
 use crate::report::Report;
@@ -125,7 +125,7 @@ fn too_long(alloc: Global, count: usize) -> Result<Vec<Finding>, AllocError> {
         "{count} bytes; at most {MAX_SCRIPT_BYTES} are wanted, and nothing of a longer script is played"
     )?;
     let mut findings = Vec::new(alloc);
-    findings.push(Finding::fault(Place::File, FaultName::ScriptTooLong, message))?;
+    findings.push(Finding::fault(Location::File, FaultName::ScriptTooLong, message))?;
     Ok(findings)
 }
 

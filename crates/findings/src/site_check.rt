@@ -1,7 +1,7 @@
 //! All that is wrong with a site file.
 
 use crate::broken_json::first_break;
-use crate::finding::{FaultName, Finding, Place};
+use crate::finding::{FaultName, Finding, Location};
 use crate::found::{Wish, field_message, message_of, what_stands};
 use crate::json_fault::json_fault_text;
 use crate::json_outline::outline_of;
@@ -40,15 +40,15 @@ fn alone(alloc: Global, finding: Finding) -> Result<Vec<Finding>, AllocError> {
 
 fn too_large(alloc: Global, count: usize) -> Result<Finding, AllocError> {
     let message = format!(in alloc; "{count} bytes; at most {MAX_SITE_BYTES} are wanted")?;
-    Ok(site_fault(Place::File, SiteFault::TooLarge, message))
+    Ok(site_fault(Location::File, SiteFault::TooLarge, message))
 }
 
 fn not_utf8(alloc: Global, offset: usize) -> Result<Finding, AllocError> {
     let message = format!(in alloc; "it isn't UTF-8 from the byte at offset {offset} on")?;
-    Ok(site_fault(Place::File, SiteFault::NotUtf8, message))
+    Ok(site_fault(Location::File, SiteFault::NotUtf8, message))
 }
 
-fn site_fault(place: Place, fault: SiteFault, message: String) -> Finding {
+fn site_fault(place: Location, fault: SiteFault, message: String) -> Finding {
     Finding::fault(place, FaultName::Site(fault), message)
 }
 
@@ -163,7 +163,7 @@ fn check_entry(
         &found,
         "an object with id, ceiling and connectors",
     )?;
-    let place = Place::Point { index, id: None };
+    let place = Location::Point { index, id: None };
     checked
         .findings
         .push(site_fault(place, SiteFault::BadPoints, message))?;

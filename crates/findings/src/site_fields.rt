@@ -192,7 +192,7 @@ impl SiteNames<'_> {
             findings.push(Finding::warning(place, message))?;
         }
         if self.more {
-            let place = crate::finding::Place::File;
+            let place = crate::finding::Location::File;
             let message = format!(in alloc;
                 "there are more than {MAX_UNKNOWN} fields that nothing looks at"
             )?;

@@ -1,6 +1,6 @@
 //! What is wrong with a point of a site file.
 
-use crate::finding::{FaultName, Finding, Place};
+use crate::finding::{FaultName, Finding, Location};
 use crate::found::{LIMIT, Wish, field_message, message_of, what_stands};
 use crate::site_fields::SiteNames;
 use crate::words::{excerpt, tenths_text};
@@ -56,7 +56,7 @@ pub(crate) struct CheckedSite<'names, 'text> {
 impl CheckedSite<'_, '_> {
     /// A fault of the file that is no point's.
     pub(crate) fn fault(&mut self, fault: SiteFault, message: String) -> Result<(), AllocError> {
-        self.findings.push(Finding::fault(Place::File, FaultName::Site(fault), message))?;
+        self.findings.push(Finding::fault(Location::File, FaultName::Site(fault), message))?;
         Ok(())
     }
 
@@ -83,12 +83,12 @@ struct PointFields<'node, 'memory> {
 
 impl PointFields<'_, '_> {
     /// Where it stands, with its identity where that is a text.
-    fn place(self, alloc: Global) -> Result<Place, AllocError> {
+    fn place(self, alloc: Global) -> Result<Location, AllocError> {
         let id = match text_field(self.fields, "id") {
             Field::Value(id) if !id.is_empty() => Some(excerpt(alloc, id)?),
             _ => None,
         };
-        Ok(Place::Point {
+        Ok(Location::Point {
             index: self.index,
             id,
         })

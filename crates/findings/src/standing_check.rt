@@ -1,6 +1,6 @@
 //! What is amiss with what a point has when a script ends, though each line by itself is right.
 
-use crate::finding::{Finding, Place, Severity};
+use crate::finding::{Finding, Location, Severity};
 use crate::hidden::is_hidden_everywhere;
 use crate::together::{Excess, worst_excess};
 use crate::words::{instant_text, tenths_text};
@@ -72,7 +72,7 @@ fn finding_at_end(
 ) -> Result<Finding, AllocError> {
     Ok(Finding {
         severity,
-        place: Place::End(String::from_str(alloc, point)?),
+        place: Location::End(String::from_str(alloc, point)?),
         name: None,
         message,
     })

@@ -1,9 +1,9 @@
 //! The line and the column of an offset in a text.
 
-use crate::finding::Place;
+use crate::finding::Location;
 
 /// The line and the column of the character at an offset in bytes, both counted from 1.
-pub(crate) fn place_in_text(text: &str, offset: usize) -> Place {
+pub(crate) fn place_in_text(text: &str, offset: usize) -> Location {
     let mut line: u64 = 1;
     let mut column: u64 = 1;
     for (at, character) in text.char_indices() {
@@ -17,5 +17,5 @@ pub(crate) fn place_in_text(text: &str, offset: usize) -> Place {
             column = column.saturating_add(1);
         }
     }
-    Place::Character { line, column }
+    Location::Character { line, column }
 }

@@ -6,7 +6,7 @@ mod connection;
 mod connections;
 mod handshake;
 mod path;
-mod sites;
+mod serving;
 
 pub use path::{PathPeer, peer_of_path};
-pub use sites::{MAX_SESSIONS, MAX_WORKERS, ServeFault, serve, serve_noted};
+pub use serving::{MAX_SESSIONS, MAX_WORKERS, ServeFault, serve, serve_noted};

@@ -3,7 +3,7 @@
 use crate::pieces::{are, joined, row_of};
 use crate::same::{holds, same_text};
 use findings::{
-    FaultName, Finding, Place, answer_sentence, check_printed, check_script, check_sent,
+    FaultName, Finding, Location, answer_sentence, check_printed, check_script, check_sent,
     sort_by_line,
 };
 use replay::{Playing, replay};
@@ -206,7 +206,7 @@ fn profiles(rt: HostRuntime) {
 
 /// Appends the fault of a finding, as a replay prints it, if it is one of a line.
 fn push_line_fault(rt: &impl Abort, alloc: Global, faults: &mut String, finding: &Finding) {
-    if let (Place::Line(line), Some(FaultName::Line(fault))) = (&finding.place, finding.name) {
+    if let (Location::Line(line), Some(FaultName::Line(fault))) = (&finding.place, finding.name) {
         let name = fault.name();
         let printed = format!(in alloc; "! {line} {name}\n").expect(rt, "error");
         faults.push_str(printed.as_str()).expect(rt, "error");

@@ -4,7 +4,7 @@ use crate::program::command_line::Calling;
 use crate::program::payload_file::read_payload_file;
 use crate::program::program_fault::ProgramFault;
 use client::{
-    Address, ClientFault, Lines, OperatorClient, Outcome, ask_call, clear_call, connect,
+    Address, CallEnd, ClientFault, Lines, OperatorClient, ask_call, clear_call, connect,
     set_profile_call,
 };
 use findings::{SentCheck, Severity, answer_sentence, check_sent, json_break};
@@ -116,9 +116,9 @@ impl<R: Input + Print + Eprint + AllocGlobal + RandomSource + Wait + Drop> Calle
         }
         let mut writer = io::writer(self.rt);
         match self.client.call(self.rt, &mut writer, text)? {
-            Outcome::Accepted => Ok(()),
-            Outcome::Refused(answer) => self.refused(name, answer.as_str()),
-            Outcome::NotACall => self.report(name, "NotACall"),
+            CallEnd::Accepted => Ok(()),
+            CallEnd::Refused(answer) => self.refused(name, answer.as_str()),
+            CallEnd::NotACall => self.report(name, "NotACall"),
         }
     }
 

@@ -9,7 +9,7 @@ use crate::program::program_fault::ProgramFault;
 use crate::program::script_input::read_script;
 use crate::program::site_file::read_site_bytes;
 use findings::{
-    Change, Finding, ScriptCheck, Severity, check_change, check_printed, check_site,
+    Finding, RowChange, ScriptCheck, Severity, check_change, check_printed, check_site,
     check_standing, exit_status, sort_by_line,
 };
 use show_pages::{Depth, Trace, ending_text, trace_text};
@@ -117,7 +117,7 @@ fn find_in_changes(
     findings: &mut Vec<Finding>,
 ) -> Result<(), AllocError> {
     for changed in trace.changes() {
-        let change = Change {
+        let change = RowChange {
             number: changed.number,
             frame: changed.frame.as_str(),
             came: changed.came,

@@ -6,7 +6,7 @@ use ocppj_frame::{Field, Node, text_field};
 
 /// An answer that isn't simply accepted.
 #[derive(Clone, Copy)]
-pub(crate) enum Answer<'text> {
+pub(crate) enum Rejection<'text> {
     /// A `Rejected` with this reason.
     Rejected(&'text str),
     /// A CALLERROR.
@@ -54,12 +54,12 @@ const FAULTS: [CallFault; 5] = [
 ];
 
 /// What the frame of a tree says, if it is an answer that isn't simply accepted.
-pub(crate) fn answer_of<'memory>(root: Node<'_, 'memory>) -> Option<Answer<'memory>> {
+pub(crate) fn rejection_of<'memory>(root: Node<'_, 'memory>) -> Option<Rejection<'memory>> {
     let entries = root.list()?;
     match entries.get(0)?.number()? {
-        "3" => answer_of_result(entries.get(2)?),
+        "3" => rejection_of_result(entries.get(2)?),
         "4" => {
-            Some(Answer::Error {
+            Some(Rejection::Error {
                 code: entries.get(2)?.text()?,
                 description: entries.get(3)?.text()?,
             })
@@ -69,13 +69,13 @@ pub(crate) fn answer_of<'memory>(root: Node<'_, 'memory>) -> Option<Answer<'memo
 }
 
 /// The answer of a CALLRESULT with this payload.
-fn answer_of_result<'memory>(payload: Node<'_, 'memory>) -> Option<Answer<'memory>> {
+fn rejection_of_result<'memory>(payload: Node<'_, 'memory>) -> Option<Rejection<'memory>> {
     match text_field(payload, "status") {
         Field::Value("Rejected") => match text_field(payload, "reason") {
-            Field::Value(reason) => Some(Answer::Rejected(reason)),
+            Field::Value(reason) => Some(Rejection::Rejected(reason)),
             _ => None,
         },
-        Field::Value("Unknown") => Some(Answer::Unknown),
+        Field::Value("Unknown") => Some(Rejection::Unknown),
         _ => None,
     }
 }

@@ -3,7 +3,7 @@ use Rattle.std.proofs.Common.{refl, sym, ap, ◌∙◌}
 use Rattle.replay.specs.Play.{line_played}
 use Rattle.replay.specs.Playing.{PlayingState}
 use Rattle.replay.proofs.QuietLemmas.{went_on}
-use Rattle.replay.proofs.script.quiet.Playing.play_next.Goals as goal
+use Rattle.replay.proofs.script.playing.Playing.play_next.Goals as goal
 
 pub returns-clause-next : goal.returns-clause-next
 returns-clause-next c =

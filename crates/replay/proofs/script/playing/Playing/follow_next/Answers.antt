@@ -2,7 +2,7 @@
 use Rattle.std.proofs.Common.{refl, sym}
 use Rattle.replay.specs.Playing.{PlayingState}
 use Rattle.replay.proofs.QuietLemmas.{went_on}
-use Rattle.replay.proofs.script.quiet.Playing.skim_next.Goals as goal
+use Rattle.replay.proofs.script.playing.Playing.follow_next.Goals as goal
 
 pub returns : goal.returns
 returns c =

@@ -9,7 +9,7 @@ use Rattle.replay.specs.ByCases.Quiet.{lines_left}
 use Rattle.replay.specs.PrintedLine.{PrintedLine}
 use Rattle.replay.specs.Run.{Played, first_played, played_more}
 use Rattle.replay.proofs.QuietLemmas.{first_lines, no_lines_left, past_last, next_played, all_played}
-use Rattle.replay.proofs.script.quiet.play_quietly.Goals as goal
+use Rattle.replay.proofs.script.playing.play_quietly.Goals as goal
 
 -- how far a script was played, where its lines so far printed these
 abbrev so_far : PlayingState → List PrintedLine → Played

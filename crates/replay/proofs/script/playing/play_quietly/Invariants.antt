@@ -6,7 +6,7 @@ use Rattle.replay.specs.PrintedLine.{PrintedLine}
 use Rattle.replay.specs.Run.{played_more}
 use Rattle.replay.specs.Quiet.{played_up_to}
 use Rattle.replay.specs.ByCases.Quiet.{lines_left}
-use Rattle.replay.proofs.script.quiet.play_quietly.Given as goal
+use Rattle.replay.proofs.script.playing.play_quietly.Given as goal
 
 abbrev pub invariant-loop-last_line : goal.invariant-loop-last_line
 invariant-loop-last_line l =
