@@ -411,6 +411,37 @@ def explain_order_problems(program, folder):
         yield f"explain: {name}", list(differences(done, b"", error, status))
 
 
+def order_problems(program, folder):
+    """The order of the faults of the other commands: the command line, the files that it names, then the script or the sockets."""
+    none, bad, good = (os.path.join(folder, name) for name in ("none", "blank", "good"))
+    read, words = b"central: device: read\n", b"central: command line: "
+    no_site = f"central: {none}: it isn't there, is a folder, or may not be read\n".encode() + read
+    payload = f"central: {none}: it isn't there, may not be read, isn't UTF-8, or is longer than a text may be\n".encode() + read
+    url = b"central: url: not ws://HOST:PORT/PATH\n"
+    # Nobody listens at port 9, and nothing can at `nowhere`.
+    point = ["point", "--url", "ws://127.0.0.1:9", "--site"]
+    call = ["call", "--url", "ws://127.0.0.1:9/operator/CP1", "--set-profile"]
+    serve = ["serve", "--listen", "nowhere", "--workers", "1", "--sessions", "1", "--site"]
+    for name, arguments, error, status in (
+        ("show: no site file, and no script", ["show", "--site", none], no_site, 3),
+        ("show: a site file with a fault, and no script", ["show", "--site", bad], b"central: site: NotAnObject\n", 1),
+        ("show: no script", ["show", "--site", good], read, 3),
+        ("check: no site file, and no script", ["check", "--site", none], no_site, 3),
+        ("check: no script", ["check", "--site", good], read, 3),
+        ("point: a URL, and no site file", ["point", "--url", "http://x", "--site", none, "--id", "CP1"], url, 4),
+        ("point: no site file, and nobody listens", [*point, none, "--id", "CP1"], no_site, 3),
+        ("point: a site file with a fault, and no such point", [*point, bad, "--id", "CP9"], b"central: site: NotAnObject\n", 1),
+        ("point: no such point, and nobody listens", [*point, good, "--id", "CP9"], words + b"no such point in the site file\n", 4),
+        ("call: a URL, and no payload", ["call", "--url", "http://x", "--set-profile", none], url, 4),
+        ("call: no payload, and nobody listens", [*call, none], payload, 3),
+        ("serve: a journal that is there, and no site file", [*serve, none, "--journal", good], words + b"the file of --journal is there already\n", 4),
+        ("serve: no site file, and no address", [*serve, none], read, 3),
+        ("serve: a site file with a fault, and no address", [*serve, bad], b"central: site: NotAnObject\n", 1),
+        ("serve: no address", [*serve, good], b"central: device: socket\n", 3),
+    ):
+        yield name, list(differences(run_on(program, arguments, folder, False), b"", error, status))
+
+
 def drawn_problems(program, folder):
     """The pictures in docs/pictures are those that the program draws of the examples today."""
     drawn = os.path.join(folder, "drawn")
@@ -592,6 +623,7 @@ def all_problems(program):
         results.extend(help_example_problems(program, folder))
         results.extend(device_problems(program, folder))
         results.extend(explain_problems(program, folder))
+        results.extend(order_problems(program, folder))
         results.extend(check_and_show_problems(program, folder))
         results.extend(drawn_problems(program, folder))
         results.extend(growth_problems(program, folder))
