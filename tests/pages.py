@@ -17,9 +17,9 @@ import textwrap
 
 TOP = os.path.dirname(os.path.dirname(os.path.realpath(__file__)))
 PAGES = ("README.md", "examples/README.md", "docs/OPERATING.md", "docs/PROTOCOL.md")
-PROGRAM = re.compile(r"\bdist/out/central (?=\w)")
+PROGRAM = re.compile(r"\bpackaging/out/central (?=\w)")
 COMMAND = re.compile(rf"{PROGRAM.pattern}|^ *curl ")
-BESIDE = re.compile(r"\bdist/out/central (serve|point) ")
+BESIDE = re.compile(r"\bpackaging/out/central (serve|point) ")
 PORT = re.compile(r"(?<=127\.0\.0\.1):90\d\d\b")
 MOMENTS = re.compile(r'"(scheduleStart|currentTime|timestamp)":"[^"]*"')
 FENCE = re.compile(r"^( *)```(\w*)$")

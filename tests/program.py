@@ -1,10 +1,9 @@
 #!/usr/bin/env python3
 """program.py PROGRAM [cases]: runs the built program `central` on what no contract says, and prints 'N passed, M failed'.
 
-It replays each folder of examples/ and tests/replay/ (site.json, script, stdout, status) and compares the bytes of
-standard output, standard error and the exit status; a folder without a site.json has that of tests/replay. The folders of
-tests/situations/ have a file `command` besides, for `explain`, `check` and `show`. Then it tries command lines, site
-files, devices that fail, how memory grows and memory that is refused. With `cases` it stops behind the folders.
+It plays each case of examples/ and tests/cases/ (tests/case_folders.py has their form) and compares the bytes of standard
+output, standard error and the exit status. Then it tries command lines, site files, devices that fail, how memory grows
+and allocations that fail. With `cases` it stops behind the cases.
 """
 import json
 import os
@@ -13,6 +12,8 @@ import signal
 import subprocess
 import sys
 import tempfile
+
+from case_folders import Case, all_cases
 
 TOP = os.path.dirname(os.path.dirname(os.path.abspath(__file__)))
 SITE = b'{"unit":"A","points":[{"id":"CP1","ceiling":63.0,"connectors":[32.0,32.0]}]}'
@@ -23,52 +24,11 @@ def bytes_of(path):
         return file.read()
 
 
-def site_of(case):
-    """The site file of a folder: its own, or else the one that the replay cases share."""
-    own = os.path.join(case, "site.json")
-    return own if os.path.isfile(own) else os.path.join(TOP, "tests", "replay", "site.json")
-
-
-def status_of(case):
-    """The exit status that is wanted of a folder's run."""
-    status = os.path.join(case, "status")
-    return int(bytes_of(status)) if os.path.isfile(status) else 0
-
-
-def replay_cases():
-    """Each folder with a script: name, arguments, standard input, and what is wanted."""
-    for folder in ("examples", os.path.join("tests", "replay")):
-        top = os.path.join(TOP, folder)
-        for name in sorted(os.listdir(top)) if os.path.isdir(top) else []:
-            case = os.path.join(top, name)
-            if not os.path.isfile(os.path.join(case, "script")):
-                continue
-            yield (
-                f"{folder}/{name}",
-                ["replay", "--site", site_of(case)],
-                bytes_of(os.path.join(case, "script")),
-                bytes_of(os.path.join(case, "stdout")),
-                b"",
-                status_of(case),
-            )
-
-
-def situation_words(case):
-    """The words of a situation's command, which runs in its folder."""
-    command, *more = bytes_of(os.path.join(case, "command")).decode().split()
-    site = "site.json" if os.path.isfile(os.path.join(case, "site.json")) else os.path.join("..", "site.json")
-    return [command, "--site", site, *more]
-
-
-def situation_problems(program):
-    """Each folder of tests/situations: what its command prints of its script."""
-    top = os.path.join(TOP, "tests", "situations")
-    for name in sorted(os.listdir(top)):
-        case = os.path.join(top, name)
-        if os.path.isdir(case):
-            script, stdout = (bytes_of(os.path.join(case, file)) for file in ("script", "stdout"))
-            done = run(program, situation_words(case), script, folder=case)
-            yield f"tests/situations/{name}", list(differences(done, stdout, b"", status_of(case)))
+def played_cases(program):
+    """Each case: what its command prints of its script."""
+    for case in all_cases():
+        done = run(program, case.words, case.script, folder=case.folder)
+        yield case.name, list(differences(done, *case.wanted))
 
 
 def fault_cases(folder):
@@ -287,29 +247,27 @@ def memory_problems(program, folder):
     source = os.path.join(TOP, "tests", "refuse_allocation.c")
     subprocess.run(["cc", "-O2", "-shared", "-fPIC", "-o", library, source, "-ldl"], check=True)
     picture, page = (os.path.join(folder, name) for name in ("refused.svg", "refused.html"))
-    for case, more, least in (
+    for name, more, least in (
         ("examples/first-schedule", [], 20),
         ("examples/point-messages", [], 60),
         ("examples/ordinary-day", [], 150),
         ("examples/calls-to-a-point", [], 80),
-        ("tests/replay/holds-released-in-another-order", [], 100),
-        ("tests/situations/two-cars", [], 60),
-        ("tests/situations/two-cars", ["--picture", picture], 60),
-        ("tests/situations/hour-that-lifts-a-limit", ["--picture", page], 60),
-        ("tests/situations/two-cars-for-programs", [], 60),
-        ("tests/situations/misspelled-ceiling", [], 20),
-        ("tests/situations/night-above-the-fuse", [], 60),
-        ("tests/situations/wrong-words", [], 60),
-        ("tests/situations/whose-answer", [], 60),
-        ("tests/situations/what-is-installed", [], 60),
-        ("tests/situations/installed-for-programs", [], 60),
+        ("tests/cases/replay/holds-released-in-another-order", [], 100),
+        ("tests/cases/explain/two-cars", [], 60),
+        ("tests/cases/explain/two-cars", ["--picture", picture], 60),
+        ("tests/cases/explain/hour-that-lifts-a-limit", ["--picture", page], 60),
+        ("tests/cases/explain/two-cars-for-programs", [], 60),
+        ("tests/cases/check/misspelled-ceiling", [], 20),
+        ("tests/cases/check/night-above-the-fuse", [], 60),
+        ("tests/cases/check/wrong-words", [], 60),
+        ("tests/cases/check/whose-answer", [], 60),
+        ("tests/cases/show/what-is-installed", [], 60),
+        ("tests/cases/show/installed-for-programs", [], 60),
     ):
-        path = os.path.join(TOP, case)
-        words = situation_words(path) if os.path.isfile(os.path.join(path, "command")) else ["replay", "--site", site_of(path)]
-        refused, problems = refusals(program, library, path, [*words, *more])
+        refused, problems = refusals(program, library, Case(name), more)
         if refused < least:
             problems.append(f"only {refused} allocations were refused")
-        yield f"{os.path.basename(case)}: each of {refused} allocations refused", problems
+        yield f"{os.path.basename(name)}: each of {refused} allocations refused", problems
     for crate, test, in_a_row, least in (
         ("test_core", "runs::a_step_is_made_again_where_memory_was_refused", 1, 20),
         ("test_core", "runs::a_run_goes_on_where_memory_was_refused", 1, 2),
@@ -329,8 +287,6 @@ def memory_problems(program, folder):
         words = [built_tests(program, "test_core"), test]
         last = allocations(library, words)
         yield again_problems(library, words, 1, 10, range(last - 40, last + 6))
-
-
     for test, step in (
         ("waiting_sessions::stopping_wakes_all_who_wait", 1),
         ("settled_totals::two_sessions_count_what_all_was", 7),
@@ -499,15 +455,16 @@ def ending_problems(library, test, step):
     return f"{test[1]}: it ends with each of {refused} allocations refused", problems
 
 
-def refusals(program, library, case, words):
-    """How many allocations the run of this folder makes, and where a refused one ends it otherwise than it should."""
-    arguments = [program, *words]
-    script, whole = (bytes_of(os.path.join(case, name)) for name in ("script", "stdout"))
-    unrefused = (status_of(case), whole, b"")
+def refusals(program, library, case, more):
+    """How many allocations the run of this case makes, with more options, and where a refused one ends it otherwise than it
+    should."""
+    arguments = [program, *case.words, *more]
+    whole, nothing, status = case.wanted
+    unrefused = (status, whole, nothing)
     refused, without_effect, problems = 0, 0, []
     for number in range(10_000):  # the run of number 0 refuses nothing
         environment = {**os.environ, "LD_PRELOAD": library, "REFUSED_ALLOCATION": str(number)}
-        done = subprocess.run(arguments, input=script, capture_output=True, timeout=120, env=environment, cwd=case)
+        done = subprocess.run(arguments, input=case.script, capture_output=True, timeout=120, env=environment, cwd=case.folder)
         if (done.returncode, done.stdout, done.stderr) == unrefused:
             without_effect += number > 0
         else:
@@ -529,7 +486,7 @@ def main():
     if len(sys.argv) not in (2, 3) or sys.argv[2:] not in ([], ["cases"]):
         sys.exit(__doc__)
     program = os.path.abspath(sys.argv[1])
-    results = [*case_problems(program, replay_cases()), *situation_problems(program)]
+    results = list(played_cases(program))
     if len(sys.argv) == 2:
         results.extend(all_problems(program))
     for name, problems in results:
@@ -541,7 +498,7 @@ def main():
 
 
 def all_problems(program):
-    """All but the cases and situations."""
+    """All but the cases."""
     results = []
     with tempfile.TemporaryDirectory() as folder:
         results.extend(case_problems(program, fault_cases(folder)))
