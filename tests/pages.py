@@ -16,7 +16,9 @@ import sys
 import textwrap
 
 TOP = os.path.dirname(os.path.dirname(os.path.realpath(__file__)))
-PAGES = ("README.md", "examples/README.md", "docs/OPERATING.md", "docs/PROTOCOL.md")
+PAGES = (
+    "README.md", "examples/README.md", "docs/RUNNING.md", "docs/COMMANDS.md", "docs/PROTOCOL.md", "packaging/package/README.md",
+)
 PROGRAM = re.compile(r"\bpackaging/out/central (?=\w)")
 COMMAND = re.compile(rf"{PROGRAM.pattern}|^ *curl ")
 BESIDE = re.compile(r"\bpackaging/out/central (serve|point) ")
