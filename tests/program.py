@@ -8,6 +8,7 @@ and allocations that fail. With `cases` it stops behind the cases.
 import json
 import os
 import re
+import shutil
 import signal
 import subprocess
 import sys
@@ -195,6 +196,20 @@ def help_example_problems(program, folder):
         file.write(site)
     done = run(program, ["replay", "--site", path], script)
     yield "the example of replay's help", list(differences(done, printed + b"\n", b"", 0)) if example else ["no example"]
+
+
+def first_schedule_problems(program, folder):
+    """`first-schedule`: the lines of the first example and three commands; without a program and a kit, one line."""
+    example = Case("examples/first-schedule")
+    done = subprocess.run([os.path.join(TOP, "first-schedule"), program], capture_output=True, timeout=120)
+    commands = [line.split(b" --")[0].split(b"| ")[-1] for line in done.stdout.split(b"\n") if b" --" in line]
+    wanted = [f"{program} {command}".encode() for command in ("serve", "point", "call")]
+    ok = done.returncode == 0 and done.stdout.startswith(example.wanted[0] + b"\n") and commands == wanted and not done.stderr
+    yield "first-schedule", [] if ok else [f"{done}"]
+    alone = shutil.copy(os.path.join(TOP, "first-schedule"), folder)
+    done = subprocess.run([alone], capture_output=True, timeout=120, env={"PATH": "/usr/bin:/bin"})
+    ok = (done.returncode, done.stdout, done.stderr.count(b"\n")) == (1, b"", 1) and b"/opt/rattle" in done.stderr
+    yield "first-schedule without a kit", [] if ok else [f"{done}"]
 
 
 def device_problems(program, folder):
@@ -504,6 +519,7 @@ def all_problems(program):
         results.extend(case_problems(program, fault_cases(folder)))
         results.extend(command_line_problems(program))
         results.extend(help_example_problems(program, folder))
+        results.extend(first_schedule_problems(program, folder))
         results.extend(device_problems(program, folder))
         results.extend(explain_problems(program, folder))
         results.extend(check_and_show_problems(program, folder))
