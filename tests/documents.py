@@ -266,7 +266,7 @@ def limit_in_words_problems(top, files):
 
 def action_problems(top, files):
     definition = text_of(top, "crates/messages/specs/ActionKind.antt")
-    rows = re.findall(r'^row_of (\w+) = (?:with_fields|answered) (\w+) \(codes "(\w+)"\)', definition, re.MULTILINE)
+    rows = re.findall(r'^row_of (\w+) =\s+(?:with_fields|answered) (\w+)\s+\(codes "(\w+)"\)', definition, re.MULTILINE)
     known = {side: {name for kind, sender, name in rows if sender == side} for side in ("Operator", "Point")}
     if any(kind != name for kind, sender, name in rows) or len(rows) != definition.count("\nrow_of "):
         yield "ActionKind.antt: a row isn't read, or has another name than its action"
@@ -351,12 +351,12 @@ def program_sentence_problems(top, files):
 # ---- crates, cases and versions
 
 def crate_problems(top, files):
-    """ARCHITECTURE names each crate, and each that isn't one of tests has a README; the READMEs link to all callers."""
+    """ARCHITECTURE names each crate but those of tests, and each of them has a README; the READMEs link to all callers."""
     page = text_of(top, "docs/ARCHITECTURE.md")
     crates = re.findall(r"^(\w+):", text_of(top, "crates.txt"), re.MULTILINE)
     linked = set()
     for crate in crates:
-        if f"`{crate}`" not in page:
+        if f"`{crate}`" not in page and not crate.startswith("test_"):
             yield f"docs/ARCHITECTURE.md: {crate} isn't named"
         readme = f"crates/{crate}/README.md"
         if readme in files:
