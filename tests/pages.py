@@ -17,7 +17,8 @@ import textwrap
 
 TOP = os.path.dirname(os.path.dirname(os.path.realpath(__file__)))
 PAGES = (
-    "README.md", "examples/README.md", "docs/RUNNING.md", "docs/COMMANDS.md", "docs/PROTOCOL.md", "packaging/package/README.md",
+    "README.md", "examples/README.md", "docs/RUNNING.md", "docs/COMMANDS.md", "docs/PROTOCOL.md",
+    "packaging/package/README.md",
 )
 PROGRAM = re.compile(r"\bpackaging/out/central (?=\w)")
 COMMAND = re.compile(rf"{PROGRAM.pattern}|^ *curl ")
