@@ -376,6 +376,11 @@ def case_problems(top, files):
     for word in re.findall(r"`([\w*]+(?:-[\w*]+)+)`", section_of(text_of(top, "tests/README.md"), "Cases")):
         if not fnmatch.filter(cases, word):
             yield f"tests/README.md: there is no case {word}"
+    for header, rows in tables_of("\n".join(without_blocks(text_of(top, "docs/DIFFERENCES.md")))):
+        for row in rows if header[-1] == "Case" else []:
+            for word in re.findall(r"`([^`]+)`", row[-1]):
+                if word not in cases and f"tests/sockets/{word}" not in files:
+                    yield f"docs/DIFFERENCES.md: there is no case {word}"
     twice = collections.defaultdict(list)
     for name in files:
         if re.fullmatch(r"(?:examples|tests/cases)/(?:.*/)?(?:script|site\.json)", name) and not os.path.islink(os.path.join(top, name)):
