@@ -1,42 +1,80 @@
 #!/usr/bin/env python3
-"""documents.py [TOP]: compares the documents with the tree, and prints 'N passed, M failed'.
+"""documents.py [TOP]: compares the pages with the tree, and prints 'N passed, M failed'.
 
-TOP is the repository, by default the one that this file stands in. What is compared:
+TOP is the repository, by default the one that this file stands in. First it prints a table: each page's size, the mean and
+the longest of its sentences in words, and the words that it should do without. What is compared:
 
-- the table of limits in OPERATING with each crate's specs/Limits.antt and the limits of the command line, both ways;
-  that no other page for users has one of the large numbers, and no other table of refusals;
-- the actions in PROTOCOL, and those that DIFFERENCES says are there, with the names in messages/specs/ActionKind.antt;
-- the refusals in PROTOCOL with the names in ocpp_scalars/specs/Refusal.antt;
-- the crates and the files of definitions in ARCHITECTURE with crates.txt and specs/;
-- the sentences in OPERATING with those of the code, both ways, and the numbers in them and in the help with the limits;
-- the replay cases and the situations in their READMEs with the folders, and the version in CHANGELOG with that of the program;
-- the kit's name and logic in README and WORKING with what the program prints;
-- the code on the pages of libraries with the callers in the crates of tests, which are proved and run;
-- each path in a document with the tree, each name in brackets behind a file with that file, each link with its file and
-  its heading;
-- that no document names a paper, a request or a row by a number.
+- each page with its size, its sentences and the words of WORDS;
+- the table of limits in COMMANDS with each crate's specs/Limits.antt and the limits of the command line, both ways; that
+  no other page has one of the large numbers; the numbers in sentences and in the help with the limits;
+- the actions in PROTOCOL, and those that DIFFERENCES says are there, with messages/specs/ActionKind.antt;
+- the refusals in PROTOCOL with ocpp_scalars/specs/Refusal.antt, and each sentence with that of the code;
+- the crates with ARCHITECTURE and with their own READMEs, which link to each caller of a library;
+- the examples and cases that are named with the folders, and that no script or site file is there twice;
+- the version in CHANGELOG with that of the program, and the kit with what the program prints;
+- each path in a page with the tree, each name in brackets behind a file with that file, each link with its file and its
+  heading, in the repository and in the Debian package;
+- that no page names a paper, a request or a row by a number.
 """
 import collections
+import fnmatch
 import os
 import re
 import subprocess
 import sys
+import tempfile
+
+from markdown import (
+    anchors_of, block_lines, links_of, prose_of, rows_of, section_of, sentences_of, tables_of, without_blocks, words_of,
+)
 
 HERE = os.path.dirname(os.path.dirname(os.path.abspath(__file__)))
 
-# Definitions in Limits.antt that bound nothing which a user sends, each with the page that has its number.
+# The most that a page may have, in KB of 1,024 bytes. README is counted in lines.
+SIZES = {
+    "docs/RUNNING.md": 15,
+    "docs/COMMANDS.md": 15,
+    "docs/PROTOCOL.md": 30,
+    "docs/DIFFERENCES.md": 30,
+    "docs/MEANING.md": 16,
+    "docs/ARCHITECTURE.md": 14,
+    "docs/WORKING.md": 18,
+    "docs/REVIEWING.md": 15,
+    "docs/PROOFS.md": 15,
+    "docs/DECISIONS.md": 17,
+    "bench/README.md": 12,
+    "examples/README.md": 15,
+    "tests/README.md": 8,
+}
+OTHER_SIZE = 8
+ALL_SIZE = 240
+README_LINES = 110
+MEAN_WORDS = 25
+LONGEST_WORDS = 60
+# Words that a page should do without, each with its pattern and what stands in its place.
+WORDS = {
+    "stands twice": (r"\b(?:stands?|stood) twice\b", "a duplicate field"),
+    "told again": (r"\b(?:told|tells?) again\b", "retransmitted"),
+    "want of memory": (r"\bwant of memory\b", "out of memory, a failed allocation"),
+    "so many": (r"\bso many\b", "N"),
+    "stretch": (r"\bstretch(?:es)?\b", "an interval"),
+    "ask": (r"\b(?:an|the|each|every|one|its|that|this|held|\d+) asks?\b|\basks of\b", "a request"),
+    "plant": (r"\bplant(?:s|ed|ing)?\b", "a mutant"),
+    "Owed": (r"\bOwed\b", "Open"),
+}
+
+# Definitions in Limits.antt that bound nothing which a user sends, and so have no row; the page that has the number.
 NO_LIMITS = {
     "ocpp_scalars last_day": None,  # the day of the last second
     "profile day": "docs/MEANING.md",
     "profile week": "docs/MEANING.md",
-    "version_store fold_from": "docs/ARCHITECTURE.md",
-    "version_store room": "docs/DECISIONS.md",
+    "version_store fold_from": None,  # when a history folds
+    "version_store room": None,  # the memory that a history keeps
 }
-# Files of specs/ that only name others.
-NO_SUBJECTS = {"Lib.antt", "ByCases.antt", "Theory.antt"}
+LIMITS_PAGE = "docs/COMMANDS.md"
 # Pages in which a large limit is a link.
 PAGES_WITHOUT_LIMITS = [
-    f"docs/{page}.md" for page in ("PROTOCOL", "MEANING", "DIFFERENCES", "DECISIONS", "ARCHITECTURE", "WORKING")
+    f"docs/{page}.md" for page in ("RUNNING", "PROTOCOL", "MEANING", "DIFFERENCES", "DECISIONS", "ARCHITECTURE", "WORKING")
 ]
 # Words of paths that stand for others, and what is built and so isn't in the tree.
 PLACEHOLDERS = re.compile(r"[A-Z]{4,}/|/[A-Z]{3,}\b(?!\.md)|\*|\.\.\.|/out(/|$)|^out/|^NAME|CRATE")
@@ -51,7 +89,11 @@ NUMBERED = re.compile(
 
 
 def text_of(top, path):
-    with open(os.path.join(top, path), encoding="utf-8") as file:
+    """A file's text; none where there is no such file."""
+    path = os.path.join(top, path)
+    if not os.path.isfile(path):
+        return ""
+    with open(path, encoding="utf-8") as file:
         return file.read()
 
 
@@ -69,67 +111,75 @@ def files_of(top):
 
 
 def documents_of(files):
-    """README, CONTRIBUTING and the like, docs/, and the READMEs below examples, tests, bench and crates."""
-    return sorted(
-        name for name in files
-        if name.endswith(".md") and ("/" not in name or name.startswith("docs/") or name.endswith("README.md"))
-    )
+    """The pages: all Markdown."""
+    return sorted(name for name in files if name.endswith(".md"))
 
 
-# ---- parts of a page
+# ---- sizes, sentences and words
 
-def without_blocks(text):
-    """The lines of a page, those of its code blocks left empty."""
-    inside, lines = False, []
-    for line in text.split("\n"):
-        fence = line.lstrip().startswith("```")
-        lines.append("" if inside or fence else line)
-        inside = inside != fence
-    return lines
+def lengths_of(text):
+    """The number of words of each sentence in running text and in cells of tables."""
+    running = "\n".join("" if line.lstrip().startswith("|") else line for line in text.split("\n"))
+    return [[len(words_of(sentence)) for sentence in sentences_of(part)] for part in (running, text)]
 
 
-def block_lines(text):
-    """The lines of the code blocks of a page, each with its number."""
-    inside = False
-    for number, line in enumerate(text.split("\n"), 1):
-        if line.lstrip().startswith("```"):
-            inside = not inside
-        elif inside:
-            yield number, line
+def forbidden_of(text):
+    """The words of a page that it should do without, with how often."""
+    prose = "\n".join([*prose_of(text), *(line for line in without_blocks(text) if line.startswith("#"))])
+    found = {word: len(re.findall(pattern, prose, re.IGNORECASE if word.islower() else 0)) for word, (pattern, _) in WORDS.items()}
+    return {word: count for word, count in found.items() if count}
 
 
-def section_of(text, heading):
-    """What stands below a heading, up to the next one of its level or above."""
-    level, lines, inside = 0, [], False
-    for line in without_blocks(text):
-        found = re.match(r"(#+) (.*)", line)
-        if found and inside and len(found.group(1)) <= level:
-            break
-        if found and not inside and found.group(2) == heading:
-            level, inside = len(found.group(1)), True
-        elif inside:
-            lines.append(line)
-    return "\n".join(lines)
+def measures_of(top, page):
+    """A page's size in KB, the mean and the longest of its sentences, and its forbidden words."""
+    text = text_of(top, page)
+    running, all_sentences = lengths_of(text)
+    mean = sum(running) / len(running) if running else 0
+    return len(text.encode()) / 1024, mean, max(all_sentences, default=0), forbidden_of(text)
 
 
-def rows_of(text):
-    """The rows of the tables of a text, each as its cells, without headers and rules."""
-    lines = text.split("\n")
-    for place, line in enumerate(lines):
-        follows = lines[place + 1] if place + 1 < len(lines) else ""
-        if line.startswith("|") and not re.match(r"\|[\s:|-]+\|?$", line) and not re.match(r"\|\s*-+", follows):
-            yield [cell.strip() for cell in line.strip().strip("|").split("|")]
+def print_measures(top, files):
+    print(f"{'page':40} {'KB':>5} {'mean':>5} {'longest':>7}  words")
+    total = 0
+    for page in documents_of(files):
+        size, mean, longest, words = measures_of(top, page)
+        total += size
+        print(f"{page:40} {size:5.1f} {mean:5.1f} {longest:7}  {', '.join(f'{word} {count}' for word, count in words.items())}".rstrip())
+    print(f"{'all':40} {total:5.1f}")
 
 
-def anchors_of(text):
-    """The anchors of a page's headings, as GitHub and GitLab make them."""
-    anchors = set()
-    for line in without_blocks(text):
-        found = re.match(r"#+ (.*)", line)
-        if found:
-            plain = re.sub(r"\[([^\]]*)\]\([^)]*\)", r"\1", found.group(1)).replace("`", "")
-            anchors.add(re.sub(r"[^\w\- ]", "", plain.lower()).replace(" ", "-"))
-    return anchors
+def size_problems(top, files):
+    total = 0
+    for page in sorted({*documents_of(files), *SIZES}):
+        size = len(text_of(top, page).encode()) / 1024
+        total += size
+        most = SIZES.get(page, OTHER_SIZE)
+        if not size:
+            yield f"{page}: no such page"
+        elif page == "README.md":
+            lines = text_of(top, page).count("\n")
+            if lines > README_LINES:
+                yield f"{page}: {lines} lines, at most {README_LINES}"
+        elif size > most:
+            yield f"{page}: {size:.1f} KB, at most {most}"
+    if total > ALL_SIZE:
+        yield f"all pages: {total:.1f} KB, at most {ALL_SIZE}"
+
+
+def sentence_problems(top, files):
+    for page in documents_of(files):
+        _, mean, longest, _ = measures_of(top, page)
+        if mean > MEAN_WORDS:
+            yield f"{page}: {mean:.1f} words a sentence, at most {MEAN_WORDS} in the mean"
+        if longest > LONGEST_WORDS:
+            found = max(sentences_of(text_of(top, page)), key=lambda sentence: len(words_of(sentence)))
+            yield f"{page}: a sentence of {longest} words, at most {LONGEST_WORDS}: {found[:100]}.."
+
+
+def word_problems(top, files):
+    for page in documents_of(files):
+        for word, count in measures_of(top, page)[3].items():
+            yield f"{page}: '{word}' {count} times, in place of {WORDS[word][1]}"
 
 
 # ---- limits
@@ -161,20 +211,20 @@ def written(limit, value):
 def limit_problems(top, files):
     limits = limits_of(top, files)
     told = set()
-    for what, cell, source in rows_of(section_of(text_of(top, "docs/OPERATING.md"), "Limits")):
+    for what, cell, source in rows_of(section_of(text_of(top, LIMITS_PAGE), "Limits")):
         numbers = set(NUMBER.findall(re.sub(r"\b[01] to |^1970-01-01T00:00:00Z to ", "", cell)))
         cited = {f"{crate} {name}" for crate, name in re.findall(r"`(\w+)` `(\w+)`", source)}
         told |= cited
         for limit in sorted(cited - set(limits)):
-            yield f"OPERATING, {what}: no definition {limit}"
+            yield f"{LIMITS_PAGE}, {what}: no definition {limit}"
         values = {written(limit, limits[limit]) for limit in cited & set(limits)}
         if values != numbers and "by the library" not in source:
-            yield f"OPERATING, {what}: {cell}, but by {source} it is {', '.join(sorted(values))}"
+            yield f"{LIMITS_PAGE}, {what}: {cell}, but by {source} it is {', '.join(sorted(values))}"
     for limit in sorted(set(limits) - told - set(NO_LIMITS)):
-        yield f"OPERATING: no row for {limit} = {limits[limit]:,}"
+        yield f"{LIMITS_PAGE}: no row for {limit} = {limits[limit]:,}"
     for limit, page in NO_LIMITS.items():
         if page and not re.search(rf"(?<![\d,]){limits.get(limit, -1):,}(?![\d,]*\d)", text_of(top, page)):
-            yield f"{page}: {limit} isn't told, or with another number"
+            yield f"{page}: {limit} isn't there, or with another number"
 
 
 def repeated_limit_problems(top, files):
@@ -184,19 +234,44 @@ def repeated_limit_problems(top, files):
         for number, line in enumerate(without_blocks(text_of(top, page)), 1):
             for value in large:
                 if re.search(rf"(?<![\d,.]){re.escape(value.lstrip('-'))}(?![\d,.]\d)", line):
-                    yield f"{page}:{number}: the limit {value} ({large[value]}) stands in OPERATING"
+                    yield f"{page}:{number}: the limit {value} ({large[value]}) stands in {LIMITS_PAGE}"
+
+
+def numbers_in_literals(text):
+    """The numbers above 9 in the string literals of a code text, instants left out."""
+    for literal in re.findall(r'"((?:[^"\\]|\\.)*)"', text, re.DOTALL):
+        for number in re.findall(r"(?<![\d.,-])\d[\d,]*(?:\.\d)?(?![\d-])", re.sub(r"\d{4}-\d\d-\d\d(?:T[\d:]+Z)?", "", literal)):
+            plain = number.rstrip(",").replace(",", "")
+            if float(plain) > 9:
+                yield plain
+
+
+def limit_in_words_problems(top, files):
+    """A number in a sentence or in the help of an option is a limit: so a limit isn't changed without its words."""
+    known = {written(limit, value).replace(",", "") for limit, value in limits_of(top, files).items()}
+    help_text = text_of(top, "crates/central/src/program/help_text.rt")
+    options = re.findall(r"pub const (?:\w+_HELP|STATUSES): &str =\s*\"(?:[^\"\\]|\\.)*\";", help_text, re.DOTALL)
+    sources = ("crates/findings/src/sentences.rt", "crates/findings/src/field_fault.rt")
+    texts = {**{source: text_of(top, source) for source in sources}, "the help": "\n".join(options)}
+    for where, text in texts.items():
+        found = list(numbers_in_literals(text))
+        if not found:
+            yield f"{where}: no number was found"
+        for number in found:
+            if number not in known:
+                yield f"{where}: {number} is no limit"
 
 
 # ---- actions and refusals
 
 def action_problems(top, files):
     definition = text_of(top, "crates/messages/specs/ActionKind.antt")
-    rows = re.findall(r'^row_of (\w+) = (?:with_fields|answered) (\w+) \(codes "(\w+)"\)', definition, re.MULTILINE)
+    rows = re.findall(r'^row_of (\w+) =\s+(?:with_fields|answered) (\w+)\s+\(codes "(\w+)"\)', definition, re.MULTILINE)
     known = {side: {name for kind, sender, name in rows if sender == side} for side in ("Operator", "Point")}
     if any(kind != name for kind, sender, name in rows) or len(rows) != definition.count("\nrow_of "):
         yield "ActionKind.antt: a row isn't read, or has another name than its action"
     protocol = text_of(top, "docs/PROTOCOL.md")
-    headings = re.findall(r"^### (\w+) \(OCPP 1\.6", section_of(protocol, "An operator's actions"), re.MULTILINE)
+    headings = re.findall(r"^### (\w+) \((?:OCPP 1\.6, )?\d", section_of(protocol, "An operator's actions"), re.MULTILINE)
     cells = [row[0] for row in rows_of(section_of(protocol, "A point's actions").split("\nNOW is")[0])]
     pages = {
         "Operator": set(headings),
@@ -205,14 +280,14 @@ def action_problems(top, files):
     for side, page in pages.items():
         for name in sorted(page ^ known[side]):
             yield f"PROTOCOL: {name} is {'no action' if name in page else 'missing among those'} of the {side.lower()}"
-    told = {side: set() for side in known}
-    for action, chapter, sender, here in (row[:4] for row in rows_of(
-            section_of(text_of(top, "docs/DIFFERENCES.md"), "The actions of OCPP 1.6"))):
-        if not here.startswith("no"):
-            told["Point" if sender == "point" else "Operator"].add(action)
+    there = {side: set() for side in known}
+    for header, rows in tables_of(section_of(text_of(top, "docs/DIFFERENCES.md"), "The actions of OCPP 1.6")):
+        for row in rows if len(header) > 3 else []:
+            if not row[3].startswith("no"):
+                there["Point" if row[2] == "point" else "Operator"].update(re.findall(r"[A-Z]\w+", row[0]))
     for side in known:
-        for name in sorted(told[side] ^ known[side]):
-            yield f"DIFFERENCES: {name} is {'not there' if name in told[side] else 'there'}, by the code"
+        for name in sorted(there[side] ^ known[side]):
+            yield f"DIFFERENCES: {name} is {'not there' if name in there[side] else 'there'}, by the code"
 
 
 def refusals_of(top):
@@ -222,81 +297,98 @@ def refusals_of(top):
 def refusal_problems(top, files):
     known = refusals_of(top)
     section = section_of(text_of(top, "docs/PROTOCOL.md"), "Refusals")
-    told = [name for row in rows_of(section) for name in re.findall(r"`(\w+)`", row[0])]
-    for name in sorted(set(told) ^ known):
-        yield f"PROTOCOL, Refusals: {name} is {'no refusal' if name in told else 'missing'}"
-    for name in sorted(name for name in set(told) if told.count(name) > 1):
+    named = [name for row in rows_of(section) for name in re.findall(r"`(\w+)`", row[0])]
+    for name in sorted(set(named) ^ known):
+        yield f"PROTOCOL, Refusals: {name} is {'no refusal' if name in named else 'missing'}"
+    for name in sorted(name for name in set(named) if named.count(name) > 1):
         yield f"PROTOCOL, Refusals: {name} has two rows"
-    for page in ("README.md", "docs/MEANING.md", "docs/DIFFERENCES.md", "docs/PROOFS.md"):
+    for page in ("README.md", "docs/RUNNING.md", "docs/COMMANDS.md", "docs/MEANING.md", "docs/DIFFERENCES.md", "docs/PROOFS.md"):
         for row in rows_of("\n".join(without_blocks(text_of(top, page)))):
-            if row[0].strip("`") in known:
+            if row[0].strip("`") in known - {"OutOfMemory"}:
                 yield f"{page}: a row for the refusal {row[0]}, whose home is PROTOCOL"
 
 
-# ---- sentences
+# ---- sentences of the program
 
-# The functions with the tables of sentences, each with the heading of its table in OPERATING.
-SENTENCES = {
-    "Refusals": ("crates/findings/src/sentences.rt", "sentence"),
-    "Faults of a site file": ("crates/findings/src/sentences.rt", "site_sentence"),
-    "Faults of a line": ("crates/findings/src/sentences.rt", "line_sentence"),
-    "Errors of a CALL": ("crates/findings/src/sentences.rt", "call_sentence"),
-    "Profiles that never count": ("crates/findings/src/sentences.rt", "never_sentence"),
-    "Profiles that never set the limit": ("crates/explain_pages/src/words.rt", "sentence"),
-    "Profiles that don't prevail": ("crates/explain_pages/src/words.rt", "why_not_sentence"),
-}
+# The functions with the tables of sentences, and the pages in which their tables may stand.
+SENTENCES = (
+    ("crates/findings/src/sentences.rt", ("sentence", "site_sentence", "line_sentence", "call_sentence", "never_sentence")),
+    ("crates/explain_pages/src/words.rt", ("sentence", "why_not_sentence")),
+)
+SENTENCE_PAGES = ("docs/PROTOCOL.md", "docs/COMMANDS.md", "docs/RUNNING.md", "docs/MEANING.md")
 
 
-def sentences_of(text, function):
-    """The arms of a function of sentences: each name to its sentence."""
-    body = re.search(rf"^(?:pub )?fn {function}\(.*?^\}}", text, re.MULTILINE | re.DOTALL).group(0)
-    arms = re.findall(r'\w+::(\w+)(?:\(_\)| \{ \.\. \})? =>\s*(?:\{\s*)?"((?:[^"\\]|\\.)*)"', body)
-    return {name: re.sub(r"\\(.)", r"\1", sentence) for name, sentence in arms}
+def sentences_in(text, function):
+    """The arms of a function of sentences: each name with its sentence."""
+    body = re.search(rf"^(?:pub )?fn {function}\(.*?^\}}", text, re.MULTILINE | re.DOTALL)
+    arms = re.findall(r'\w+::(\w+)(?:\(_\)| \{ \.\. \})? =>\s*(?:\{\s*)?"((?:[^"\\]|\\.)*)"', body.group(0) if body else "")
+    return {(name, re.sub(r"\\(.)", r"\1", sentence)) for name, sentence in arms}
 
 
-def sentence_problems(top, files):
-    page = text_of(top, "docs/OPERATING.md")
-    for heading, (path, function) in SENTENCES.items():
-        known = sentences_of(text_of(top, path), function)
-        told = {row[0].strip("`"): row[1] for row in rows_of(section_of(page, heading))}
-        for name in sorted(known.keys() | told.keys()):
-            if known.get(name) != told.get(name):
-                yield f"OPERATING, {heading}: {name} is {told.get(name)!r}, by {path} {known.get(name)!r}"
-        if not known:
-            yield f"{path}: no sentences in {function}"
+def program_sentence_problems(top, files):
+    """Each sentence of the program has a row with its name; and where a table has a column of sentences, each is the program's."""
+    known = set()
+    for path, functions in SENTENCES:
+        for function in functions:
+            found = sentences_in(text_of(top, path), function)
+            if not found:
+                yield f"{path}: no sentences in {function}"
+            known |= found
+    there = set()
+    for page in SENTENCE_PAGES:
+        for header, rows in tables_of("\n".join(without_blocks(text_of(top, page)))):
+            columns = [place for place, name in enumerate(header) if "sentence" in name.lower()]
+            for row in rows:
+                pairs = {(name, row[place]) for name in re.findall(r"`(\w+)`", row[0]) for place in range(1, len(row))}
+                there |= pairs & known
+                for place in columns:
+                    if len(row) > place and not {(name, row[place]) for name, _ in pairs} & known:
+                        yield f"{page}: {row[0]} is {row[place]!r}, which the program doesn't say"
+    for name, sentence in sorted(known - there):
+        yield f"no row for {name}: {sentence!r}"
 
 
-# ---- the map
+# ---- crates, cases and versions
 
-def map_problems(top, files):
-    """ARCHITECTURE has a row for each crate, and names each file of definitions that has to be believed."""
+def crate_problems(top, files):
+    """ARCHITECTURE names each crate but those of tests, and each of them has a README; the READMEs link to all callers."""
     page = text_of(top, "docs/ARCHITECTURE.md")
-    crates = set(re.findall(r"^(\w+):", text_of(top, "crates.txt"), re.MULTILINE))
-    told = {row[0].strip("`") for row in rows_of(section_of(page, "The crates"))}
-    for name in sorted(told ^ crates):
-        yield f"ARCHITECTURE, The crates: {name} is {'no crate' if name in told else 'missing'}"
-    named, folder = set(), ""
-    for row in rows_of(section_of(page, "Where a definition stands")):
-        for word in re.findall(r"`([\w/]+\.antt)`", row[1]):
-            folder = word.rpartition("/")[0] or folder
-            named.add(f"crates/{folder}/{word.rpartition('/')[2]}")
-    for name in files:
-        if re.fullmatch(r"crates/\w+/specs/\w+\.antt", name) and name.rpartition("/")[2] not in NO_SUBJECTS:
-            if name not in named and not name.endswith("/Limits.antt"):
-                yield f"ARCHITECTURE, Where a definition stands: {name} is missing"
+    crates = re.findall(r"^(\w+):", text_of(top, "crates.txt"), re.MULTILINE)
+    linked = set()
+    for crate in crates:
+        if f"`{crate}`" not in page and not crate.startswith("test_"):
+            yield f"docs/ARCHITECTURE.md: {crate} isn't named"
+        readme = f"crates/{crate}/README.md"
+        if readme in files:
+            linked |= {os.path.normpath(os.path.join(os.path.dirname(readme), link)) for _, link in links_of(text_of(top, readme))}
+        elif not crate.startswith("test_"):
+            yield f"{readme}: no such page"
+    for caller in files:
+        if re.fullmatch(r"crates/test_\w+/src/callers/\w+\.rt", caller) and caller not in linked:
+            yield f"{caller}: no README of a crate links to it"
 
-
-# ---- cases and the version
 
 def case_problems(top, files):
-    for place in ("tests/replay", "tests/situations"):
-        folders = {name.split("/")[2] for name in files if re.fullmatch(rf"{place}/[^/]+/script", name)}
-        told = [row[0].strip("`") for row in rows_of(text_of(top, f"{place}/README.md"))]
-        for name in sorted(set(told) ^ folders):
-            yield f"{place}/README.md: {name} is {'no case' if name in told else 'missing'}"
     examples = {name.split("/")[1] for name in files if re.fullmatch(r"examples/[^/]+/.+", name)}
     for name in sorted(examples - set(re.findall(r"\]\(([\w-]+)\)", text_of(top, "examples/README.md")))):
         yield f"examples/README.md: {name} is missing"
+    cases = {os.path.basename(os.path.dirname(name)) for name in files if re.fullmatch(r"tests/cases/.*/script", name)}
+    for word in re.findall(r"`([\w*]+(?:-[\w*]+)+)`", section_of(text_of(top, "tests/README.md"), "Cases")):
+        if not fnmatch.filter(cases, word):
+            yield f"tests/README.md: there is no case {word}"
+    for header, rows in tables_of("\n".join(without_blocks(text_of(top, "docs/DIFFERENCES.md")))):
+        for row in rows if header[-1] == "Case" else []:
+            for word in re.findall(r"`([^`]+)`", row[-1]):
+                if word not in cases and f"tests/sockets/{word}" not in files:
+                    yield f"docs/DIFFERENCES.md: there is no case {word}"
+    twice = collections.defaultdict(list)
+    for name in files:
+        if re.fullmatch(r"(?:examples|tests/cases)/(?:.*/)?(?:script|site\.json)", name) and not os.path.islink(os.path.join(top, name)):
+            with open(os.path.join(top, name), "rb") as file:
+                twice[file.read()].append(name)
+    for same in twice.values():
+        if len(same) > 1:
+            yield f"the same file byte for byte, so all but one have to be links to it: {', '.join(sorted(same))}"
 
 
 def version_problems(top, files):
@@ -306,36 +398,17 @@ def version_problems(top, files):
         yield f"CHANGELOG's newest version {changelog[:1]} isn't the program's {program and program.group(1)}"
 
 
-# ---- the kit, and callers of libraries
-
 def kit_problems(top, files):
-    """The kit stands in what the program prints; README and WORKING name it as that does."""
+    """The program prints the kit and the logic that it was proved with; README and WORKING name the same."""
     source = text_of(top, "crates/central/src/program/help_text.rt")
     found = re.search(r"proved in the logic (\w+) of ([\w-]+)\"", source)
     if found is None:
         yield "help_text.rt names no logic and no kit"
         return
     for page in ("README.md", "docs/WORKING.md"):
-        if f"`{found.group(2)}` with the logic `{found.group(1)}`" not in text_of(top, page):
-            yield f"{page}: it doesn't name {found.group(2)} with the logic {found.group(1)}, as the program does"
-
-
-def library_problems(top, files):
-    """The code on the page of a library is that of the file of callers/ to which the page links; each file has a page."""
-    callers = [name for name in files if re.fullmatch(r"crates/\w+_tests/src/callers/\w+\.rt", name)]
-    told = []
-    for page in [name for name in files if re.fullmatch(r"docs/libraries/\w+\.md", name)]:
-        text = text_of(top, page)
-        if f"crates/{os.path.basename(page)[:-3]}/src/lib.rt" not in files:
-            yield f"{page}: no library has this name"
-        named = re.findall(r"\]\(\.\./\.\./(crates/\w+_tests/src/callers/\w+\.rt)\)", text)
-        blocks = re.findall(r"^```rust\n(.*?)^```$", text, re.MULTILINE | re.DOTALL)
-        code = [text_of(top, name).partition("\n\n")[2] for name in named if name in callers]
-        if len(code) != 1 or blocks != code:
-            yield f"{page}: its code isn't that of one file of callers/: {named}"
-        told += named
-    if sorted(told) != sorted(callers):
-        yield f"the pages of libraries have {sorted(told)}, and there are {sorted(callers)}"
+        for word in (f"`{found[2]}`", f"`{found[1]}`"):
+            if word not in text_of(top, page):
+                yield f"{page}: it doesn't name {word}, as the program does"
 
 
 # ---- paths and links
@@ -358,7 +431,7 @@ def is_path(word):
 
 
 def path_problems(top, files):
-    ends, names = suffixes_of(files), set(files)
+    ends = suffixes_of(files)
     for page in documents_of(files):
         text = text_of(top, page)
         spans = [(number, span) for number, line in enumerate(without_blocks(text), 1)
@@ -369,13 +442,9 @@ def path_problems(top, files):
             plain = re.sub(r"^(\.\.?/)+", "", word).rstrip("/")
             if is_path(word if word.endswith("/") else plain) and plain.rstrip(".") not in ends:
                 yield f"{page}:{number}: no {word} in the tree"
-    for page in documents_of(files):
-        for number, line in enumerate(without_blocks(text_of(top, page)), 1):
+        for number, line in enumerate(without_blocks(text), 1):
             yield from folder_problems(files, page, number, line)
             yield from name_problems(top, files, page, number, line)
-            for link in re.findall(r"\]\(([^)\s]+)\)", line):
-                if not re.match(r"\w+:", link):
-                    yield from link_problems(top, names, page, number, link)
 
 
 def folder_problems(files, page, number, line):
@@ -398,66 +467,28 @@ def name_problems(top, files, page, number, line):
                 yield f"{page}:{number}: no {word} in {path}"
 
 
-def link_problems(top, names, page, number, link):
-    path, _, anchor = link.partition("#")
-    target = os.path.normpath(os.path.join(os.path.dirname(page), path)) if path else page
-    folder = any(name.startswith(target + "/") for name in names)
-    if target not in names and not folder:
-        yield f"{page}:{number}: the link {link} leads nowhere"
-    elif anchor and (folder or anchor not in anchors_of(text_of(top, target))):
-        yield f"{page}:{number}: no heading for the link {link}"
+def link_problems(top, files):
+    """Each link of a page leads to a file or a folder, and to a heading in it if it names one."""
+    names = set(files)
+    for page in documents_of(files):
+        for number, link in links_of(text_of(top, page)):
+            path, _, anchor = link.partition("#")
+            target = os.path.normpath(os.path.join(os.path.dirname(page), path)) if path else page
+            folder = any(name.startswith(target + "/") for name in names)
+            if target not in names and not folder:
+                yield f"{page}:{number}: the link {link} leads nowhere"
+            elif anchor and (folder or anchor not in anchors_of(text_of(top, target))):
+                yield f"{page}:{number}: no heading for the link {link}"
 
 
-# ---- limits in the program's words
-
-def told_numbers(text):
-    """The numbers above 9 in the string literals of a code text, instants left out."""
-    for literal in re.findall(r'"((?:[^"\\]|\\.)*)"', text, re.DOTALL):
-        for number in re.findall(r"(?<![\d.,-])\d[\d,]*(?:\.\d)?(?![\d-])", re.sub(r"\d{4}-\d\d-\d\d(?:T[\d:]+Z)?", "", literal)):
-            plain = number.rstrip(",").replace(",", "")
-            if float(plain) > 9:
-                yield plain
-
-
-def told_limit_problems(top, files):
-    """A number in a sentence or in the help of an option is a limit: so a limit isn't changed without its words."""
-    limits = limits_of(top, files)
-    known = {written(limit, value).replace(",", "") for limit, value in limits.items()}
-    help_text = text_of(top, "crates/central/src/program/help_text.rt")
-    options = re.findall(r"pub const (?:\w+_HELP|STATUSES): &str =\s*\"(?:[^\"\\]|\\.)*\";", help_text, re.DOTALL)
-    sources = ("crates/findings/src/sentences.rt", "crates/findings/src/field_fault.rt")
-    texts = {**{source: text_of(top, source) for source in sources}, "the help": "\n".join(options)}
-    for where, text in texts.items():
-        found = list(told_numbers(text))
-        if not found:
-            yield f"{where}: no number was found"
-        for number in found:
-            if number not in known:
-                yield f"{where}: {number} is no limit"
-
-
-# ---- edits
-
-def edit_problems(top, files):
-    """How many edits a crate has, in the gate and outside it, and all of them together."""
-    page = "docs/REVIEWING.md"
-    text = text_of(top, page)
-    found = collections.Counter()
-    for path in files:
-        gate, other = re.fullmatch(r"crates/(\w+)/must-fail/[^/]+\.edit", path), re.fullmatch(r"crates/(\w+)/edits/[^/]+\.edit", path)
-        if gate or other:
-            found[(gate or other)[1], "gate" if gate else "other"] += 1
-    table = re.search(r"^\| Crate \| In the gate \|.*?\n\n", text, re.DOTALL | re.MULTILINE)
-    told = {row[0]: row[1:] for row in re.findall(r"^\| `(\w+)` \| (\d+) \| (\d+) \|$", table[0] if table else "", re.MULTILINE)}
-    for crate in sorted({crate for crate, _ in found} | set(told)):
-        wanted = (str(found[crate, "gate"]), str(found[crate, "other"]))
-        if told.get(crate) != wanted:
-            yield f"{page}: {crate} has {wanted[0]} and {wanted[1]} edits, and the table says {told.get(crate)}"
-    for kind, words in (("gate", r"gate tries\s+(\d+) of them"), ("other", r"(\d+) more stand in `crates/CRATE/edits/`")):
-        count = sum(number for (_, where), number in found.items() if where == kind)
-        said = re.search(words, text)
-        if not said or int(said[1]) != count:
-            yield f"{page}: {count} edits of the kind '{kind}', and it says {said and said[1]}"
+def package_problems(top, files):
+    """The same in the Debian package, with the pages and examples that it has."""
+    with tempfile.TemporaryDirectory(prefix="central-pages-") as folder:
+        subprocess.run([os.path.join(top, "packaging", "deb"), "--pages", folder], check=True)
+        placed = [os.path.relpath(os.path.join(at, name), folder) for at, _, names in os.walk(folder) for name in names]
+        if "README.md" not in placed:
+            yield "the package has no README.md"
+        yield from (f"in the package: {problem}" for problem in link_problems(folder, placed))
 
 
 # ---- numbers of papers
@@ -470,19 +501,22 @@ def number_problems(top, files):
 
 
 TESTS = {
+    "sizes": size_problems,
+    "sentences": sentence_problems,
+    "words": word_problems,
     "limits": limit_problems,
     "limits on one page": repeated_limit_problems,
+    "limits in words": limit_in_words_problems,
     "actions": action_problems,
     "refusals": refusal_problems,
-    "sentences": sentence_problems,
-    "limits in words": told_limit_problems,
-    "edits": edit_problems,
-    "map": map_problems,
+    "sentences of the program": program_sentence_problems,
+    "crates": crate_problems,
     "cases": case_problems,
     "version": version_problems,
     "kit": kit_problems,
-    "libraries": library_problems,
-    "paths and links": path_problems,
+    "paths": path_problems,
+    "links": link_problems,
+    "links in the package": package_problems,
     "numbers of papers": number_problems,
 }
 
@@ -492,6 +526,7 @@ def main():
         sys.exit(__doc__)
     top = os.path.abspath(sys.argv[1]) if len(sys.argv) == 2 else HERE
     files = files_of(top)
+    print_measures(top, files)
     failed = 0
     for name, test in TESTS.items():
         problems = list(test(top, files))

@@ -16,10 +16,13 @@ import sys
 import textwrap
 
 TOP = os.path.dirname(os.path.dirname(os.path.realpath(__file__)))
-PAGES = ("README.md", "examples/README.md", "docs/OPERATING.md", "docs/PROTOCOL.md")
-PROGRAM = re.compile(r"\bdist/out/central (?=\w)")
+PAGES = (
+    "README.md", "examples/README.md", "docs/RUNNING.md", "docs/COMMANDS.md", "docs/PROTOCOL.md",
+    "packaging/package/README.md",
+)
+PROGRAM = re.compile(r"\bpackaging/out/central (?=\w)")
 COMMAND = re.compile(rf"{PROGRAM.pattern}|^ *curl ")
-BESIDE = re.compile(r"\bdist/out/central (serve|point) ")
+BESIDE = re.compile(r"\bpackaging/out/central (serve|point) ")
 PORT = re.compile(r"(?<=127\.0\.0\.1):90\d\d\b")
 MOMENTS = re.compile(r'"(scheduleStart|currentTime|timestamp)":"[^"]*"')
 FENCE = re.compile(r"^( *)```(\w*)$")

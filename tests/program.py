@@ -1,20 +1,26 @@
 #!/usr/bin/env python3
 """program.py PROGRAM [cases]: runs the built program `central` on what no contract says, and prints 'N passed, M failed'.
 
-It replays each folder of examples/ and tests/replay/ (site.json, script, stdout, status) and compares the bytes of
-standard output, standard error and the exit status; a folder without a site.json has that of tests/replay. The folders of
-tests/situations/ have a file `command` besides, for `explain`, `check` and `show`. Then it tries command lines, site
-files, devices that fail, how memory grows and memory that is refused. With `cases` it stops behind the folders.
+It plays each case of examples/ and tests/cases/ (tests/case_folders.py has their form) and compares the bytes of standard
+output, standard error and the exit status. Then it tries command lines, site files, devices that fail, how memory grows
+and allocations that fail. With `cases` it stops behind the cases.
+
+Where the environment has UNPROVED, the program is one of which nothing is proved. It is slower and has checks of memory: a script
+and the frames of a memory are shorter then, and no allocation fails.
 """
 import json
 import os
 import re
+import shutil
 import signal
 import subprocess
 import sys
 import tempfile
 
+from case_folders import Case, all_cases
+
 TOP = os.path.dirname(os.path.dirname(os.path.abspath(__file__)))
+UNPROVED = "UNPROVED" in os.environ
 SITE = b'{"unit":"A","points":[{"id":"CP1","ceiling":63.0,"connectors":[32.0,32.0]}]}'
 
 
@@ -23,52 +29,11 @@ def bytes_of(path):
         return file.read()
 
 
-def site_of(case):
-    """The site file of a folder: its own, or else the one that the replay cases share."""
-    own = os.path.join(case, "site.json")
-    return own if os.path.isfile(own) else os.path.join(TOP, "tests", "replay", "site.json")
-
-
-def status_of(case):
-    """The exit status that is wanted of a folder's run."""
-    status = os.path.join(case, "status")
-    return int(bytes_of(status)) if os.path.isfile(status) else 0
-
-
-def replay_cases():
-    """Each folder with a script: name, arguments, standard input, and what is wanted."""
-    for folder in ("examples", os.path.join("tests", "replay")):
-        top = os.path.join(TOP, folder)
-        for name in sorted(os.listdir(top)) if os.path.isdir(top) else []:
-            case = os.path.join(top, name)
-            if not os.path.isfile(os.path.join(case, "script")):
-                continue
-            yield (
-                f"{folder}/{name}",
-                ["replay", "--site", site_of(case)],
-                bytes_of(os.path.join(case, "script")),
-                bytes_of(os.path.join(case, "stdout")),
-                b"",
-                status_of(case),
-            )
-
-
-def situation_words(case):
-    """The words of a situation's command, which runs in its folder."""
-    command, *more = bytes_of(os.path.join(case, "command")).decode().split()
-    site = "site.json" if os.path.isfile(os.path.join(case, "site.json")) else os.path.join("..", "site.json")
-    return [command, "--site", site, *more]
-
-
-def situation_problems(program):
-    """Each folder of tests/situations: what its command prints of its script."""
-    top = os.path.join(TOP, "tests", "situations")
-    for name in sorted(os.listdir(top)):
-        case = os.path.join(top, name)
-        if os.path.isdir(case):
-            script, stdout = (bytes_of(os.path.join(case, file)) for file in ("script", "stdout"))
-            done = run(program, situation_words(case), script, folder=case)
-            yield f"tests/situations/{name}", list(differences(done, stdout, b"", status_of(case)))
+def played_cases(program):
+    """Each case: what its command prints of its script."""
+    for case in all_cases():
+        done = run(program, case.words, case.script, folder=case.folder)
+        yield case.name, list(differences(done, *case.wanted))
 
 
 def fault_cases(folder):
@@ -151,7 +116,12 @@ def site_texts():
 def limit_cases(good):
     """Scripts, lines and frames at their bounds; good are the arguments that name a site file without a fault."""
     yield "an empty script", good, b"", b"", b"", 0
-    yield "a script of the limit", good, b"\n" * 16_777_216, b"", b"", 0
+    if UNPROVED:
+        lines = (b"x" * 1_048_575 + b"\n") * 16
+        printed = b"".join(b"! %d BadLine\n" % number for number in range(1, 17))
+        yield "a script of the limit", good, lines, printed, b"", 2
+    else:
+        yield "a script of the limit", good, b"\n" * 16_777_216, b"", b"", 0
     yield "a script past the limit", good, b"x\n" * 8_388_608 + b"x", b"", b"central: script: ScriptTooLong\n", 2
     yield "a line of the limit", good, b"x" * 1_048_576 + b"\r\n", b"! 1 BadLine\n", b"", 2
     yield "a line past the limit", good, b"\n" + b"x" * 1_048_577 + b"\r\ny", b"! 2 TooLong\n! 3 BadLine\n", b"", 2
@@ -203,6 +173,7 @@ def differences(done, want_out, want_err, want_status):
 
 def command_line_problems(program):
     """Command lines: the help on standard output with status 0, the refusals on standard error with status 4."""
+    version = b"central 0.1.0\n" + (b"unproved: " if UNPROVED else b"proved in the logic dac8208d650f15bf of rattle-kit-13\n")
     replay = (b"Usage", b"--site <F>", b"JSON file", b"standard input", b"Example:", b"central replay --site", b"exit statuses")
     for arguments, wanted in (
         (["--help"], (b"Usage", b"OCPP 1.6", b"Exit statuses:", b"replay", b"  4  ")),
@@ -210,7 +181,7 @@ def command_line_problems(program):
         (["help"], (b"Usage", b"Exit statuses:")),
         (["replay", "--help"], replay),
         (["help", "replay"], replay),
-        (["--version"], (b"central 0.1.0\nproved in the logic dac8208d650f15bf of rattle-kit-13\n",)),
+        (["--version"], (version,)),
     ):
         done = run(program, arguments, b"")
         missing = [text for text in wanted if text not in done.stdout]
@@ -218,7 +189,7 @@ def command_line_problems(program):
         yield f"central {' '.join(arguments)}", [] if ok else [f"status {done.returncode}, without {missing}, {done.stderr[:200]!r}"]
     # The builder writes the logic that a program is proved in into its file (`readelf -p .comment`).
     logics = re.findall(rb"\0rattle logic=([0-9a-f]{16})", bytes_of(program))
-    yield "the logic that --version names", [] if logics == [b"dac8208d650f15bf"] else [f"the program's file names {logics}"]
+    yield "the logic that --version names", [] if logics == [b"dac8208d650f15bf"] * (not UNPROVED) else [f"the program's file names {logics}"]
     for arguments in ([], ["replay"], ["replay", "--site"], ["replay", "--site", "a", "--site", "b"], ["play"], ["replay", "x"]):
         done = run(program, arguments, b"")
         ok = done.returncode == 4 and not done.stdout and done.stderr
@@ -235,6 +206,20 @@ def help_example_problems(program, folder):
         file.write(site)
     done = run(program, ["replay", "--site", path], script)
     yield "the example of replay's help", list(differences(done, printed + b"\n", b"", 0)) if example else ["no example"]
+
+
+def first_schedule_problems(program, folder):
+    """`first-schedule`: the lines of the first example and three commands; without a program and a kit, one line."""
+    example = Case("examples/first-schedule")
+    done = subprocess.run([os.path.join(TOP, "first-schedule"), program], capture_output=True, timeout=120)
+    commands = [line.split(b" --")[0].split(b"| ")[-1] for line in done.stdout.split(b"\n") if b" --" in line]
+    wanted = [f"{program} {command}".encode() for command in ("serve", "point", "call")]
+    ok = done.returncode == 0 and done.stdout.startswith(example.wanted[0] + b"\n") and commands == wanted and not done.stderr
+    yield "first-schedule", [] if ok else [f"{done}"]
+    alone = shutil.copy(os.path.join(TOP, "first-schedule"), folder)
+    done = subprocess.run([alone], capture_output=True, timeout=120, env={"PATH": "/usr/bin:/bin"})
+    ok = (done.returncode, done.stdout, done.stderr.count(b"\n")) == (1, b"", 1) and b"/opt/rattle" in done.stderr
+    yield "first-schedule without a kit", [] if ok else [f"{done}"]
 
 
 def device_problems(program, folder):
@@ -274,11 +259,12 @@ def peak_memory(program, folder, script):
 
 def growth_problems(program, folder):
     """The memory that a frame was read into serves the next: 2,000 frames take no more than the same frames broken."""
+    count = 200 if UNPROVED else 2_000
     line = b'2025-01-01T00:00:00Z point CP1 %s2,"7","DataTransfer",{"data":[' + b'{"a":1},' * 99 + b'{"a":1}]}]\n'
-    read, read_status = peak_memory(program, folder, line.replace(b"%s", b"[") * 2_000)
-    broken, broken_status = peak_memory(program, folder, line.replace(b"%s", b"]") * 2_000)
+    read, read_status = peak_memory(program, folder, line.replace(b"%s", b"[") * count)
+    broken, broken_status = peak_memory(program, folder, line.replace(b"%s", b"]") * count)
     ok = (read_status, broken_status) == (0, 0) and read < broken + 8_192
-    yield "2,000 frames in one memory", [] if ok else [f"{read} KB, status {read_status}; broken {broken} KB, {broken_status}"]
+    yield f"{count} frames in one memory", [] if ok else [f"{read} KB, status {read_status}; broken {broken} KB, {broken_status}"]
 
 
 def memory_problems(program, folder):
@@ -287,29 +273,27 @@ def memory_problems(program, folder):
     source = os.path.join(TOP, "tests", "refuse_allocation.c")
     subprocess.run(["cc", "-O2", "-shared", "-fPIC", "-o", library, source, "-ldl"], check=True)
     picture, page = (os.path.join(folder, name) for name in ("refused.svg", "refused.html"))
-    for case, more, least in (
+    for name, more, least in (
         ("examples/first-schedule", [], 20),
         ("examples/point-messages", [], 60),
         ("examples/ordinary-day", [], 150),
         ("examples/calls-to-a-point", [], 80),
-        ("tests/replay/holds-released-in-another-order", [], 100),
-        ("tests/situations/two-cars", [], 60),
-        ("tests/situations/two-cars", ["--picture", picture], 60),
-        ("tests/situations/hour-that-lifts-a-limit", ["--picture", page], 60),
-        ("tests/situations/two-cars-for-programs", [], 60),
-        ("tests/situations/misspelled-ceiling", [], 20),
-        ("tests/situations/night-above-the-fuse", [], 60),
-        ("tests/situations/wrong-words", [], 60),
-        ("tests/situations/whose-answer", [], 60),
-        ("tests/situations/what-is-installed", [], 60),
-        ("tests/situations/installed-for-programs", [], 60),
+        ("tests/cases/replay/holds-released-in-another-order", [], 100),
+        ("tests/cases/explain/two-cars", [], 60),
+        ("tests/cases/explain/two-cars", ["--picture", picture], 60),
+        ("tests/cases/explain/hour-that-lifts-a-limit", ["--picture", page], 60),
+        ("tests/cases/explain/two-cars-for-programs", [], 60),
+        ("tests/cases/check/misspelled-ceiling", [], 20),
+        ("tests/cases/check/night-above-the-fuse", [], 60),
+        ("tests/cases/check/wrong-words", [], 60),
+        ("tests/cases/check/whose-answer", [], 60),
+        ("tests/cases/show/what-is-installed", [], 60),
+        ("tests/cases/show/installed-for-programs", [], 60),
     ):
-        path = os.path.join(TOP, case)
-        words = situation_words(path) if os.path.isfile(os.path.join(path, "command")) else ["replay", "--site", site_of(path)]
-        refused, problems = refusals(program, library, path, [*words, *more])
+        refused, problems = refusals(program, library, Case(name), more)
         if refused < least:
             problems.append(f"only {refused} allocations were refused")
-        yield f"{os.path.basename(case)}: each of {refused} allocations refused", problems
+        yield f"{os.path.basename(name)}: each of {refused} allocations refused", problems
     for crate, test, in_a_row, least in (
         ("test_core", "runs::a_step_is_made_again_where_memory_was_refused", 1, 20),
         ("test_core", "runs::a_run_goes_on_where_memory_was_refused", 1, 2),
@@ -329,8 +313,6 @@ def memory_problems(program, folder):
         words = [built_tests(program, "test_core"), test]
         last = allocations(library, words)
         yield again_problems(library, words, 1, 10, range(last - 40, last + 6))
-
-
     for test, step in (
         ("waiting_sessions::stopping_wakes_all_who_wait", 1),
         ("settled_totals::two_sessions_count_what_all_was", 7),
@@ -573,15 +555,16 @@ def ending_problems(library, test, step):
     return f"{test[1]}: it ends with each of {refused} allocations refused", problems
 
 
-def refusals(program, library, case, words):
-    """How many allocations the run of this folder makes, and where a refused one ends it otherwise than it should."""
-    arguments = [program, *words]
-    script, whole = (bytes_of(os.path.join(case, name)) for name in ("script", "stdout"))
-    unrefused = (status_of(case), whole, b"")
+def refusals(program, library, case, more):
+    """How many allocations the run of this case makes, with more options, and where a refused one ends it otherwise than it
+    should."""
+    arguments = [program, *case.words, *more]
+    whole, nothing, status = case.wanted
+    unrefused = (status, whole, nothing)
     refused, without_effect, problems = 0, 0, []
     for number in range(10_000):  # the run of number 0 refuses nothing
         environment = {**os.environ, "LD_PRELOAD": library, "REFUSED_ALLOCATION": str(number)}
-        done = subprocess.run(arguments, input=script, capture_output=True, timeout=120, env=environment, cwd=case)
+        done = subprocess.run(arguments, input=case.script, capture_output=True, timeout=120, env=environment, cwd=case.folder)
         if (done.returncode, done.stdout, done.stderr) == unrefused:
             without_effect += number > 0
         else:
@@ -603,7 +586,7 @@ def main():
     if len(sys.argv) not in (2, 3) or sys.argv[2:] not in ([], ["cases"]):
         sys.exit(__doc__)
     program = os.path.abspath(sys.argv[1])
-    results = [*case_problems(program, replay_cases()), *situation_problems(program)]
+    results = list(played_cases(program))
     if len(sys.argv) == 2:
         results.extend(all_problems(program))
     for name, problems in results:
@@ -615,19 +598,21 @@ def main():
 
 
 def all_problems(program):
-    """All but the cases and situations."""
+    """All but the cases."""
     results = []
     with tempfile.TemporaryDirectory() as folder:
         results.extend(case_problems(program, fault_cases(folder)))
         results.extend(command_line_problems(program))
         results.extend(help_example_problems(program, folder))
+        results.extend(first_schedule_problems(program, folder))
         results.extend(device_problems(program, folder))
         results.extend(explain_problems(program, folder))
         results.extend(order_problems(program, folder))
         results.extend(check_and_show_problems(program, folder))
         results.extend(drawn_problems(program, folder))
         results.extend(growth_problems(program, folder))
-        results.extend(memory_problems(program, folder))
+        if not UNPROVED:
+            results.extend(memory_problems(program, folder))
     return results
 
 

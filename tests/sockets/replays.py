@@ -1,15 +1,17 @@
-"""Each text of the replay cases and of the examples once through sessions, compared with what the program replays of it."""
+"""Each message of the cases of `replay` (examples too) once through sessions, compared with what the program replays of it."""
 import contextlib
 import json
 import os
 import re
+import sys
 import time
 
+sys.path.append(os.path.dirname(os.path.dirname(os.path.abspath(__file__))))
+from case_folders import all_cases
 from days import Told, compare
 from raw_client import RawClient
 from serving import Serving, Unexpected
 
-TOP = os.path.dirname(os.path.dirname(os.path.dirname(os.path.abspath(__file__))))
 LINE = re.compile(rb"\S+ (operator|point) (\S+) (.*)")
 
 # A profile that counts from its install has its moment from the server, which no answer tells: where a second began
@@ -17,22 +19,9 @@ LINE = re.compile(rb"\S+ (operator|point) (\S+) (.*)")
 TRIES = 4
 
 
-def cases():
-    """The folders with a script: name, site file, script."""
-    shared = os.path.join(TOP, "tests", "replay", "site.json")
-    for folder in ("examples", os.path.join("tests", "replay")):
-        for name in sorted(os.listdir(os.path.join(TOP, folder))):
-            script = os.path.join(TOP, folder, name, "script")
-            own = os.path.join(TOP, folder, name, "site.json")
-            if os.path.isfile(script):
-                yield f"{folder}/{name}", own if os.path.isfile(own) else shared, script
-
-
 def texts_of(script, points):
     """The texts of operators and points in a script: who sends it, for which point, what. Other lines are left out."""
-    with open(script, "rb") as file:
-        lines = file.read().split(b"\n")
-    for line in lines:
+    for line in script.split(b"\n"):
         found = LINE.fullmatch(line.removesuffix(b"\r"))
         with contextlib.suppress(UnicodeDecodeError):
             if found and found[2].decode() in points and len(found[3]) <= 1_048_576:
@@ -58,11 +47,11 @@ def play(program, site, texts):
     return told
 
 
-def played_as_replayed(program, site_file, script):
-    with open(site_file, encoding="utf-8") as file:
+def played_as_replayed(program, case):
+    with open(case.site, encoding="utf-8") as file:
         site = file.read()
     points = {point["id"] for point in json.loads(site)["points"]}
-    texts = list(texts_of(script, points))
+    texts = list(texts_of(case.script, points))
     if not texts:
         return
     for attempt in range(TRIES):
@@ -75,5 +64,6 @@ def played_as_replayed(program, site_file, script):
 
 
 def tests():
-    for name, site_file, script in cases():
-        yield name, lambda program, site_file=site_file, script=script: played_as_replayed(program, site_file, script)
+    for case in all_cases():
+        if case.words[0] == "replay":
+            yield case.name, lambda program, case=case: played_as_replayed(program, case)

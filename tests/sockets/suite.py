@@ -1,4 +1,7 @@
-"""suite.py PROGRAM [SUBJECT..]: runs the tests of all subjects, or of some. The last line is 'N passed, M failed'."""
+"""suite.py PROGRAM [SUBJECT..]: runs the tests of all subjects, or of some. The last line is 'N passed, M failed'.
+
+Where the environment has UNPROVED, nothing is proved of the program, and the tests of NEED_A_PROOF are left out.
+"""
 import asyncio
 import inspect
 import os
@@ -29,6 +32,9 @@ SUBJECTS = {
     "programs": programs,
     "journals": journals,
 }
+
+# What takes a program that is proved: others are too slow, or have no thread to spare.
+NEED_A_PROOF = {("messages", "a message past the limit"), ("crowds", "64 texts of the limit"), ("endings", "no threads")}
 
 # No test takes a tenth of it on a machine that is busy.
 LONGEST_TEST = 240.0
@@ -61,6 +67,9 @@ def main():
     for subject in sys.argv[2:] or SUBJECTS:
         began = time.monotonic()
         for name, test in SUBJECTS[subject].tests():
+            if "UNPROVED" in os.environ and (subject, name) in NEED_A_PROOF:
+                print(f"{subject}: {name}: left out, since the program isn't proved", flush=True)
+                continue
             problem = problem_of(test, program)
             if problem is None:
                 passed += 1

@@ -1,5 +1,5 @@
 //! What no replayed script shows: which frames get no answer and why, texts of their largest size,
-//! fields by kind, and written frames. `tests/replay` at the top of the repository has the texts of
+//! fields by kind, and written frames. `tests/cases/replay` at the top of the repository has the texts of
 //! JSON conformance suites.
 use crate::same::{holds, same_text};
 use ocppj_frame::{
