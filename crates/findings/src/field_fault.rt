@@ -1,6 +1,6 @@
 //! The field at which a CALL is at fault: where it stands, what stands there and what is wanted.
 
-use crate::found::{LIMIT, Wish, field_message};
+use crate::found::{ExpectedField, LIMIT, field_message};
 use crate::payload_objects::{MAX_DEPTH, PayloadList, PayloadObject, row_named};
 use messages::{ActionKind, CallFault, FieldKind, FieldName, FieldRow, fields_of};
 use ocppj_frame::{Field, Node, tenths_field, whole_field};
@@ -33,12 +33,12 @@ pub(crate) fn field_fault_message(
     let Some(row) = row_named(object.fields, name) else {
         return format!(in alloc; "{code}: {name}");
     };
-    let wish = Wish {
+    let expected = ExpectedField {
         field: name,
         wanted: wanted_of(row),
         hint: None,
     };
-    let message = field_message(alloc, object.node.field(name), &wish)?;
+    let message = field_message(alloc, object.node.field(name), &expected)?;
     format!(in alloc; "{code}: {path}{message}")
 }
 

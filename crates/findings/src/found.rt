@@ -9,7 +9,7 @@ pub(crate) const LIMIT: &str = "a number from 0 to 100000000.0 with at most one 
 
 /// What is wanted at a field.
 #[derive(Clone, Copy)]
-pub(crate) struct Wish<'a> {
+pub(crate) struct ExpectedField<'a> {
     pub field: &'a str,
     pub wanted: &'a str,
     /// A field that stands beside it and may be meant.
@@ -20,12 +20,12 @@ pub(crate) struct Wish<'a> {
 pub(crate) fn field_message(
     alloc: Global,
     node: Option<Node<'_, '_>>,
-    wish: &Wish<'_>,
+    expected: &ExpectedField<'_>,
 ) -> Result<String, AllocError> {
-    let field = wish.field;
-    let wanted = wish.wanted;
+    let field = expected.field;
+    let wanted = expected.wanted;
     let found = what_stands(alloc, node)?;
-    match wish.hint {
+    match expected.hint {
         Some(hint) if node.is_none() => {
             let hint = excerpt(alloc, hint)?;
             format!(in alloc;

@@ -6,8 +6,8 @@ use crate::site_fields::text_of;
 use messages::{ActionKind, FieldKind, FieldRow, fields_in, fields_of};
 use std::alloc::{AllocError, Global};
 
-/// The most fields of a text that are told.
-const MAX_TOLD: usize = 20;
+/// The most fields of a text that are reported.
+const MAX_REPORTED: usize = 20;
 
 /// An object of a payload, or a list of objects, with the fields that are looked at in each of
 /// them.
@@ -64,7 +64,7 @@ pub(crate) fn unknown_payload_fields<'text>(
     for part in &outline.parts {
         match (owner_of(&known, part), name_of(text, part)) {
             (Some(owner), Some(name)) if row_named(owner.fields(), name).is_none() => {
-                if unknown.len() >= MAX_TOLD {
+                if unknown.len() >= MAX_REPORTED {
                     break;
                 }
                 unknown.push(UnknownField {
@@ -90,7 +90,7 @@ pub(crate) fn repeated_payload_fields<'text>(
     for (index, part) in outline.parts.iter().enumerate() {
         match (owner_of(&known, part), name_of(text, part)) {
             (Some(owner), Some(name)) if row_named(owner.fields(), name).is_some() => {
-                if repeated.len() >= MAX_TOLD {
+                if repeated.len() >= MAX_REPORTED {
                     break;
                 }
                 if stands_before(text, outline, index, part, name) {

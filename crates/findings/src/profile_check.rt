@@ -234,7 +234,7 @@ fn warn_recurrence(
         Recurrency::Weekly => "week",
     };
     let end = profile.schedule.duration.map_or(length, u64::from);
-    // What starts past a shorter duration was told of there.
+    // What starts past a shorter duration was reported there.
     if let (true, Some((index, start))) = (end >= length, first_past(profile, length)) {
         let message = format!(in alloc;
             "chargingSchedulePeriod[{index}] starts at {start} s, when the {unit} of {length} s is over: it never counts"

@@ -2,7 +2,7 @@
 
 use crate::broken_json::first_break;
 use crate::finding::{FaultName, Finding, Location};
-use crate::found::{Wish, field_message, message_of, what_stands};
+use crate::found::{ExpectedField, field_message, message_of, what_stands};
 use crate::json_fault::json_fault_text;
 use crate::json_outline::outline_of;
 use crate::site_fields::{unknown_site_fields, warn_repeated_fields};
@@ -107,23 +107,23 @@ fn check_unit(checked: &mut CheckedSite<'_, '_>, root: Node<'_, '_>) -> Result<(
             return Ok(());
         }
     }
-    let wish = Wish {
+    let expected = ExpectedField {
         field: "unit",
         wanted: "\"A\" or \"W\"",
         hint: checked.names.hint(None, "unit"),
     };
-    let message = field_message(checked.alloc, root.field("unit"), &wish)?;
+    let message = field_message(checked.alloc, root.field("unit"), &expected)?;
     checked.fault(SiteFault::BadUnit, message)
 }
 
 fn check_points(checked: &mut CheckedSite<'_, '_>, root: Node<'_, '_>) -> Result<(), AllocError> {
     let Field::Value(entries) = list_field(root, "points") else {
-        let wish = Wish {
+        let expected = ExpectedField {
             field: "points",
             wanted: "a list of 1 to 1000 objects",
             hint: checked.names.hint(None, "points"),
         };
-        let message = field_message(checked.alloc, root.field("points"), &wish)?;
+        let message = field_message(checked.alloc, root.field("points"), &expected)?;
         return checked.fault(SiteFault::BadPoints, message);
     };
     let count = entries.len();

@@ -14,7 +14,7 @@ const SITE_FIELDS: [&str; 2] = ["unit", "points"];
 /// The fields of a point.
 const POINT_FIELDS: [&str; 3] = ["id", "ceiling", "connectors"];
 
-/// The most unknown fields that are told.
+/// The most unknown fields that are reported.
 const MAX_UNKNOWN: usize = 100;
 
 /// A field that nothing looks at.
@@ -121,13 +121,13 @@ pub(crate) fn warn_repeated_fields(
     outline: &Outline,
     findings: &mut Vec<Finding>,
 ) -> Result<(), AllocError> {
-    let mut told: usize = 0;
+    let mut reported: usize = 0;
     for (index, part) in outline.parts.iter().enumerate() {
-        if told >= MAX_UNKNOWN {
+        if reported >= MAX_UNKNOWN {
             break;
         }
         if let Some((name, offset)) = repeated_field(text, outline, index, part) {
-            told += 1;
+            reported += 1;
             let place = place_in_text(text, offset);
             let message = format!(in alloc;
                 "\"{name}\" stands twice in its object, and the later one counts"

@@ -1,7 +1,7 @@
 //! What is wrong with a point of a site file.
 
 use crate::finding::{FaultName, Finding, Location};
-use crate::found::{LIMIT, Wish, field_message, message_of, what_stands};
+use crate::found::{ExpectedField, LIMIT, field_message, message_of, what_stands};
 use crate::site_fields::SiteNames;
 use crate::words::{excerpt, tenths_text};
 use indexmap::IndexMap;
@@ -129,12 +129,12 @@ fn check_id(
             return Ok(());
         }
     }
-    let wish = Wish {
+    let expected = ExpectedField {
         field: "id",
         wanted: "a text of 1 to 48 of the characters A-Z, a-z, 0-9, `.`, `_`, `-` and `~`",
         hint: checked.names.hint(Some(point.index), "id"),
     };
-    let message = field_message(checked.alloc, point.fields.field("id"), &wish)?;
+    let message = field_message(checked.alloc, point.fields.field("id"), &expected)?;
     checked.point_fault(point, SiteFault::BadId, message)?;
     Ok(())
 }
@@ -155,12 +155,12 @@ fn check_ceiling(
     if let Field::Value(ceiling) = tenths_field(point.fields, "ceiling") {
         return Ok(Some(ceiling));
     }
-    let wish = Wish {
+    let expected = ExpectedField {
         field: "ceiling",
         wanted: LIMIT,
         hint: checked.names.hint(Some(point.index), "ceiling"),
     };
-    let message = field_message(checked.alloc, point.fields.field("ceiling"), &wish)?;
+    let message = field_message(checked.alloc, point.fields.field("ceiling"), &expected)?;
     checked.point_fault(point, SiteFault::BadCeiling, message)?;
     Ok(None)
 }
@@ -171,12 +171,12 @@ fn check_connectors(
     point: PointFields<'_, '_>,
 ) -> Result<Option<u64>, AllocError> {
     let Field::Value(entries) = list_field(point.fields, "connectors") else {
-        let wish = Wish {
+        let expected = ExpectedField {
             field: "connectors",
             wanted: "a list of 1 to 64 ceilings, of connectors 1, 2, .., such as [32.0,32.0]",
             hint: checked.names.hint(Some(point.index), "connectors"),
         };
-        let message = field_message(checked.alloc, point.fields.field("connectors"), &wish)?;
+        let message = field_message(checked.alloc, point.fields.field("connectors"), &expected)?;
         checked.point_fault(point, SiteFault::BadConnectors, message)?;
         return Ok(None);
     };

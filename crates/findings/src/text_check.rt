@@ -158,7 +158,7 @@ fn check_dropped(
     report.warn(message)
 }
 
-/// Why a frame, before which so many characters stand in its line, is no message.
+/// Why a frame is no message; `before` is the number of characters before it in its line.
 pub(crate) fn why_dropped(
     alloc: Global,
     memory: &mut ReadingMemory,

@@ -124,7 +124,7 @@ fn push_most_turns<'a>(turns: &mut Vec<WeekTurn<'a>>, week: &Week<'a>) -> Result
     Ok(())
 }
 
-/// The instant so many seconds later.
+/// The instant that number of seconds later.
 fn later_by(asked: Instant, second: u32) -> Option<Instant> {
     Instant::try_new(asked.seconds().saturating_add(u64::from(second)))
 }

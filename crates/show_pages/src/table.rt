@@ -29,7 +29,7 @@ impl Table {
         Ok(())
     }
 
-    /// Appends the table, each of its lines behind so many spaces.
+    /// Appends the table, each of its lines indented by this number of spaces.
     pub fn push_to(&self, out: &mut String, indent: usize) -> Result<(), AllocError> {
         let widths = self.widths()?;
         for row in &self.rows {
