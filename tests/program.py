@@ -409,7 +409,6 @@ def order_problems(program, folder):
         ("show: a site file with a fault, and no script", ["show", "--site", bad], b"central: site: NotAnObject\n", 1),
         ("show: no script", ["show", "--site", good], read, 3),
         ("check: no site file, and no script", ["check", "--site", none], no_site, 3),
-        ("check: no script", ["check", "--site", good], read, 3),
         ("point: a URL, and no site file", ["point", "--url", "http://x", "--site", none, "--id", "CP1"], url, 4),
         ("point: no site file, and nobody listens", [*point, none, "--id", "CP1"], no_site, 3),
         ("point: a site file with a fault, and no such point", [*point, bad, "--id", "CP9"], b"central: site: NotAnObject\n", 1),
@@ -422,6 +421,11 @@ def order_problems(program, folder):
         ("serve: no address", [*serve, good], b"central: device: socket\n", 3),
     ):
         yield name, list(differences(run_on(program, arguments, folder, False), b"", error, status))
+    # What is found in a site file is told first.
+    for name, site, found in (("a site file with a fault", bad, b"a list stands there"), ("a site file with a remark", good, b"remark: ")):
+        done = run_on(program, ["check", "--site", site], folder, False)
+        ok = (done.returncode, done.stderr) == (3, read) and found in done.stdout
+        yield f"check: {name}, and no script", [] if ok else [f"{done}"]
 
 
 def drawn_problems(program, folder):

@@ -128,15 +128,13 @@ const SUM_JSON: &str =
     r#"{"point":"a\"\\é","connector":0,"unit":"W","start":"2025-01-01T00:00:00Z","duration":45,"stretches":[{"start":"2025-01-01T00:00:00Z","end":"2025-01-01T00:00:15Z","limit":42.0,"cause":{"kind":"Sum"},"shares":[{"connector":1,"limit":10.0,"cause":{"kind":"Profile","chargingProfileId":4,"purpose":"TxProfile","stackLevel":3,"connector":1}},{"connector":2,"limit":32.0,"cause":{"kind":"ConnectorCeiling"}}]},{"start":"2025-01-01T00:00:15Z","end":"2025-01-01T00:00:45Z","limit":0.0,"cause":{"kind":"Sum"},"shares":[]}],"notCounted":[{"chargingProfileId":-5,"purpose":"ChargePointMaxProfile","stackLevel":0,"connector":0,"reason":"NotLeast","sentence":"It prevails, but another limit is as low or lower."}]}
 "#;
 
-#[test]
-fn a_sum_has_its_shares(rt: HostRuntime) -> Result<(), Fail> {
-    let alloc = rt.alloc();
-    let point = Point::with_rows(alloc, "")?;
+/// The share of a profile of its connector's own, and that of a ceiling.
+fn two_shares() -> [Share; 2] {
     let own = PrevailingProfile {
         connector: 1,
         ..profile(4, Purpose::TxProfile, 3)
     };
-    let shares = [
+    [
         Share {
             connector: 1,
             limit: 100,
@@ -147,9 +145,15 @@ fn a_sum_has_its_shares(rt: HostRuntime) -> Result<(), Fail> {
             limit: 320,
             cause: Cause::ConnectorCeiling,
         },
-    ];
+    ]
+}
+
+#[test]
+fn a_sum_has_its_shares(rt: HostRuntime) -> Result<(), Fail> {
+    let alloc = rt.alloc();
+    let point = Point::with_rows(alloc, "")?;
     let stretches = [
-        sum(alloc, 0, 15, 420, &shares)?,
+        sum(alloc, 0, 15, 420, &two_shares())?,
         sum(alloc, 15, 45, 0, &[])?,
     ];
     let never = [NotCounted {

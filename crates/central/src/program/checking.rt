@@ -26,37 +26,37 @@ pub fn check_file<R: Files + Input + Print + AllocGlobal>(
 ) -> Result<u8, ProgramFault> {
     let alloc = rt.alloc();
     let bytes = read_site_bytes(rt, checking.site)?;
-    let script = read_script(rt)?;
-    let (page, status) = page_of(alloc, checking, bytes.as_slice(), script.as_slice())?;
+    let mut findings = check_site(alloc, bytes.as_slice())?;
+    // What is wrong with the site file is told even where the script can't be read.
+    let page = site_page(alloc, checking.site, findings.as_slice())?;
     print_page(rt, page.as_str())?;
-    Ok(status)
+    let script = read_script(rt)?;
+    if let Some(site) = site_of(alloc, bytes.as_slice())? {
+        let mut page = String::new(alloc);
+        let mut more = push_played(&mut page, site, script.as_slice(), checking.trace)?;
+        findings.append(&mut more)?;
+        print_page(rt, page.as_str())?;
+    }
+    Ok(exit_status(findings.as_slice()))
 }
 
-/// What is found in a site file and, where a site is read from it, in a script; and the exit status.
-fn page_of(
-    alloc: Global,
-    checking: Checking<'_>,
-    bytes: &[u8],
-    script: &[u8],
-) -> Result<(String, u8), AllocError>
-    requires { length script.now ≤ max_script_bytes }
-{
+/// What is found in a site file, line by line: faults first, which would be hard to find among the remarks on many
+/// points.
+fn site_page(alloc: Global, name: &str, findings: &[Finding]) -> Result<String, AllocError> {
     let mut page = String::new(alloc);
-    let mut findings = check_site(alloc, bytes)?;
-    // Faults first, which would be hard to find among the remarks on many points.
     for severity in [Severity::Fault, Severity::Warning, Severity::Remark] {
-        push_of_severity(&mut page, checking.site, &findings, severity)?;
+        push_of_severity(&mut page, name, findings, severity)?;
     }
+    Ok(page)
+}
+
+/// The site of a site file, where one is read from it. Else what is found in the file says why not.
+fn site_of(alloc: Global, bytes: &[u8]) -> Result<Option<Site>, AllocError> {
     match read_site(alloc, bytes) {
-        Ok(site) => {
-            let mut more = push_played(&mut page, site, script, checking.trace)?;
-            findings.append(&mut more)?;
-        }
-        Err(SiteFault::OutOfMemory) => return Err(AllocError),
-        // What is found in the file says it.
-        Err(_) => {}
+        Ok(site) => Ok(Some(site)),
+        Err(SiteFault::OutOfMemory) => Err(AllocError),
+        Err(_) => Ok(None),
     }
-    Ok((page, exit_status(findings.as_slice())))
 }
 
 /// Appends what is found in a script that is played on a site, and what it leaves undone. Returns what is found.
