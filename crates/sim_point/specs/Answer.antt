@@ -1,11 +1,13 @@
--- What a charge point answers to a task for its book, and its book after that.
+-- What a charge point answers to an action, and its book after that.
 use Rattle.std.specs.Prelude.{ℕ, nat_lt, ◌==◌, ◌&&◌, not, Bool, false, length, Option, Some, None, Result, Ok, Err, if◌then◌else◌}
 use Rattle.std.specs.List.{list_any}
 use Rattle.ocpp_scalars.specs.declared.refusal.Refusal.{Refusal}
 use Rattle.ocpp_scalars.specs.declared.refusal.Refusal.TheVariants.{UnknownConnector, MaxNotAtZero, TxAtZero, WrongUnit}
 use Rattle.profile.specs.declared.unit.Unit.{Unit}
+use Rattle.profile.specs.declared.charging_profile.Profile.{Profile}
 use Rattle.profile.specs.declared.row.Row.{Row}
 use Rattle.profile.specs.declared.criteria.Criteria.{Criteria}
+use Rattle.profile.specs.Parts.{profile_of_parts}
 use Rattle.profile.specs.Changes.{matches}
 use Rattle.profile.specs.Purpose.{is_charge_point_max, is_tx}
 use Rattle.profile.specs.Unit.{unit_eq}
@@ -16,18 +18,29 @@ use Rattle.meaning.specs.Composite.{CompositeSchedule}
 use Rattle.meaning.specs.ByCases.Exact.{exact_schedule}
 use Rattle.point_book.specs.Book.{BookState, state_of}
 use Rattle.point_book.specs.Changes.{first_cause, install_refusal, book_installed, book_cleared}
+use Rattle.messages.specs.declared.action.Action.{Action}
+use Rattle.messages.specs.declared.action.Action.TheVariants as actions
 use Rattle.messages.specs.declared.action.ScheduleRequest.{ScheduleRequest}
 use Rattle.messages.specs.declared.response.Response.{Response}
 use Rattle.messages.specs.declared.response.Response.TheVariants.{Accepted, Rejected, Unknown, Schedule}
-use Rattle.sim_point.specs.declared.request.Task.{Task}
-use Rattle.sim_point.specs.declared.request.Task.TheVariants.{Install, Clear, Compose}
+use Rattle.sim_point.specs.Request.{not_implemented}
 
 -- what is answered, and what the point then has
 pub record Answered : Type 0 where
   pub response : Response
   pub book : BookState
 
+-- it answers this, and its book stays as it is
+abbrev pub unchanged : BookState → Response → Answered
+unchanged book response = record { response = response; book = book }
+
 -- ---- SetChargingProfile (OCPP 1.6, 5.16)
+
+-- the row of the profile, installed at the moment of its text, or why its fields make none
+abbrev pub row_made : ℕ → ℕ → Result Profile Refusal → Result Row Refusal
+row_made now connector (Ok profile) =
+    Ok (record { connector = connector; moment = now; profile = profile })
+row_made now connector (Err refusal) = Err refusal
 
 -- Why a profile may not stand where it is sent, in the order in which it is checked: the point has the
 -- connector; a ChargePointMaxProfile stands at connector 0 alone and a TxProfile never does (3.13.1 and
@@ -46,7 +59,11 @@ row_refusal unit book row = first_cause (place_refusal unit book row) (install_r
 
 abbrev pub installed_unless : BookState → Row → Option Refusal → Answered
 installed_unless book row None = record { response = Accepted; book = book_installed book row }
-installed_unless book row (Some refusal) = record { response = Rejected refusal; book = book }
+installed_unless book row (Some refusal) = unchanged book (Rejected refusal)
+
+abbrev pub installed_if_made : Unit → BookState → Result Row Refusal → Answered
+installed_if_made unit book (Ok row) = installed_unless book row (row_refusal unit book row)
+installed_if_made unit book (Err refusal) = unchanged book (Rejected refusal)
 
 -- ---- ClearChargingProfile (OCPP 1.6, 5.5)
 
@@ -54,7 +71,7 @@ abbrev pub cleared_if_any : BookState → Criteria → Answered
 cleared_if_any book criteria =
     if list_any (matches criteria) book.rows
     then record { response = Accepted; book = book_cleared book criteria }
-    else record { response = Unknown; book = book }
+    else unchanged book Unknown
 
 -- ---- GetCompositeSchedule (OCPP 1.6, 5.7)
 
@@ -80,11 +97,14 @@ schedule_of_ask unit book (Ok ask) = schedule_or unit ask
     (exact_schedule (limit_asked (state_of book) ask.connector ask.start) ask.duration)
 schedule_of_ask unit book (Err refusal) = Rejected refusal
 
--- ---- tasks
+-- ---- actions
 
--- what a point with this unit and this book answers to a task at a moment, and its book then
-abbrev pub answered : Unit → BookState → ℕ → Task → Answered
-answered unit book now (Install row) = installed_unless book row (row_refusal unit book row)
-answered unit book now (Clear criteria) = cleared_if_any book criteria
-answered unit book now (Compose request) =
-    record { response = schedule_of_ask unit book (ask_at unit book now request); book = book }
+-- What a point with this unit and this book answers to an action at a moment, and its book then. Any
+-- other action isn't implemented.
+abbrev pub answered : Unit → BookState → ℕ → Action → Answered
+answered unit book now (actions.SetChargingProfile connector parts) =
+    installed_if_made unit book (row_made now connector (profile_of_parts parts))
+answered unit book now (actions.ClearChargingProfile criteria) = cleared_if_any book criteria
+answered unit book now (actions.GetCompositeSchedule request) =
+    unchanged book (schedule_of_ask unit book (ask_at unit book now request))
+answered unit book now action = unchanged book not_implemented

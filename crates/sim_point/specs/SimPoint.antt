@@ -45,7 +45,7 @@ pub record Heard : Type 0 where
   pub answer : Option (List ℕ)
   pub after : SimState
 
--- a task's answer, with the book after it
+-- an action's answer, with the book after it
 abbrev pub acted : SimState → List ℕ → Answered → Heard
 acted old id does =
     record { answer = Some (response_text id does.response); after = record old { book = does.book } }
@@ -66,13 +66,13 @@ abbrev pub heard_request : SimState → ℕ → Request → Heard
 heard_request old now Nothing = record { answer = None; after = old }
 heard_request old now (Respond id response) =
     record { answer = Some (response_text id response); after = old }
-heard_request old now (Act id task) = acted old id (answered old.unit old.book now task)
+heard_request old now (Act id action) = acted old id (answered old.unit old.book now action)
 heard_request old now (Reply id transaction) =
     record { answer = None; after = replied old id transaction }
 
 -- what a text comes to at a moment
 abbrev pub heard : SimState → ℕ → List ℕ → Heard
-heard old now text = heard_request old now (request_of now text)
+heard old now text = heard_request old now (request_of text)
 
 -- ---- the point's own calls
 

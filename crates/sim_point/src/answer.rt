@@ -1,16 +1,17 @@
-//! What a charge point answers to a task for its book, and what it changes there.
+//! What a charge point answers to an action, and what it changes in its book.
 
 ghost use Rattle.std.specs.Prelude.{◌≡◌, ◌≤◌, None, Ok, IfOk, OnOk, OnErr, length, string_bytes};
 ghost use Rattle.messages.specs.ResponseText.{response_text};
-ghost use Rattle.sim_point.specs.Answer.{place_refusal, row_refusal, installed_unless, cleared_if_any, is_other_unit, ask_at, schedule_of_ask, answered};
+ghost use Rattle.profile.specs.Parts.{profile_of_parts};
+ghost use Rattle.sim_point.specs.Answer.{row_made, place_refusal, row_refusal, installed_unless, cleared_if_any, is_other_unit, ask_at, schedule_of_ask, answered};
 
 use crate::own_book::OwnBook;
-use crate::request::Task;
+use crate::request::NOT_IMPLEMENTED;
 use meaning::{Ask, compile_plain, exact_schedules};
-use messages::{Response, ScheduleRequest, ScheduleResponse, write_response};
+use messages::{Action, Response, ScheduleRequest, ScheduleResponse, write_response};
 use ocpp_scalars::{Instant, Refusal};
 use point_book::PointBook;
-use profile::{Criteria, Purpose, Row, Unit};
+use profile::{Criteria, Profile, ProfileParts, Purpose, Row, Unit};
 use std::alloc::{AllocError, Global};
 
 /// Who answers, and when: a point whose limits are in this unit.
@@ -21,27 +22,48 @@ pub struct Answering {
     pub now: Instant,
 }
 
-/// Does a task, and returns the text that answers the CALL of this id. Where memory runs out, nothing changes.
-pub fn answer_task(
+/// Does an action, and returns the text that answers the CALL of this id. Where memory runs out, nothing
+/// changes.
+pub fn answer_action(
     answering: Answering,
     book: &mut OwnBook,
     id: &str,
-    task: Task,
+    action: Action,
 ) -> Result<String, AllocError>
     ensures answer { IfOk result (λ text. string_bytes text ≡ response_text id.now
-        (answered answering.unit book.old answering.now task).response) }
+        (answered answering.unit book.old answering.now action).response) }
     ensures book { OnOk result (book.new
-        ≡ (answered answering.unit book.old answering.now task).book) }
+        ≡ (answered answering.unit book.old answering.now action).book) }
     ensures unchanged { OnErr result (book.new ≡ book.old) }
 {
-    let Answering { alloc, .. } = answering;
-    match task {
-        Task::Install(row) => install(answering, book, id, row),
-        Task::Clear(criteria) => clear(alloc, book, id, &criteria),
-        Task::Compose(request) => {
+    let Answering { alloc, now, .. } = answering;
+    match action {
+        Action::SetChargingProfile { connector, profile } => {
+            match row_made(now, connector, profile) {
+                Ok(row) => install(answering, book, id, row),
+                Err(refusal) => write_response(alloc, id, &Response::Rejected(refusal)),
+            }
+        }
+        Action::ClearChargingProfile(criteria) => clear(alloc, book, id, &criteria),
+        Action::GetCompositeSchedule(request) => {
             let response = compose(answering, book.book(), &request)?;
             write_response(alloc, id, &response)
         }
+        _ => write_response(alloc, id, &NOT_IMPLEMENTED),
+    }
+}
+
+/// The row of the profile that these fields make, installed now.
+fn row_made(now: Instant, connector: u32, parts: ProfileParts) -> Result<Row, Refusal>
+    ensures { result ≡ row_made now connector (profile_of_parts parts) }
+{
+    match Profile::try_new(parts) {
+        Ok(profile) => Ok(Row {
+            connector,
+            moment: now,
+            profile,
+        }),
+        Err((refusal, _)) => Err(refusal),
     }
 }
 

@@ -6,7 +6,7 @@ ghost use Rattle.std.specs.Fmt.{decimal};
 ghost use Rattle.ocpp_scalars.specs.declared.refusal.Refusal.{Refusal};
 ghost use Rattle.sim_point.specs.SimPoint.{new_point, replied, heard, heard_request, called};
 
-use crate::answer::{Answering, answer_task};
+use crate::answer::{Answering, answer_action};
 use crate::own_book::OwnBook;
 use crate::point_call::{InFlight, first_call, reply_to};
 use crate::point_call_text::write_call;
@@ -104,7 +104,7 @@ impl SimPoint {
         ensures refusal { IfErr result (λ refusal. refusal ≡ Refusal.OutOfMemory) }
         ensures unchanged { OnErr result (self.new ≡ self.old) }
     {
-        let request = request_of(self.alloc, &mut self.memory, now, text)?;
+        let request = request_of(self.alloc, &mut self.memory, text)?;
         Ok(self.on_request(now, request)?)
     }
 
@@ -119,13 +119,13 @@ impl SimPoint {
             Request::Respond { id, response } => {
                 Ok(Some(write_response(self.alloc, id.as_str(), &response)?))
             }
-            Request::Act { id, task } => {
+            Request::Act { id, action } => {
                 let answering = Answering {
                     alloc: self.alloc,
                     unit: self.unit,
                     now,
                 };
-                Ok(Some(answer_task(answering, &mut self.book, id.as_str(), task)?))
+                Ok(Some(answer_action(answering, &mut self.book, id.as_str(), action)?))
             }
             Request::Reply { id, transaction } => {
                 self.on_reply(id.as_str(), transaction);
