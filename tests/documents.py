@@ -58,7 +58,7 @@ WORDS = {
     "want of memory": (r"\bwant of memory\b", "out of memory, a failed allocation"),
     "so many": (r"\bso many\b", "N"),
     "stretch": (r"\bstretch(?:es)?\b", "an interval"),
-    "ask": (r"\b(?:an|the|each|every|one|its|that|this|held|\d+) asks?\b|\basks of\b", "a request"),
+    "ask": (r"\b(?:an|the|each|every|one|its|this|held|\d+) ask\b|\b(?:the|its|held|two|\d+) asks\b|\basks of\b", "a request"),
     "plant": (r"\bplant(?:s|ed|ing)?\b", "a mutant"),
     "Owed": (r"\bOwed\b", "Open"),
 }
