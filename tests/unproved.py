@@ -116,11 +116,12 @@ def main():
         sys.exit(__doc__)
     if not shutil.which("rt"):
         sys.exit("tests/run --unproved: there is no rt here; docs/WORKING.md says which kit it belongs to")
+    print("tests/run --unproved: nothing is proved by it; it takes up to 20 minutes on 2 processors", flush=True)
     began = time.monotonic()
     with tempfile.TemporaryDirectory(prefix="central-unproved-") as folder:
         copied_sources(folder)
         lanes = Lanes(tasks_over(folder))
-        threads = [threading.Thread(target=lanes.work) for _ in range(LANES)]
+        threads = [threading.Thread(target=lanes.work, daemon=True) for _ in range(LANES)]
         for thread in threads:
             thread.start()
         for thread in threads:
