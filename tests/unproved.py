@@ -33,8 +33,8 @@ class Task:
     def run(self):
         """How many passed and failed, and what was printed."""
         done = subprocess.run(
-            self.words, cwd=self.folder, env={**os.environ, "UNPROVED": "1"}, stdin=subprocess.DEVNULL, stdout=subprocess.PIPE, stderr=subprocess.STDOUT, text=True,
-            errors="replace", check=False,
+            self.words, cwd=self.folder, env={**os.environ, "UNPROVED": "1"}, stdin=subprocess.DEVNULL,
+            stdout=subprocess.PIPE, stderr=subprocess.STDOUT, text=True, errors="replace", check=False,
         )
         found = TOTALS.findall(done.stdout)
         passed, failed = (int(found[-1][place] or found[-1][place + 2]) for place in (0, 1)) if found else (0, 0)
