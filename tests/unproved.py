@@ -97,7 +97,8 @@ class Lanes:
                 self.has_program = not failed
             if failed:
                 print(printed.rstrip("\n"))
-            print(f"{task.name}: {passed} passed, {failed} failed, in {seconds:.0f} seconds", flush=True)
+            totals = f"{passed} passed, {failed} failed" if passed or failed else "done"
+            print(f"{task.name}: {totals}, in {seconds:.0f} seconds", flush=True)
             self.passed, self.failed = self.passed + passed, self.failed + failed
             self.changed.notify_all()
 
