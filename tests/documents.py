@@ -58,7 +58,7 @@ WORDS = {
     "want of memory": (r"\bwant of memory\b", "out of memory, a failed allocation"),
     "so many": (r"\bso many\b", "N"),
     "stretch": (r"\bstretch(?:es)?\b", "an interval"),
-    "ask": (r"\b(?:an|the|each|every|one|its|that|this|held|\d+) asks?\b|\basks of\b", "a request"),
+    "ask": (r"\b(?:an|the|each|every|one|its|this|held|\d+) ask\b|\b(?:the|its|held|two|\d+) asks\b|\basks of\b", "a request"),
     "plant": (r"\bplant(?:s|ed|ing)?\b", "a mutant"),
     "Owed": (r"\bOwed\b", "Open"),
 }
@@ -144,7 +144,8 @@ def print_measures(top, files):
     for page in documents_of(files):
         size, mean, longest, words = measures_of(top, page)
         total += size
-        print(f"{page:40} {size:5.1f} {mean:5.1f} {longest:7}  {', '.join(f'{word} {count}' for word, count in words.items())}".rstrip())
+        found = ", ".join(f"{word} {count}" for word, count in words.items())
+        print(f"{page:40} {size:5.1f} {mean:5.1f} {longest:7}  {found}".rstrip())
     print(f"{'all':40} {total:5.1f}")
 
 
@@ -383,8 +384,9 @@ def case_problems(top, files):
                     yield f"docs/DIFFERENCES.md: there is no case {word}"
     twice = collections.defaultdict(list)
     for name in files:
-        if re.fullmatch(r"(?:examples|tests/cases)/(?:.*/)?(?:script|site\.json)", name) and not os.path.islink(os.path.join(top, name)):
-            with open(os.path.join(top, name), "rb") as file:
+        path = os.path.join(top, name)
+        if re.fullmatch(r"(?:examples|tests/cases)/(?:.*/)?(?:script|site\.json)", name) and not os.path.islink(path):
+            with open(path, "rb") as file:
                 twice[file.read()].append(name)
     for same in twice.values():
         if len(same) > 1:

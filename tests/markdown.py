@@ -105,7 +105,7 @@ def prose_of(text):
 def sentences_of(text):
     """The sentences of a page's prose."""
     for block in prose_of(text):
-        for sentence in re.split(r"(?<=[.!?])[)\"']*\s+(?=[\"'(*_]*[A-Z0-9])|(?<=[.!?:]\")\s+(?=[A-Z])", block):
+        for sentence in re.split(r"(?<=[.!?])[)\"']*\s+(?=[\"'(*_]*[A-Z0-9])", block):
             if re.search(r"\w", sentence):
                 yield sentence
 

@@ -1,9 +1,10 @@
 #!/usr/bin/env python3
 """pages.py PROGRAM [write]: runs the commands of the pages on the built program, and prints 'N passed, M failed'.
 
-A command is a code block that calls `packaging/out/central`, or `curl` on what it serves; a block of `text` that follows it is what it has to print, but for
-moments, which are those of the clock. `serve` and `point` run beside the commands behind them, up to the end of the page:
-`serve` has to print where it listens, and `point` a line. With `write` the blocks of text are written anew, to be read before they are kept.
+A command is a code block that calls `packaging/out/central`, or `curl` on what it serves. A block of `text` that follows it is
+what it has to print, but for moments, which are those of the clock. `serve` and `point` run beside the commands behind them, up to
+the end of the page: `serve` has to print where it listens, and `point` a line. With `write` the blocks of text are written anew,
+to be read before they are kept.
 """
 import os
 import re

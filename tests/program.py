@@ -189,7 +189,8 @@ def command_line_problems(program):
         yield f"central {' '.join(arguments)}", [] if ok else [f"status {done.returncode}, without {missing}, {done.stderr[:200]!r}"]
     # The builder writes the logic that a program is proved in into its file (`readelf -p .comment`).
     logics = re.findall(rb"\0rattle logic=([0-9a-f]{16})", bytes_of(program))
-    yield "the logic that --version names", [] if logics == [b"dac8208d650f15bf"] * (not UNPROVED) else [f"the program's file names {logics}"]
+    wanted = [] if UNPROVED else [b"dac8208d650f15bf"]
+    yield "the logic that --version names", [] if logics == wanted else [f"the program's file names {logics}"]
     for arguments in ([], ["replay"], ["replay", "--site"], ["replay", "--site", "a", "--site", "b"], ["play"], ["replay", "x"]):
         done = run(program, arguments, b"")
         ok = done.returncode == 4 and not done.stdout and done.stderr
@@ -214,7 +215,8 @@ def first_schedule_problems(program, folder):
     done = subprocess.run([os.path.join(TOP, "first-schedule"), program], capture_output=True, timeout=120)
     commands = [line.split(b" --")[0].split(b"| ")[-1] for line in done.stdout.split(b"\n") if b" --" in line]
     wanted = [f"{program} {command}".encode() for command in ("serve", "point", "call")]
-    ok = done.returncode == 0 and done.stdout.startswith(example.wanted[0] + b"\n") and commands == wanted and not done.stderr
+    begins = done.stdout.startswith(example.wanted[0] + b"\n")
+    ok = done.returncode == 0 and begins and commands == wanted and not done.stderr
     yield "first-schedule", [] if ok else [f"{done}"]
     alone = shutil.copy(os.path.join(TOP, "first-schedule"), folder)
     done = subprocess.run([alone], capture_output=True, timeout=120, env={"PATH": "/usr/bin:/bin"})

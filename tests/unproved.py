@@ -33,8 +33,8 @@ class Task:
     def run(self):
         """How many passed and failed, and what was printed."""
         done = subprocess.run(
-            self.words, cwd=self.folder, env={**os.environ, "UNPROVED": "1"}, stdin=subprocess.DEVNULL, stdout=subprocess.PIPE, stderr=subprocess.STDOUT, text=True,
-            errors="replace", check=False,
+            self.words, cwd=self.folder, env={**os.environ, "UNPROVED": "1"}, stdin=subprocess.DEVNULL,
+            stdout=subprocess.PIPE, stderr=subprocess.STDOUT, text=True, errors="replace", check=False,
         )
         found = TOTALS.findall(done.stdout)
         passed, failed = (int(found[-1][place] or found[-1][place + 2]) for place in (0, 1)) if found else (0, 0)
@@ -97,7 +97,8 @@ class Lanes:
                 self.has_program = not failed
             if failed:
                 print(printed.rstrip("\n"))
-            print(f"{task.name}: {passed} passed, {failed} failed, in {seconds:.0f} seconds", flush=True)
+            totals = f"{passed} passed, {failed} failed" if passed or failed else "done"
+            print(f"{task.name}: {totals}, in {seconds:.0f} seconds", flush=True)
             self.passed, self.failed = self.passed + passed, self.failed + failed
             self.changed.notify_all()
 
@@ -116,11 +117,12 @@ def main():
         sys.exit(__doc__)
     if not shutil.which("rt"):
         sys.exit("tests/run --unproved: there is no rt here; docs/WORKING.md says which kit it belongs to")
+    print("tests/run --unproved: nothing is proved by it; it takes up to 20 minutes on 2 processors", flush=True)
     began = time.monotonic()
     with tempfile.TemporaryDirectory(prefix="central-unproved-") as folder:
         copied_sources(folder)
         lanes = Lanes(tasks_over(folder))
-        threads = [threading.Thread(target=lanes.work) for _ in range(LANES)]
+        threads = [threading.Thread(target=lanes.work, daemon=True) for _ in range(LANES)]
         for thread in threads:
             thread.start()
         for thread in threads:

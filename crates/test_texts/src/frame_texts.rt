@@ -1,6 +1,6 @@
 //! What no replayed script shows: which frames get no answer and why, texts of their largest size,
-//! fields by kind, and written frames. `tests/cases/replay` at the top of the repository has the texts of
-//! JSON conformance suites.
+//! fields by kind, and written frames. `tests/cases/replay` at the top of the repository has the
+//! texts of JSON conformance suites.
 use crate::same::{holds, same_text};
 use ocppj_frame::{
     Field, Frame, FrameFault, Node, ReadingMemory, instant_field, list_field, object_field,
