@@ -340,12 +340,9 @@ agrees (steps.Clear id criteria) = λ site numbers point. clear_agrees numbers i
 agrees (steps.Start id connector begin) =
     λ site numbers point. start_agrees numbers id connector begin point
 agrees (steps.Stop id number) = λ site numbers point. stop_agrees numbers id number point
-agrees (steps.Take take) = tt
-agrees (steps.Compile number) = tt
-agrees (steps.Answer number) = tt
-agrees steps.Finish = tt
 agrees (steps.Attach id) = λ site numbers point. attach_agrees numbers id point
 agrees (steps.Send id link) = λ site numbers point. send_agrees numbers id link point
 agrees (steps.Confirm id link number) =
     λ site numbers point. confirm_agrees numbers id link number point
 agrees (steps.Lost id link) = λ site numbers point. lose_agrees numbers id link point
+agrees other = tt

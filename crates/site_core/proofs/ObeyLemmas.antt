@@ -1,4 +1,4 @@
--- That an obeying point stays in step: a call acts on the lasting rows alone, and again it deeds nothing.
+-- That an obeying point stays in step: a call acts on the lasting rows alone, and again it does nothing.
 use Rattle.std.proofs.Common.{◌≡◌, ℕ, ◌+◌, zero, suc, Bool, true, false, not, ◌||◌, ◌&&◌, ◌==◌, ◌⊎◌, inl, inr, refl, sym, ◌∙◌, ap, subst, List, [], ◌∷◌, ◌++◌, filter, map, Option, None, Some, is_some, slice_get, cond, append-nil, arith}
 use Rattle.std.specs.List.{filter_map, cons_option}
 use Rattle.std.specs.Ordering.{int_eq}
@@ -13,7 +13,7 @@ use Rattle.messages.specs.declared.call.CallBody.{CallBody}
 use Rattle.messages.specs.declared.call.CallBody.TheVariants.{Clear, Set}
 use Rattle.site_core.specs.Outbox.{every_profile}
 use Rattle.site_core.specs.OutboxOrder.{GoesOn}
-use Rattle.site_core.specs.ChargePoint.{Deed, Installs, Clears, Starts, Stops, Attaches, Loses, Sends, Confirms, rows_after, call_of}
+use Rattle.site_core.specs.ChargePoint.{Deed, Installs, Clears, Starts, Stops, rows_after, call_of}
 use Rattle.site_core.specs.Obey.{Obeying, at_moment, calls_of, lasting, last_number, numbers_of, obeyed, obeyed_call, rows_after_call, StaysInStep}
 
 -- ---- filters
@@ -151,11 +151,12 @@ fails_some criteria row = not (matches criteria row)
 abbrev row_of : ℕ → Profile → Row
 row_of connector profile = record { connector = connector; moment = 0; profile = profile }
 
+-- no call, or one that is about something else, leaves them
 abbrev on_lasting : Option CallBody → List Row → List Row
-on_lasting None rows = rows
 on_lasting (Some (Set connector profile)) rows =
     filter (stays_beside (row_of connector profile)) rows ++ lasting (row_of connector profile ∷ [])
 on_lasting (Some (Clear criteria)) rows = filter (fails_some criteria) rows
+on_lasting call rows = rows
 
 lasting_installed : (rows : List Row) (row : Row)
     → lasting (installed rows row)
@@ -173,10 +174,10 @@ lasting_cleared rows criteria = lasting_filter (fails_some criteria) (λ _. refl
 
 lasting_obeyed : (moment : ℕ) (call : Option CallBody) (rows : List Row)
     → lasting (obeyed_call moment call rows) ≡ on_lasting call (lasting rows)
-lasting_obeyed moment None rows = refl
 lasting_obeyed moment (Some (Set connector profile)) rows =
     lasting_installed rows (record { connector = connector; moment = moment; profile = profile })
 lasting_obeyed moment (Some (Clear criteria)) rows = lasting_cleared rows criteria
+lasting_obeyed moment call rows = refl
 
 -- what an install adds it would also replace
 replaces_itself : (row : Row) → filter (stays_beside row) (lasting (row ∷ [])) ≡ []
@@ -196,10 +197,9 @@ replaces_itself row = go (lasts row) refl
         ∙ filter_gone (stays_beside row) (at_moment 0 row) [] replaced
     go false is = ap (filter (stays_beside row)) (lasting_gone row [] is)
 
--- a call that comes again deeds nothing
+-- a call that comes again does nothing
 on_lasting_again : (call : Option CallBody) (rows : List Row)
     → on_lasting call (on_lasting call rows) ≡ on_lasting call rows
-on_lasting_again None rows = refl
 on_lasting_again (Some (Set connector profile)) rows =
     let row = row_of connector profile in
     let stay = filter (stays_beside row) rows in
@@ -209,10 +209,10 @@ on_lasting_again (Some (Set connector profile)) rows =
     ∙ ap (λ (rs : List Row). filter (stays_beside row) stay ++ rs) (replaces_itself row)
     ∙ append-nil (filter (stays_beside row) stay) ∙ filter_again (stays_beside row) rows)
 on_lasting_again (Some (Clear criteria)) rows = filter_again (fails_some criteria) rows
+on_lasting_again call rows = refl
 
 -- ---- the central system
 
--- after its next call the central system has what that call makes of the lasting rows
 -- what makes no call leaves the lasting rows
 pub lasting_without_call : (deed : Deed) (rows : List Row) → is_some (call_of deed) ≡ false
     → lasting (rows_after rows deed) ≡ lasting rows
@@ -220,10 +220,8 @@ lasting_without_call (Installs row) rows none = absurd (cc none)
 lasting_without_call (Clears criteria) rows none = absurd (cc none)
 lasting_without_call (Starts connector begin number) rows none = lasting_end rows connector
 lasting_without_call (Stops connector) rows none = lasting_end rows connector
-lasting_without_call (Attaches link) rows none = refl
-lasting_without_call Loses rows none = refl
-lasting_without_call Sends rows none = refl
-lasting_without_call (Confirms number) rows none = refl
+-- each other deed leaves all rows
+lasting_without_call deed rows none = refl
 
 -- what makes a call does with them as the call says
 lasting_with_call : (deed : Deed) (rows : List Row) → is_some (call_of deed) ≡ true
@@ -232,11 +230,10 @@ lasting_with_call (Installs row) rows some = lasting_installed rows row
 lasting_with_call (Clears criteria) rows some = lasting_cleared rows criteria
 lasting_with_call (Starts connector begin number) rows some = absurd (cc some)
 lasting_with_call (Stops connector) rows some = absurd (cc some)
-lasting_with_call (Attaches link) rows some = absurd (cc some)
-lasting_with_call Loses rows some = absurd (cc some)
-lasting_with_call Sends rows some = absurd (cc some)
-lasting_with_call (Confirms number) rows some = absurd (cc some)
+-- each other deed leaves all rows, and so does its call, if there is one
+lasting_with_call deed rows some = refl
 
+-- after its next call the central system has what that call makes of the lasting rows
 next_call : (deeds : List Deed) (before : ℕ) (rows : List Row)
     → lasting (rows_after_call (suc before) deeds rows)
     ≡ on_lasting (slice_get (filter_map call_of deeds) before) (lasting

@@ -90,6 +90,12 @@ call_in other = None
 abbrev pub call_of : Deed → Option CallBody
 call_of deed = call_in (traffic_of deed)
 
+-- what a point that does at a moment as a call tells it makes of its profiles
+abbrev pub rows_by_call : ℕ → CallBody → List Row → List Row
+rows_by_call moment (bodies.Set connector profile) rows =
+    installed rows (record { connector = connector; moment = moment; profile = profile })
+rows_by_call moment (bodies.Clear criteria) rows = cleared rows criteria
+
 -- ---- the point then
 
 abbrev pub book_after : BookState → Deed → BookState

@@ -4,11 +4,9 @@ use Rattle.std.specs.Prelude.{ℕ, ◌≡◌, not, List, [], ◌∷◌, filter, 
 use Rattle.std.specs.List.{filter_map}
 use Rattle.profile.specs.declared.row.Row.{Row}
 use Rattle.profile.specs.Purpose.{is_tx}
-use Rattle.profile.specs.Changes.{installed, cleared}
 use Rattle.messages.specs.declared.call.CallBody.{CallBody}
-use Rattle.messages.specs.declared.call.CallBody.TheVariants.{Clear, Set}
 use Rattle.site_core.specs.Outbox.{all_calls}
-use Rattle.site_core.specs.ChargePoint.{Deed, rows_after, call_of}
+use Rattle.site_core.specs.ChargePoint.{Deed, rows_after, call_of, rows_by_call}
 use Rattle.site_core.specs.OutboxOrder.{AreInSendingOrder}
 
 -- ---- the central system
@@ -37,9 +35,7 @@ pub record Obeying : Type 0 where
 -- nothing
 abbrev pub obeyed_call : ℕ → Option CallBody → List Row → List Row
 obeyed_call moment None rows = rows
-obeyed_call moment (Some (Clear criteria)) rows = cleared rows criteria
-obeyed_call moment (Some (Set connector profile)) rows =
-    installed rows (record { connector = connector; moment = moment; profile = profile })
+obeyed_call moment (Some body) rows = rows_by_call moment body rows
 
 -- what the point has once it has obeyed some of these calls in turn, having had these rows before
 abbrev pub obeyed : List CallBody → List Obeying → List Row → List Row

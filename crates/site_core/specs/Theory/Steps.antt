@@ -4,7 +4,7 @@ use Rattle.site_core.specs.declared.step.Step.{Step}
 use Rattle.site_core.specs.declared.step.Step.TheVariants as steps
 use Rattle.site_core.specs.declared.step.Take.{Take}
 use Rattle.site_core.specs.declared.reply.Reply.{Reply}
-use Rattle.site_core.specs.declared.reply.Reply.TheVariants.{Accepted, Unknown, Started, Repeated, Ended, NoSuch, Taken, Compiled, Answered, NotYet, Finished, Attached, Sent, Nothing, Confirmed, LinkLost}
+use Rattle.site_core.specs.declared.reply.Reply.TheVariants.{Unknown, Repeated, NoSuch, NotYet, Finished, Nothing}
 use Rattle.site_core.specs.State.{MachineState, ScheduleAnswer}
 use Rattle.site_core.specs.Step.{PointStep, Work, AtPoint, work, worked, Works, Steps, stepped, no_answer, OnlyEventsWantMemory}
 
@@ -18,18 +18,12 @@ pub data StepKind : Step → Type 0 where
   finishes_all : StepKind steps.Finish
 
 pub kind_of : (step : Step) → StepKind step
-kind_of (steps.Install point row) = names_point _ _ refl
-kind_of (steps.Clear point criteria) = names_point _ _ refl
-kind_of (steps.Start point connector begin) = names_point _ _ refl
-kind_of (steps.Stop point number) = names_point _ _ refl
 kind_of (steps.Take take) = takes_one take
 kind_of (steps.Compile number) = compiles_one number
 kind_of (steps.Answer number) = answers_one number
 kind_of steps.Finish = finishes_all
-kind_of (steps.Attach point) = names_point _ _ refl
-kind_of (steps.Send point link) = names_point _ _ refl
-kind_of (steps.Confirm point link number) = names_point _ _ refl
-kind_of (steps.Lost point link) = names_point _ _ refl
+-- by its work, each other step names a point
+kind_of step = names_point _ _ refl
 
 -- ---- a Compile, and every other step
 
@@ -84,19 +78,11 @@ compile_or_other step = by step (kind_of step)
 
 -- what is answered without an event wants no memory
 pub only_events_want_memory : OnlyEventsWantMemory
-only_events_want_memory old Accepted wants = refl
 only_events_want_memory old Unknown wants = absurd (cc wants)
-only_events_want_memory old (Started number) wants = refl
 only_events_want_memory old (Repeated number) wants = absurd (cc wants)
-only_events_want_memory old Ended wants = refl
 only_events_want_memory old NoSuch wants = absurd (cc wants)
-only_events_want_memory old (Taken number book ask) wants = refl
-only_events_want_memory old Compiled wants = refl
-only_events_want_memory old (Answered book ask answer) wants = refl
 only_events_want_memory old NotYet wants = absurd (cc wants)
 only_events_want_memory old Finished wants = absurd (cc wants)
-only_events_want_memory old (Attached link) wants = refl
-only_events_want_memory old (Sent call) wants = refl
 only_events_want_memory old Nothing wants = absurd (cc wants)
-only_events_want_memory old Confirmed wants = refl
-only_events_want_memory old LinkLost wants = refl
+-- each other reply is an event's
+only_events_want_memory old reply wants = refl
