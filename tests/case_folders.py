@@ -9,11 +9,23 @@ A case is a folder of examples/ or below tests/cases/ with these files:
 - `status`: the exit status; without it, 0;
 - `stderr`: what has to be on standard error; without it, nothing.
 
-The program runs in the folder. A script or a site file that is another's byte for byte is a symbolic link to it.
+The program runs in the folder. Where a script or a site file is that of another folder, `script.of` or `site.json.of` names that
+folder instead. An example has files of its own, so that its commands work as they stand.
 """
 import os
 
 TOP = os.path.dirname(os.path.dirname(os.path.realpath(__file__)))
+
+
+def found_in(folder, file):
+    """The path of a folder's file, its own or that of the folder that `FILE.of` names, or None."""
+    path = os.path.join(folder, file)
+    if os.path.isfile(path):
+        return path
+    if not os.path.isfile(f"{path}.of"):
+        return None
+    with open(f"{path}.of", encoding="utf-8") as opened:
+        return os.path.normpath(os.path.join(folder, opened.read().strip(), file))
 
 
 class Case:
@@ -25,19 +37,20 @@ class Case:
         return os.path.join(self.folder, file)
 
     def content(self, file, default=b""):
-        if not os.path.isfile(self.path(file)):
+        path = found_in(self.folder, file)
+        if path is None:
             return default
-        with open(self.path(file), "rb") as opened:
+        with open(path, "rb") as opened:
             return opened.read()
 
     @property
     def site(self):
         folder = self.folder
-        while not os.path.isfile(os.path.join(folder, "site.json")):
+        while found_in(folder, "site.json") is None:
             if folder == TOP:
                 raise FileNotFoundError(f"{self.name}: no site.json here or above")
             folder = os.path.dirname(folder)
-        return os.path.join(folder, "site.json")
+        return found_in(folder, "site.json")
 
     @property
     def words(self):
@@ -60,5 +73,5 @@ def all_cases():
     for top in ("examples", "tests/cases"):
         for folder, folders, files in os.walk(os.path.join(TOP, top)):
             folders.sort()
-            if "script" in files:
+            if "script" in files or "script.of" in files:
                 yield Case(os.path.relpath(folder, TOP))

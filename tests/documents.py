@@ -373,7 +373,7 @@ def case_problems(top, files):
     examples = {name.split("/")[1] for name in files if re.fullmatch(r"examples/[^/]+/.+", name)}
     for name in sorted(examples - set(re.findall(r"\]\(([\w-]+)\)", text_of(top, "examples/README.md")))):
         yield f"examples/README.md: {name} is missing"
-    cases = {os.path.basename(os.path.dirname(name)) for name in files if re.fullmatch(r"tests/cases/.*/script", name)}
+    cases = {os.path.basename(os.path.dirname(name)) for name in files if re.fullmatch(r"tests/cases/.*/script(\.of)?", name)}
     for word in re.findall(r"`([\w*]+(?:-[\w*]+)+)`", section_of(text_of(top, "tests/README.md"), "Cases")):
         if not fnmatch.filter(cases, word):
             yield f"tests/README.md: there is no case {word}"
@@ -385,12 +385,12 @@ def case_problems(top, files):
     twice = collections.defaultdict(list)
     for name in files:
         path = os.path.join(top, name)
-        if re.fullmatch(r"(?:examples|tests/cases)/(?:.*/)?(?:script|site\.json)", name) and not os.path.islink(path):
+        if re.fullmatch(r"tests/cases/(?:.*/)?(?:script|site\.json)", name):
             with open(path, "rb") as file:
                 twice[file.read()].append(name)
     for same in twice.values():
         if len(same) > 1:
-            yield f"the same file byte for byte, so all but one have to be links to it: {', '.join(sorted(same))}"
+            yield f"the same file byte for byte, so all but one have to name it by a file `.of`: {', '.join(sorted(same))}"
 
 
 def version_problems(top, files):
