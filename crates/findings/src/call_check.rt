@@ -132,6 +132,19 @@ fn check_asked(
         Action::ClearChargingProfile(criteria) => check_clear(report, call, &criteria),
         Action::GetCompositeSchedule(request) => check_ask(report, call.text, &request),
         Action::StartTransaction(start) => check_start(report, call.text, start.connector),
+        _ => check_refused(report, call.text),
+    }
+}
+
+/// An action of which nothing more is said here: its refusal, where the point's state has no part in
+/// it.
+fn check_refused(report: &mut Report, text: &LineText<'_>) -> Result<(), AllocError> {
+    match text.refusal() {
+        Some((refusal, name)) if !depends_on_state(refusal) => {
+            let why = sentence(refusal);
+            let message = format!(in report.alloc; "{refusal}: {why}")?;
+            report.fault(name, message)
+        }
         _ => Ok(()),
     }
 }

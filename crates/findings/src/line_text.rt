@@ -1,6 +1,7 @@
 //! The text that a line of a script brings, as it is checked.
 
-use messages::{Response, Side};
+use crate::finding::FaultName;
+use messages::{CallFault, Response, Side};
 use ocpp_scalars::{Instant, Refusal};
 use replay::{PlayedLine, PrintedLine};
 use site_rules::Site;
@@ -85,6 +86,26 @@ impl<'a> LineText<'a> {
             } = line
             {
                 return Some(*refusal);
+            }
+        }
+        None
+    }
+
+    /// Why the text is refused, if it is, and how its answer names that.
+    pub(crate) fn refusal(&self) -> Option<(Refusal, FaultName)> {
+        for line in self.printed {
+            let PrintedLine::Answer { response, .. } = line else {
+                continue;
+            };
+            match response {
+                Response::Rejected(refusal) => {
+                    return Some((*refusal, FaultName::Rejected(*refusal)));
+                }
+                Response::Error(CallFault::Refused(refusal)) => {
+                    let name = FaultName::Call(CallFault::Refused(*refusal));
+                    return Some((*refusal, name));
+                }
+                _ => {}
             }
         }
         None

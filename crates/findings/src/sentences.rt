@@ -1,5 +1,5 @@
 //! Why something is refused or counts for nothing, in one sentence each: the tables that all which
-//! prints for people reads. The page of sentences in OPERATING is compared with them by a test.
+//! prints for people reads. A test compares PROTOCOL's, RUNNING's and COMMANDS' tables with them.
 
 use crate::never::NeverRated;
 use messages::CallFault;
