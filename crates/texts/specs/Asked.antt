@@ -32,6 +32,7 @@ use Rattle.texts.specs.declared.asked.Wanted.TheVariants as wanted
 use Rattle.site_core.specs.declared.step.Step.{Step}
 use Rattle.site_core.specs.declared.step.Step.TheVariants as steps
 use Rattle.site_core.specs.declared.step.Take.{Take}
+use Rattle.site_core.specs.Step.{Work, AtPoint, Takes, work}
 use Rattle.texts.specs.ByCases.Number.{number_of}
 use Rattle.texts.specs.SentText.{Sent}
 
@@ -130,14 +131,21 @@ asked_of text = asked_of_message text (message_of_text text.frame)
 
 -- ---- what any text asks for
 
--- the steps that a CALL may ask for
+-- what is made over a link comes of the link itself
+abbrev pub IsOverNone : Option ℕ → Type 0
+IsOverNone None = Unit {0}
+IsOverNone (Some link) = ⊥
+
+abbrev pub IsWorkOfCall : Work → Type 0
+IsWorkOfCall (AtPoint at) = IsOverNone at.link
+IsWorkOfCall (Takes take) = Unit {0}
+IsWorkOfCall elsewhere = ⊥
+
+-- The steps that a CALL may ask for: those at a point that are made over no link, but for its new
+-- link, and a Take.
 abbrev pub IsOfCall : Step → Type 0
-IsOfCall (steps.Install point row) = Unit {0}
-IsOfCall (steps.Clear point criteria) = Unit {0}
-IsOfCall (steps.Start point connector begin) = Unit {0}
-IsOfCall (steps.Stop point transaction) = Unit {0}
-IsOfCall (steps.Take take) = Unit {0}
-IsOfCall step = ⊥
+IsOfCall (steps.Attach point) = ⊥
+IsOfCall step = IsWorkOfCall (work step)
 
 abbrev pub is_schedule : Response → Bool
 is_schedule (Schedule response) = true
