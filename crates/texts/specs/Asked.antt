@@ -139,7 +139,7 @@ IsOverNone (Some link) = ⊥
 abbrev pub IsWorkOfCall : Work → Type 0
 IsWorkOfCall (AtPoint at) = IsOverNone at.link
 IsWorkOfCall (Takes take) = Unit {0}
-IsWorkOfCall other = ⊥
+IsWorkOfCall elsewhere = ⊥
 
 -- The steps that a CALL may ask for: those at a point that are made over no link, but for its new
 -- link, and a Take.
