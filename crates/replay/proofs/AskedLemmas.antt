@@ -17,24 +17,11 @@ use Rattle.replay.specs.ByCases.Asked.{AsksNoCompile}
 pub no_schedule : (id : List ℕ) (response : Response) → is_schedule response ≡ false
     → schedules_on (lines.Answer id response) ≡ []
 no_schedule id (responses.Schedule told) is = absurd (cc)
-no_schedule id responses.Accepted is = refl
-no_schedule id (responses.Rejected refusal) is = refl
-no_schedule id responses.Unknown is = refl
-no_schedule id (responses.BootNotification now) is = refl
-no_schedule id (responses.Heartbeat now) is = refl
-no_schedule id responses.Authorize is = refl
-no_schedule id (responses.StartTransaction transaction) is = refl
-no_schedule id responses.Empty is = refl
-no_schedule id responses.UnknownVendorId is = refl
-no_schedule id (responses.Error fault) is = refl
+no_schedule id response is = refl
 
 no_compile_step : (step : Step) → IsOfCall step → IsAsked step
-no_compile_step (acts.Install point row) is = tt
-no_compile_step (acts.Clear point criteria) is = tt
-no_compile_step (acts.Start point connector begin) is = tt
-no_compile_step (acts.Stop point number) is = tt
-no_compile_step (acts.Take take) is = tt
-no_compile_step step never = absurd never
+no_compile_step (acts.Compile number) never = absurd never
+no_compile_step step is = tt
 
 no_compile : (asked : Asked) → AsksByCall asked → AsksNoCompile asked
 no_compile (asks.Step id kind step) is = no_compile_step step is

@@ -21,6 +21,7 @@ use Rattle.site_core.specs.declared.outcome.Outcome.{Outcome}
 use Rattle.site_core.specs.declared.outcome.Outcome.TheVariants.{Done, Refused}
 use Rattle.site_core.specs.State.{MachineState, opening, link_of}
 use Rattle.site_core.specs.Run.{Runs}
+use Rattle.site_core.specs.Step.{RepliesAreTheirSteps}
 use Rattle.site_core.specs.History.{Event, history_of}
 use Rattle.replay.specs.declared.script.line.LineFault.{LineFault}
 use Rattle.replay.specs.declared.script.line.ScriptLine.{ScriptLine}
@@ -65,6 +66,7 @@ pub record Laws : Type 0 where
       → Runs old steps outcomes new → new.site ≡ old.site
   pub answer : Law-answer
   pub too_long : Law-too_long
+  pub own : RepliesAreTheirSteps
 
 -- ---- a part of a run, and what is printed of it
 
@@ -227,7 +229,7 @@ answered_part : Laws → (old : MachineState) (id : List ℕ) (kind : ActionKind
     → Part old (stepped_exactly old step).after (outcome_lines old.site.unit id kind outcome)
 answered_part laws old id kind step of_call outcome is =
     let none = subst (λ (o : Result Reply Refusal). IfOk o HandsOutNone) is
-    (calls_hand_out_none old step of_call) in
+    (calls_hand_out_none laws.answer laws.too_long laws.own old step of_call) in
     let quiet = of_call_no_answer step of_call in
     quiet_step laws old step (outcome_lines old.site.unit id kind outcome) quiet.0 quiet.1
     (none_told old.site.unit id kind outcome none) (no_calls_told id _)

@@ -9,7 +9,7 @@ ghost use Rattle.replay.specs.ScriptRun.{PrintedCallsAreInOrder, PrintedCallsKee
 use meaning::exact_schedules;
 use site_core::{
     answered_schedules_are_right, histories_keep_points_in_step, histories_send_calls_in_order,
-    runs_are_legal, runs_join, runs_keep_the_site,
+    replies_are_their_steps, runs_are_legal, runs_join, runs_keep_the_site,
 };
 
 /// The laws that tie what is printed to the runs of the central system, for every site and every
@@ -33,6 +33,7 @@ pub fn scripts_are_runs()
     exact_schedules();
     runs_join();
     runs_keep_the_site();
+    replies_are_their_steps();
     runs_are_legal();
     answered_schedules_are_right();
     histories_send_calls_in_order();

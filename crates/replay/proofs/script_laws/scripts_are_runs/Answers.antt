@@ -18,6 +18,7 @@ returns-clause-runs c = script_run (record {
   site = c.runs_keep_the_site.ensures;
   answer = c.exact_schedules.ensures.answer;
   too_long = c.exact_schedules.ensures.too_long;
+  own = c.replies_are_their_steps.ensures.own;
 })
 
 pub returns-clause-right : goal.returns-clause-right
@@ -33,6 +34,7 @@ returns-clause-order c = λ site script point place here.
       site = c.runs_keep_the_site.ensures;
       answer = c.exact_schedules.ensures.answer;
       too_long = c.exact_schedules.ensures.too_long;
+      own = c.replies_are_their_steps.ensures.own;
     } in
     let run = script_run laws site script in
     let state = (played site script).state.machine in
