@@ -153,9 +153,9 @@ HandsOutNone reply = Unit {0}
 -- only an Answer's reply may
 own_hands_out_none : (step : Step) (reply : Reply) → IsNoAnswer step
     → is_reply_to step reply ≡ true → HandsOutNone reply
-own_hands_out_none (acts.Answer number) reply no own = absurd no
-own_hands_out_none step (Answered book ask answer) no own = absurd (cc own)
-own_hands_out_none step reply no own = tt
+own_hands_out_none (acts.Answer number) reply never own = absurd never
+own_hands_out_none step (Answered book ask answer) none own = absurd (cc own)
+own_hands_out_none step reply none own = tt
 
 pub calls_hand_out_none : Law-answer → Law-too_long → RepliesAreTheirSteps
     → (old : MachineState) (step : Step) → IsOfCall step
