@@ -21,6 +21,8 @@ from case_folders import Case, all_cases
 
 TOP = os.path.dirname(os.path.dirname(os.path.abspath(__file__)))
 UNPROVED = "UNPROVED" in os.environ
+# Seconds that a run may take on a machine that is busy.
+PATIENCE = 600 if UNPROVED else 120
 SITE = b'{"unit":"A","points":[{"id":"CP1","ceiling":63.0,"connectors":[32.0,32.0]}]}'
 
 
@@ -137,7 +139,9 @@ def limit_cases(good):
 
 
 def run(program, arguments, given, stdout=subprocess.PIPE, folder=None):
-    return subprocess.run([program, *arguments], input=given, stdout=stdout, stderr=subprocess.PIPE, timeout=120, cwd=folder)
+    return subprocess.run(
+        [program, *arguments], input=given, stdout=stdout, stderr=subprocess.PIPE, timeout=PATIENCE, cwd=folder, check=False,
+    )
 
 
 def run_on(program, arguments, given, is_full):
@@ -148,7 +152,9 @@ def run_on(program, arguments, given, is_full):
             return run(program, arguments, given, stdout)
         handle = os.open(given, os.O_RDONLY)
         try:
-            return subprocess.run([program, *arguments], stdin=handle, stdout=stdout, stderr=subprocess.PIPE, timeout=120)
+            return subprocess.run(
+                [program, *arguments], stdin=handle, stdout=stdout, stderr=subprocess.PIPE, timeout=PATIENCE, check=False,
+            )
         finally:
             os.close(handle)
 

@@ -13,7 +13,7 @@ import time
 ENVIRONMENT = {"ASAN_OPTIONS": "quarantine_size_mb=1:detect_stack_use_after_return=0", **os.environ}
 
 # Seconds that anything may take on a machine that is busy. A test that passes waits for none of them to run out.
-PATIENCE = 100.0
+PATIENCE = 300.0 if "UNPROVED" in os.environ else 100.0
 
 
 class Unexpected(Exception):
