@@ -26,13 +26,13 @@ refusal_shown store step (Ok made) refusal is = absurd (cc is)
 refusal_shown store step (Err cause) refusal is = cc is
 
 -- a refusal of the machine is one of the store
-pub refusal_shown : (store : StoreState) (step : Step) (result : Result Made Refusal)
+pub refusal_of_store : (store : StoreState) (step : Step) (result : Result Made Refusal)
     (refusal : Refusal) → IsRefusalOf result refusal → IsRefusalTo store step result refusal
-refusal_shown store step (Ok made) refusal cause = (
+refusal_of_store store step (Ok made) refusal cause = (
   ap (λ (b : Bool). b || (is_event store.present made.reply && folds store step)) cause.0,
   cause.1,
 )
-refusal_shown store step (Err first) refusal cause = cause
+refusal_of_store store step (Err first) refusal cause = cause
 
 -- where an event folds the history, memory may be wanting
 pub refused_fold : (store : StoreState) (step : Step) (result : Result Made Refusal)

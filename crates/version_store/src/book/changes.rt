@@ -95,9 +95,8 @@ impl<C: Ledger, A: Ledger> Book<C, A> {
             begin,
         };
         match self.make_step(pass, step) {
-            Ok(Reply::Started(number) | Reply::Repeated(number)) => {
-                Ok(u64::from(number.unsigned_abs()))
-            }
+            Ok(Reply::Started(number)) => Ok(u64::from(number.unsigned_abs())),
+            Ok(Reply::Repeated(number)) => Ok(u64::from(number.unsigned_abs())),
             Ok(_) => unreachable!(),
             Err(
                 Refused {

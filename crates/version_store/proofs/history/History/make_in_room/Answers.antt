@@ -7,13 +7,13 @@ use Rattle.version_store.specs.Limits.{fold_from}
 use Rattle.version_store.specs.Store.{StoreState, IsStore, HasRoom, with_event}
 use Rattle.version_store.specs.Calls.{IsRefusalOf, event_alone}
 use Rattle.version_store.proofs.HistoryLemmas.{made_with, counts_fit, room_for_more}
-use Rattle.version_store.proofs.CallLemmas.{refusal_shown, goes_on_alone}
+use Rattle.version_store.proofs.CallLemmas.{refusal_of_store, goes_on_alone}
 use Rattle.version_store.proofs.history.History.make_in_room.Goals as goal
 
 pub returns-in-Err-clause-refusal : goal.returns-in-Err-clause-refusal
 returns-in-Err-clause-refusal c =
     let was = the_view c.self.inside in
-    let told = refusal_shown was c.args.step
+    let told = refusal_of_store was c.args.step
     (stepped no_answer was.present c.args.step) c.in-Err.refusal c.in-Err.ensures.refused.0 in
     subst (λ (s : StoreState). IsRefusalOf s c.args.step c.in-Err.refusal) c.self.view_is told
 
