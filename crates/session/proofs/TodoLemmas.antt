@@ -1,5 +1,5 @@
 -- What a CALL asks for is a step that the book makes for a session.
-use Rattle.std.proofs.Common.{◌≡◌, true, refl, absurd}
+use Rattle.std.proofs.Common.{refl}
 use Rattle.site_core.specs.declared.step.Step.{Step}
 use Rattle.site_core.specs.declared.step.Step.TheVariants as steps
 use Rattle.texts.specs.Asked.{IsOfCall}

@@ -1,5 +1,5 @@
 -- What a session counts while it is served.
-use Rattle.std.specs.Prelude.{ℕ, ◌≤◌}
+use Rattle.std.specs.Prelude.{◌≤◌}
 use Rattle.version_store.specs.Passes.{PassState}
 
 -- no less than before: of changes, of answers and of the store's version

@@ -1,5 +1,5 @@
 -- A session: who is at the other end of a socket, and for which point.
-use Rattle.std.specs.Prelude.{ℕ, List, Option, Some, None}
+use Rattle.std.specs.Prelude.{ℕ, List, Some, None}
 use Rattle.profile.specs.declared.unit.Unit.{Unit}
 use Rattle.profile.specs.declared.unit.Unit.TheVariants.{A}
 use Rattle.messages.specs.declared.side.Side as sides
