@@ -1,12 +1,11 @@
 -- That the candidates level by level are the candidates by falling level.
-use Rattle.std.proofs.Common.{◌≡◌, ℕ, ◌+◌, ◌-◌, ◌<◌, ◌≤◌, ◌==◌, zero, suc, Bool, true, false, not, ◌&&◌, ◌||◌, ◌⊎◌, inl, inr, IsTrue, nat_le, cond, refl, ap, sym, subst, ◌∙◌, List, [], ◌∷◌, filter, Option, Some, None, arith}
+use Rattle.std.proofs.Common.{◌≡◌, ℕ, ◌-◌, ◌<◌, ◌≤◌, ◌==◌, zero, suc, Bool, true, false, not, ◌&&◌, ◌||◌, ◌⊎◌, inl, inr, cond, refl, ap, sym, subst, ◌∙◌, List, [], ◌∷◌, filter, Option, Some, None, arith}
 use Rattle.std.specs.List.{AllByRecursion, find, cons_option, list_any}
 use Rattle.std.proofs.lemmas.Bool.{eqb-true, cases_lt}
 use Rattle.std.proofs.lemmas.Bool.Decides.{nat_tests}
 use Rattle.profile.specs.declared.purpose.Purpose.{Purpose}
 use Rattle.profile.specs.declared.purpose.Purpose.TheVariants.{ChargePointMaxProfile, TxDefaultProfile, TxProfile}
 use Rattle.profile.specs.declared.row.Row.{Row}
-use Rattle.profile.specs.Limits.{max_stack_level}
 use Rattle.profile.specs.Purpose.{is_charge_point_max, is_tx_default, is_tx}
 use Rattle.profile.specs.Candidates.{is_replaced_at, is_candidate, candidates}
 use Rattle.profile.specs.Changes.{is_purpose, is_replaced_by}
@@ -275,26 +274,24 @@ below-falling purpose rows connector (suc level) = go (candidate_at purpose rows
     go None is rest = rest
     go (Some row) is rest = falling-cons row _ level (level-of purpose rows connector level row is) (all-below purpose rows connector level) rest
 
-filter-none : {X : Type 0} (test : X → Bool) → ((x : X) → test x ≡ false) → (xs : List X) → filter test xs ≡ []
-filter-none test none [] = refl
-filter-none test none (x ∷ xs) = rw (none x) (filter-none test none xs)
+-- no row of these has a level at which all rows are below it
+high-none : (purpose : Purpose) (rows : List Row) (connector n above : ℕ) → above ≤ n
+    → AllByRecursion (λ (row : Row). row.profile.stack_level < above) rows
+    → (all : List Row) → filter (is_candidate_at purpose all connector n) rows ≡ []
+high-none purpose [] connector n above high below all = refl
+high-none purpose (row ∷ rows) connector n above high below all =
+    let other : (row.profile.stack_level == n) ≡ false = grind (arith, nat_tests, below.0, high) in
+    rw other (high-none purpose rows connector n above high below.1 all)
 
--- no profile has a level above the highest
-high-none : (purpose : Purpose) (rows : List Row) (connector n : ℕ) → max_stack_level < n → filter (is_candidate_at purpose rows connector n) rows ≡ []
-high-none purpose rows connector n high = filter-none _ (λ row. go row.profile.stack_level row.profile.low (is_candidate purpose rows connector row)) rows
-  where
-    go : (level : ℕ) → IsTrue (nat_le level max_stack_level) → (b : Bool) → ((level == n) && b) ≡ false
-    go level low b = let other : (level == n) ≡ false = grind (arith, nat_tests, low, high) in rw other refl
-
-pub by-level : (purpose : Purpose) (rows : List Row) (connector below : ℕ) → below ≡ max_stack_level + 1 → AreApart rows
-    → AreByFallingLevel (candidates purpose rows connector) (candidates_below purpose rows connector below)
-by-level purpose rows connector below is apart = record {
-  falling = below-falling purpose rows connector below;
-  same = λ n. go n (cases_lt n below) ∙ sym (filter-both (λ (row : Row). row.profile.stack_level == n) (is_candidate purpose rows connector) rows);
+pub by-level : (purpose : Purpose) (rows : List Row) (connector above : ℕ)
+    → AllByRecursion (λ (row : Row). row.profile.stack_level < above) rows → AreApart rows
+    → AreByFallingLevel (candidates purpose rows connector) (candidates_below purpose rows connector above)
+by-level purpose rows connector above below apart = record {
+  falling = below-falling purpose rows connector above;
+  same = λ n. go n (cases_lt n above) ∙ sym (filter-both (λ (row : Row). row.profile.stack_level == n) (is_candidate purpose rows connector) rows);
 }
   where
-    go : (n : ℕ) → (n < below) ⊎ (below ≤ n) → rows_of_level n (candidates_below purpose rows connector below) ≡ filter (is_candidate_at purpose rows connector n) rows
-    go n (inl under) = levels-below purpose rows connector below n under ∙ sym (level-one purpose rows connector n apart)
-    go n (inr above) =
-        let high : max_stack_level < n = omega (arith, is, above) in
-        levels-above purpose rows connector below n above ∙ sym (high-none purpose rows connector n high)
+    go : (n : ℕ) → (n < above) ⊎ (above ≤ n) → rows_of_level n (candidates_below purpose rows connector above) ≡ filter (is_candidate_at purpose rows connector n) rows
+    go n (inl under) = levels-below purpose rows connector above n under ∙ sym (level-one purpose rows connector n apart)
+    go n (inr high) =
+        levels-above purpose rows connector above n high ∙ sym (high-none purpose rows connector n above high below rows)

@@ -1,7 +1,8 @@
 //! The rows that speak for a connector, the highest stack level first.
 
-ghost use Rattle.std.specs.Prelude.{◌≡◌};
+ghost use Rattle.std.specs.Prelude.{◌≡◌, ◌<◌};
 ghost use Rattle.std.specs.Iterator.{YieldsFirstRef, item_count};
+ghost use Rattle.std.specs.List.{All};
 ghost use Rattle.std.specs.Option.{option_copied};
 ghost use Rattle.profile.specs.Candidates.{is_candidate};
 ghost use Rattle.stacking.specs.ByCases.Candidates.{candidate_at, candidates_left};
@@ -52,4 +53,18 @@ fn candidate_at<'a>(
     rows.iter().find(|row| {
         row.profile.stack_level == level && is_candidate(purpose, rows, connector as usize, row)
     })
+}
+
+/// A stack level above those of all rows, so that no level is looked at in vain: 0 where there are no
+/// rows.
+pub(crate) fn level_above(rows: &[Row]) -> u32
+    ensures { All (λ row. row.profile.stack_level < result) rows.now }
+{
+    let mut above = 0;
+    for row in rows {
+        if row.profile.stack_level >= above {
+            above = row.profile.stack_level + 1;
+        }
+    }
+    above
 }

@@ -9,10 +9,10 @@ ghost use Rattle.stacking.specs.Candidates.{AreByFallingLevel};
 ghost use Rattle.stacking.specs.ByCases.Candidates.{candidates_left};
 ghost use Rattle.stacking.specs.Rows.{AreRows, IsRefused};
 
-use crate::candidates::Candidates;
+use crate::candidates::{Candidates, level_above};
 use crate::changes::{drop_cleared, drop_replaced, drop_transaction_profiles, has_match, staying};
 use ocpp_scalars::Refusal;
-use profile::{Criteria, MAX_STACK_LEVEL, Purpose, Row};
+use profile::{Criteria, Purpose, Row};
 use std::alloc::{AllocError, Global};
 use std::marker::Model;
 
@@ -120,11 +120,12 @@ impl Rows {
             (candidates purpose self.now connector)
             (candidates_left result) }
     {
+        let rows = self.items.as_slice();
         Candidates {
-            rows: self.items.as_slice(),
+            rows,
             purpose,
             connector,
-            below: MAX_STACK_LEVEL + 1,
+            below: level_above(rows),
         }
     }
 

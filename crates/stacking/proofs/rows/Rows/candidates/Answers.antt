@@ -1,7 +1,15 @@
 -- That what the iterator yields are the candidates by falling level.
-use Rattle.std.proofs.Common.{refl}
+use Rattle.std.proofs.Common.{◌<◌, List, subst}
+use Rattle.std.specs.List.{All}
+use Rattle.std.proofs.lemmas.List.Elements.{recursion_from_All}
+use Rattle.profile.specs.declared.row.Row.{Row}
 use Rattle.stacking.proofs.CandidateLemmas.{by-level}
 use Rattle.stacking.proofs.rows.Rows.candidates.Goals as goal
 
 pub returns : goal.returns
-returns c = rw (c.as_slice.ensures.value, ← c.self.view_is) (by-level _ _ _ _ refl c.self.invariant.apart)
+returns c =
+    let above = c.level_above.result in
+    let below = subst (λ (rows : List Row). All (λ (row : Row). row.profile.stack_level < above) rows)
+    c.as_slice-rows.ensures.value c.level_above.ensures in
+    let each = recursion_from_All (λ (row : Row). row.profile.stack_level < above) _ below in
+    rw (c.as_slice-rows.ensures.value, ← c.self.view_is) (by-level _ _ _ _ each c.self.invariant.apart)
