@@ -4,7 +4,7 @@ ghost use Rattle.std.specs.Prelude.{◌≡◌, ℕ, [], ◌∷◌};
 ghost use Rattle.std.specs.List.{filter_map};
 ghost use Rattle.profile.specs.Greatest.{greatest};
 ghost use Rattle.meaning.specs.Cause.{lesser, with_limit};
-ghost use Rattle.meaning.specs.ByCases.Cause.{told, level_told, lesser_told};
+ghost use Rattle.meaning.specs.ByCases.Cause.{profile_limit_of, level_told, lesser_told};
 
 use crate::cause::{Cause, PrevailingProfile};
 use profile::Row;
@@ -48,7 +48,7 @@ pub struct ProfileLimit {
 impl ProfileLimit {
     /// A row's profile with a limit.
     pub fn of(row: &Row, limit: u32) -> ProfileLimit
-        ensures { result ≡ told (with_limit row.now limit) }
+        ensures { result ≡ profile_limit_of (with_limit row.now limit) }
     {
         ProfileLimit {
             profile: PrevailingProfile {

@@ -6,7 +6,7 @@ ghost use Rattle.meaning.specs.declared.cause.Cause.TheVariants.{PointCeiling, S
 ghost use Rattle.meaning.specs.View.{point_state};
 ghost use Rattle.meaning.specs.Limit.{shared_limit};
 ghost use Rattle.meaning.specs.Cause.{row_limit, prevailing_row, bound_of, lesser_of, own_bound, below_point, bound_by, reason, shares_by};
-ghost use Rattle.meaning.specs.ByCases.Cause.{told, prevailing_told, transaction_told};
+ghost use Rattle.meaning.specs.ByCases.Cause.{profile_limit_of, prevailing_told, transaction_told};
 
 use crate::bound::{Bound, ProfileLimit, higher_level, lesser_of};
 use crate::cause::{Cause, Reason, Share};
@@ -187,7 +187,7 @@ impl View<'_> {
         instant: Instant,
         row: &Row,
     ) -> Option<ProfileLimit>
-        ensures { result ≡ option_map told (row_limit (point_state self.now) connector asked instant row.now) }
+        ensures { result ≡ option_map profile_limit_of (row_limit (point_state self.now) connector asked instant row.now) }
     {
         let base = row.base(self.active_since(connector), asked);
         let limit = row.profile.rate(base, instant)?;

@@ -1,7 +1,7 @@
 //! A row on its way through an ask.
 
 ghost use Rattle.std.specs.Prelude.{◌≡◌, option_map};
-ghost use Rattle.meaning.specs.ByCases.Cause.{told};
+ghost use Rattle.meaning.specs.ByCases.Cause.{profile_limit_of};
 ghost use Rattle.sweep_compiler.specs.ByCases.Running.{rate_running, row_running, due, passed, rank_running};
 
 use meaning::ProfileLimit;
@@ -79,7 +79,7 @@ impl<'a> Run<'a> {
 
     /// Its profile with that limit, where it has one.
     pub(crate) fn told(&self) -> Option<ProfileLimit>
-        ensures { result ≡ option_map told (row_running self.now) }
+        ensures { result ≡ option_map profile_limit_of (row_running self.now) }
     {
         let limit = self.rate?;
         Some(ProfileLimit::of(self.row, limit))

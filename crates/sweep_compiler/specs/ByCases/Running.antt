@@ -15,7 +15,7 @@ use Rattle.meaning.specs.declared.cause.Cause.TheVariants.{ConnectorCeiling, Poi
 use Rattle.meaning.specs.declared.cause.Share.{Share}
 use Rattle.meaning.specs.Limit.{or_else, at_most}
 use Rattle.meaning.specs.Cause.{RowLimit, Bound, with_limit, row_or_else, bound_of, lesser, lesser_of}
-use Rattle.meaning.specs.ByCases.Cause.{told}
+use Rattle.meaning.specs.ByCases.Cause.{profile_limit_of}
 use Rattle.sweep_compiler.specs.ByCases.Seen.{SeenRow}
 
 -- a row, the base from which it counts, the last of its places that was passed, and the last instant of the ask
@@ -113,9 +113,9 @@ abbrev pub first_row : List Running → Option RowLimit
 first_row [] = None
 first_row (run ∷ later) = row_or_else (row_running run) (first_row later)
 
--- the same, as it is told
+-- the same, as a ProfileLimit
 abbrev pub first_told : List Running → Option ProfileLimit
-first_told runs = option_map told (first_row runs)
+first_told runs = option_map profile_limit_of (first_row runs)
 
 -- what sets a connector's own limit, and the lesser of a bound and what sets the point's
 abbrev pub own_bound_now : RunningBound → Bound
