@@ -4,12 +4,12 @@ use Rattle.std.proofs.lemmas.List.{append-nil, map-append}
 use Rattle.std.proofs.lemmas.List.Elements.{filter-append}
 use Rattle.meaning.specs.declared.cause.Share.{Share}
 use Rattle.meaning.specs.Cause.{RowLimit, Bound, level_of, lesser_of}
-use Rattle.meaning.specs.ByCases.Cause.{profile_limit_of, level_told, lesser_told}
+use Rattle.meaning.specs.ByCases.Cause.{profile_limit_of, level_of_limit, lesser_told}
 use Rattle.meaning.specs.Theory.Greatest.{greatest_of}
 
 -- of two rows, the ProfileLimit of the higher is the higher ProfileLimit
 pub higher_told : (best next : Option RowLimit)
-    → greatest_of level_told (option_map profile_limit_of best) (option_map profile_limit_of next) ≡ option_map profile_limit_of (greatest_of level_of best next)
+    → greatest_of level_of_limit (option_map profile_limit_of best) (option_map profile_limit_of next) ≡ option_map profile_limit_of (greatest_of level_of best next)
 higher_told None None = refl
 higher_told None (Some next) = refl
 higher_told (Some best) None = refl

@@ -4,7 +4,7 @@ ghost use Rattle.std.specs.Prelude.{◌≡◌, ℕ, [], ◌∷◌};
 ghost use Rattle.std.specs.List.{filter_map};
 ghost use Rattle.profile.specs.Greatest.{greatest};
 ghost use Rattle.meaning.specs.Cause.{lesser, with_limit};
-ghost use Rattle.meaning.specs.ByCases.Cause.{profile_limit_of, level_told, lesser_told};
+ghost use Rattle.meaning.specs.ByCases.Cause.{profile_limit_of, level_of_limit, lesser_told};
 
 use crate::cause::{Cause, PrevailingProfile};
 use profile::Row;
@@ -83,7 +83,7 @@ pub(crate) fn higher_level(
     best: Option<ProfileLimit>,
     next: Option<ProfileLimit>,
 ) -> Option<ProfileLimit>
-    ensures { result ≡ greatest level_told (filter_map (λ limit. limit) (best ∷ (next ∷ []))) }
+    ensures { result ≡ greatest level_of_limit (filter_map (λ limit. limit) (best ∷ (next ∷ []))) }
 {
     match (best, next) {
         (Some(first), Some(second)) if first.profile.stack_level < second.profile.stack_level => {

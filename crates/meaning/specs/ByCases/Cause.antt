@@ -9,8 +9,8 @@ use Rattle.meaning.specs.Cause.{RowLimit, Bound, profile_of, bound_of, lesser, p
 abbrev pub profile_limit_of : RowLimit → ProfileLimit
 profile_limit_of best = record { profile = profile_of best.row; limit = best.limit }
 
-abbrev pub level_told : ProfileLimit → ℕ
-level_told best = best.profile.stack_level
+abbrev pub level_of_limit : ProfileLimit → ℕ
+level_of_limit best = best.profile.stack_level
 
 abbrev pub lesser_told : Option ProfileLimit → Bound → Bound
 lesser_told None other = other
