@@ -4,7 +4,7 @@ use Rattle.std.proofs.lemmas.List.{append-nil, map-append}
 use Rattle.std.proofs.lemmas.List.Elements.{filter-append}
 use Rattle.meaning.specs.declared.cause.Share.{Share}
 use Rattle.meaning.specs.Cause.{RowLimit, Bound, level_of, lesser_of}
-use Rattle.meaning.specs.ByCases.Cause.{profile_limit_of, level_of_limit, lesser_told}
+use Rattle.meaning.specs.ByCases.Cause.{profile_limit_of, level_of_limit, lesser_bound}
 use Rattle.meaning.specs.Theory.Greatest.{greatest_of}
 
 -- of two rows, the ProfileLimit of the higher is the higher ProfileLimit
@@ -20,7 +20,7 @@ higher_told (Some best) (Some next) = go (nat_lt (level_of best) (level_of next)
     go false = refl
 
 -- the lesser of a row and a bound, where the row is a ProfileLimit
-pub lesser_is : (best : Option RowLimit) (other : Bound) → lesser_told (option_map profile_limit_of best) other ≡ lesser_of best other
+pub lesser_is : (best : Option RowLimit) (other : Bound) → lesser_bound (option_map profile_limit_of best) other ≡ lesser_of best other
 lesser_is None other = refl
 lesser_is (Some best) other = refl
 

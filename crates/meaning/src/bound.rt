@@ -4,7 +4,7 @@ ghost use Rattle.std.specs.Prelude.{◌≡◌, ℕ, [], ◌∷◌};
 ghost use Rattle.std.specs.List.{filter_map};
 ghost use Rattle.profile.specs.Greatest.{greatest};
 ghost use Rattle.meaning.specs.Cause.{lesser, with_limit};
-ghost use Rattle.meaning.specs.ByCases.Cause.{profile_limit_of, level_of_limit, lesser_told};
+ghost use Rattle.meaning.specs.ByCases.Cause.{profile_limit_of, level_of_limit, lesser_bound};
 
 use crate::cause::{Cause, PrevailingProfile};
 use profile::Row;
@@ -64,7 +64,7 @@ impl ProfileLimit {
 
 /// Of a profile's limit, where there is one, and a bound the lesser, and the first of equals.
 pub fn lesser_of(best: Option<ProfileLimit>, other: Bound) -> Bound
-    ensures { result ≡ lesser_told best other }
+    ensures { result ≡ lesser_bound best other }
 {
     match best {
         Some(best) => {

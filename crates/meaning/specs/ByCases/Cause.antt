@@ -12,9 +12,9 @@ profile_limit_of best = record { profile = profile_of best.row; limit = best.lim
 abbrev pub level_of_limit : ProfileLimit → ℕ
 level_of_limit best = best.profile.stack_level
 
-abbrev pub lesser_told : Option ProfileLimit → Bound → Bound
-lesser_told None other = other
-lesser_told (Some best) other = lesser (bound_of (Profile best.profile) best.limit) other
+abbrev pub lesser_bound : Option ProfileLimit → Bound → Bound
+lesser_bound None other = other
+lesser_bound (Some best) other = lesser (bound_of (Profile best.profile) best.limit) other
 
 abbrev pub prevailing_told : Purpose → PointState → ℕ → ℕ → ℕ → Option ProfileLimit
 prevailing_told purpose state connector asked instant = option_map profile_limit_of (prevailing_row purpose state connector asked instant)
