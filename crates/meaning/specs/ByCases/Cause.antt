@@ -16,8 +16,8 @@ abbrev pub lesser_bound : Option ProfileLimit → Bound → Bound
 lesser_bound None other = other
 lesser_bound (Some best) other = lesser (bound_of (Profile best.profile) best.limit) other
 
-abbrev pub prevailing_told : Purpose → PointState → ℕ → ℕ → ℕ → Option ProfileLimit
-prevailing_told purpose state connector asked instant = option_map profile_limit_of (prevailing_row purpose state connector asked instant)
+abbrev pub prevailing_profile_limit : Purpose → PointState → ℕ → ℕ → ℕ → Option ProfileLimit
+prevailing_profile_limit purpose state connector asked instant = option_map profile_limit_of (prevailing_row purpose state connector asked instant)
 
 abbrev pub transaction_told : PointState → ℕ → ℕ → ℕ → Option ProfileLimit
 transaction_told state connector asked instant = option_map profile_limit_of (transaction_row state connector asked instant)
