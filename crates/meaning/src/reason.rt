@@ -6,7 +6,7 @@ ghost use Rattle.meaning.specs.declared.cause.Cause.TheVariants.{PointCeiling, S
 ghost use Rattle.meaning.specs.View.{point_state};
 ghost use Rattle.meaning.specs.Limit.{shared_limit};
 ghost use Rattle.meaning.specs.Cause.{row_limit, prevailing_row, bound_of, lesser_of, own_bound, below_point, bound_by, reason, shares_by};
-ghost use Rattle.meaning.specs.ByCases.Cause.{profile_limit_of, prevailing_profile_limit, transaction_told};
+ghost use Rattle.meaning.specs.ByCases.Cause.{profile_limit_of, prevailing_profile_limit, transaction_profile_limit};
 
 use crate::bound::{Bound, ProfileLimit, higher_level, lesser_of};
 use crate::cause::{Cause, Reason, Share};
@@ -112,7 +112,7 @@ impl View<'_> {
         asked: Instant,
         instant: Instant,
     ) -> Option<ProfileLimit>
-        ensures { result ≡ transaction_told (point_state self.now) connector asked instant }
+        ensures { result ≡ transaction_profile_limit (point_state self.now) connector asked instant }
     {
         match self.prevailing_profile(Purpose::TxProfile, connector, asked, instant) {
             Some(best) => Some(best),

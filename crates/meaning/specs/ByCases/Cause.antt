@@ -19,5 +19,5 @@ lesser_bound (Some best) other = lesser (bound_of (Profile best.profile) best.li
 abbrev pub prevailing_profile_limit : Purpose → PointState → ℕ → ℕ → ℕ → Option ProfileLimit
 prevailing_profile_limit purpose state connector asked instant = option_map profile_limit_of (prevailing_row purpose state connector asked instant)
 
-abbrev pub transaction_told : PointState → ℕ → ℕ → ℕ → Option ProfileLimit
-transaction_told state connector asked instant = option_map profile_limit_of (transaction_row state connector asked instant)
+abbrev pub transaction_profile_limit : PointState → ℕ → ℕ → ℕ → Option ProfileLimit
+transaction_profile_limit state connector asked instant = option_map profile_limit_of (transaction_row state connector asked instant)
