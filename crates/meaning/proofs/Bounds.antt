@@ -8,12 +8,12 @@ use Rattle.meaning.specs.ByCases.Cause.{profile_limit_of, level_of_limit, lesser
 use Rattle.meaning.specs.Theory.Greatest.{greatest_of}
 
 -- of two rows, the ProfileLimit of the higher is the higher ProfileLimit
-pub higher_told : (best next : Option RowLimit)
+pub higher_is : (best next : Option RowLimit)
     → greatest_of level_of_limit (option_map profile_limit_of best) (option_map profile_limit_of next) ≡ option_map profile_limit_of (greatest_of level_of best next)
-higher_told None None = refl
-higher_told None (Some next) = refl
-higher_told (Some best) None = refl
-higher_told (Some best) (Some next) = go (nat_lt (level_of best) (level_of next))
+higher_is None None = refl
+higher_is None (Some next) = refl
+higher_is (Some best) None = refl
+higher_is (Some best) (Some next) = go (nat_lt (level_of best) (level_of next))
   where
     go : (b : Bool) → Some (cond b (profile_limit_of next) (profile_limit_of best)) ≡ option_map profile_limit_of (Some (cond b next best))
     go true = refl

@@ -9,7 +9,7 @@ use Rattle.meaning.specs.Cause.{RowLimit, level_of, row_limit}
 use Rattle.meaning.specs.ByCases.Cause.{profile_limit_of, level_of_limit}
 use Rattle.meaning.specs.Theory.Greatest.{greatest_of}
 use Rattle.meaning.proofs.GreatestLemmas.{passing_more}
-use Rattle.meaning.proofs.Bounds.{higher_told}
+use Rattle.meaning.proofs.Bounds.{higher_is}
 use Rattle.meaning.proofs.view.View.prevailing_profile.Goals as goal
 use Rattle.meaning.proofs.view.View.prevailing_profile.Goals.{then-is_candidate, else-is_candidate}
 
@@ -26,7 +26,7 @@ loop-row-preserved c =
           let here = ap (λ (b : Bool). cond b (greatest_of level_of before (give c.row-item.result)) before) (counted ∙ w.if-is_candidate.true) in
           let first = ap (λ (best : Option ProfileLimit). greatest_of level_of_limit best w.profile_limit.result) c.loop-row.invariant in
           let second = ap (λ (next : Option ProfileLimit). greatest_of level_of_limit (option_map profile_limit_of before) next) w.profile_limit.ensures in
-          w.best-is ∙ (w.higher_level-best.ensures ∙ (first ∙ (second ∙ (higher_told before (give c.row-item.result) ∙ ap (option_map profile_limit_of) (sym (more ∙ here))))))
+          w.best-is ∙ (w.higher_level-best.ensures ∙ (first ∙ (second ∙ (higher_is before (give c.row-item.result) ∙ ap (option_map profile_limit_of) (sym (more ∙ here))))))
       | else-is_candidate w ↦
           let here = ap (λ (b : Bool). cond b (greatest_of level_of before (give c.row-item.result)) before) (counted ∙ w.if-is_candidate.false) in
           w.best-is ∙ (c.loop-row.invariant ∙ ap (option_map profile_limit_of) (sym (more ∙ here)))
