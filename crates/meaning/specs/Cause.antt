@@ -147,7 +147,7 @@ pub record IsPrevailing (state : PointState) (connector asked instant limit : �
     : Type 0 where
   pub row : Row
   pub stands : StandsIn state.rows row
-  pub told : profile ≡ profile_of row
+  pub of_row : profile ≡ profile_of row
   pub prevails :
       prevailing_row profile.purpose state (counts_for profile.purpose connector) asked instant
       ≡ Some (with_limit row limit)
