@@ -114,8 +114,8 @@ first_row [] = None
 first_row (run ∷ later) = row_or_else (row_running run) (first_row later)
 
 -- the same, as a ProfileLimit
-abbrev pub first_told : List Running → Option ProfileLimit
-first_told runs = option_map profile_limit_of (first_row runs)
+abbrev pub first_profile_limit : List Running → Option ProfileLimit
+first_profile_limit runs = option_map profile_limit_of (first_row runs)
 
 -- what sets a connector's own limit, and the lesser of a bound and what sets the point's
 abbrev pub own_bound_now : RunningBound → Bound
