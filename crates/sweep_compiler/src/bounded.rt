@@ -160,9 +160,9 @@ fn first_profile_limit(runs: &[Run<'_>]) -> Option<ProfileLimit>
     ensures { result ≡ first_profile_limit runs.now }
 {
     for place in 0..runs.len() {
-        let told = runs[place].told();
-        if told.is_some() {
-            return told;
+        let limit = runs[place].profile_limit();
+        if limit.is_some() {
+            return limit;
         }
     }
     None

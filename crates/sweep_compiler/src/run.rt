@@ -78,7 +78,7 @@ impl<'a> Run<'a> {
     }
 
     /// Its profile with that limit, where it has one.
-    pub(crate) fn told(&self) -> Option<ProfileLimit>
+    pub(crate) fn profile_limit(&self) -> Option<ProfileLimit>
         ensures { result ≡ option_map profile_limit_of (row_running self.now) }
     {
         let limit = self.rate?;
