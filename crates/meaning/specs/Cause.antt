@@ -49,7 +49,7 @@ transaction_row state connector asked instant =
     (prevailing_row TxProfile state connector asked instant)
     (prevailing_row TxDefaultProfile state connector asked instant)
 
--- a profile, by what it is told by
+-- what identifies a profile
 abbrev pub profile_of : Row → PrevailingProfile
 profile_of row = record {
   id = row.profile.id;
