@@ -87,7 +87,7 @@ fn steps_of(alloc: Global, explained: &ExplainedAsk<'_>, row: &Row) -> Result<St
 fn stepped_entry(row: &Row, steps: Steps) -> Option<Entry> {
     if steps.has_limit() {
         Some(Entry {
-            cause: Cause::Profile(told_by(row)),
+            cause: Cause::Profile(profile_of(row)),
             line: Line::Steps(steps),
         })
     } else {
@@ -95,8 +95,8 @@ fn stepped_entry(row: &Row, steps: Steps) -> Option<Entry> {
     }
 }
 
-/// What the profile of a row is told by.
-pub fn told_by(row: &Row) -> PrevailingProfile
+/// What identifies the profile of a row.
+pub fn profile_of(row: &Row) -> PrevailingProfile
     ensures { result ≡ profile_of row.now }
 {
     PrevailingProfile {

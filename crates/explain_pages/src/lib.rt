@@ -28,7 +28,7 @@ mod uncounted;
 mod words;
 mod wrapping;
 
-pub use entries::{telling_instant, told_by};
+pub use entries::{profile_of, telling_instant};
 pub use explained_ask::{ExplainedAsk, NoPart, NotCounted, is_named};
 pub use json_text::write_json;
 pub use length::{Length, length_of};

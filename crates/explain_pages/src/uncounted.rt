@@ -6,7 +6,7 @@ ghost use Rattle.meaning.specs.View.{point_state};
 ghost use Rattle.explain_pages.specs.NotCounted.{IsReason, IsTold};
 ghost use Rattle.explain_pages.specs.ByCases.Throughout.{IsLookedAt};
 
-use crate::entries::{telling_instant, told_by};
+use crate::entries::{profile_of, telling_instant};
 use crate::explained_ask::{NoPart, NotCounted, is_named};
 use crate::looked::RowAsked;
 use meaning::{Ask, View, WhyNot, why_not};
@@ -25,7 +25,7 @@ pub fn not_counted(
 {
     let mut rest = Vec::new(alloc);
     for place in 0..view.rows.len() {
-        if !is_named(stretches, told_by(&view.rows[place])) {
+        if !is_named(stretches, profile_of(&view.rows[place])) {
             rest.push(told_at(view, ask, place))?;
         }
     }
@@ -45,7 +45,7 @@ fn told_at(view: &View<'_>, ask: &Ask, place: usize) -> NotCounted
         row,
     };
     NotCounted {
-        profile: told_by(row),
+        profile: profile_of(row),
         reason: asked.reason(),
     }
 }

@@ -2,7 +2,7 @@
 
 use crate::samples::{Point, ask, by, profile, stretch};
 use explain_pages::{
-    ExplainedAsk, NoPart, NotCounted, is_named, sentence, telling_instant, told_by, write_json,
+    ExplainedAsk, NoPart, NotCounted, is_named, profile_of, sentence, telling_instant, write_json,
     write_page, write_picture, write_table,
 };
 use meaning::{Cause, WhyNot};
@@ -78,7 +78,7 @@ fn reasons_are_told_where_they_say_most(rt: HostRuntime) -> Result<(), Fail> {
         let row = view.rows.first().ok_or("no row")?;
         let instant = telling_instant(&view, &ask(1, 0, 86_400)?, row);
         assert_eq!(rt; instant, instant_at(second.parse::<u64>()?)?, "{line}");
-        assert_eq!(rt; told_by(row), profile(1, Purpose::TxDefaultProfile, 0));
+        assert_eq!(rt; profile_of(row), profile(1, Purpose::TxDefaultProfile, 0));
     }
     Ok(())
 }
