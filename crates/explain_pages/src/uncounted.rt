@@ -26,14 +26,14 @@ pub fn not_counted(
     let mut rest = Vec::new(alloc);
     for place in 0..view.rows.len() {
         if !is_named(stretches, profile_of(&view.rows[place])) {
-            rest.push(told_at(view, ask, place))?;
+            rest.push(not_counted_at(view, ask, place))?;
         }
     }
     Ok(rest)
 }
 
-/// What is told of the row at a place.
-fn told_at(view: &View<'_>, ask: &Ask, place: usize) -> NotCounted
+/// The row at a place as one that never sets the limit, with its reason.
+fn not_counted_at(view: &View<'_>, ask: &Ask, place: usize) -> NotCounted
     requires within { place < length view.now.rows.now }
     ensures { IsTold (point_state view.now) ask.now result }
 {

@@ -9,6 +9,6 @@ pub loop-place-preserved : goal.loop-place-preserved
 loop-place-preserved c =
     let right = IsTold (point_state c.args.view.now) c.args.ask.now in
     elim c.if-not-is_named.branch [
-      | then-not-is_named+in_ok-push w ↦ rw w.rest-is (rw w.in_ok-push.ensures.items (All-push right _ _ c.loop-place.invariant w.told_at.ensures))
+      | then-not-is_named+in_ok-push w ↦ rw w.rest-is (rw w.in_ok-push.ensures.items (All-push right _ _ c.loop-place.invariant w.not_counted_at.ensures))
       | else-not-is_named w ↦ rw w.rest-is c.loop-place.invariant
     ]
