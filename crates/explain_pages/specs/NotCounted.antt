@@ -102,8 +102,8 @@ pub record PrevailsOnce (state : PointState) (ask : Ask) (row : Row) : Type 0 wh
   pub before : second < ask.start + ask.duration
   pub is : SaysAt NotLeast state connector ask.start second row
 
--- What is told of a row says so throughout the ask; that it prevails, at some second; that no
--- connector for which it may speak has a transaction, where none is looked at.
+-- A reason of a row holds throughout the request. NotLeast says that the row prevails at some second.
+-- NoActiveConnector says that no connector is looked at for the row.
 abbrev pub IsReason : NoPart → PointState → Ask → Row → Type 0
 IsReason (NotPrevailing why) state ask row = SaysThroughout (NotPrevailing why) state ask row
 IsReason NoLimit state ask row = SaysThroughout NoLimit state ask row
@@ -112,10 +112,10 @@ IsReason NotLeast state ask row = PrevailsOnce state ask row
 IsReason NoActiveConnector state ask row =
     (connector : ℕ) → ¬ (LooksAt state ask.connector row connector)
 
--- what is told of a profile that never sets the limit: a row of the point, with a right reason
-pub record IsTold (state : PointState) (ask : Ask) (told : NotCounted) : Type 0 where
+-- an entry of a profile that never sets the limit is a row of the point, with a right reason
+pub record HasReason (state : PointState) (ask : Ask) (entry : NotCounted) : Type 0 where
   pub place : ℕ
   pub row : Row
   pub stands : slice_get state.rows place ≡ Some row
-  pub profile : told.profile ≡ profile_of row
-  pub reason : IsReason told.reason state ask row
+  pub profile : entry.profile ≡ profile_of row
+  pub reason : IsReason entry.reason state ask row

@@ -3,7 +3,7 @@
 ghost use Rattle.std.specs.Prelude.{◌≡◌, ◌<◌, length, IfOk};
 ghost use Rattle.std.specs.List.{All};
 ghost use Rattle.meaning.specs.View.{point_state};
-ghost use Rattle.explain_pages.specs.NotCounted.{IsReason, IsTold};
+ghost use Rattle.explain_pages.specs.NotCounted.{IsReason, HasReason};
 ghost use Rattle.explain_pages.specs.ByCases.Throughout.{IsLookedAt};
 
 use crate::entries::{profile_of, telling_instant};
@@ -21,7 +21,7 @@ pub fn not_counted(
     ask: &Ask,
     stretches: &[Stretch],
 ) -> Result<Vec<NotCounted>, AllocError>
-    ensures { IfOk result (λ rest. All (IsTold (point_state view.now) ask.now) rest.items) }
+    ensures { IfOk result (λ rest. All (HasReason (point_state view.now) ask.now) rest.items) }
 {
     let mut rest = Vec::new(alloc);
     for place in 0..view.rows.len() {
@@ -35,7 +35,7 @@ pub fn not_counted(
 /// The row at a place as one that never sets the limit, with its reason.
 fn not_counted_at(view: &View<'_>, ask: &Ask, place: usize) -> NotCounted
     requires within { place < length view.now.rows.now }
-    ensures { IsTold (point_state view.now) ask.now result }
+    ensures { HasReason (point_state view.now) ask.now result }
 {
     let row = &view.rows[place];
     let asked = RowAsked {
