@@ -40,7 +40,7 @@ pub(crate) fn push_picture(
     let limit = stretch_steps(alloc, explained)?;
     let height = lower_edge(entries.len());
     push_opening(out, height)?;
-    push_told(alloc, out, explained)?;
+    push_description(alloc, out, explained)?;
     out.push_str(PICTURE)?;
     write!(
         out,
@@ -65,7 +65,7 @@ fn push_opening(out: &mut String, height: u64) -> Result<(), AllocError> {
 }
 
 /// Appends title and description.
-fn push_told(
+fn push_description(
     alloc: Global,
     out: &mut String,
     explained: &ExplainedAsk<'_>,
