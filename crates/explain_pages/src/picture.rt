@@ -17,8 +17,8 @@ use messages::unit_name;
 use ocpp_scalars::push_integer;
 use std::alloc::{AllocError, Global};
 
-/// So many stretches are told in a picture's description.
-const TOLD: usize = 12;
+/// The most stretches that a picture's description names.
+const DESCRIBED: usize = 12;
 
 /// An explained schedule as a picture, a whole SVG file: the limit as a thick line, under it the profiles and
 /// the ceilings, each with its own dashes and a letter, and below the times what sets each limit. A profile's
@@ -79,24 +79,24 @@ fn push_description(
     )?;
     out.push_str("<desc id=\"picture-description\">Times in UTC.")?;
     let mut maker = CellMaker::new(explained);
-    for stretch in explained.stretches.iter().take(TOLD) {
+    for stretch in explained.stretches.iter().take(DESCRIBED) {
         let cells = maker.cells(alloc, stretch)?;
         push_element(out, " ", cells.from.as_str(), " to ")?;
         push_element(out, "", cells.to.as_str(), ": ")?;
         push_element(out, "", cells.limit.as_str(), ", ")?;
         push_element(out, "", cells.why.as_str(), ".")?;
     }
-    push_more(out, explained.stretches.len(), TOLD)?;
+    push_more(out, explained.stretches.len(), DESCRIBED)?;
     out.push_str("</desc>\n")
 }
 
-/// Appends how many stretches come after those that are told.
-pub(crate) fn push_more(out: &mut String, count: usize, told: usize) -> Result<(), AllocError> {
-    if count <= told {
+/// Appends how many stretches come after those that are shown.
+pub(crate) fn push_more(out: &mut String, count: usize, shown: usize) -> Result<(), AllocError> {
+    if count <= shown {
         return Ok(());
     }
     out.push_str(" Further stretches: ")?;
-    push_integer(out, count - told)?;
+    push_integer(out, count - shown)?;
     out.push('.')
 }
 
