@@ -69,7 +69,7 @@ kind=Relative periods=30:160 to=30 = 0
 kind=Recurring recurrency=Daily start=0 duration=60 periods=0:160 = 0";
 
 #[test]
-fn reasons_are_told_where_they_say_most(rt: HostRuntime) -> Result<(), Fail> {
+fn telling_instants_of_rows(rt: HostRuntime) -> Result<(), Fail> {
     let alloc = rt.alloc();
     for line in TELLING.lines() {
         let (words, second) = line.split_once(" = ").ok_or("no second")?;

@@ -10,7 +10,7 @@ use std::test::Fail;
 /// A connector that is asked for a day, which of the two connectors have had a transaction since midnight, the rows of
 /// the point, and the reason of each row. One stretch begins at midnight and one at noon (43,200), and no profile sets
 /// the limit of either. A profile may prevail at one second alone, or for one of two connectors.
-const TOLD: &str = "\
+const UNCOUNTED: &str = "\
 1 none | id=1 start=0; id=2 level=1 start=0 duration=43200 | NotLeast NotLeast
 1 none | id=2 level=1 start=0 duration=43200; id=1 start=0 | NotLeast NotLeast
 1 none | id=1 start=0; id=2 level=1 start=0 duration=43200; id=3 purpose=TxProfile connector=1 start=0 | NotLeast NotLeast NoTransaction
@@ -37,11 +37,11 @@ const TOLD: &str = "\
 #[test]
 fn each_row_has_its_reason(rt: HostRuntime) -> Result<(), Fail> {
     let alloc = rt.alloc();
-    for line in TOLD.lines() {
+    for line in UNCOUNTED.lines() {
         let (asked, rest) = line.split_once(" | ").ok_or("no rows")?;
         let (rows, reasons) = rest.split_once(" | ").ok_or("no reasons")?;
-        let told = reasons_of(alloc, asked, rows)?;
-        assert_eq!(rt; told.as_str(), reasons, "{line}");
+        let found = reasons_of(alloc, asked, rows)?;
+        assert_eq!(rt; found.as_str(), reasons, "{line}");
     }
     Ok(())
 }
