@@ -17,7 +17,7 @@ use std::marker::Model;
 pub enum Began {
     /// A new transaction began, with the number that was offered for it.
     Fresh,
-    /// The active transaction's start, told again: it has this number.
+    /// A retransmitted StartTransaction of the active transaction, which has this number.
     Repeat(i32),
 }
 
@@ -52,8 +52,8 @@ impl ActiveTable {
         Ok(ActiveTable { slots, starts })
     }
 
-    /// Begins a transaction at a connector, in place of the one that is active there, or says that
-    /// its start was told before, and then changes nothing. Allocates nothing.
+    /// Begins a transaction at a connector, in place of the one that is active there. A retransmitted
+    /// StartTransaction of that one changes nothing. Allocates nothing.
     pub fn start(&mut self, connector: u32, begin: Begin, next: i32) -> Began
         requires above { 0 < connector }
         requires has { connector ≤ length self.old }
