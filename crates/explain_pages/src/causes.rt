@@ -8,7 +8,7 @@ use crate::scale::{BOTTOM, LEFT, Scale};
 use crate::steps::MAX_STRETCHES;
 use crate::words::{push_length, push_limit, push_short_cause, push_why};
 use std::alloc::{AllocError, Global};
-use sweep_compiler::Stretch;
+use sweep_compiler::Interval;
 
 /// The upper edge of the strip, and its lower one.
 const UPPER: u64 = BOTTOM + 54;
@@ -43,14 +43,14 @@ pub(crate) fn push_causes(
 /// The field of a stretch.
 #[derive(Clone, Copy)]
 struct Field<'a> {
-    stretch: &'a Stretch,
+    stretch: &'a Interval,
     left: u64,
     breadth: u64,
     is_odd: bool,
 }
 
 impl<'a> Field<'a> {
-    fn of(scale: Scale, stretch: &'a Stretch, is_odd: bool) -> Field<'a> {
+    fn of(scale: Scale, stretch: &'a Interval, is_odd: bool) -> Field<'a> {
         let left = scale.x(stretch.start);
         Field {
             stretch,

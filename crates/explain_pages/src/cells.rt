@@ -4,7 +4,7 @@ use crate::clock::{ClockTime, needs_seconds, push_date, push_time};
 use crate::explained_ask::ExplainedAsk;
 use crate::words::{push_length, push_limit, push_why};
 use std::alloc::{AllocError, Global};
-use sweep_compiler::Stretch;
+use sweep_compiler::Interval;
 
 /// The cells of a stretch.
 #[derive(Drop)]
@@ -39,7 +39,7 @@ impl<'a> CellMaker<'a> {
     }
 
     /// The cells of the next stretch.
-    pub(crate) fn cells(&mut self, alloc: Global, stretch: &Stretch) -> Result<Cells, AllocError> {
+    pub(crate) fn cells(&mut self, alloc: Global, stretch: &Interval) -> Result<Cells, AllocError> {
         let from = ClockTime::of(self.explained.moment(stretch.start));
         let to = ClockTime::of(self.explained.moment(stretch.end));
         let dates = (self.day != Some(from.day), to.day != from.day);

@@ -4,7 +4,7 @@ ghost use Rattle.std.specs.Prelude.{◌≡◌, ◌+◌, ◌<◌, ◌^◌};
 
 use meaning::{Ask, Cause, PrevailingProfile, View, WhyNot};
 use profile::Unit;
-use sweep_compiler::Stretch;
+use sweep_compiler::Interval;
 
 /// What is explained: an ask of a point's schedule (chapter 5.7), with the stretches that answer it.
 #[derive(Clone, Copy)]
@@ -17,7 +17,7 @@ pub struct ExplainedAsk<'a> {
     /// What the point has.
     pub view: View<'a>,
     /// The stretches of the ask, in order.
-    pub stretches: &'a [Stretch],
+    pub stretches: &'a [Interval],
     /// The profiles that never set the limit in this time.
     pub not_counted: &'a [NotCounted],
 }
@@ -63,7 +63,7 @@ impl ExplainedAsk<'_> {
 }
 
 /// Whether a profile sets a limit in one of the stretches, or a share of it.
-pub fn is_named(stretches: &[Stretch], profile: PrevailingProfile) -> bool {
+pub fn is_named(stretches: &[Interval], profile: PrevailingProfile) -> bool {
     let cause = Cause::Profile(profile);
     for stretch in stretches {
         if stretch.reason.cause == cause {

@@ -7,7 +7,7 @@ use meaning::{Cause, PrevailingProfile, Share};
 use messages::{purpose_name, unit_name};
 use ocpp_scalars::{Instant, push_instant, push_tenths};
 use std::alloc::{AllocError, Global};
-use sweep_compiler::Stretch;
+use sweep_compiler::Interval;
 
 /// An explained schedule as one line of JSON: `point`, `connector`, `unit`, `start`, `duration` in seconds,
 /// `stretches`, each with `start`, `end`, `limit`, `cause` and `shares`, and `notCounted`. Limits have one
@@ -75,7 +75,7 @@ impl JsonLine {
     fn push_stretch(
         &mut self,
         explained: &ExplainedAsk<'_>,
-        stretch: &Stretch,
+        stretch: &Interval,
     ) -> Result<(), AllocError> {
         self.out.begin_object()?;
         self.out.key("start")?;

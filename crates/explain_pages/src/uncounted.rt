@@ -11,7 +11,7 @@ use crate::explained_ask::{NoPart, NotCounted, is_named};
 use crate::looked::RowAsked;
 use meaning::{Ask, View, WhyNot, why_not};
 use std::alloc::{AllocError, Global};
-use sweep_compiler::Stretch;
+use sweep_compiler::Interval;
 
 /// The profiles that never set the limit in the stretches of an ask, each with its reason: that it prevails at
 /// some second of the ask and yet isn't the least, or else what holds at every second.
@@ -19,7 +19,7 @@ pub fn not_counted(
     alloc: Global,
     view: &View<'_>,
     ask: &Ask,
-    stretches: &[Stretch],
+    stretches: &[Interval],
 ) -> Result<Vec<NotCounted>, AllocError>
     ensures { IfOk result (λ rest. All (HasReason (point_state view.now) ask.now) rest.items) }
 {

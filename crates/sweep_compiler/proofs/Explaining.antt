@@ -17,14 +17,14 @@ use Rattle.meaning.specs.Exact.{IsExact}
 use Rattle.meaning.specs.Theory.ExactPeriods.{exact_are}
 use Rattle.meaning.specs.Theory.PlainCompiler.{limit_before}
 use Rattle.meaning.specs.Theory.Reasons.{reason_limit}
-use Rattle.sweep_compiler.specs.declared.stretch.Stretch.{Stretch}
+use Rattle.sweep_compiler.specs.declared.interval.Interval.{Interval}
 use Rattle.sweep_compiler.specs.Explained.{ExplainedSchedule, Adjoin, Differ, IsStretchOf, IsExplanation, periods_behind, joined}
 use Rattle.sweep_compiler.specs.Places.{places_within}
 use Rattle.sweep_compiler.proofs.Sweeping.{count_more, count_upto, periods_upto, before_stays}
 
 -- ---- one stretch more
 
-pub adjoin_more : (from middle : ℕ) (stretches : List Stretch) (new : Stretch) → Adjoin from middle stretches → new.start ≡ middle → new.start < new.end
+pub adjoin_more : (from middle : ℕ) (stretches : List Interval) (new : Interval) → Adjoin from middle stretches → new.start ≡ middle → new.start < new.end
     → Adjoin from new.end (stretches ++ new ∷ [])
 adjoin_more from middle [] new h start some = (start ∙ sym h, some, refl)
 adjoin_more from middle (stretch ∷ later) new h start some = (h.0, h.1, adjoin_more stretch.end middle later new h.2 start some)
@@ -34,20 +34,20 @@ all_more P [] x h k = (k, tt)
 all_more P (y ∷ xs) x h k = (h.0, all_more P xs x h.1 k)
 
 -- what tells a stretch from its neighbours: its reason alone
-abbrev pub with_reason : Reason → Stretch
+abbrev pub with_reason : Reason → Interval
 with_reason reason = record { start = 0; end = 0; reason = reason }
 
-pub differ_as : (stretches : List Stretch) (one other : Stretch) → one.reason ≡ other.reason → Differ (stretches ++ one ∷ []) → Differ (stretches ++ other ∷ [])
+pub differ_as : (stretches : List Interval) (one other : Interval) → one.reason ≡ other.reason → Differ (stretches ++ one ∷ []) → Differ (stretches ++ other ∷ [])
 differ_as [] one other same h = tt
 differ_as (stretch ∷ []) one other same h = (λ e. h.0 (e ∙ sym same), tt)
 differ_as (stretch ∷ (next ∷ later)) one other same h = (h.0, differ_as (next ∷ later) one other same h.1)
 
-pub differ_more : (stretches : List Stretch) (one other : Stretch) → one.reason ≢ other.reason → Differ (stretches ++ one ∷ []) → Differ ((stretches ++ one ∷ []) ++ other ∷ [])
+pub differ_more : (stretches : List Interval) (one other : Interval) → one.reason ≢ other.reason → Differ (stretches ++ one ∷ []) → Differ ((stretches ++ one ∷ []) ++ other ∷ [])
 differ_more [] one other unlike h = (unlike, tt)
 differ_more (stretch ∷ []) one other unlike h = (h.0, (unlike, tt))
 differ_more (stretch ∷ (next ∷ later)) one other unlike h = (h.0, differ_more (next ∷ later) one other unlike h.1)
 
-pub stretch_of : (state : PointState) (connector start : ℕ) (stretch : Stretch)
+pub stretch_of : (state : PointState) (connector start : ℕ) (stretch : Interval)
     → ((second : ℕ) → stretch.start ≤ second → second < stretch.end → stretch.reason ≡ reason_asked state connector start second) → IsStretchOf state connector start stretch
 stretch_of state connector start stretch h = record {
   limit = λ second from below. ap (λ (reason : Reason). reason.limit) (h second from below) ∙ reason_limit state connector start (start + second);
@@ -107,10 +107,10 @@ spent_few place n =
 
 -- ---- periods
 
-abbrev GivesLimit : (ℕ → ℕ) → Stretch → Type 0
+abbrev GivesLimit : (ℕ → ℕ) → Interval → Type 0
 GivesLimit limit stretch = (second : ℕ) → stretch.start ≤ second → second < stretch.end → stretch.reason.limit ≡ limit second
 
-periods_are : (limit : ℕ → ℕ) (n end : ℕ) (stretches : List Stretch) (periods : List CompositePeriod) (before : Option ℕ)
+periods_are : (limit : ℕ → ℕ) (n end : ℕ) (stretches : List Interval) (periods : List CompositePeriod) (before : Option ℕ)
     → Adjoin n end stretches → AllByRecursion (GivesLimit limit) stretches → periods ≡ exact_periods limit n → before ≡ limit_before limit n
     → periods ++ periods_behind before stretches ≡ exact_periods limit end
 periods_are limit n end [] periods before adjoin each h k = append-nil periods ∙ (h ∙ ap (exact_periods limit) adjoin)
@@ -130,7 +130,7 @@ periods_are limit n end (stretch ∷ later) periods before adjoin each h k =
     sym (append_assoc periods added (periods_behind (Some value) later))
     ∙ periods_are limit stretch.end end later (periods ++ added) (Some value) adjoin.2 each.1 upto next
 
-limits_given : (state : PointState) (connector start : ℕ) (stretches : List Stretch) → AllByRecursion (IsStretchOf state connector start) stretches
+limits_given : (state : PointState) (connector start : ℕ) (stretches : List Interval) → AllByRecursion (IsStretchOf state connector start) stretches
     → AllByRecursion (GivesLimit (limit_asked state connector start)) stretches
 limits_given state connector start [] h = tt
 limits_given state connector start (stretch ∷ later) h = (h.0.limit, limits_given state connector start later h.1)

@@ -6,29 +6,29 @@ use Rattle.meaning.specs.ByCases.PlainCompiler.{period_added}
 use Rattle.meaning.specs.View.{PointState}
 use Rattle.meaning.specs.Limit.{limit_asked}
 use Rattle.meaning.specs.Cause.{reason_asked}
-use Rattle.sweep_compiler.specs.declared.stretch.Stretch.{Stretch}
+use Rattle.sweep_compiler.specs.declared.interval.Interval.{Interval}
 
 -- stretches over so many seconds
 pub record ExplainedSchedule : Type 0 where
   pub duration : ℕ
-  pub stretches : List Stretch
+  pub stretches : List Interval
 
 -- stretches adjoin from a second up to another: the first begins there, each next one where the one before
 -- it ends, and the last ends at the other
-abbrev pub Adjoin : ℕ → ℕ → List Stretch → Type 0
+abbrev pub Adjoin : ℕ → ℕ → List Interval → Type 0
 Adjoin from end [] = from ≡ end
 Adjoin from end (stretch ∷ later) =
     (stretch.start ≡ from) × (stretch.start < stretch.end) × Adjoin stretch.end end later
 
 -- neighbours differ in their limit, their cause or their shares
-abbrev pub Differ : List Stretch → Type 0
+abbrev pub Differ : List Interval → Type 0
 Differ [] = Unit {0}
 Differ (stretch ∷ []) = Unit {0}
 Differ (stretch ∷ (next ∷ later)) = (stretch.reason ≢ next.reason) × Differ (next ∷ later)
 
 -- the limit of a stretch is the limit at each of its seconds, and its reason the reason, in an ask of a
 -- connector from a start on
-pub record IsStretchOf (state : PointState) (connector start : ℕ) (stretch : Stretch) : Type 0 where
+pub record IsStretchOf (state : PointState) (connector start : ℕ) (stretch : Interval) : Type 0 where
   pub limit :
       (second : ℕ) → stretch.start ≤ second → second < stretch.end
       → stretch.reason.limit ≡ limit_asked state connector start second
@@ -46,12 +46,12 @@ pub record IsExplanation (state : PointState) (connector start duration : ℕ) (
 
 -- the periods of stretches behind a limit, where there is one: a stretch whose limit is that of the one
 -- before it begins none
-abbrev pub periods_behind : Option ℕ → List Stretch → List CompositePeriod
+abbrev pub periods_behind : Option ℕ → List Interval → List CompositePeriod
 periods_behind before [] = []
 periods_behind before (stretch ∷ later) =
     period_added before (record { start = stretch.start; limit = stretch.reason.limit })
     ++ periods_behind (Some stretch.reason.limit) later
 
 -- the periods of stretches, neighbours of equal limit joined
-abbrev pub joined : List Stretch → List CompositePeriod
+abbrev pub joined : List Interval → List CompositePeriod
 joined stretches = periods_behind None stretches

@@ -9,8 +9,8 @@ ghost use Rattle.sweep_compiler.specs.Explained.{IsExplanation};
 
 use crate::explanation::Explanation;
 use crate::gathering::Gathering;
+use crate::interval::Interval;
 use crate::limit_curve::LimitCurve;
-use crate::stretch::Stretch;
 use crate::turns::Turns;
 use meaning::Ask;
 use ocpp_scalars::Refusal;
@@ -75,7 +75,7 @@ fn explain_along(
     let mut reason = turns.reason_of(alloc, curve)?;
     loop {
         let Some(next) = curve.go_to_next()? else {
-            stretches.push(Stretch {
+            stretches.push(Interval {
                 start,
                 end: duration,
                 reason,
@@ -84,7 +84,7 @@ fn explain_along(
         };
         let found = turns.reason_of(alloc, curve)?;
         if !found.same(&reason) {
-            stretches.push(Stretch {
+            stretches.push(Interval {
                 start,
                 end: next,
                 reason,

@@ -3,7 +3,7 @@
 ghost use Rattle.std.specs.Prelude.{◌≡◌};
 ghost use Rattle.sweep_compiler.specs.Explained.{Adjoin};
 
-use crate::stretch::Stretch;
+use crate::interval::Interval;
 use std::marker::Model;
 
 /// What sets the limits of an asked schedule (chapter 3.13): stretches, the first from second 0 on, each next
@@ -12,7 +12,7 @@ use std::marker::Model;
 pub struct Explanation {
     /// Seconds.
     duration: u32,
-    stretches: Vec<Stretch>,
+    stretches: Vec<Interval>,
 }
 
 impl Model for Explanation {
@@ -27,7 +27,7 @@ impl Model for Explanation {
 
 impl Explanation {
     /// The explanation of these stretches over so many seconds.
-    pub(crate) fn new(duration: u32, stretches: Vec<Stretch>) -> Explanation
+    pub(crate) fn new(duration: u32, stretches: Vec<Interval>) -> Explanation
         requires adjoin { Adjoin 0 duration stretches.items }
         ensures lasts { result.duration ≡ duration }
         ensures same { result.stretches ≡ stretches.items }
@@ -46,7 +46,7 @@ impl Explanation {
     }
 
     /// The stretches in order.
-    pub fn stretches(&self) -> &[Stretch]
+    pub fn stretches(&self) -> &[Interval]
         ensures value { result.now ≡ self.now.stretches }
         ensures adjoin { Adjoin 0 self.now.duration self.now.stretches }
     {

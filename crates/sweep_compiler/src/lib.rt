@@ -11,10 +11,10 @@ mod explained;
 mod explanation;
 mod explanation_laws;
 mod gathering;
+mod interval;
 mod limit_curve;
 mod queue;
 mod run;
-mod stretch;
 mod sweep;
 mod turns;
 
@@ -23,5 +23,5 @@ pub use compiler::compile;
 pub use explained::explain;
 pub use explanation::Explanation;
 pub use explanation_laws::explanations_are_schedules;
-pub use stretch::Stretch;
+pub use interval::Interval;
 pub use turns::Turns;

@@ -9,7 +9,7 @@ use point_book::PointBook;
 use profile::Row;
 use std::alloc::Global;
 use std::process::Abort;
-use sweep_compiler::{Stretch, Turns, compile, explain};
+use sweep_compiler::{Interval, Turns, compile, explain};
 
 /// The next of a sequence of numbers that looks random: a linear congruence.
 fn next_number(number: u32) -> u32 {
@@ -122,7 +122,7 @@ fn expect_reason(
     alloc: Global,
     book: &PointBook,
     ask: &Ask,
-    (stretch, second): (&Stretch, u32),
+    (stretch, second): (&Interval, u32),
 ) {
     let view = book.view();
     assert!(rt; ask.connector as usize <= view.ceilings.len());

@@ -5,7 +5,7 @@ use ocpp_scalars::Instant;
 use profile::{Purpose, Row};
 use std::alloc::Global;
 use std::test::Fail;
-use sweep_compiler::Stretch;
+use sweep_compiler::Interval;
 use test_books::{instant_at, row_of};
 
 /// A point of 63 A with two connectors of 32 A, no transaction, and rows.
@@ -74,8 +74,8 @@ pub fn by(id: i32, purpose: Purpose, stack_level: u32) -> Cause {
 }
 
 /// A stretch without shares.
-pub fn stretch(alloc: Global, start: u32, end: u32, limit: u32, cause: Cause) -> Stretch {
-    Stretch {
+pub fn stretch(alloc: Global, start: u32, end: u32, limit: u32, cause: Cause) -> Interval {
+    Interval {
         start,
         end,
         reason: Reason {
@@ -93,8 +93,8 @@ pub fn sum(
     end: u32,
     limit: u32,
     shares: &[Share],
-) -> Result<Stretch, Fail> {
-    Ok(Stretch {
+) -> Result<Interval, Fail> {
+    Ok(Interval {
         start,
         end,
         reason: Reason {

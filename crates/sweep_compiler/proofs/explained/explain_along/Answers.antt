@@ -6,7 +6,7 @@ use Rattle.meaning.specs.declared.cause.Reason.{Reason}
 use Rattle.meaning.specs.declared.view.View.{View}
 use Rattle.meaning.specs.View.{point_state}
 use Rattle.meaning.specs.Cause.{reason, reason_asked}
-use Rattle.sweep_compiler.specs.declared.stretch.Stretch.{Stretch}
+use Rattle.sweep_compiler.specs.declared.interval.Interval.{Interval}
 use Rattle.sweep_compiler.specs.declared.limit_curve.LimitCurve.{LimitCurve}
 use Rattle.sweep_compiler.specs.Explained.{IsStretchOf}
 use Rattle.sweep_compiler.specs.Places.{is_second_asked}
@@ -126,7 +126,7 @@ new-requires c =
     let kept = c.loop-reason.invariant in
     let within = second_within of c.loop-reason.curve c.args.duration kept.same kept.ready kept.inside c.requires.whole in
     let begun = kept.begun in
-    let new : Stretch = record { start = c.loop-reason.start; end = c.args.duration; reason = c.loop-reason.reason } in
+    let new : Interval = record { start = c.loop-reason.start; end = c.args.duration; reason = c.loop-reason.reason } in
     record { adjoin = rw c.in_ok-push.ensures.items (adjoin_more 0 c.loop-reason.start c.loop-reason.stretches.items new kept.adjoin refl (omega (arith, within, begun))) }
 
 pub returns-in_default-clause-explained : goal.returns-in_default-clause-explained
@@ -140,7 +140,7 @@ returns-in_default-clause-explained c =
     let some : c.loop-reason.start < c.args.duration = omega (arith, within, begun) in
     let none : Option ℕ = None in
     let stays = leads_as of now c.args.duration none kept.same c.requires.whole (subst (LeadsTo now) c.in_default.is c.in_ok-next.ensures.reasons) in
-    let new : Stretch = record { start = c.loop-reason.start; end = c.args.duration; reason = c.loop-reason.reason } in
+    let new : Interval = record { start = c.loop-reason.start; end = c.args.duration; reason = c.loop-reason.reason } in
     let items : c.new.result.stretches ≡ c.loop-reason.stretches.items ++ new ∷ [] = c.new.ensures.same ∙ c.in_ok-push.ensures.items in
     record {
       lasts = c.new.ensures.lasts;
@@ -198,7 +198,7 @@ loop-reason-preserved-then-not-same c =
     let yes : c.same.result ≡ true = c.same.ensures.1 (sym e) in
     let no : c.same.result ≡ false = c.if-not-same.true in
     cc in
-    let new : Stretch = record { start = c.loop-reason.start; end = next; reason = c.loop-reason.reason } in
+    let new : Interval = record { start = c.loop-reason.start; end = next; reason = c.loop-reason.reason } in
     let items : c.push-then-not-same.new.self.items ≡ stretches ++ new ∷ [] = c.in_ok-push-2.ensures.items in
     let turn = c.in_ok-found.ensures.turn in
     let each = kept.each in

@@ -4,7 +4,7 @@ use meaning::Reason;
 
 /// A stretch of an asked schedule over which the limit and what sets it stay the same.
 #[derive(Debug, Drop)]
-pub struct Stretch {
+pub struct Interval {
     /// Its first second, counted from the start of the ask.
     pub start: u32,
     /// The second behind its last one.
