@@ -18,7 +18,7 @@ use Rattle.meaning.specs.Theory.ExactPeriods.{exact_are}
 use Rattle.meaning.specs.Theory.PlainCompiler.{limit_before}
 use Rattle.meaning.specs.Theory.Reasons.{reason_limit}
 use Rattle.sweep_compiler.specs.declared.interval.Interval.{Interval}
-use Rattle.sweep_compiler.specs.Explained.{ExplainedSchedule, Adjoin, Differ, IsStretchOf, IsExplanation, periods_behind, joined}
+use Rattle.sweep_compiler.specs.Explained.{ExplainedSchedule, Adjoin, Differ, IsIntervalOf, IsExplanation, periods_behind, joined}
 use Rattle.sweep_compiler.specs.Places.{places_within}
 use Rattle.sweep_compiler.proofs.Sweeping.{count_more, count_upto, periods_upto, before_stays}
 
@@ -48,7 +48,7 @@ differ_more (stretch ∷ []) one other unlike h = (h.0, (unlike, tt))
 differ_more (stretch ∷ (next ∷ later)) one other unlike h = (h.0, differ_more (next ∷ later) one other unlike h.1)
 
 pub stretch_of : (state : PointState) (connector start : ℕ) (stretch : Interval)
-    → ((second : ℕ) → stretch.start ≤ second → second < stretch.end → stretch.reason ≡ reason_asked state connector start second) → IsStretchOf state connector start stretch
+    → ((second : ℕ) → stretch.start ≤ second → second < stretch.end → stretch.reason ≡ reason_asked state connector start second) → IsIntervalOf state connector start stretch
 stretch_of state connector start stretch h = record {
   limit = λ second from below. ap (λ (reason : Reason). reason.limit) (h second from below) ∙ reason_limit state connector start (start + second);
   reason = h;
@@ -130,7 +130,7 @@ periods_are limit n end (stretch ∷ later) periods before adjoin each h k =
     sym (append_assoc periods added (periods_behind (Some value) later))
     ∙ periods_are limit stretch.end end later (periods ++ added) (Some value) adjoin.2 each.1 upto next
 
-limits_given : (state : PointState) (connector start : ℕ) (stretches : List Interval) → AllByRecursion (IsStretchOf state connector start) stretches
+limits_given : (state : PointState) (connector start : ℕ) (stretches : List Interval) → AllByRecursion (IsIntervalOf state connector start) stretches
     → AllByRecursion (GivesLimit (limit_asked state connector start)) stretches
 limits_given state connector start [] h = tt
 limits_given state connector start (stretch ∷ later) h = (h.0.limit, limits_given state connector start later h.1)

@@ -28,7 +28,7 @@ Differ (stretch ∷ (next ∷ later)) = (stretch.reason ≢ next.reason) × Diff
 
 -- the limit of a stretch is the limit at each of its seconds, and its reason the reason, in an ask of a
 -- connector from a start on
-pub record IsStretchOf (state : PointState) (connector start : ℕ) (stretch : Interval) : Type 0 where
+pub record IsIntervalOf (state : PointState) (connector start : ℕ) (stretch : Interval) : Type 0 where
   pub limit :
       (second : ℕ) → stretch.start ≤ second → second < stretch.end
       → stretch.reason.limit ≡ limit_asked state connector start second
@@ -41,7 +41,7 @@ pub record IsExplanation (state : PointState) (connector start duration : ℕ) (
     : Type 0 where
   pub lasts : explained.duration ≡ duration
   pub adjoin : Adjoin 0 duration explained.stretches
-  pub each : AllByRecursion (IsStretchOf state connector start) explained.stretches
+  pub each : AllByRecursion (IsIntervalOf state connector start) explained.stretches
   pub differ : Differ explained.stretches
 
 -- the periods of stretches behind a limit, where there is one: a stretch whose limit is that of the one

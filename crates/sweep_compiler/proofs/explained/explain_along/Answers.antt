@@ -8,7 +8,7 @@ use Rattle.meaning.specs.View.{point_state}
 use Rattle.meaning.specs.Cause.{reason, reason_asked}
 use Rattle.sweep_compiler.specs.declared.interval.Interval.{Interval}
 use Rattle.sweep_compiler.specs.declared.limit_curve.LimitCurve.{LimitCurve}
-use Rattle.sweep_compiler.specs.Explained.{IsStretchOf}
+use Rattle.sweep_compiler.specs.Explained.{IsIntervalOf}
 use Rattle.sweep_compiler.specs.Places.{is_second_asked}
 use Rattle.sweep_compiler.specs.ByCases.Curve.{LeadsOn}
 use Rattle.sweep_compiler.specs.ByCases.Swept.{IsReadyCurve, IsOfOneAsk}
@@ -145,7 +145,7 @@ returns-in_default-clause-explained c =
     record {
       lasts = c.new.ensures.lasts;
       adjoin = rw items (adjoin_more 0 c.loop-reason.start c.loop-reason.stretches.items new kept.adjoin refl some);
-      each = rw items (all_more (IsStretchOf state of.connector of.asked) c.loop-reason.stretches.items new kept.so_far
+      each = rw items (all_more (IsIntervalOf state of.connector of.asked) c.loop-reason.stretches.items new kept.so_far
           (stretch_of state of.connector of.asked new
           (stays_upto (reason_asked state of.connector of.asked) c.loop-reason.reason c.loop-reason.start (now.at - of.asked) c.args.duration kept.open_one begun stays)));
       differ = rw items (differ_as c.loop-reason.stretches.items (with_reason c.loop-reason.reason) new refl kept.differ);
@@ -209,7 +209,7 @@ loop-reason-preserved-then-not-same c =
       inside = stands_within of after next c.args.duration same ready there leads.1 c.requires.whole;
       begun = omega (arith, here);
       adjoin = rw items (adjoin_more 0 c.loop-reason.start stretches new kept.adjoin refl some);
-      so_far = rw items (all_more (IsStretchOf state of.connector of.asked) stretches new kept.so_far
+      so_far = rw items (all_more (IsIntervalOf state of.connector of.asked) stretches new kept.so_far
           (stretch_of state of.connector of.asked new
           (stays_upto value c.loop-reason.reason c.loop-reason.start (now.at - of.asked) next kept.open_one begun leads.3)));
       open_one = λ k from upto. at_one value c.in_ok-found.found next found k from (omega (arith, here, upto));

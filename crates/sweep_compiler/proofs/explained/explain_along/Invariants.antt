@@ -4,7 +4,7 @@ use Rattle.std.proofs.Common.{◌≡◌, ℕ, ◌+◌, ◌-◌, ◌≤◌, [], �
 use Rattle.std.specs.List.{AllByRecursion}
 use Rattle.meaning.specs.View.{point_state}
 use Rattle.meaning.specs.Cause.{reason_asked}
-use Rattle.sweep_compiler.specs.Explained.{Adjoin, Differ, IsStretchOf}
+use Rattle.sweep_compiler.specs.Explained.{Adjoin, Differ, IsIntervalOf}
 use Rattle.sweep_compiler.specs.Places.{is_second_asked}
 use Rattle.sweep_compiler.specs.ByCases.Swept.{IsReadyCurve, IsOfOneAsk}
 use Rattle.sweep_compiler.proofs.Explaining.{with_reason, spent_at}
@@ -17,7 +17,7 @@ invariant-loop-reason l = record {
   inside : l.curve.at ≤ l.curve.last;
   begun : l.start ≤ l.curve.at - l.fn.curve.asked;
   adjoin : Adjoin 0 l.start l.stretches.items;
-  so_far : AllByRecursion (IsStretchOf (point_state l.fn.curve.view) l.fn.curve.connector l.fn.curve.asked) l.stretches.items;
+  so_far : AllByRecursion (IsIntervalOf (point_state l.fn.curve.view) l.fn.curve.connector l.fn.curve.asked) l.stretches.items;
   open_one : (k : ℕ) → l.start ≤ k → k ≤ l.curve.at - l.fn.curve.asked → l.reason ≡ reason_asked (point_state l.fn.curve.view) l.fn.curve.connector l.fn.curve.asked k;
   differ : Differ (l.stretches.items ++ with_reason l.reason ∷ []);
   turns : l.turns ≤ l.fn.turns + spent_at (is_second_asked (point_state l.fn.curve.view) l.fn.curve.connector l.fn.curve.asked) (l.curve.at - l.fn.curve.asked);
