@@ -5,7 +5,7 @@ use crate::entries::{Entry, place_of};
 use crate::explained_ask::ExplainedAsk;
 use crate::markup::push_escaped;
 use crate::scale::{BOTTOM, LEFT, Scale};
-use crate::steps::MAX_STRETCHES;
+use crate::steps::MAX_INTERVALS;
 use crate::words::{push_length, push_limit, push_short_cause, push_why};
 use std::alloc::{AllocError, Global};
 use sweep_compiler::Interval;
@@ -28,7 +28,7 @@ pub(crate) fn push_causes(
         "<text class=\"end soft\" x=\"{x}\" y=\"{base}\">set by</text>\n"
     )?;
     let mut is_odd = false;
-    for stretch in sketch.explained.stretches.iter().take(MAX_STRETCHES) {
+    for stretch in sketch.explained.stretches.iter().take(MAX_INTERVALS) {
         let field = Field::of(sketch.scale, stretch, is_odd);
         // Without breadth nobody sees it.
         if field.breadth > 0 {

@@ -4,7 +4,7 @@ ghost use Rattle.std.specs.Prelude.{◌≡◌};
 ghost use Rattle.meaning.specs.Cause.{profile_of};
 
 use crate::explained_ask::ExplainedAsk;
-use crate::steps::{MAX_STRETCHES, Steps, first_limit, profile_steps};
+use crate::steps::{MAX_INTERVALS, Steps, first_limit, profile_steps};
 use meaning::{Ask, Cause, PrevailingProfile, View, has_its_transaction};
 use ocpp_scalars::Instant;
 use profile::{Purpose, Row};
@@ -40,7 +40,7 @@ pub(crate) fn entries_of(
         }
     }
     push_ceilings(&mut entries, explained)?;
-    for stretch in explained.stretches.iter().take(MAX_STRETCHES) {
+    for stretch in explained.stretches.iter().take(MAX_INTERVALS) {
         let cause = stretch.reason.cause;
         if place_of(entries.as_slice(), cause).is_none() {
             entries.push(Entry {

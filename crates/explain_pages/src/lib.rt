@@ -34,7 +34,7 @@ pub use json_text::write_json;
 pub use length::{Length, length_of};
 pub use page::write_page;
 pub use picture::write_picture;
-pub use steps::{MAX_STEPS, MAX_STRETCHES};
+pub use steps::{MAX_INTERVALS, MAX_STEPS};
 pub use table::write_table;
 pub use uncounted::not_counted;
 pub use words::{push_cause, push_length, push_limit, push_profile, push_why, sentence};

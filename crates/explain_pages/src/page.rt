@@ -4,7 +4,7 @@ use crate::cells::{CellMaker, Cells};
 use crate::explained_ask::{ExplainedAsk, NotCounted};
 use crate::markup::{push_element, push_escaped};
 use crate::picture::{push_more, push_picture};
-use crate::steps::MAX_STRETCHES;
+use crate::steps::MAX_INTERVALS;
 use crate::styles::PAGE;
 use crate::table::{heading, place};
 use crate::words::{push_profile, sentence};
@@ -12,7 +12,7 @@ use ocpp_scalars::{Instant, push_instant};
 use std::alloc::{AllocError, Global};
 
 /// An explained schedule as a page, a whole HTML file that loads nothing: the picture, the stretches in a table
-/// (the first `MAX_STRETCHES`; where there are more, the page says so), and the profiles that never set the
+/// (the first `MAX_INTERVALS`; where there are more, the page says so), and the profiles that never set the
 /// limit.
 pub fn write_page(alloc: Global, explained: &ExplainedAsk<'_>) -> Result<String, AllocError> {
     let mut out = String::new(alloc);
@@ -52,7 +52,7 @@ fn push_table(
 ) -> Result<(), AllocError> {
     out.push_str(HEAD)?;
     let mut maker = CellMaker::new(explained);
-    for stretch in explained.stretches.iter().take(MAX_STRETCHES) {
+    for stretch in explained.stretches.iter().take(MAX_INTERVALS) {
         let cells = maker.cells(alloc, stretch)?;
         out.push_str("<tr><th scope=\"row\">")?;
         push_clock(out, explained.moment(stretch.start), cells.from.as_str())?;
@@ -66,11 +66,11 @@ fn push_table(
 
 /// Appends how many stretches the table leaves out, where it does.
 fn push_note(out: &mut String, count: usize) -> Result<(), AllocError> {
-    if count <= MAX_STRETCHES {
+    if count <= MAX_INTERVALS {
         return Ok(());
     }
     out.push_str("<p>")?;
-    push_more(out, count, MAX_STRETCHES)?;
+    push_more(out, count, MAX_INTERVALS)?;
     out.push_str("</p>\n")
 }
 

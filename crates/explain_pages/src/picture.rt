@@ -22,7 +22,7 @@ const DESCRIBED: usize = 12;
 
 /// An explained schedule as a picture, a whole SVG file: the limit as a thick line, under it the profiles and
 /// the ceilings, each with its own dashes and a letter, and below the times what sets each limit. A profile's
-/// line has at most `MAX_STEPS` steps and the limit at most `MAX_STRETCHES`; where one is cut, the picture
+/// line has at most `MAX_STEPS` steps and the limit at most `MAX_INTERVALS`; where one is cut, the picture
 /// says so.
 pub fn write_picture(alloc: Global, explained: &ExplainedAsk<'_>) -> Result<String, AllocError> {
     let mut out = String::from_str(alloc, "<?xml version=\"1.0\" encoding=\"UTF-8\"?>\n")?;

@@ -14,7 +14,7 @@ use std::alloc::{AllocError, Global};
 pub const MAX_STEPS: usize = 2_000;
 
 /// The most stretches that a picture or a page shows.
-pub const MAX_STRETCHES: usize = 20_000;
+pub const MAX_INTERVALS: usize = 20_000;
 
 /// A limit from a second on, or none.
 #[derive(Clone, Copy)]
@@ -100,13 +100,13 @@ pub(crate) fn stretch_steps(
     explained: &ExplainedAsk<'_>,
 ) -> Result<Steps, AllocError> {
     let mut items = Vec::new(alloc);
-    for stretch in explained.stretches.iter().take(MAX_STRETCHES) {
+    for stretch in explained.stretches.iter().take(MAX_INTERVALS) {
         items.push(Step {
             second: stretch.start,
             limit: Some(stretch.reason.limit),
         })?;
     }
-    let end = match explained.stretches.get(MAX_STRETCHES) {
+    let end = match explained.stretches.get(MAX_INTERVALS) {
         Some(stretch) => stretch.start,
         None => explained.ask.duration,
     };
