@@ -28,7 +28,7 @@ pub(crate) fn push_causes(
         "<text class=\"end soft\" x=\"{x}\" y=\"{base}\">set by</text>\n"
     )?;
     let mut is_odd = false;
-    for stretch in sketch.explained.stretches.iter().take(MAX_INTERVALS) {
+    for stretch in sketch.explained.intervals.iter().take(MAX_INTERVALS) {
         let field = Field::of(sketch.scale, stretch, is_odd);
         // Without breadth nobody sees it.
         if field.breadth > 0 {

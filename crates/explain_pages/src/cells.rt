@@ -78,7 +78,7 @@ pub(crate) fn all_cells(
 ) -> Result<Vec<Cells>, AllocError> {
     let mut maker = CellMaker::new(explained);
     let mut all = Vec::new(alloc);
-    for stretch in explained.stretches {
+    for stretch in explained.intervals {
         all.push(maker.cells(alloc, stretch)?)?;
     }
     Ok(all)

@@ -40,7 +40,7 @@ pub(crate) fn entries_of(
         }
     }
     push_ceilings(&mut entries, explained)?;
-    for stretch in explained.stretches.iter().take(MAX_INTERVALS) {
+    for stretch in explained.intervals.iter().take(MAX_INTERVALS) {
         let cause = stretch.reason.cause;
         if place_of(entries.as_slice(), cause).is_none() {
             entries.push(Entry {

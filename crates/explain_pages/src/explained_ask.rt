@@ -17,7 +17,7 @@ pub struct ExplainedAsk<'a> {
     /// What the point has.
     pub view: View<'a>,
     /// The stretches of the ask, in order.
-    pub stretches: &'a [Interval],
+    pub intervals: &'a [Interval],
     /// The profiles that never set the limit in this time.
     pub not_counted: &'a [NotCounted],
 }
@@ -63,9 +63,9 @@ impl ExplainedAsk<'_> {
 }
 
 /// Whether a profile sets a limit in one of the stretches, or a share of it.
-pub fn is_named(stretches: &[Interval], profile: PrevailingProfile) -> bool {
+pub fn is_named(intervals: &[Interval], profile: PrevailingProfile) -> bool {
     let cause = Cause::Profile(profile);
-    for stretch in stretches {
+    for stretch in intervals {
         if stretch.reason.cause == cause {
             return true;
         }

@@ -18,7 +18,7 @@ pub fn write_json(alloc: Global, explained: &ExplainedAsk<'_>) -> Result<String,
     line.push_asked(explained)?;
     line.out.key("stretches")?;
     line.out.begin_array()?;
-    for stretch in explained.stretches {
+    for stretch in explained.intervals {
         line.push_stretch(explained, stretch)?;
     }
     line.out.end_array()?;

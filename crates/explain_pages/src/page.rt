@@ -52,7 +52,7 @@ fn push_table(
 ) -> Result<(), AllocError> {
     out.push_str(HEAD)?;
     let mut maker = CellMaker::new(explained);
-    for stretch in explained.stretches.iter().take(MAX_INTERVALS) {
+    for stretch in explained.intervals.iter().take(MAX_INTERVALS) {
         let cells = maker.cells(alloc, stretch)?;
         out.push_str("<tr><th scope=\"row\">")?;
         push_clock(out, explained.moment(stretch.start), cells.from.as_str())?;
@@ -61,7 +61,7 @@ fn push_table(
         push_cells(out, &cells)?;
     }
     out.push_str("</tbody>\n</table>\n</div>\n")?;
-    push_note(out, explained.stretches.len())
+    push_note(out, explained.intervals.len())
 }
 
 /// Appends how many stretches the table leaves out, where it does.

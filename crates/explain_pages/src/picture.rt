@@ -79,14 +79,14 @@ fn push_description(
     )?;
     out.push_str("<desc id=\"picture-description\">Times in UTC.")?;
     let mut maker = CellMaker::new(explained);
-    for stretch in explained.stretches.iter().take(DESCRIBED) {
+    for stretch in explained.intervals.iter().take(DESCRIBED) {
         let cells = maker.cells(alloc, stretch)?;
         push_element(out, " ", cells.from.as_str(), " to ")?;
         push_element(out, "", cells.to.as_str(), ": ")?;
         push_element(out, "", cells.limit.as_str(), ", ")?;
         push_element(out, "", cells.why.as_str(), ".")?;
     }
-    push_more(out, explained.stretches.len(), DESCRIBED)?;
+    push_more(out, explained.intervals.len(), DESCRIBED)?;
     out.push_str("</desc>\n")
 }
 

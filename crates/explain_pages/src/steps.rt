@@ -100,13 +100,13 @@ pub(crate) fn stretch_steps(
     explained: &ExplainedAsk<'_>,
 ) -> Result<Steps, AllocError> {
     let mut items = Vec::new(alloc);
-    for stretch in explained.stretches.iter().take(MAX_INTERVALS) {
+    for stretch in explained.intervals.iter().take(MAX_INTERVALS) {
         items.push(Step {
             second: stretch.start,
             limit: Some(stretch.reason.limit),
         })?;
     }
-    let end = match explained.stretches.get(MAX_INTERVALS) {
+    let end = match explained.intervals.get(MAX_INTERVALS) {
         Some(stretch) => stretch.start,
         None => explained.ask.duration,
     };

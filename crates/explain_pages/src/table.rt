@@ -24,7 +24,7 @@ pub fn write_table(
 ) -> Result<String, AllocError> {
     let mut out = String::new(alloc);
     push_heading(alloc, &mut out, explained, columns)?;
-    push_stretches(alloc, &mut out, explained, columns)?;
+    push_intervals(alloc, &mut out, explained, columns)?;
     push_not_counted(alloc, &mut out, explained.not_counted, columns)?;
     Ok(out)
 }
@@ -184,7 +184,7 @@ struct Sheet<'a> {
     largest: u32,
 }
 
-fn push_stretches(
+fn push_intervals(
     alloc: Global,
     out: &mut String,
     explained: &ExplainedAsk<'_>,
@@ -213,7 +213,7 @@ fn push_stretches(
 /// The largest limit of the stretches, in tenths.
 pub(crate) fn largest_limit(explained: &ExplainedAsk<'_>) -> u32 {
     let mut largest = 0;
-    for stretch in explained.stretches {
+    for stretch in explained.intervals {
         largest = stretch.reason.limit.max(largest);
     }
     largest

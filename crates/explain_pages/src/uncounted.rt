@@ -19,13 +19,13 @@ pub fn not_counted(
     alloc: Global,
     view: &View<'_>,
     ask: &Ask,
-    stretches: &[Interval],
+    intervals: &[Interval],
 ) -> Result<Vec<NotCounted>, AllocError>
     ensures { IfOk result (λ rest. All (HasReason (point_state view.now) ask.now) rest.items) }
 {
     let mut rest = Vec::new(alloc);
     for place in 0..view.rows.len() {
-        if !is_named(stretches, profile_of(&view.rows[place])) {
+        if !is_named(intervals, profile_of(&view.rows[place])) {
             rest.push(not_counted_at(view, ask, place))?;
         }
     }

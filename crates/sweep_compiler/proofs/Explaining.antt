@@ -24,8 +24,8 @@ use Rattle.sweep_compiler.proofs.Sweeping.{count_more, count_upto, periods_upto,
 
 -- ---- one stretch more
 
-pub adjoin_more : (from middle : ℕ) (stretches : List Interval) (new : Interval) → Adjoin from middle stretches → new.start ≡ middle → new.start < new.end
-    → Adjoin from new.end (stretches ++ new ∷ [])
+pub adjoin_more : (from middle : ℕ) (intervals : List Interval) (new : Interval) → Adjoin from middle intervals → new.start ≡ middle → new.start < new.end
+    → Adjoin from new.end (intervals ++ new ∷ [])
 adjoin_more from middle [] new h start some = (start ∙ sym h, some, refl)
 adjoin_more from middle (stretch ∷ later) new h start some = (h.0, h.1, adjoin_more stretch.end middle later new h.2 start some)
 
@@ -37,12 +37,12 @@ all_more P (y ∷ xs) x h k = (h.0, all_more P xs x h.1 k)
 abbrev pub with_reason : Reason → Interval
 with_reason reason = record { start = 0; end = 0; reason = reason }
 
-pub differ_as : (stretches : List Interval) (one other : Interval) → one.reason ≡ other.reason → Differ (stretches ++ one ∷ []) → Differ (stretches ++ other ∷ [])
+pub differ_as : (intervals : List Interval) (one other : Interval) → one.reason ≡ other.reason → Differ (intervals ++ one ∷ []) → Differ (intervals ++ other ∷ [])
 differ_as [] one other same h = tt
 differ_as (stretch ∷ []) one other same h = (λ e. h.0 (e ∙ sym same), tt)
 differ_as (stretch ∷ (next ∷ later)) one other same h = (h.0, differ_as (next ∷ later) one other same h.1)
 
-pub differ_more : (stretches : List Interval) (one other : Interval) → one.reason ≢ other.reason → Differ (stretches ++ one ∷ []) → Differ ((stretches ++ one ∷ []) ++ other ∷ [])
+pub differ_more : (intervals : List Interval) (one other : Interval) → one.reason ≢ other.reason → Differ (intervals ++ one ∷ []) → Differ ((intervals ++ one ∷ []) ++ other ∷ [])
 differ_more [] one other unlike h = (unlike, tt)
 differ_more (stretch ∷ []) one other unlike h = (h.0, (unlike, tt))
 differ_more (stretch ∷ (next ∷ later)) one other unlike h = (h.0, differ_more (next ∷ later) one other unlike h.1)
@@ -110,9 +110,9 @@ spent_few place n =
 abbrev GivesLimit : (ℕ → ℕ) → Interval → Type 0
 GivesLimit limit stretch = (second : ℕ) → stretch.start ≤ second → second < stretch.end → stretch.reason.limit ≡ limit second
 
-periods_are : (limit : ℕ → ℕ) (n end : ℕ) (stretches : List Interval) (periods : List CompositePeriod) (before : Option ℕ)
-    → Adjoin n end stretches → AllByRecursion (GivesLimit limit) stretches → periods ≡ exact_periods limit n → before ≡ limit_before limit n
-    → periods ++ periods_behind before stretches ≡ exact_periods limit end
+periods_are : (limit : ℕ → ℕ) (n end : ℕ) (intervals : List Interval) (periods : List CompositePeriod) (before : Option ℕ)
+    → Adjoin n end intervals → AllByRecursion (GivesLimit limit) intervals → periods ≡ exact_periods limit n → before ≡ limit_before limit n
+    → periods ++ periods_behind before intervals ≡ exact_periods limit end
 periods_are limit n end [] periods before adjoin each h k = append-nil periods ∙ (h ∙ ap (exact_periods limit) adjoin)
 periods_are limit n end (stretch ∷ later) periods before adjoin each h k =
     let value = stretch.reason.limit in
@@ -130,16 +130,16 @@ periods_are limit n end (stretch ∷ later) periods before adjoin each h k =
     sym (append_assoc periods added (periods_behind (Some value) later))
     ∙ periods_are limit stretch.end end later (periods ++ added) (Some value) adjoin.2 each.1 upto next
 
-limits_given : (state : PointState) (connector start : ℕ) (stretches : List Interval) → AllByRecursion (IsIntervalOf state connector start) stretches
-    → AllByRecursion (GivesLimit (limit_asked state connector start)) stretches
+limits_given : (state : PointState) (connector start : ℕ) (intervals : List Interval) → AllByRecursion (IsIntervalOf state connector start) intervals
+    → AllByRecursion (GivesLimit (limit_asked state connector start)) intervals
 limits_given state connector start [] h = tt
 limits_given state connector start (stretch ∷ later) h = (h.0.limit, limits_given state connector start later h.1)
 
 -- the periods of an explanation are those of the composite schedule
 pub joined_exact : (state : PointState) (connector start duration : ℕ) (explained : ExplainedSchedule) → 0 < duration → IsExplanation state connector start duration explained
-    → IsExact (limit_asked state connector start) duration (joined explained.stretches)
+    → IsExact (limit_asked state connector start) duration (joined explained.intervals)
 joined_exact state connector start duration explained some h =
     let limit = limit_asked state connector start in
-    let same : joined explained.stretches ≡ exact_periods limit duration =
-    periods_are limit 0 duration explained.stretches [] None h.adjoin (limits_given state connector start explained.stretches h.each) refl refl in
+    let same : joined explained.intervals ≡ exact_periods limit duration =
+    periods_are limit 0 duration explained.intervals [] None h.adjoin (limits_given state connector start explained.intervals h.each) refl refl in
     rw same (exact_are limit duration some)

@@ -11,7 +11,7 @@ use Rattle.sweep_compiler.specs.declared.interval.Interval.{Interval}
 -- stretches over so many seconds
 pub record ExplainedSchedule : Type 0 where
   pub duration : ℕ
-  pub stretches : List Interval
+  pub intervals : List Interval
 
 -- stretches adjoin from a second up to another: the first begins there, each next one where the one before
 -- it ends, and the last ends at the other
@@ -40,9 +40,9 @@ pub record IsIntervalOf (state : PointState) (connector start : ℕ) (stretch : 
 pub record IsExplanation (state : PointState) (connector start duration : ℕ) (explained : ExplainedSchedule)
     : Type 0 where
   pub lasts : explained.duration ≡ duration
-  pub adjoin : Adjoin 0 duration explained.stretches
-  pub each : AllByRecursion (IsIntervalOf state connector start) explained.stretches
-  pub differ : Differ explained.stretches
+  pub adjoin : Adjoin 0 duration explained.intervals
+  pub each : AllByRecursion (IsIntervalOf state connector start) explained.intervals
+  pub differ : Differ explained.intervals
 
 -- the periods of stretches behind a limit, where there is one: a stretch whose limit is that of the one
 -- before it begins none
@@ -54,4 +54,4 @@ periods_behind before (stretch ∷ later) =
 
 -- the periods of stretches, neighbours of equal limit joined
 abbrev pub joined : List Interval → List CompositePeriod
-joined stretches = periods_behind None stretches
+joined intervals = periods_behind None intervals

@@ -32,7 +32,7 @@ pub fn explain(
         IsExplanation (state_of book.now) ask.now.connector ask.now.start ask.now.duration explained) }
     ensures bound { turns.new ≤ turns.old + (1 + places book.now ask.now) }
     ensures counted { turns.old ≤ turns.new }
-    ensures each { IfOk result (λ explained. turns.old + length explained.stretches ≤ turns.new) }
+    ensures each { IfOk result (λ explained. turns.old + length explained.intervals ≤ turns.new) }
 {
     let gathering = Gathering {
         alloc,
@@ -68,23 +68,23 @@ fn explain_along(
     ensures bound { turns.new ≤ turns.old + (1 + places_within
         (is_second_asked (point_state curve.old.view) curve.old.connector curve.old.asked) duration) }
     ensures counted { turns.old ≤ turns.new }
-    ensures each { IfOk result (λ explained. turns.old + length explained.stretches ≤ turns.new) }
+    ensures each { IfOk result (λ explained. turns.old + length explained.intervals ≤ turns.new) }
 {
-    let mut stretches = Vec::new(alloc);
+    let mut intervals = Vec::new(alloc);
     let mut start = 0;
     let mut reason = turns.reason_of(alloc, curve)?;
     loop {
         let Some(next) = curve.go_to_next()? else {
-            stretches.push(Interval {
+            intervals.push(Interval {
                 start,
                 end: duration,
                 reason,
             })?;
-            return Ok(Explanation::new(duration, stretches));
+            return Ok(Explanation::new(duration, intervals));
         };
         let found = turns.reason_of(alloc, curve)?;
         if !found.same(&reason) {
-            stretches.push(Interval {
+            intervals.push(Interval {
                 start,
                 end: next,
                 reason,

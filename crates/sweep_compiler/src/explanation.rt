@@ -12,7 +12,7 @@ use std::marker::Model;
 pub struct Explanation {
     /// Seconds.
     duration: u32,
-    stretches: Vec<Interval>,
+    intervals: Vec<Interval>,
 }
 
 impl Model for Explanation {
@@ -20,21 +20,21 @@ impl Model for Explanation {
 
     ghost Value = { ExplainedSchedule };
 
-    ghost view = { λ e. record { duration = e.duration; stretches = e.stretches.items } };
+    ghost view = { λ e. record { duration = e.duration; intervals = e.intervals.items } };
 
-    ghost invariant = { λ e. Adjoin 0 e.duration e.stretches.items };
+    ghost invariant = { λ e. Adjoin 0 e.duration e.intervals.items };
 }
 
 impl Explanation {
     /// The explanation of these stretches over so many seconds.
-    pub(crate) fn new(duration: u32, stretches: Vec<Interval>) -> Explanation
-        requires adjoin { Adjoin 0 duration stretches.items }
+    pub(crate) fn new(duration: u32, intervals: Vec<Interval>) -> Explanation
+        requires adjoin { Adjoin 0 duration intervals.items }
         ensures lasts { result.duration ≡ duration }
-        ensures same { result.stretches ≡ stretches.items }
+        ensures same { result.intervals ≡ intervals.items }
     {
         Explanation {
             duration,
-            stretches,
+            intervals,
         }
     }
 
@@ -46,10 +46,10 @@ impl Explanation {
     }
 
     /// The stretches in order.
-    pub fn stretches(&self) -> &[Interval]
-        ensures value { result.now ≡ self.now.stretches }
-        ensures adjoin { Adjoin 0 self.now.duration self.now.stretches }
+    pub fn intervals(&self) -> &[Interval]
+        ensures value { result.now ≡ self.now.intervals }
+        ensures adjoin { Adjoin 0 self.now.duration self.now.intervals }
     {
-        self.stretches.as_slice()
+        self.intervals.as_slice()
     }
 }

@@ -11,5 +11,5 @@ ghost use Rattle.sweep_compiler.specs.Explained.{ExplainedSchedule, IsExplanatio
 pub fn explanations_are_schedules()
     ensures { (state : PointState) (connector start duration : ℕ) (explained : ExplainedSchedule)
         → 0 < duration → IsExplanation state connector start duration explained
-        → IsExact (limit_asked state connector start) duration (joined explained.stretches) }
+        → IsExact (limit_asked state connector start) duration (joined explained.intervals) }
 {}

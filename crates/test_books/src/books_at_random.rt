@@ -137,7 +137,7 @@ fn expect_reason(
 fn expect_reasons(rt: &impl Abort, alloc: Global, book: &PointBook, ask: &Ask) {
     assert!(rt; ask.connector <= book.connectors());
     let explanation = explain(alloc, book, ask, &mut Turns::new()).expect(rt, "error");
-    for stretch in explanation.stretches() {
+    for stretch in explanation.intervals() {
         expect_reason(rt, alloc, book, ask, (stretch, stretch.start));
         expect_reason(
             rt,

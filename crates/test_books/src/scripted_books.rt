@@ -270,7 +270,7 @@ fn explained(rt: &impl Abort, book: &PointBook, mut line: Line<'_>) -> String {
         line.whole,
     );
     let mut text = String::new(line.alloc);
-    for stretch in explanation.stretches() {
+    for stretch in explanation.intervals() {
         put_stretch(rt, &mut text, stretch);
     }
     text
@@ -280,6 +280,6 @@ fn reasons(rt: &impl Abort, book: &PointBook, mut line: Line<'_>) -> String {
     let ask = ask_of(rt, book, &mut line);
     let mut turns = Turns::new();
     let explanation = explain(line.alloc, book, &ask, &mut turns).expect(rt, line.whole);
-    let stretches = explanation.stretches().len();
-    format!(in line.alloc; "{stretches} {}", turns.count()).expect(rt, line.whole)
+    let intervals = explanation.intervals().len();
+    format!(in line.alloc; "{intervals} {}", turns.count()).expect(rt, line.whole)
 }

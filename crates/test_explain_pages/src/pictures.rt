@@ -42,7 +42,7 @@ fn pictures_and_pages(rt: HostRuntime) -> Result<(), Fail> {
         unit: Unit::A,
         ask: ask(1, 0, 86_400)?,
         view: point.view(),
-        stretches: &[
+        intervals: &[
             stretch(alloc, 0, 43_200, 160, by(1, Purpose::TxDefaultProfile, 0)),
             stretch(alloc, 43_200, 86_400, 320, Cause::ConnectorCeiling),
         ],
@@ -98,7 +98,7 @@ fn a_hundred_profiles(rt: HostRuntime) -> Result<(), Fail> {
         unit: Unit::W,
         ask: ask(1, 0, 604_800)?,
         view: point.view(),
-        stretches: &[stretch(alloc, 0, 604_800, 60, by(99, Purpose::TxDefaultProfile, 99))],
+        intervals: &[stretch(alloc, 0, 604_800, 60, by(99, Purpose::TxDefaultProfile, 99))],
         not_counted: &[],
     };
     let picture = write_picture(alloc, &explained)?;
@@ -110,20 +110,20 @@ fn a_hundred_profiles(rt: HostRuntime) -> Result<(), Fail> {
 
 /// An ask whose every second is a stretch: pictures and pages say where they end.
 #[test]
-fn too_many_stretches(rt: HostRuntime) -> Result<(), Fail> {
+fn too_many_intervals(rt: HostRuntime) -> Result<(), Fail> {
     let alloc = rt.alloc();
     let point = Point::with_rows(alloc, "")?;
-    let mut stretches = Vec::new(alloc);
+    let mut intervals = Vec::new(alloc);
     for second in 0..20_001 {
         let limit = second % 2 * 10;
-        stretches.push(stretch(alloc, second, second + 1, limit, Cause::PointCeiling))?;
+        intervals.push(stretch(alloc, second, second + 1, limit, Cause::PointCeiling))?;
     }
     let explained = ExplainedAsk {
         point: "CP1",
         unit: Unit::A,
         ask: ask(1, 0, 20_001)?,
         view: point.view(),
-        stretches: stretches.as_slice(),
+        intervals: intervals.as_slice(),
         not_counted: &[],
     };
     let page = write_page(alloc, &explained)?;
@@ -171,15 +171,15 @@ fn each_reason_has_its_sentence(rt: HostRuntime) -> Result<(), Fail> {
 fn expect_everywhere(rt: &impl Abort, alloc: Global, reason: NoPart) -> Result<(), Fail> {
     let point = Point::with_rows(alloc, "")?;
     let never = profile(3, Purpose::TxProfile, 2);
-    let stretches = [stretch(alloc, 0, 60, 630, by(2, Purpose::TxProfile, 2))];
-    assert!(rt; !is_named(&stretches, never));
-    assert!(rt; is_named(&stretches, profile(2, Purpose::TxProfile, 2)));
+    let intervals = [stretch(alloc, 0, 60, 630, by(2, Purpose::TxProfile, 2))];
+    assert!(rt; !is_named(&intervals, never));
+    assert!(rt; is_named(&intervals, profile(2, Purpose::TxProfile, 2)));
     let explained = ExplainedAsk {
         point: "CP1",
         unit: Unit::A,
         ask: ask(1, 0, 60)?,
         view: point.view(),
-        stretches: &stretches,
+        intervals: &intervals,
         not_counted: &[NotCounted {
             profile: never,
             reason,

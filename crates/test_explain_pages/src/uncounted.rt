@@ -51,17 +51,17 @@ fn reasons_of(alloc: Global, asked: &str, rows: &str) -> Result<String, Fail> {
     let (connector, active) = asked.split_once(' ').ok_or("no connector")?;
     let point = Point::with_transactions(alloc, rows.replace(alloc, "; ", "\n")?.as_str(), active)?;
     let ask = ask(connector.parse::<u32>()?, 0, 86_400)?;
-    let stretches = [
+    let intervals = [
         stretch(alloc, 0, 43_200, 320, Cause::ConnectorCeiling),
         stretch(alloc, 43_200, 86_400, 310, Cause::PointCeiling),
     ];
-    let rest = not_counted(alloc, &point.view(), &ask, &stretches)?;
+    let rest = not_counted(alloc, &point.view(), &ask, &intervals)?;
     let explained = ExplainedAsk {
         point: "CP1",
         unit: Unit::A,
         ask,
         view: point.view(),
-        stretches: &stretches,
+        intervals: &intervals,
         not_counted: rest.as_slice(),
     };
     let json = write_json(alloc, &explained)?;
