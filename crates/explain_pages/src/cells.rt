@@ -39,23 +39,27 @@ impl<'a> CellMaker<'a> {
     }
 
     /// The cells of the next stretch.
-    pub(crate) fn cells(&mut self, alloc: Global, stretch: &Interval) -> Result<Cells, AllocError> {
-        let from = ClockTime::of(self.explained.moment(stretch.start));
-        let to = ClockTime::of(self.explained.moment(stretch.end));
+    pub(crate) fn cells(
+        &mut self,
+        alloc: Global,
+        interval: &Interval,
+    ) -> Result<Cells, AllocError> {
+        let from = ClockTime::of(self.explained.moment(interval.start));
+        let to = ClockTime::of(self.explained.moment(interval.end));
         let dates = (self.day != Some(from.day), to.day != from.day);
         self.day = Some(from.day);
         let mut length = String::new(alloc);
-        push_length(&mut length, stretch.end.saturating_sub(stretch.start))?;
+        push_length(&mut length, interval.end.saturating_sub(interval.start))?;
         let mut limit = String::new(alloc);
-        push_limit(&mut limit, stretch.reason.limit, self.explained.unit)?;
+        push_limit(&mut limit, interval.reason.limit, self.explained.unit)?;
         let mut why = String::new(alloc);
-        push_why(&mut why, &stretch.reason, self.explained.unit)?;
+        push_why(&mut why, &interval.reason, self.explained.unit)?;
         Ok(Cells {
             from: self.time(alloc, from, dates.0)?,
             to: self.time(alloc, to, dates.1)?,
             length,
             limit,
-            tenths: stretch.reason.limit,
+            tenths: interval.reason.limit,
             why,
         })
     }
@@ -78,8 +82,8 @@ pub(crate) fn all_cells(
 ) -> Result<Vec<Cells>, AllocError> {
     let mut maker = CellMaker::new(explained);
     let mut all = Vec::new(alloc);
-    for stretch in explained.intervals {
-        all.push(maker.cells(alloc, stretch)?)?;
+    for interval in explained.intervals {
+        all.push(maker.cells(alloc, interval)?)?;
     }
     Ok(all)
 }

@@ -40,8 +40,8 @@ pub(crate) fn entries_of(
         }
     }
     push_ceilings(&mut entries, explained)?;
-    for stretch in explained.intervals.iter().take(MAX_INTERVALS) {
-        let cause = stretch.reason.cause;
+    for interval in explained.intervals.iter().take(MAX_INTERVALS) {
+        let cause = interval.reason.cause;
         if place_of(entries.as_slice(), cause).is_none() {
             entries.push(Entry {
                 cause,

@@ -65,11 +65,11 @@ impl ExplainedAsk<'_> {
 /// Whether a profile sets a limit in one of the stretches, or a share of it.
 pub fn is_named(intervals: &[Interval], profile: PrevailingProfile) -> bool {
     let cause = Cause::Profile(profile);
-    for stretch in intervals {
-        if stretch.reason.cause == cause {
+    for interval in intervals {
+        if interval.reason.cause == cause {
             return true;
         }
-        for share in stretch.reason.shares.as_slice() {
+        for share in interval.reason.shares.as_slice() {
             if share.cause == cause {
                 return true;
             }

@@ -18,8 +18,8 @@ pub fn write_json(alloc: Global, explained: &ExplainedAsk<'_>) -> Result<String,
     line.push_asked(explained)?;
     line.out.key("stretches")?;
     line.out.begin_array()?;
-    for stretch in explained.intervals {
-        line.push_stretch(explained, stretch)?;
+    for interval in explained.intervals {
+        line.push_interval(explained, interval)?;
     }
     line.out.end_array()?;
     line.out.key("notCounted")?;
@@ -72,20 +72,20 @@ impl JsonLine {
         self.out.u64(u64::from(explained.ask.duration))
     }
 
-    fn push_stretch(
+    fn push_interval(
         &mut self,
         explained: &ExplainedAsk<'_>,
-        stretch: &Interval,
+        interval: &Interval,
     ) -> Result<(), AllocError> {
         self.out.begin_object()?;
         self.out.key("start")?;
-        self.push_moment(explained.moment(stretch.start))?;
+        self.push_moment(explained.moment(interval.start))?;
         self.out.key("end")?;
-        self.push_moment(explained.moment(stretch.end))?;
-        self.push_limit(stretch.reason.limit, stretch.reason.cause)?;
+        self.push_moment(explained.moment(interval.end))?;
+        self.push_limit(interval.reason.limit, interval.reason.cause)?;
         self.out.key("shares")?;
         self.out.begin_array()?;
-        for share in stretch.reason.shares.as_slice() {
+        for share in interval.reason.shares.as_slice() {
             self.push_share(share)?;
         }
         self.out.end_array()?;

@@ -52,12 +52,12 @@ fn push_table(
 ) -> Result<(), AllocError> {
     out.push_str(HEAD)?;
     let mut maker = CellMaker::new(explained);
-    for stretch in explained.intervals.iter().take(MAX_INTERVALS) {
-        let cells = maker.cells(alloc, stretch)?;
+    for interval in explained.intervals.iter().take(MAX_INTERVALS) {
+        let cells = maker.cells(alloc, interval)?;
         out.push_str("<tr><th scope=\"row\">")?;
-        push_clock(out, explained.moment(stretch.start), cells.from.as_str())?;
+        push_clock(out, explained.moment(interval.start), cells.from.as_str())?;
         out.push_str("</th><td>")?;
-        push_clock(out, explained.moment(stretch.end), cells.to.as_str())?;
+        push_clock(out, explained.moment(interval.end), cells.to.as_str())?;
         push_cells(out, &cells)?;
     }
     out.push_str("</tbody>\n</table>\n</div>\n")?;

@@ -9,7 +9,7 @@ use crate::legend::{lower_edge, push_legend};
 use crate::letters::push_letters;
 use crate::markup::{push_element, push_escaped};
 use crate::scale::{BREADTH, LEFT, Scale};
-use crate::steps::stretch_steps;
+use crate::steps::interval_steps;
 use crate::styles::PICTURE;
 use crate::table::{heading, place, push_moment};
 use crate::words::push_length;
@@ -37,7 +37,7 @@ pub(crate) fn push_picture(
     explained: &ExplainedAsk<'_>,
 ) -> Result<(), AllocError> {
     let entries = entries_of(alloc, explained)?;
-    let limit = stretch_steps(alloc, explained)?;
+    let limit = interval_steps(alloc, explained)?;
     let height = lower_edge(entries.len());
     push_opening(out, height)?;
     push_description(alloc, out, explained)?;
@@ -79,8 +79,8 @@ fn push_description(
     )?;
     out.push_str("<desc id=\"picture-description\">Times in UTC.")?;
     let mut maker = CellMaker::new(explained);
-    for stretch in explained.intervals.iter().take(DESCRIBED) {
-        let cells = maker.cells(alloc, stretch)?;
+    for interval in explained.intervals.iter().take(DESCRIBED) {
+        let cells = maker.cells(alloc, interval)?;
         push_element(out, " ", cells.from.as_str(), " to ")?;
         push_element(out, "", cells.to.as_str(), ": ")?;
         push_element(out, "", cells.limit.as_str(), ", ")?;

@@ -95,19 +95,19 @@ fn second_of(ask: &Ask, instant: Instant) -> u32 {
 }
 
 /// The limits of the stretches.
-pub(crate) fn stretch_steps(
+pub(crate) fn interval_steps(
     alloc: Global,
     explained: &ExplainedAsk<'_>,
 ) -> Result<Steps, AllocError> {
     let mut items = Vec::new(alloc);
-    for stretch in explained.intervals.iter().take(MAX_INTERVALS) {
+    for interval in explained.intervals.iter().take(MAX_INTERVALS) {
         items.push(Step {
-            second: stretch.start,
-            limit: Some(stretch.reason.limit),
+            second: interval.start,
+            limit: Some(interval.reason.limit),
         })?;
     }
     let end = match explained.intervals.get(MAX_INTERVALS) {
-        Some(stretch) => stretch.start,
+        Some(interval) => interval.start,
         None => explained.ask.duration,
     };
     Ok(Steps { items, end })

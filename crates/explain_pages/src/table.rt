@@ -213,8 +213,8 @@ fn push_intervals(
 /// The largest limit of the stretches, in tenths.
 pub(crate) fn largest_limit(explained: &ExplainedAsk<'_>) -> u32 {
     let mut largest = 0;
-    for stretch in explained.intervals {
-        largest = stretch.reason.limit.max(largest);
+    for interval in explained.intervals {
+        largest = interval.reason.limit.max(largest);
     }
     largest
 }

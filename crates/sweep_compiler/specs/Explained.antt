@@ -17,24 +17,24 @@ pub record ExplainedSchedule : Type 0 where
 -- it ends, and the last ends at the other
 abbrev pub Adjoin : ℕ → ℕ → List Interval → Type 0
 Adjoin from end [] = from ≡ end
-Adjoin from end (stretch ∷ later) =
-    (stretch.start ≡ from) × (stretch.start < stretch.end) × Adjoin stretch.end end later
+Adjoin from end (interval ∷ later) =
+    (interval.start ≡ from) × (interval.start < interval.end) × Adjoin interval.end end later
 
 -- neighbours differ in their limit, their cause or their shares
 abbrev pub Differ : List Interval → Type 0
 Differ [] = Unit {0}
-Differ (stretch ∷ []) = Unit {0}
-Differ (stretch ∷ (next ∷ later)) = (stretch.reason ≢ next.reason) × Differ (next ∷ later)
+Differ (interval ∷ []) = Unit {0}
+Differ (interval ∷ (next ∷ later)) = (interval.reason ≢ next.reason) × Differ (next ∷ later)
 
 -- the limit of a stretch is the limit at each of its seconds, and its reason the reason, in an ask of a
 -- connector from a start on
-pub record IsIntervalOf (state : PointState) (connector start : ℕ) (stretch : Interval) : Type 0 where
+pub record IsIntervalOf (state : PointState) (connector start : ℕ) (interval : Interval) : Type 0 where
   pub limit :
-      (second : ℕ) → stretch.start ≤ second → second < stretch.end
-      → stretch.reason.limit ≡ limit_asked state connector start second
+      (second : ℕ) → interval.start ≤ second → second < interval.end
+      → interval.reason.limit ≡ limit_asked state connector start second
   pub reason :
-      (second : ℕ) → stretch.start ≤ second → second < stretch.end
-      → stretch.reason ≡ reason_asked state connector start second
+      (second : ℕ) → interval.start ≤ second → second < interval.end
+      → interval.reason ≡ reason_asked state connector start second
 
 -- an ask of a connector from a start on for so many seconds, explained
 pub record IsExplanation (state : PointState) (connector start duration : ℕ) (explained : ExplainedSchedule)
@@ -48,9 +48,9 @@ pub record IsExplanation (state : PointState) (connector start duration : ℕ) (
 -- before it begins none
 abbrev pub periods_behind : Option ℕ → List Interval → List CompositePeriod
 periods_behind before [] = []
-periods_behind before (stretch ∷ later) =
-    period_added before (record { start = stretch.start; limit = stretch.reason.limit })
-    ++ periods_behind (Some stretch.reason.limit) later
+periods_behind before (interval ∷ later) =
+    period_added before (record { start = interval.start; limit = interval.reason.limit })
+    ++ periods_behind (Some interval.reason.limit) later
 
 -- the periods of stretches, neighbours of equal limit joined
 abbrev pub joined : List Interval → List CompositePeriod

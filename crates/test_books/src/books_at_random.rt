@@ -122,7 +122,7 @@ fn expect_reason(
     alloc: Global,
     book: &PointBook,
     ask: &Ask,
-    (stretch, second): (&Interval, u32),
+    (interval, second): (&Interval, u32),
 ) {
     let view = book.view();
     assert!(rt; ask.connector as usize <= view.ceilings.len());
@@ -130,21 +130,21 @@ fn expect_reason(
     let instant = ask.start.seconds().saturating_add(u64::from(second));
     let instant = Instant::try_new(instant).expect(rt, "error");
     let reason = reason_at(alloc, &view, ask.connector, ask.start, instant).expect(rt, "error");
-    holds(rt, reason.same(&stretch.reason), "a reason");
+    holds(rt, reason.same(&interval.reason), "a reason");
 }
 
 /// That each stretch of an explained ask tells its reason at its first second and at its last.
 fn expect_reasons(rt: &impl Abort, alloc: Global, book: &PointBook, ask: &Ask) {
     assert!(rt; ask.connector <= book.connectors());
     let explanation = explain(alloc, book, ask, &mut Turns::new()).expect(rt, "error");
-    for stretch in explanation.intervals() {
-        expect_reason(rt, alloc, book, ask, (stretch, stretch.start));
+    for interval in explanation.intervals() {
+        expect_reason(rt, alloc, book, ask, (interval, interval.start));
         expect_reason(
             rt,
             alloc,
             book,
             ask,
-            (stretch, stretch.end.saturating_sub(1)),
+            (interval, interval.end.saturating_sub(1)),
         );
     }
 }

@@ -122,10 +122,10 @@ fn expect_64_shares(rt: &impl Abort, alloc: Global, book: &PointBook) {
     let ask = Ask::try_new(0, start, 120).expect(rt, "error");
     assert!(rt; ask.connector <= book.connectors());
     let explanation = explain(alloc, book, &ask, &mut Turns::new()).expect(rt, "error");
-    for stretch in explanation.intervals() {
+    for interval in explanation.intervals() {
         holds(
             rt,
-            stretch.reason.shares.as_slice().len() == 64,
+            interval.reason.shares.as_slice().len() == 64,
             "64 shares",
         );
     }

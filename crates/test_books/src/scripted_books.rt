@@ -18,7 +18,7 @@
 ghost use Rattle.std.specs.Prelude.{◌≤◌, length};
 
 use crate::fixtures::{begin_of, criteria_of, row_of};
-use crate::reason_words::put_stretch;
+use crate::reason_words::put_interval;
 use crate::same::{holds, same, same_text};
 use crate::words::Words;
 use meaning::{Ask, Composite, compile_plain};
@@ -270,8 +270,8 @@ fn explained(rt: &impl Abort, book: &PointBook, mut line: Line<'_>) -> String {
         line.whole,
     );
     let mut text = String::new(line.alloc);
-    for stretch in explanation.intervals() {
-        put_stretch(rt, &mut text, stretch);
+    for interval in explanation.intervals() {
+        put_interval(rt, &mut text, interval);
     }
     text
 }

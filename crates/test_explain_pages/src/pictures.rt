@@ -1,6 +1,6 @@
 //! Pictures and pages, by the parts that can be found by hand.
 
-use crate::samples::{Point, ask, by, profile, stretch};
+use crate::samples::{Point, ask, by, interval, profile};
 use explain_pages::{
     ExplainedAsk, NoPart, NotCounted, is_named, profile_of, sentence, telling_instant, write_json,
     write_page, write_picture, write_table,
@@ -43,8 +43,8 @@ fn pictures_and_pages(rt: HostRuntime) -> Result<(), Fail> {
         ask: ask(1, 0, 86_400)?,
         view: point.view(),
         intervals: &[
-            stretch(alloc, 0, 43_200, 160, by(1, Purpose::TxDefaultProfile, 0)),
-            stretch(alloc, 43_200, 86_400, 320, Cause::ConnectorCeiling),
+            interval(alloc, 0, 43_200, 160, by(1, Purpose::TxDefaultProfile, 0)),
+            interval(alloc, 43_200, 86_400, 320, Cause::ConnectorCeiling),
         ],
         not_counted: &[],
     };
@@ -98,7 +98,7 @@ fn a_hundred_profiles(rt: HostRuntime) -> Result<(), Fail> {
         unit: Unit::W,
         ask: ask(1, 0, 604_800)?,
         view: point.view(),
-        intervals: &[stretch(alloc, 0, 604_800, 60, by(99, Purpose::TxDefaultProfile, 99))],
+        intervals: &[interval(alloc, 0, 604_800, 60, by(99, Purpose::TxDefaultProfile, 99))],
         not_counted: &[],
     };
     let picture = write_picture(alloc, &explained)?;
@@ -116,7 +116,7 @@ fn too_many_intervals(rt: HostRuntime) -> Result<(), Fail> {
     let mut intervals = Vec::new(alloc);
     for second in 0..20_001 {
         let limit = second % 2 * 10;
-        intervals.push(stretch(alloc, second, second + 1, limit, Cause::PointCeiling))?;
+        intervals.push(interval(alloc, second, second + 1, limit, Cause::PointCeiling))?;
     }
     let explained = ExplainedAsk {
         point: "CP1",
@@ -171,7 +171,7 @@ fn each_reason_has_its_sentence(rt: HostRuntime) -> Result<(), Fail> {
 fn expect_everywhere(rt: &impl Abort, alloc: Global, reason: NoPart) -> Result<(), Fail> {
     let point = Point::with_rows(alloc, "")?;
     let never = profile(3, Purpose::TxProfile, 2);
-    let intervals = [stretch(alloc, 0, 60, 630, by(2, Purpose::TxProfile, 2))];
+    let intervals = [interval(alloc, 0, 60, 630, by(2, Purpose::TxProfile, 2))];
     assert!(rt; !is_named(&intervals, never));
     assert!(rt; is_named(&intervals, profile(2, Purpose::TxProfile, 2)));
     let explained = ExplainedAsk {

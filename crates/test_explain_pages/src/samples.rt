@@ -74,7 +74,7 @@ pub fn by(id: i32, purpose: Purpose, stack_level: u32) -> Cause {
 }
 
 /// A stretch without shares.
-pub fn stretch(alloc: Global, start: u32, end: u32, limit: u32, cause: Cause) -> Interval {
+pub fn interval(alloc: Global, start: u32, end: u32, limit: u32, cause: Cause) -> Interval {
     Interval {
         start,
         end,

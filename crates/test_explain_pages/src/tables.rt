@@ -1,6 +1,6 @@
 //! Tables for people, against those made by hand.
 
-use crate::samples::{Point, ask, by, profile, stretch, sum};
+use crate::samples::{Point, ask, by, interval, profile, sum};
 use explain_pages::{ExplainedAsk, NoPart, NotCounted, push_length, write_json, write_table};
 use meaning::{Cause, PrevailingProfile, Share, WhyNot};
 use ocpp_scalars::LAST_SECOND;
@@ -88,10 +88,10 @@ fn tables_fit_the_terminal(rt: HostRuntime) -> Result<(), Fail> {
     let night = by(1, Purpose::TxDefaultProfile, 1);
     let day = by(2, Purpose::TxDefaultProfile, 0);
     let intervals = [
-        stretch(alloc, 0, 21_600, 60, night),
-        stretch(alloc, 21_600, 79_200, 200, day),
-        stretch(alloc, 79_200, 108_000, 60, night),
-        stretch(alloc, 108_000, 172_800, 320, Cause::ConnectorCeiling),
+        interval(alloc, 0, 21_600, 60, night),
+        interval(alloc, 21_600, 79_200, 200, day),
+        interval(alloc, 79_200, 108_000, 60, night),
+        interval(alloc, 108_000, 172_800, 320, Cause::ConnectorCeiling),
     ];
     let explained = ExplainedAsk {
         point: "CP1",
@@ -192,7 +192,7 @@ const LAST_JSON: &str =
 fn the_calendar_ends(rt: HostRuntime) -> Result<(), Fail> {
     let alloc = rt.alloc();
     let point = Point::with_rows(alloc, "")?;
-    let intervals = [stretch(alloc, 0, 60, 630, Cause::PointCeiling)];
+    let intervals = [interval(alloc, 0, 60, 630, Cause::PointCeiling)];
     let before = LAST_SECOND - 59 - test_books::MIDNIGHT;
     let explained = ExplainedAsk {
         point: "CP1",

@@ -1,6 +1,6 @@
 //! Why profiles have no part, against reasons found by hand.
 
-use crate::samples::{Point, ask, stretch};
+use crate::samples::{Point, ask, interval};
 use explain_pages::{ExplainedAsk, not_counted, write_json};
 use meaning::Cause;
 use profile::Unit;
@@ -52,8 +52,8 @@ fn reasons_of(alloc: Global, asked: &str, rows: &str) -> Result<String, Fail> {
     let point = Point::with_transactions(alloc, rows.replace(alloc, "; ", "\n")?.as_str(), active)?;
     let ask = ask(connector.parse::<u32>()?, 0, 86_400)?;
     let intervals = [
-        stretch(alloc, 0, 43_200, 320, Cause::ConnectorCeiling),
-        stretch(alloc, 43_200, 86_400, 310, Cause::PointCeiling),
+        interval(alloc, 0, 43_200, 320, Cause::ConnectorCeiling),
+        interval(alloc, 43_200, 86_400, 310, Cause::PointCeiling),
     ];
     let rest = not_counted(alloc, &point.view(), &ask, &intervals)?;
     let explained = ExplainedAsk {

@@ -12,7 +12,7 @@ use Rattle.sweep_compiler.specs.Explained.{IsIntervalOf}
 use Rattle.sweep_compiler.specs.Places.{is_second_asked}
 use Rattle.sweep_compiler.specs.ByCases.Curve.{LeadsOn}
 use Rattle.sweep_compiler.specs.ByCases.Swept.{IsReadyCurve, IsOfOneAsk}
-use Rattle.sweep_compiler.proofs.Explaining.{with_reason, adjoin_more, all_more, differ_as, differ_more, stretch_of, stays_upto, at_one, upto_next, spent_next, spent_end, spent_few}
+use Rattle.sweep_compiler.proofs.Explaining.{with_reason, adjoin_more, all_more, differ_as, differ_more, interval_of, stays_upto, at_one, upto_next, spent_next, spent_end, spent_few}
 use Rattle.sweep_compiler.proofs.explained.explain_along.Goals as goal
 
 -- ---- one ask
@@ -146,7 +146,7 @@ returns-in_default-clause-explained c =
       lasts = c.new.ensures.lasts;
       adjoin = rw items (adjoin_more 0 c.loop-reason.start c.loop-reason.intervals.items new kept.adjoin refl some);
       each = rw items (all_more (IsIntervalOf state of.connector of.asked) c.loop-reason.intervals.items new kept.so_far
-          (stretch_of state of.connector of.asked new
+          (interval_of state of.connector of.asked new
           (stays_upto (reason_asked state of.connector of.asked) c.loop-reason.reason c.loop-reason.start (now.at - of.asked) c.args.duration kept.open_one begun stays)));
       differ = rw items (differ_as c.loop-reason.intervals.items (with_reason c.loop-reason.reason) new refl kept.differ);
     }
@@ -210,7 +210,7 @@ loop-reason-preserved-then-not-same c =
       begun = omega (arith, here);
       adjoin = rw items (adjoin_more 0 c.loop-reason.start intervals new kept.adjoin refl some);
       so_far = rw items (all_more (IsIntervalOf state of.connector of.asked) intervals new kept.so_far
-          (stretch_of state of.connector of.asked new
+          (interval_of state of.connector of.asked new
           (stays_upto value c.loop-reason.reason c.loop-reason.start (now.at - of.asked) next kept.open_one begun leads.3)));
       open_one = λ k from upto. at_one value c.in_ok-found.found next found k from (omega (arith, here, upto));
       differ = rw items (differ_more intervals new (with_reason c.in_ok-found.found) unlike (differ_as intervals (with_reason c.loop-reason.reason) new refl kept.differ));
