@@ -1,4 +1,4 @@
-//! The strip below a picture's field that names what sets the limit of each stretch.
+//! The strip below a picture's field that names what sets the limit of each interval.
 
 use crate::drawing::{Sketch, push_letter};
 use crate::entries::{Entry, place_of};
@@ -15,7 +15,7 @@ const UPPER: u64 = BOTTOM + 54;
 
 pub(crate) const LOWER: u64 = UPPER + 26;
 
-/// Appends the strip: a field for each stretch with the name of its cause, where that has room, else with
+/// Appends the strip: a field for each interval with the name of its cause, where that has room, else with
 /// its letter. Each field has a title that a pointing device shows.
 pub(crate) fn push_causes(
     alloc: Global,
@@ -40,7 +40,7 @@ pub(crate) fn push_causes(
     Ok(())
 }
 
-/// The field of a stretch.
+/// The field of an interval.
 #[derive(Clone, Copy)]
 struct Field<'a> {
     interval: &'a Interval,

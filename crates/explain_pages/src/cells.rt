@@ -1,4 +1,4 @@
-//! The cells of a table of stretches.
+//! The cells of a table of intervals.
 
 use crate::clock::{ClockTime, needs_seconds, push_date, push_time};
 use crate::explained_ask::ExplainedAsk;
@@ -6,10 +6,10 @@ use crate::words::{push_length, push_limit, push_why};
 use std::alloc::{AllocError, Global};
 use sweep_compiler::Interval;
 
-/// The cells of a stretch.
+/// The cells of an interval.
 #[derive(Drop)]
 pub(crate) struct Cells {
-    /// When it begins, with the date where the stretch before begins on another day.
+    /// When it begins, with the date where the interval before begins on another day.
     pub(crate) from: String,
     /// When it ends, with the date where that isn't the day of its beginning.
     pub(crate) to: String,
@@ -20,12 +20,12 @@ pub(crate) struct Cells {
     pub(crate) why: String,
 }
 
-/// Makes the cells of one stretch after another.
+/// Makes the cells of one interval after another.
 #[derive(Drop)]
 pub(crate) struct CellMaker<'a> {
     explained: &'a ExplainedAsk<'a>,
     with_seconds: bool,
-    /// The day on which the stretch before begins.
+    /// The day on which the interval before begins.
     day: Option<u64>,
 }
 
@@ -38,7 +38,7 @@ impl<'a> CellMaker<'a> {
         }
     }
 
-    /// The cells of the next stretch.
+    /// The cells of the next interval.
     pub(crate) fn cells(
         &mut self,
         alloc: Global,
@@ -75,7 +75,7 @@ impl<'a> CellMaker<'a> {
     }
 }
 
-/// The cells of all stretches.
+/// The cells of all intervals.
 pub(crate) fn all_cells(
     alloc: Global,
     explained: &ExplainedAsk<'_>,

@@ -18,7 +18,7 @@ pub(crate) struct Sketch<'a> {
     pub(crate) explained: &'a ExplainedAsk<'a>,
     pub(crate) scale: Scale,
     pub(crate) entries: &'a [Entry],
-    /// The limits of the stretches.
+    /// The limits of the intervals.
     pub(crate) limit: &'a Steps,
 }
 

@@ -6,7 +6,7 @@ use meaning::{Ask, Cause, PrevailingProfile, View, WhyNot};
 use profile::Unit;
 use sweep_compiler::Interval;
 
-/// What is explained: an ask of a point's schedule (chapter 5.7), with the stretches that answer it.
+/// What is explained: an ask of a point's schedule (chapter 5.7), with the intervals that answer it.
 #[derive(Clone, Copy)]
 pub struct ExplainedAsk<'a> {
     /// The identity of the charge point.
@@ -16,7 +16,7 @@ pub struct ExplainedAsk<'a> {
     pub ask: Ask,
     /// What the point has.
     pub view: View<'a>,
-    /// The stretches of the ask, in order.
+    /// The intervals of the ask, in order.
     pub intervals: &'a [Interval],
     /// The profiles that never set the limit in this time.
     pub not_counted: &'a [NotCounted],
@@ -62,7 +62,7 @@ impl ExplainedAsk<'_> {
     }
 }
 
-/// Whether a profile sets a limit in one of the stretches, or a share of it.
+/// Whether a profile sets a limit in one of the intervals, or a share of it.
 pub fn is_named(intervals: &[Interval], profile: PrevailingProfile) -> bool {
     let cause = Cause::Profile(profile);
     for interval in intervals {

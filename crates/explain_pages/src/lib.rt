@@ -1,5 +1,5 @@
 //! ExplainedAsk schedules, for people and for programs: a table with the reason of each limit, the same as JSON,
-//! and a picture as SVG or as an HTML page. Nothing here decides: it prints the stretches that it is given.
+//! and a picture as SVG or as an HTML page. Nothing here decides: it prints the intervals that it is given.
 #![tactic(auto)]
 
 mod causes;

@@ -11,7 +11,7 @@ use crate::words::{push_profile, sentence};
 use ocpp_scalars::{Instant, push_instant};
 use std::alloc::{AllocError, Global};
 
-/// An explained schedule as a page, a whole HTML file that loads nothing: the picture, the stretches in a table
+/// An explained schedule as a page, a whole HTML file that loads nothing: the picture, the intervals in a table
 /// (the first `MAX_INTERVALS`; where there are more, the page says so), and the profiles that never set the
 /// limit.
 pub fn write_page(alloc: Global, explained: &ExplainedAsk<'_>) -> Result<String, AllocError> {
@@ -64,7 +64,7 @@ fn push_table(
     push_note(out, explained.intervals.len())
 }
 
-/// Appends how many stretches the table leaves out, where it does.
+/// Appends how many intervals the table leaves out, where it does.
 fn push_note(out: &mut String, count: usize) -> Result<(), AllocError> {
     if count <= MAX_INTERVALS {
         return Ok(());

@@ -17,7 +17,7 @@ use messages::unit_name;
 use ocpp_scalars::push_integer;
 use std::alloc::{AllocError, Global};
 
-/// The most stretches that a picture's description names.
+/// The most intervals that a picture's description names.
 const DESCRIBED: usize = 12;
 
 /// An explained schedule as a picture, a whole SVG file: the limit as a thick line, under it the profiles and
@@ -90,7 +90,7 @@ fn push_description(
     out.push_str("</desc>\n")
 }
 
-/// Appends how many stretches come after those that are shown.
+/// Appends how many intervals come after those that are shown.
 pub(crate) fn push_more(out: &mut String, count: usize, shown: usize) -> Result<(), AllocError> {
     if count <= shown {
         return Ok(());

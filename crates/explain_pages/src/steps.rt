@@ -13,7 +13,7 @@ use std::alloc::{AllocError, Global};
 /// The most steps of a profile's line.
 pub const MAX_STEPS: usize = 2_000;
 
-/// The most stretches that a picture or a page shows.
+/// The most intervals that a picture or a page shows.
 pub const MAX_INTERVALS: usize = 20_000;
 
 /// A limit from a second on, or none.
@@ -94,7 +94,7 @@ fn second_of(ask: &Ask, instant: Instant) -> u32 {
     second.min(u64::from(ask.duration)) as u32
 }
 
-/// The limits of the stretches.
+/// The limits of the intervals.
 pub(crate) fn interval_steps(
     alloc: Global,
     explained: &ExplainedAsk<'_>,

@@ -14,7 +14,7 @@ use std::alloc::{AllocError, Global};
 /// The fewest columns of a bar, and the most.
 const BAR: (usize, usize) = (8, 40);
 
-/// The table of an explained schedule: a line for each stretch with its beginning and its end in UTC, its
+/// The table of an explained schedule: a line for each interval with its beginning and its end in UTC, its
 /// length, its limit and why, and below it the profiles that never set the limit. Where the columns of a
 /// terminal are given, no line is broader than they are (unless one word is), and bars show the limits.
 pub fn write_table(
@@ -140,13 +140,13 @@ impl Widths {
 /// How the lines of a table lie.
 #[derive(Clone, Copy, PartialEq, Eq)]
 enum Layout {
-    /// A line for each stretch, and no bar.
+    /// A line for each interval, and no bar.
     Plain,
-    /// A line for each stretch, with a bar of so many columns in it.
+    /// A line for each interval, with a bar of so many columns in it.
     OneLine(usize),
     /// Why stands in a line of its own, and a bar of so many columns is behind the limit.
     TwoLines(usize),
-    /// Each stretch is a paragraph, with a bar of so many columns.
+    /// Each interval is a paragraph, with a bar of so many columns.
     Paragraphs(usize),
 }
 
@@ -210,7 +210,7 @@ fn push_intervals(
     Ok(())
 }
 
-/// The largest limit of the stretches, in tenths.
+/// The largest limit of the intervals, in tenths.
 pub(crate) fn largest_limit(explained: &ExplainedAsk<'_>) -> u32 {
     let mut largest = 0;
     for interval in explained.intervals {
@@ -241,7 +241,7 @@ impl Sheet<'_> {
         }
     }
 
-    /// Appends a stretch.
+    /// Appends an interval.
     fn push(&self, alloc: Global, out: &mut String, cells: &Cells) -> Result<(), AllocError> {
         match self.layout {
             Layout::Plain => {

@@ -13,7 +13,7 @@ use meaning::{Ask, View, WhyNot, why_not};
 use std::alloc::{AllocError, Global};
 use sweep_compiler::Interval;
 
-/// The profiles that never set the limit in the stretches of an ask, each with its reason: that it prevails at
+/// The profiles that never set the limit in the intervals of an ask, each with its reason: that it prevails at
 /// some second of the ask and yet isn't the least, or else what holds at every second.
 pub fn not_counted(
     alloc: Global,

@@ -1,4 +1,4 @@
--- Stretches so far: with one more, and the periods that they make.
+-- Intervals so far: with one more, and the periods that they make.
 use Rattle.std.proofs.Common.{◌≡◌, ◌≢◌, ℕ, ◌+◌, ◌-◌, ◌<◌, ◌≤◌, zero, suc, Bool, true, List, [], ◌∷◌, ◌++◌, cond, Option, Some, None, refl, ap, sym, ◌∙◌, inl, inr, arith}
 use Rattle.std.specs.List.{AllByRecursion, range_with_len, count_by}
 use Rattle.std.proofs.Common.{append_assoc}
@@ -22,7 +22,7 @@ use Rattle.sweep_compiler.specs.Explained.{ExplainedSchedule, Adjoin, Differ, Is
 use Rattle.sweep_compiler.specs.Places.{places_within}
 use Rattle.sweep_compiler.proofs.Sweeping.{count_more, count_upto, periods_upto, before_stays}
 
--- ---- one stretch more
+-- ---- one interval more
 
 pub adjoin_more : (from middle : ℕ) (intervals : List Interval) (new : Interval) → Adjoin from middle intervals → new.start ≡ middle → new.start < new.end
     → Adjoin from new.end (intervals ++ new ∷ [])
@@ -33,7 +33,7 @@ pub all_more : {X : Type 0} (P : X → Type 0) (xs : List X) (x : X) → AllByRe
 all_more P [] x h k = (k, tt)
 all_more P (y ∷ xs) x h k = (h.0, all_more P xs x h.1 k)
 
--- what tells a stretch from its neighbours: its reason alone
+-- what tells an interval from its neighbours: its reason alone
 abbrev pub with_reason : Reason → Interval
 with_reason reason = record { start = 0; end = 0; reason = reason }
 

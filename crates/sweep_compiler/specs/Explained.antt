@@ -1,4 +1,4 @@
--- An explained schedule: stretches of an ask, each with one limit for one reason (OCPP 1.6, 3.13 and 5.7).
+-- An explained schedule: intervals of an ask, each with one limit for one reason (OCPP 1.6, 3.13 and 5.7).
 use Rattle.std.specs.Prelude.{◌≡◌, ◌≢◌, ℕ, ◌<◌, ◌≤◌, List, [], ◌∷◌, ◌++◌, Option, Some, None}
 use Rattle.std.specs.List.{AllByRecursion}
 use Rattle.meaning.specs.declared.composite.CompositePeriod.{CompositePeriod}
@@ -8,12 +8,12 @@ use Rattle.meaning.specs.Limit.{limit_asked}
 use Rattle.meaning.specs.Cause.{reason_asked}
 use Rattle.sweep_compiler.specs.declared.interval.Interval.{Interval}
 
--- stretches over so many seconds
+-- intervals over so many seconds
 pub record ExplainedSchedule : Type 0 where
   pub duration : ℕ
   pub intervals : List Interval
 
--- stretches adjoin from a second up to another: the first begins there, each next one where the one before
+-- intervals adjoin from a second up to another: the first begins there, each next one where the one before
 -- it ends, and the last ends at the other
 abbrev pub Adjoin : ℕ → ℕ → List Interval → Type 0
 Adjoin from end [] = from ≡ end
@@ -26,7 +26,7 @@ Differ [] = Unit {0}
 Differ (interval ∷ []) = Unit {0}
 Differ (interval ∷ (next ∷ later)) = (interval.reason ≢ next.reason) × Differ (next ∷ later)
 
--- the limit of a stretch is the limit at each of its seconds, and its reason the reason, in an ask of a
+-- the limit of an interval is the limit at each of its seconds, and its reason the reason, in an ask of a
 -- connector from a start on
 pub record IsIntervalOf (state : PointState) (connector start : ℕ) (interval : Interval) : Type 0 where
   pub limit :
@@ -44,7 +44,7 @@ pub record IsExplanation (state : PointState) (connector start duration : ℕ) (
   pub each : AllByRecursion (IsIntervalOf state connector start) explained.intervals
   pub differ : Differ explained.intervals
 
--- the periods of stretches behind a limit, where there is one: a stretch whose limit is that of the one
+-- the periods of intervals behind a limit, where there is one: an interval whose limit is that of the one
 -- before it begins none
 abbrev pub periods_behind : Option ℕ → List Interval → List CompositePeriod
 periods_behind before [] = []
@@ -52,6 +52,6 @@ periods_behind before (interval ∷ later) =
     period_added before (record { start = interval.start; limit = interval.reason.limit })
     ++ periods_behind (Some interval.reason.limit) later
 
--- the periods of stretches, neighbours of equal limit joined
+-- the periods of intervals, neighbours of equal limit joined
 abbrev pub joined : List Interval → List CompositePeriod
 joined intervals = periods_behind None intervals

@@ -17,9 +17,9 @@ use ocpp_scalars::Refusal;
 use point_book::PointBook;
 use std::alloc::{AllocError, Global};
 
-/// What sets the limit at each second of an ask (chapter 3.13), in stretches. The reason is evaluated
+/// What sets the limit at each second of an ask (chapter 3.13), in intervals. The reason is evaluated
 /// once for the start, and at most once for each place after it, however long the ask is. Memory is
-/// taken for the rows that count, the stretches, and the shares of each.
+/// taken for the rows that count, the intervals, and the shares of each.
 pub fn explain(
     alloc: Global,
     book: &PointBook,
@@ -51,7 +51,7 @@ pub fn explain(
     }
 }
 
-/// The stretches of a curve, found at its first second and then from place to place: one turn for each.
+/// The intervals of a curve, found at its first second and then from place to place: one turn for each.
 fn explain_along(
     alloc: Global,
     curve: &mut LimitCurve<'_>,

@@ -6,7 +6,7 @@ ghost use Rattle.sweep_compiler.specs.Explained.{Adjoin};
 use crate::interval::Interval;
 use std::marker::Model;
 
-/// What sets the limits of an asked schedule (chapter 3.13): stretches, the first from second 0 on, each next
+/// What sets the limits of an asked schedule (chapter 3.13): intervals, the first from second 0 on, each next
 /// one from the end of the one before it, the last up to the end.
 #[derive(Debug, Drop)]
 pub struct Explanation {
@@ -26,7 +26,7 @@ impl Model for Explanation {
 }
 
 impl Explanation {
-    /// The explanation of these stretches over so many seconds.
+    /// The explanation of these intervals over so many seconds.
     pub(crate) fn new(duration: u32, intervals: Vec<Interval>) -> Explanation
         requires adjoin { Adjoin 0 duration intervals.items }
         ensures lasts { result.duration ≡ duration }
@@ -45,7 +45,7 @@ impl Explanation {
         self.duration
     }
 
-    /// The stretches in order.
+    /// The intervals in order.
     pub fn intervals(&self) -> &[Interval]
         ensures value { result.now ≡ self.now.intervals }
         ensures adjoin { Adjoin 0 self.now.duration self.now.intervals }

@@ -1,8 +1,8 @@
-//! A stretch of time with one limit for one reason.
+//! An interval of time with one limit for one reason.
 
 use meaning::Reason;
 
-/// A stretch of an asked schedule over which the limit and what sets it stay the same.
+/// An interval of an asked schedule over which the limit and what sets it stay the same.
 #[derive(Debug, Drop)]
 pub struct Interval {
     /// Its first second, counted from the start of the ask.

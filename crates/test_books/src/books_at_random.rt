@@ -116,7 +116,7 @@ fn expect_alike(rt: &impl Abort, alloc: Global, book: &PointBook, ask: &Ask) {
     holds(rt, schedule.periods() == plain.periods(), "a schedule");
 }
 
-/// That a stretch tells what `reason_at` finds at one of its seconds.
+/// That an interval tells what `reason_at` finds at one of its seconds.
 fn expect_reason(
     rt: &impl Abort,
     alloc: Global,
@@ -133,7 +133,7 @@ fn expect_reason(
     holds(rt, reason.same(&interval.reason), "a reason");
 }
 
-/// That each stretch of an explained ask tells its reason at its first second and at its last.
+/// That each interval of an explained ask tells its reason at its first second and at its last.
 fn expect_reasons(rt: &impl Abort, alloc: Global, book: &PointBook, ask: &Ask) {
     assert!(rt; ask.connector <= book.connectors());
     let explanation = explain(alloc, book, ask, &mut Turns::new()).expect(rt, "error");

@@ -1,5 +1,5 @@
 //! Limits and schedules with what sets them, and why a profile doesn't prevail: worked by hand. The lines are
-//! those of `scripted_books.rt`, each stretch with its start, its end and its reason.
+//! those of `scripted_books.rt`, each interval with its start, its end and its reason.
 
 use crate::fixtures::instant_at;
 use crate::reason_words::put_reason;

@@ -32,7 +32,7 @@ pub(crate) fn put_reason(rt: &impl Abort, text: &mut String, reason: &Reason) {
     }
 }
 
-/// Puts a stretch, as ` 0-2:60:id=1`.
+/// Puts an interval, as ` 0-2:60:id=1`.
 pub(crate) fn put_interval(rt: &impl Abort, text: &mut String, interval: &Interval) {
     write!(text, " {}-{}:", interval.start, interval.end).expect(rt, "error");
     put_reason(rt, text, &interval.reason);

@@ -12,8 +12,8 @@
 //! | `alike 1 30 60` | that both answer alike |
 //! | `counts 1 30 60` | how many periods the answer has, or why there is none; and the turns that it took |
 //! | `twice 1 30 60` | the answer that a `Compiled` has twice: the periods, or why there is none |
-//! | `explain 1 30 60` | the stretches of the answer, each with its reason |
-//! | `reasons 1 30 60` | how many stretches, and turns |
+//! | `explain 1 30 60` | the intervals of the answer, each with its reason |
+//! | `reasons 1 30 60` | how many intervals, and turns |
 
 ghost use Rattle.std.specs.Prelude.{◌≤◌, length};
 

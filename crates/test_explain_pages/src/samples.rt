@@ -73,7 +73,7 @@ pub fn by(id: i32, purpose: Purpose, stack_level: u32) -> Cause {
     Cause::Profile(profile(id, purpose, stack_level))
 }
 
-/// A stretch without shares.
+/// An interval without shares.
 pub fn interval(alloc: Global, start: u32, end: u32, limit: u32, cause: Cause) -> Interval {
     Interval {
         start,
@@ -86,7 +86,7 @@ pub fn interval(alloc: Global, start: u32, end: u32, limit: u32, cause: Cause) -
     }
 }
 
-/// A stretch of a sum.
+/// An interval of a sum.
 pub fn sum(
     alloc: Global,
     start: u32,

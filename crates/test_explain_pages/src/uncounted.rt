@@ -8,7 +8,7 @@ use std::alloc::Global;
 use std::test::Fail;
 
 /// A connector that is asked for a day, which of the two connectors have had a transaction since midnight, the rows of
-/// the point, and the reason of each row. One stretch begins at midnight and one at noon (43,200), and no profile sets
+/// the point, and the reason of each row. One interval begins at midnight and one at noon (43,200), and no profile sets
 /// the limit of either. A profile may prevail at one second alone, or for one of two connectors.
 const UNCOUNTED: &str = "\
 1 none | id=1 start=0; id=2 level=1 start=0 duration=43200 | NotLeast NotLeast

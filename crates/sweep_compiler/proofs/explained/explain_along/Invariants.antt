@@ -1,4 +1,4 @@
--- The stretches adjoin up to the one that is open, whose reason holds from its start up to the second at which the
+-- The intervals adjoin up to the one that is open, whose reason holds from its start up to the second at which the
 -- sweep stands, and the turns so far are no more than the first second and the places up to here.
 use Rattle.std.proofs.Common.{◌≡◌, ℕ, ◌+◌, ◌-◌, ◌≤◌, [], ◌∷◌, ◌++◌, length}
 use Rattle.std.specs.List.{AllByRecursion}
