@@ -65,7 +65,7 @@ SaysAt BehindOthers state connector asked second row =
 SaysAt NotLeast state connector asked second row = why_not state connector asked second row ≡ None
 SaysAt NoActiveConnector state connector asked second row = ⊥
 
--- ---- in an ask
+-- ---- in a request
 
 -- whether one connector alone is looked at: the one that is asked, or 0 for a ChargePointMaxProfile
 abbrev pub is_of_one : ℕ → Row → Bool
@@ -83,7 +83,7 @@ abbrev pub LooksAt : PointState → ℕ → Row → ℕ → Type 0
 LooksAt state asked row connector =
     (if is_of_one asked row then connector == asked else is_of_active state row connector) ≡ true
 
--- a reason says so at each second of an ask for each connector looked at, and there is one
+-- a reason says so at each second of a request for each connector looked at, and there is one
 pub record SaysThroughout (reason : NoPart) (state : PointState) (ask : Ask) (row : Row)
     : Type 0 where
   pub one : ℕ
@@ -93,7 +93,7 @@ pub record SaysThroughout (reason : NoPart) (state : PointState) (ask : Ask) (ro
       → ask.start ≤ second → second < ask.start + ask.duration
       → SaysAt reason state connector ask.start second row
 
--- a row prevails at a second of an ask for a connector that is looked at
+-- a row prevails at a second of a request for a connector that is looked at
 pub record PrevailsOnce (state : PointState) (ask : Ask) (row : Row) : Type 0 where
   pub connector : ℕ
   pub looked : LooksAt state ask.connector row connector

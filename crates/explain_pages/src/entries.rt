@@ -28,7 +28,7 @@ pub(crate) enum Line {
     Nothing,
 }
 
-/// The profiles that have a limit in the time of the ask, the ceilings, and what else sets a limit.
+/// The profiles that have a limit in the time of the request, the ceilings, and what else sets a limit.
 pub(crate) fn entries_of(
     alloc: Global,
     explained: &ExplainedAsk<'_>,
@@ -57,7 +57,7 @@ pub(crate) fn place_of(entries: &[Entry], cause: Cause) -> Option<usize> {
     entries.iter().position(|entry| entry.cause == cause)
 }
 
-/// The entry of a profile, where it may set a limit and has one in the time of the ask.
+/// The entry of a profile, where it may set a limit and has one in the time of the request.
 fn profile_entry(
     alloc: Global,
     explained: &ExplainedAsk<'_>,
@@ -70,13 +70,13 @@ fn profile_entry(
     Ok(steps.and_then(|steps| stepped_entry(row, steps)))
 }
 
-/// Whether a row may set a limit of the ask: it stands for its connector, and has the transaction that it needs.
+/// Whether a row may set a limit of the request: it stands for its connector, and has the transaction that it needs.
 fn may_count(explained: &ExplainedAsk<'_>, row: &Row) -> bool {
     let started = started_for(&explained.view, &explained.ask, row);
     applies(explained, row) && has_its_transaction(row.profile.purpose, started)
 }
 
-/// The steps of a row in the time of the ask.
+/// The steps of a row in the time of the request.
 fn steps_of(alloc: Global, explained: &ExplainedAsk<'_>, row: &Row) -> Result<Steps, AllocError> {
     let ask = &explained.ask;
     let base = row.base(started_for(&explained.view, ask, row), ask.start);
@@ -107,13 +107,13 @@ pub fn profile_of(row: &Row) -> PrevailingProfile
     }
 }
 
-/// Whether a row stands for the connector of the ask.
+/// Whether a row stands for the connector of the request.
 fn applies(explained: &ExplainedAsk<'_>, row: &Row) -> bool {
     let connector = explained.ask.connector;
     connector == 0 || row.connector == 0 || row.connector == connector
 }
 
-/// The start of the transaction from which a row counts: that at the connector of the ask; for the whole
+/// The start of the transaction from which a row counts: that at the connector of the request; for the whole
 /// point that at the connector of the row, or the first one.
 fn started_for(view: &View<'_>, ask: &Ask, row: &Row) -> Option<Instant> {
     if ask.connector > 0 {
@@ -125,7 +125,7 @@ fn started_for(view: &View<'_>, ask: &Ask, row: &Row) -> Option<Instant> {
     view.starts.iter().find_map(|start| *start)
 }
 
-/// The instant of an ask at which the reason why a profile never sets the limit says most: the first at which
+/// The instant of a request at which the reason why a profile never sets the limit says most: the first at which
 /// its schedule has a limit, or the start where it has none. (Before it the reason would only be that the
 /// profile is yet to come.)
 pub fn telling_instant(view: &View<'_>, ask: &Ask, row: &Row) -> Instant {

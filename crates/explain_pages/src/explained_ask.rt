@@ -6,7 +6,7 @@ use meaning::{Ask, Cause, PrevailingProfile, View, WhyNot};
 use profile::Unit;
 use sweep_compiler::Interval;
 
-/// What is explained: an ask of a point's schedule (chapter 5.7), with the intervals that answer it.
+/// What is explained: a request of a point's schedule (chapter 5.7), with the intervals that answer it.
 #[derive(Clone, Copy)]
 pub struct ExplainedAsk<'a> {
     /// The identity of the charge point.
@@ -16,7 +16,7 @@ pub struct ExplainedAsk<'a> {
     pub ask: Ask,
     /// What the point has.
     pub view: View<'a>,
-    /// The intervals of the ask, in order.
+    /// The intervals of the request, in order.
     pub intervals: &'a [Interval],
     /// The profiles that never set the limit in this time.
     pub not_counted: &'a [NotCounted],
@@ -45,7 +45,7 @@ pub enum NoPart {
 }
 
 impl ExplainedAsk<'_> {
-    /// The second behind the last one of the ask, in seconds since 1970.
+    /// The second behind the last one of the request, in seconds since 1970.
     pub(crate) fn end(&self) -> u64
         ensures value { result ≡ self.now.ask.start + self.now.ask.duration }
         ensures small { result < 2 ^ 40 }
@@ -53,7 +53,7 @@ impl ExplainedAsk<'_> {
         self.ask.start.seconds() + u64::from(self.ask.duration)
     }
 
-    /// A second of the ask, in seconds since 1970.
+    /// A second of the request, in seconds since 1970.
     pub(crate) fn moment(&self, second: u32) -> u64
         ensures value { result ≡ self.now.ask.start + second }
         ensures small { result < 2 ^ 40 }

@@ -69,7 +69,7 @@ pub(crate) fn place(alloc: Global, explained: &ExplainedAsk<'_>) -> Result<Strin
     Ok(text)
 }
 
-/// Appends a second of the ask with its date.
+/// Appends a second of the request with its date.
 pub(crate) fn push_moment(
     alloc: Global,
     out: &mut String,

@@ -177,7 +177,7 @@ sum_of_connectors = refl
 pub sum_above_the_point : schedule (shared 320) 0 10 60 ≡ span 0 320 ∷ []
 sum_above_the_point = refl
 
--- without a startSchedule a default counts from the start of the ask, a maximum from its install
+-- without a startSchedule a default counts from the start of the request, a maximum from its install
 pub from_the_ask : schedule (point idle (row_at 0 TxDefaultProfile 0 low0 Absolute None refl (Some 60) (period 0 100 ∷ []) ∷ [])) 1 30 100
     ≡ span 0 100 ∷ (span 60 320 ∷ [])
 from_the_ask = refl

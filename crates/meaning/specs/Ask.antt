@@ -29,8 +29,8 @@ pub record IsAskOf (connector start duration : ℕ) (ask : Ask) : Type 0 where
   pub start_is : ask.start ≡ start
   pub duration_is : ask.duration ≡ duration
 
--- The ask of a connector from a start on for so many seconds, or why there is none. By the law
--- `asks` it is refused by the first of these causes, and is else the ask of these numbers.
+-- The request of a connector from a start on for so many seconds, or why there is none. By the law
+-- `asks` it is refused by the first of these causes, and is else the request of these numbers.
 abbrev pub ask_of : ℕ → ℕ → ℕ → Result Ask Refusal
 ask_of connector start duration = do
   some ← fact_or BadDuration (nat_lt 0 duration)

@@ -126,7 +126,7 @@ abbrev pub reason : PointState → ℕ → ℕ → ℕ → Reason
 reason state connector asked instant =
     reason_by state asked instant (bound state connector asked instant)
 
--- the reasons that an ask of a connector from a start on means: at each count of seconds after it
+-- the reasons that a request of a connector from a start on means: at each count of seconds after it
 abbrev pub reason_asked : PointState → ℕ → ℕ → ℕ → Reason
 reason_asked state connector start second = reason state connector start (start + second)
 

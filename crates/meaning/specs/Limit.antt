@@ -52,6 +52,6 @@ limit_by false state connector asked instant =
 abbrev pub limit : PointState → ℕ → ℕ → ℕ → ℕ
 limit state connector asked instant = limit_by (connector == 0) state connector asked instant
 
--- the limits that an ask of a connector from a start on means: at each count of seconds after it
+-- the limits that a request of a connector from a start on means: at each count of seconds after it
 abbrev pub limit_asked : PointState → ℕ → ℕ → ℕ → ℕ
 limit_asked state connector start second = limit state connector start (start + second)

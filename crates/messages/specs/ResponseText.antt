@@ -86,7 +86,7 @@ abbrev pub is_out_of_memory : Refusal → Bool
 is_out_of_memory OutOfMemory = true
 is_out_of_memory _ = false
 
--- a refused install or ask is a result; out of memory is an error, as it is for every action
+-- a refused install or request is a result; out of memory is an error, as it is for every action
 abbrev pub refusal_text : List ℕ → Refusal → List ℕ
 refusal_text id refusal =
     if is_out_of_memory refusal then call_error_text id (codes "InternalError") (codes "OutOfMemory")

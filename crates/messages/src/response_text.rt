@@ -76,7 +76,7 @@ fn push_result(out: &mut String, id: &str, payload: &str) -> Result<(), AllocErr
     push_frame_end(out)
 }
 
-/// Appends the answer to a refused install or ask. Out of memory is an error, as it is for every
+/// Appends the answer to a refused install or request. Out of memory is an error, as it is for every
 /// action.
 fn push_rejected(out: &mut String, id: &str, refusal: Refusal) -> Result<(), AllocError>
     ensures { Appends result (string_bytes out.old) (string_bytes out.new)

@@ -1,4 +1,4 @@
--- An explained schedule: intervals of an ask, each with one limit for one reason (OCPP 1.6, 3.13 and 5.7).
+-- An explained schedule: intervals of a request, each with one limit for one reason (OCPP 1.6, 3.13 and 5.7).
 use Rattle.std.specs.Prelude.{◌≡◌, ◌≢◌, ℕ, ◌<◌, ◌≤◌, List, [], ◌∷◌, ◌++◌, Option, Some, None}
 use Rattle.std.specs.List.{AllByRecursion}
 use Rattle.meaning.specs.declared.composite.CompositePeriod.{CompositePeriod}
@@ -26,7 +26,7 @@ Differ [] = Unit {0}
 Differ (interval ∷ []) = Unit {0}
 Differ (interval ∷ (next ∷ later)) = (interval.reason ≢ next.reason) × Differ (next ∷ later)
 
--- the limit of an interval is the limit at each of its seconds, and its reason the reason, in an ask of a
+-- the limit of an interval is the limit at each of its seconds, and its reason the reason, in a request of a
 -- connector from a start on
 pub record IsIntervalOf (state : PointState) (connector start : ℕ) (interval : Interval) : Type 0 where
   pub limit :
@@ -36,7 +36,7 @@ pub record IsIntervalOf (state : PointState) (connector start : ℕ) (interval :
       (second : ℕ) → interval.start ≤ second → second < interval.end
       → interval.reason ≡ reason_asked state connector start second
 
--- an ask of a connector from a start on for so many seconds, explained
+-- a request of a connector from a start on for so many seconds, explained
 pub record IsExplanation (state : PointState) (connector start duration : ℕ) (explained : ExplainedSchedule)
     : Type 0 where
   pub lasts : explained.duration ≡ duration

@@ -1,4 +1,4 @@
-//! What bounds a connector, or the whole point, on the way through an ask.
+//! What bounds a connector, or the whole point, on the way through a request.
 
 ghost use Rattle.std.specs.Prelude.{◌≡◌, ◌<◌, ◌^◌, length, IfErr, IfOk};
 ghost use Rattle.meaning.specs.declared.cause.Cause.TheVariants.{Sum};

@@ -1,4 +1,4 @@
-//! What sets the limits of an ask.
+//! What sets the limits of a request.
 
 ghost use Rattle.std.specs.Prelude.{◌≡◌, ℕ, ◌+◌, ◌-◌, ◌<◌, ◌≤◌, ◌^◌, length, IfOk};
 ghost use Rattle.point_book.specs.Book.{state_of};
@@ -17,8 +17,8 @@ use ocpp_scalars::Refusal;
 use point_book::PointBook;
 use std::alloc::{AllocError, Global};
 
-/// What sets the limit at each second of an ask (chapter 3.13), in intervals. The reason is evaluated
-/// once for the start, and at most once for each place after it, however long the ask is. Memory is
+/// What sets the limit at each second of a request (chapter 3.13), in intervals. The reason is evaluated
+/// once for the start, and at most once for each place after it, however long the request is. Memory is
 /// taken for the rows that count, the intervals, and the shares of each.
 pub fn explain(
     alloc: Global,

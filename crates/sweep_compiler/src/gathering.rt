@@ -1,4 +1,4 @@
-//! The rows that count for an ask, gathered once, on their way from its start.
+//! The rows that count for a request, gathered once, on their way from its start.
 
 ghost use Rattle.std.specs.Prelude.{◌≡◌, ◌+◌, ◌<◌, ◌≤◌, ◌^◌, ◌++◌, length, map, is_some, IfErr, IfOk};
 ghost use Rattle.ocpp_scalars.specs.declared.refusal.Refusal.TheVariants.{OutOfMemory};
@@ -23,7 +23,7 @@ use profile::{Purpose, Row};
 use stacking::Candidates;
 use std::alloc::{AllocError, Global};
 
-/// What an ask is of: a book, and from where on up to where.
+/// What a request is of: a book, and from where on up to where.
 #[derive(Clone, Copy)]
 pub(crate) struct Gathering<'a> {
     pub alloc: Global,
@@ -36,7 +36,7 @@ pub(crate) struct Gathering<'a> {
 }
 
 impl<'a> Gathering<'a> {
-    /// The limit of a connector at the start of an ask.
+    /// The limit of a connector at the start of a request.
     pub(crate) fn curve(&self, connector: u32) -> Result<LimitCurve<'a>, Refusal>
         requires has_connector { connector ≤ length self.now.view.ceilings.now }
         requires short { self.now.last < self.now.asked + 2 ^ 32 }

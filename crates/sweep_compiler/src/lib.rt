@@ -1,5 +1,5 @@
 //! The sweep compiler of composite schedules (OCPP 1.6, chapter 5.7): it evaluates the limit at the
-//! start of an ask and at the places after it, where a profile may change its limit, and nowhere
+//! start of a request and at the places after it, where a profile may change its limit, and nowhere
 //! else. What a place is stands in `specs/Places.antt`.
 #![tactic(auto)]
 

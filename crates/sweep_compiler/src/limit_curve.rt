@@ -1,4 +1,4 @@
-//! The limit of a connector along the seconds of an ask.
+//! The limit of a connector along the seconds of a request.
 
 ghost use Rattle.std.specs.Prelude.{◌≡◌, ℕ, ◌+◌, ◌-◌, ◌<◌, ◌≤◌, ◌^◌, length, IfErr, IfOk, IfSome};
 ghost use Rattle.ocpp_scalars.specs.declared.refusal.Refusal.TheVariants.{OutOfMemory};
@@ -83,7 +83,7 @@ impl LimitCurve<'_> {
         })
     }
 
-    /// What each active connector has in the sum here, in an ask of the whole point.
+    /// What each active connector has in the sum here, in a request of the whole point.
     fn shares_here(&self, alloc: Global) -> Result<Shares, AllocError>
         requires ready { IsReadyCurve self.now }
         requires within { self.now.at ≤ self.now.last }

@@ -1,4 +1,4 @@
-//! A row on its way through an ask.
+//! A row on its way through a request.
 
 ghost use Rattle.std.specs.Prelude.{◌≡◌, option_map};
 ghost use Rattle.meaning.specs.ByCases.Cause.{profile_limit_of};
@@ -10,7 +10,7 @@ use profile::{MAX_STACK_LEVEL, Purpose, Row};
 use recurrence::{Place, Places};
 use std::marker::Model;
 
-/// A row that counts for an ask, the limit that it has at the last of its places that was passed, and
+/// A row that counts for a request, the limit that it has at the last of its places that was passed, and
 /// the places that are still to come.
 #[derive(Drop)]
 pub(crate) struct Run<'a> {

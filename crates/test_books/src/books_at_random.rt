@@ -102,13 +102,13 @@ fn install(rt: &impl Abort, alloc: Global, book: &mut PointBook, count: u32, bef
     number
 }
 
-/// An ask of a connector for so many seconds from the second from which on the rows change.
+/// A request of a connector for so many seconds from the second from which on the rows change.
 fn ask_of(rt: &impl Abort, connector: u32, duration: u32) -> Ask {
     let start = instant_at(86_410).expect(rt, "error");
     Ask::try_new(connector, start, duration).expect(rt, "error")
 }
 
-/// That both compilers answer an ask alike.
+/// That both compilers answer a request alike.
 fn expect_alike(rt: &impl Abort, alloc: Global, book: &PointBook, ask: &Ask) {
     assert!(rt; ask.connector <= book.connectors());
     let plain = compile_plain(alloc, &book.view(), ask).expect(rt, "error");
@@ -133,7 +133,7 @@ fn expect_reason(
     holds(rt, reason.same(&interval.reason), "a reason");
 }
 
-/// That each interval of an explained ask tells its reason at its first second and at its last.
+/// That each interval of an explained request tells its reason at its first second and at its last.
 fn expect_reasons(rt: &impl Abort, alloc: Global, book: &PointBook, ask: &Ask) {
     assert!(rt; ask.connector <= book.connectors());
     let explanation = explain(alloc, book, ask, &mut Turns::new()).expect(rt, "error");

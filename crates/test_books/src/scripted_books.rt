@@ -8,7 +8,7 @@
 //! | `stop 7` | the transaction of a number ends: at which connector, `-` at none |
 //! | `clear level=3` | rows are cleared by criteria: how many |
 //! | `rows` | the chargingProfileIds of the rows, in their order |
-//! | `schedule 1 30 60` | an ask: connector, second, duration. The periods of its answer, by this compiler and by the plain one |
+//! | `schedule 1 30 60` | a request: connector, second, duration. The periods of its answer, by this compiler and by the plain one |
 //! | `alike 1 30 60` | that both answer alike |
 //! | `counts 1 30 60` | how many periods the answer has, or why there is none; and the turns that it took |
 //! | `twice 1 30 60` | the answer that a `Compiled` has twice: the periods, or why there is none |
@@ -93,7 +93,7 @@ fn outcome(rt: &impl Abort, book: &mut PointBook, verb: &str, line: Line<'_>) ->
     }
 }
 
-/// What an ask comes to.
+/// What a request comes to.
 fn answer(rt: &impl Abort, book: &PointBook, verb: &str, line: Line<'_>) -> String {
     match verb {
         "schedule" => schedule(rt, book, line),
@@ -197,7 +197,7 @@ fn ids(rt: &impl Abort, book: &PointBook, line: Line<'_>) -> String {
     text
 }
 
-/// The ask of words, of a connector that the book has.
+/// The request of words, of a connector that the book has.
 fn ask_of(rt: &impl Abort, book: &PointBook, line: &mut Line<'_>) -> Ask
     ensures { result.connector ≤ length book.now.ceilings }
 {

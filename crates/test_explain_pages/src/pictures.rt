@@ -108,7 +108,7 @@ fn a_hundred_profiles(rt: HostRuntime) -> Result<(), Fail> {
     Ok(())
 }
 
-/// An ask whose every second is an interval: pictures and pages say where they end.
+/// A request whose every second is an interval: pictures and pages say where they end.
 #[test]
 fn too_many_intervals(rt: HostRuntime) -> Result<(), Fail> {
     let alloc = rt.alloc();

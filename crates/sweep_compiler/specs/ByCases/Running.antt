@@ -1,4 +1,4 @@
--- Of private clauses: the rows that count for an ask, on their way through it.
+-- Of private clauses: the rows that count for a request, on their way through it.
 use Rattle.std.specs.Prelude.{◌≡◌, ℕ, ◌+◌, ◌<◌, zero, suc, Bool, List, [], ◌∷◌, Option, Some, None, option_map, option_and_then, slice_get, if◌then◌else◌, ◌⊎◌}
 use Rattle.std.specs.List.{AllByRecursion}
 use Rattle.profile.specs.declared.row.Row.{Row}
@@ -18,14 +18,14 @@ use Rattle.meaning.specs.Cause.{RowLimit, Bound, with_limit, row_or_else, bound_
 use Rattle.meaning.specs.ByCases.Cause.{profile_limit_of}
 use Rattle.sweep_compiler.specs.ByCases.Seen.{SeenRow}
 
--- a row, the base from which it counts, the last of its places that was passed, and the last instant of the ask
+-- a row, the base from which it counts, the last of its places that was passed, and the last instant of the request
 pub record Running : Type 0 where
   pub row : Row
   pub base : ℕ
   pub since : ℕ
   pub last : ℕ
 
--- a row at the start of an ask, counted from the start of a transaction where it has one
+-- a row at the start of a request, counted from the start of a transaction where it has one
 abbrev pub running_with : Option ℕ → ℕ → ℕ → Row → Running
 running_with started asked last row = record { row = row; base = base row started asked; since = asked; last = last }
 

@@ -1,4 +1,4 @@
--- Of private clauses: a row that counts for an ask, as a connector sees it.
+-- Of private clauses: a row that counts for a request, as a connector sees it.
 use Rattle.std.specs.Prelude.{ℕ, Bool, List, [], ◌∷◌, Option, None}
 use Rattle.profile.specs.declared.row.Row.{Row}
 use Rattle.profile.specs.ChargingProfile.{rate}

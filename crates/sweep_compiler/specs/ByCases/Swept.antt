@@ -1,4 +1,4 @@
--- Of private clauses: a limit on its way through an ask.
+-- Of private clauses: a limit on its way through a request.
 use Rattle.std.specs.Prelude.{◌≡◌, ℕ, ◌+◌, ◌<◌, ◌≤◌, ◌^◌, ◌==◌, min, zero, suc, Bool, true, false, List, [], ◌∷◌, ◌++◌, length, map, Option, Some, None}
 use Rattle.std.specs.List.{AllByRecursion, AllZip, Contains, sum_by, count_by}
 use Rattle.profile.specs.declared.purpose.Purpose.{Purpose}
@@ -17,7 +17,7 @@ use Rattle.sweep_compiler.specs.ByCases.Running.{Running, RunningBound, seen_run
 use Rattle.sweep_compiler.specs.ByCases.Queue.{Due}
 use Rattle.sweep_compiler.specs.declared.limit_curve.LimitCurve.{LimitCurve}
 
--- ---- what bounds an ask
+-- ---- what bounds a request
 
 -- a connector's ceiling, and the rows that count for it, TxProfiles first, each purpose by falling level
 pub record IsConnectorBound (state : PointState) (asked connector : ℕ) (bound : RunningBound) : Type 0 where
@@ -36,7 +36,7 @@ pub record IsPointBound (state : PointState) (asked : ℕ) (bound : RunningBound
   pub most_is : AreByFallingLevel (counted ChargePointMaxProfile state 0) most
   pub runs : map seen_running bound.runs ≡ map (seen_from state 0 asked) most
 
--- what bounds the whole point, and behind it what bounds each connector that an ask looks at
+-- what bounds the whole point, and behind it what bounds each connector that a request looks at
 abbrev pub AreBounds : PointState → ℕ → ℕ → List RunningBound → Type 0
 AreBounds state connector asked [] = ⊥
 AreBounds state connector asked (point ∷ others) =
@@ -76,7 +76,7 @@ shares_now (point ∷ others) = map share_now others
 
 -- ---- on the way
 
--- a row of an ask up to a last instant that has passed its places up to another, but maybe those at it
+-- a row of a request up to a last instant that has passed its places up to another, but maybe those at it
 pub record IsPassedUpTo (state : PointState) (connector asked last at : ℕ) (run : Running) : Type 0 where
   pub since : run.since ≤ at
   pub last_is : run.last ≡ last
@@ -156,7 +156,7 @@ pub record IsConnectorAtStart (state : PointState) (asked last connector : ℕ) 
   pub default_are : AreRunsOf TxDefaultProfile state connector asked last default
   pub runs_are : bound.runs ≡ own ++ default
 
--- what bounds the connectors that an ask looks at, at the start
+-- what bounds the connectors that a request looks at, at the start
 abbrev pub AreConnectorsAtStart : PointState → ℕ → ℕ → List ℕ → List RunningBound → Type 0
 AreConnectorsAtStart state asked last looked bounds = AllZip (λ connector bound. IsConnectorAtStart state asked last connector bound) looked bounds
 
@@ -177,7 +177,7 @@ pub record AreWaiting (bounds : List RunningBound) (many rows : ℕ) (items : Li
   pub here : (row instant : ℕ) → row < rows → due_in bounds many row ≡ Some instant → Contains items (record { instant = instant; bound = many; row = row })
   pub each : (item : Due) → Contains items item → due_in bounds item.bound item.row ≡ Some item.instant
 
--- a sweep that stands at the start of an ask
+-- a sweep that stands at the start of a request
 pub record IsCurveAtStart (view : View) (connector asked last : ℕ) (curve : LimitCurve) : Type 0 where
   pub view_is : curve.view ≡ view
   pub connector_is : curve.connector ≡ connector

@@ -15,7 +15,7 @@ use Rattle.sweep_compiler.specs.ByCases.Swept.{IsReadyCurve, IsOfOneAsk}
 use Rattle.sweep_compiler.proofs.Explaining.{with_reason, adjoin_more, all_more, differ_as, differ_more, interval_of, stays_upto, at_one, upto_next, spent_next, spent_end, spent_few}
 use Rattle.sweep_compiler.proofs.explained.explain_along.Goals as goal
 
--- ---- one ask
+-- ---- one request
 
 one_ask : (old now after : LimitCurve) → IsOfOneAsk old now → IsOfOneAsk now after → IsOfOneAsk old after
 one_ask old now after first second = record {
@@ -25,7 +25,7 @@ one_ask old now after first second = record {
   last = second.last ∙ first.last;
 }
 
--- the second at which a sweep stands lies within the ask
+-- the second at which a sweep stands lies within the request
 second_within : (old now : LimitCurve) (duration : ℕ) → IsOfOneAsk old now → IsReadyCurve now → now.at ≤ now.last → old.last + 1 - old.asked ≡ duration
     → now.at - old.asked < duration
 second_within old now duration same ready inside whole =
@@ -34,7 +34,7 @@ second_within old now duration same ready inside whole =
     let from = ready.swept.from in
     omega (arith, last, asked, from, inside, whole)
 
--- and where it lies within the ask, the sweep does
+-- and where it lies within the request, the sweep does
 stands_within : (old now : LimitCurve) (second duration : ℕ) → IsOfOneAsk old now → IsReadyCurve now → now.at - now.asked ≡ second → second < duration → old.last + 1 - old.asked ≡ duration
     → now.at ≤ now.last
 stands_within old now second duration same ready here within whole =
