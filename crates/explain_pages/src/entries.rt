@@ -1,4 +1,4 @@
-//! What a picture shows beside the limit: the profiles that have one in its time, and the ceilings.
+//! What a picture shows besides the limit: the profiles that have one in its time, and the ceilings.
 
 ghost use Rattle.std.specs.Prelude.{◌≡◌};
 ghost use Rattle.meaning.specs.Cause.{profile_of};

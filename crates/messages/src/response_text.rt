@@ -21,7 +21,7 @@ const ROOM: usize = 256;
 /// Room for a period, in bytes.
 const PERIOD_ROOM: usize = 40;
 
-/// The text that answers the CALL of this id. Its keys stand in a fixed order, without blanks.
+/// The message that answers the CALL of this id. Its keys stand in a fixed order, without blanks.
 pub fn write_response(alloc: Global, id: &str, response: &Response) -> Result<String, AllocError>
     ensures { IfOk result (λ s. string_bytes s ≡ response_text id.now response.now) }
 {
@@ -41,7 +41,7 @@ fn room(response: &Response) -> usize {
     }
 }
 
-/// Appends the text that answers the CALL of this id.
+/// Appends the message that answers the CALL of this id.
 #[tactic(auto, unfolding(crate::specs::ObjectText::fields_text, crate::specs::ObjectText::object_text))]
 pub fn push_response(out: &mut String, id: &str, response: &Response) -> Result<(), AllocError>
     ensures { Appends result (string_bytes out.old) (string_bytes out.new)

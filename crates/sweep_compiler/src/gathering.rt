@@ -99,7 +99,7 @@ impl<'a> Gathering<'a> {
         Ok(looked)
     }
 
-    /// Adds the connector behind so many where it has an active transaction.
+    /// Adds the connector after the first `before`, where it has an active transaction.
     fn add_active(&self, looked: &mut Vec<Bounded<'a>>, before: usize) -> Result<(), Refusal>
         requires has_connector { before < length self.now.view.ceilings.now }
         ensures added { IfOk result (λ _. IsWithConnector
@@ -205,7 +205,7 @@ fn queue_of(alloc: Global, bounds: &[Bounded<'_>]) -> Result<Queue, AllocError>
     Ok(queue)
 }
 
-/// The next place of each row of one of some bounds, beside those of the bounds before it.
+/// Adds the next place of each row of a bound to those of the bounds before it.
 fn add_rows(queue: &mut Queue, bounds: &[Bounded<'_>], bound: usize) -> Result<(), AllocError>
     requires has_bound { bound < length bounds.now }
     requires before { AreWaiting bounds.now bound 0 queue.old }
@@ -217,7 +217,7 @@ fn add_rows(queue: &mut Queue, bounds: &[Bounded<'_>], bound: usize) -> Result<(
     Ok(())
 }
 
-/// The next place of a row, beside those of the rows and bounds before it.
+/// Adds the next place of a row to those of the rows and bounds before it.
 fn add_row(
     queue: &mut Queue,
     bounds: &[Bounded<'_>],

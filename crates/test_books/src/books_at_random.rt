@@ -16,7 +16,7 @@ fn next_number(number: u32) -> u32 {
     number.wrapping_mul(1_664_525).wrapping_add(1_013_904_223)
 }
 
-/// By the bits of a number, but for so many of them, one of as many numbers from `least` on.
+/// One of `count` numbers from `least` on, by the bits of a number without its last `but`.
 fn drawn(number: u32, but: u32, count: u32, least: u32) -> u32 {
     (number.wrapping_shr(but) % count.max(1)).saturating_add(least)
 }

@@ -151,7 +151,7 @@ fn names_each_of_the_most_levels(rt: HostRuntime) {
     play(&rt, alloc, lines.as_str());
 }
 
-/// The last second that may be asked is 9999-12-31T23:59:59Z, so many seconds after midnight.
+/// The last second that may be asked is 9999-12-31T23:59:59Z; the numbers count the seconds after midnight.
 const LAST_SECOND: &str = "\
 row id=1 start=0 to=251666611199 periods=0:100
 explain 1 251666611198 2 = 0-1:100:id=1 1-2:320:connector

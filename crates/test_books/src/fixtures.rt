@@ -196,8 +196,8 @@ fn limits_text(alloc: Global, connectors: usize) -> Result<String, UnreadWords> 
     Ok(text)
 }
 
-/// A site file of so many points of 1,000 A, each with so many connectors of 32 A and an identity of so
-/// many characters: its place, with zeros before it.
+/// A site file of a number of points of 1,000 A, each with a number of connectors of 32 A. Its identity is its
+/// place, with zeros before it up to a number of characters.
 pub fn site_text(
     alloc: Global,
     points: usize,

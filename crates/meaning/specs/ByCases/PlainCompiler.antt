@@ -14,7 +14,7 @@ differs (Some before) limit = not (before == limit)
 abbrev pub period_added : Option ℕ → CompositePeriod → List CompositePeriod
 period_added before period = if differs before period.limit then period ∷ [] else []
 
--- why a period isn't added to so many others
+-- why a period isn't added: by how many there would be with it
 abbrev pub IsAddRefused : ℕ → Refusal → Type 0
 IsAddRefused many ResultTooLong = max_composite_periods < many
 IsAddRefused many OutOfMemory = Unit {0}

@@ -70,7 +70,7 @@ after_is limit second (suc n) =
 periods_are : (limit : ℕ → ℕ) (n : ℕ) → exact_periods limit (suc n) ≡ period_from limit 0 ∷ after limit 0 n
 periods_are limit n = ap (λ (ps : List CompositePeriod). period_from limit 0 ∷ ps) (after_is limit 0 n)
 
--- A period that gives the limit at a second, and periods after it, are exact for the so many seconds from
+-- A period that gives the limit at a second, and periods after it, are exact for a number of seconds from
 -- there on.
 record Continues (limit : ℕ → ℕ) (second n : ℕ) (p : CompositePeriod) (ps : List CompositePeriod) : Type 0 where
   increasing : AreStrictlyIncreasing (p ∷ ps)

@@ -110,7 +110,7 @@ offset_in (b ∷ bs) =
     else if b == minus then option_map (λ n. neg_ℤ (pos n)) (clock_in bs)
     else None
 
--- the seconds at so many after midnight of a day, less the offset
+-- the seconds up to a time of day, less the offset
 abbrev pub total_seconds : ℤ → ℕ → ℤ → ℤ
 total_seconds date time offset = (date *ℤ pos 86_400 +ℤ pos time) -ℤ offset
 

@@ -36,7 +36,7 @@ object_if fault tree false = Err fault
 abbrev pub object_or : SiteFault → Tree → Result Tree SiteFault
 object_or fault tree = object_if fault tree (is_object tree)
 
--- a list of at least one and at most so many
+-- a list of at least one entry and at most `most`
 abbrev pub few_or : SiteFault → ℕ → List Tree → Result (List Tree) SiteFault
 few_or fault most entries =
     if nat_le 1 (length entries) && nat_le (length entries) most then Ok entries else Err fault

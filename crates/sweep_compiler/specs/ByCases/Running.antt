@@ -59,7 +59,7 @@ passed_by (Some next) run = record { row = run.row; base = run.base; since = nex
 abbrev pub passed : Running → Running
 passed run = passed_by (due run) run
 
--- what is kept of a row beside it: its limit, its next place and those behind that
+-- what is kept with a row: its limit, its next place and those behind that
 abbrev pub IsRun : Running → Option ℕ → Option Place → List Place → Type 0
 IsRun run limit None later = (limit ≡ rate_running run) × (places_left run ≡ []) × (later ≡ [])
 IsRun run limit (Some next) later = (limit ≡ rate_running run) × (places_left run ≡ next ∷ later)
