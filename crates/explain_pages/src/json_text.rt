@@ -141,7 +141,7 @@ impl JsonLine {
         self.out.end_object()
     }
 
-    /// Appends so many tenths, as a number.
+    /// Appends tenths, as a JSON number.
     fn push_tenths(&mut self, tenths: u32) -> Result<(), AllocError> {
         let mut text = String::new(self.alloc);
         push_tenths(&mut text, tenths)?;

@@ -142,11 +142,11 @@ impl Widths {
 enum Layout {
     /// A line for each interval, and no bar.
     Plain,
-    /// A line for each interval, with a bar of so many columns in it.
+    /// A line for each interval, with a bar of a number of columns in it.
     OneLine(usize),
-    /// Why stands in a line of its own, and a bar of so many columns is behind the limit.
+    /// Why stands in a line of its own, and a bar of a number of columns is behind the limit.
     TwoLines(usize),
-    /// Each interval is a paragraph, with a bar of so many columns.
+    /// Each interval is a paragraph, with a bar of a number of columns.
     Paragraphs(usize),
 }
 

@@ -1,4 +1,4 @@
-//! Texts broken into lines of so many columns.
+//! Texts broken into lines of at most a given number of columns.
 
 use ocpp_scalars::character_count;
 use std::alloc::AllocError;

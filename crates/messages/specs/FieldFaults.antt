@@ -88,7 +88,7 @@ row_faults inner fields (Required name kind) =
 row_faults inner fields (Optional name kind) =
     own_fault false kind fields name ∷ inside_faults inner kind fields name
 
--- The faults of the fields of a table, down to so many objects in one another.
+-- The faults of the fields of a table, down to a number of objects in one another.
 abbrev pub faults_down : ℕ → List FieldRow → Tree → Checked
 faults_down zero rows fields = []
 faults_down (suc depth) rows fields =

@@ -8,7 +8,7 @@ use Rattle.meaning.specs.Limit.{limit_asked}
 use Rattle.meaning.specs.Cause.{reason_asked}
 use Rattle.sweep_compiler.specs.declared.interval.Interval.{Interval}
 
--- intervals over so many seconds
+-- intervals over a number of seconds
 pub record ExplainedSchedule : Type 0 where
   pub duration : ℕ
   pub intervals : List Interval
@@ -36,7 +36,7 @@ pub record IsIntervalOf (state : PointState) (connector start : ℕ) (interval :
       (second : ℕ) → interval.start ≤ second → second < interval.end
       → interval.reason ≡ reason_asked state connector start second
 
--- a request of a connector from a start on for so many seconds, explained
+-- a request of a connector from a start on for a number of seconds, explained
 pub record IsExplanation (state : PointState) (connector start duration : ℕ) (explained : ExplainedSchedule)
     : Type 0 where
   pub lasts : explained.duration ≡ duration

@@ -41,7 +41,7 @@ is_place_asked state connector asked instant =
     is_place_for ChargePointMaxProfile state 0 asked instant
     || list_any (λ looked. is_place_at state looked asked instant) (looked_at state connector)
 
--- the same of an instant so many seconds after the start of the request
+-- the same of an instant a number of seconds after the start of the request
 abbrev pub is_second_asked : PointState → ℕ → ℕ → ℕ → Bool
 is_second_asked state connector start second = is_place_asked state connector start (start + second)
 

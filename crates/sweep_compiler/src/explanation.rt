@@ -26,7 +26,7 @@ impl Model for Explanation {
 }
 
 impl Explanation {
-    /// The explanation of these intervals over so many seconds.
+    /// The explanation of these intervals over a number of seconds.
     pub(crate) fn new(duration: u32, intervals: Vec<Interval>) -> Explanation
         requires adjoin { Adjoin 0 duration intervals.items }
         ensures lasts { result.duration ≡ duration }

@@ -102,7 +102,7 @@ fn install(rt: &impl Abort, alloc: Global, book: &mut PointBook, count: u32, bef
     number
 }
 
-/// A request of a connector for so many seconds from the second from which on the rows change.
+/// A request of a connector for a number of seconds from the second from which on the rows change.
 fn ask_of(rt: &impl Abort, connector: u32, duration: u32) -> Ask {
     let start = instant_at(86_410).expect(rt, "error");
     Ask::try_new(connector, start, duration).expect(rt, "error")

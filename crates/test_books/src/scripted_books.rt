@@ -2,9 +2,9 @@
 //!
 //! | Line | What is done, and what comes of it |
 //! |---|---|
-//! | `point 630 2 320` | a new book of a ceiling and so many connectors of a ceiling each; the first is this one |
+//! | `point 630 2 320` | a new book of a ceiling and a number of connectors of a ceiling each; the first is this one |
 //! | `row id=1 level=3` | a row is installed: why it is refused, if it is, and then nothing has changed |
-//! | `start 1 ann 100 7` | a start at a connector, by an idTag, so many seconds after midnight, with a number for it, which comes back unless the start is retransmitted: then `again` with the number that it has |
+//! | `start 1 ann 100 7` | a start at a connector, by an idTag, a number of seconds after midnight, with a number for it, which comes back unless the start is retransmitted: then `again` with the number that it has |
 //! | `stop 7` | the transaction of a number ends: at which connector, `-` at none |
 //! | `clear level=3` | rows are cleared by criteria: how many |
 //! | `rows` | the chargingProfileIds of the rows, in their order |
@@ -39,7 +39,7 @@ struct Line<'a> {
     words: Words<'a>,
 }
 
-/// A book of a ceiling, and of so many connectors of a ceiling each.
+/// A book of a ceiling, and of a number of connectors of a ceiling each.
 pub(crate) fn point(
     rt: &impl Abort,
     alloc: Global,

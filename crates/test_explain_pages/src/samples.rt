@@ -53,7 +53,7 @@ impl Point {
     }
 }
 
-/// What is asked of a connector, so many seconds after midnight.
+/// What is asked of a connector, a number of seconds after midnight.
 pub fn ask(connector: u32, start: u64, duration: u32) -> Result<Ask, Fail> {
     Ok(Ask::try_new(connector, instant_at(start)?, duration)?)
 }

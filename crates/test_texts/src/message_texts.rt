@@ -125,7 +125,7 @@ fn the_first_fault_is_named(rt: HostRuntime) {
     }
 }
 
-/// A SetChargingProfile with so many periods, which start a second apart.
+/// A SetChargingProfile with a number of periods, which start a second apart.
 fn profile_text(rt: &impl Abort, alloc: Global, periods: u32) -> String {
     let mut text = String::from_str(alloc, PROFILE_HEAD).expect(rt, "error");
     for start in 0..periods {

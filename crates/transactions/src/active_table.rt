@@ -43,7 +43,7 @@ impl Model for ActiveTable {
 }
 
 impl ActiveTable {
-    /// A table of so many connectors, none with a transaction.
+    /// A table of a number of connectors, none with a transaction.
     pub fn new(alloc: Global, connectors: u32) -> Result<ActiveTable, AllocError>
         ensures { IfOk result (λ table. table ≡ replicate connectors None) }
     {

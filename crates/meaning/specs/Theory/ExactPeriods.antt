@@ -44,7 +44,7 @@ increasing_after : (p : CompositePeriod) (ps : List CompositePeriod) → AreStri
 increasing_after p [] h = tt
 increasing_after p (q ∷ ps) h = let first : p.start < q.start = h.0 in (first, later_all p.start q.start ps (omega arith) (increasing_after q ps h.1))
 
--- the periods that begin in so many seconds after a second
+-- the periods that begin in a number of seconds after a second
 abbrev after : (ℕ → ℕ) → ℕ → ℕ → List CompositePeriod
 after limit second zero = []
 after limit second (suc n) =

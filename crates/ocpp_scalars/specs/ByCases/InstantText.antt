@@ -81,7 +81,7 @@ time_at text = do
   (second, rest) ← two_at second_text
   if nat_lt second 60 then Some (minutes * 60 + second, rest) else None
 
--- what follows so many digits of a fraction
+-- what follows a number of digits of a fraction
 abbrev pub after_some_digits : ℕ → List ℕ → Option (List ℕ)
 after_some_digits count rest = if nat_le 1 count && nat_le count max_fraction_digits then Some rest else None
 
