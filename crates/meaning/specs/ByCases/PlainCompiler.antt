@@ -1,4 +1,5 @@
--- What one second more adds to the periods before it: of the clauses of `add_second` alone.
+-- What one second more adds to the periods before it, and why it is refused. The lemmas `periods_added` and
+-- `permitted` of `Theory/PlainCompiler.antt` tie this to `exact_periods` and `IsPermitted`.
 use Rattle.std.specs.Prelude.{ℕ, ◌==◌, ◌<◌, Bool, true, not, List, [], ◌∷◌, Option, Some, None, if◌then◌else◌}
 use Rattle.ocpp_scalars.specs.declared.refusal.Refusal.{Refusal}
 use Rattle.ocpp_scalars.specs.declared.refusal.Refusal.TheVariants.{ResultTooLong, OutOfMemory}
