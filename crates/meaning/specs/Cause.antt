@@ -27,7 +27,9 @@ with_limit row limit = record { row = row; limit = limit }
 -- a row with its limit for a connector at an instant, where it has one
 abbrev pub row_limit : PointState → ℕ → ℕ → ℕ → Row → Option RowLimit
 row_limit state connector asked instant row =
-    option_map (with_limit row) (rate row.profile (base row (active_since state connector) asked) instant)
+    option_map
+    (with_limit row)
+    (rate row.profile (base row (active_since state connector) asked) instant)
 
 abbrev pub level_of : RowLimit → ℕ
 level_of best = best.row.profile.stack_level
@@ -36,7 +38,9 @@ level_of best = best.row.profile.stack_level
 -- at the instant (OCPP 1.6, 3.13), and its limit is `prevailing`, by the law `reasons`.
 abbrev pub prevailing_row : Purpose → PointState → ℕ → ℕ → ℕ → Option RowLimit
 prevailing_row purpose state connector asked instant =
-    greatest level_of (filter_map (row_limit state connector asked instant) (counted purpose state connector))
+    greatest
+    level_of
+    (filter_map (row_limit state connector asked instant) (counted purpose state connector))
 
 abbrev pub row_or_else : Option RowLimit → Option RowLimit → Option RowLimit
 row_or_else None other = other
@@ -143,8 +147,8 @@ pub record StandsIn (rows : List Row) (row : Row) : Type 0 where
   pub is : rows ≡ before ++ row ∷ after
 
 -- a profile is a row of the point, which prevails and has exactly this limit
-pub record IsPrevailing (state : PointState) (connector asked instant limit : ℕ) (profile : PrevailingProfile)
-    : Type 0 where
+pub record IsPrevailing (state : PointState) (connector asked instant limit : ℕ)
+    (profile : PrevailingProfile) : Type 0 where
   pub row : Row
   pub stands : StandsIn state.rows row
   pub of_row : profile ≡ profile_of row

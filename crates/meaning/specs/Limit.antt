@@ -33,7 +33,9 @@ point_limit state asked instant =
 -- the connectors with an active transaction
 abbrev pub active_connectors : PointState → List ℕ
 active_connectors state =
-    filter (λ connector. is_some (active_since state connector)) (range_with_len 1 (length state.ceilings))
+    filter
+    (λ connector. is_some (active_since state connector))
+    (range_with_len 1 (length state.ceilings))
 
 -- what the active connectors may draw together, a whole number without bound
 abbrev pub shared_limit : PointState → ℕ → ℕ → ℕ

@@ -112,7 +112,8 @@ impl View<'_> {
         asked: Instant,
         instant: Instant,
     ) -> Option<ProfileLimit>
-        ensures { result ≡ transaction_profile_limit (point_state self.now) connector asked instant }
+        ensures { result ≡ transaction_profile_limit
+            (point_state self.now) connector asked instant }
     {
         match self.prevailing_profile(Purpose::TxProfile, connector, asked, instant) {
             Some(best) => Some(best),
@@ -139,7 +140,8 @@ impl View<'_> {
     /// What each active connector has in the sum.
     fn shares(&self, alloc: Global, asked: Instant, instant: Instant) -> Result<Shares, AllocError>
         requires numbered { length self.now.ceilings.now < 2 ^ 32 }
-        ensures { IfOk result (λ shares. shares ≡ shares_by Sum (point_state self.now) asked instant) }
+        ensures { IfOk result
+            (λ shares. shares ≡ shares_by Sum (point_state self.now) asked instant) }
     {
         let mut shares = Vec::new(alloc);
         for index in 0..self.ceilings.len() {
@@ -165,7 +167,8 @@ impl View<'_> {
         asked: Instant,
         instant: Instant,
     ) -> Option<ProfileLimit>
-        ensures { result ≡ prevailing_profile_limit purpose (point_state self.now) connector asked instant }
+        ensures { result ≡ prevailing_profile_limit
+            purpose (point_state self.now) connector asked instant }
     {
         if !has_its_transaction(purpose, self.active_since(connector)) {
             return None;
@@ -187,7 +190,8 @@ impl View<'_> {
         instant: Instant,
         row: &Row,
     ) -> Option<ProfileLimit>
-        ensures { result ≡ option_map profile_limit_of (row_limit (point_state self.now) connector asked instant row.now) }
+        ensures { result ≡ option_map profile_limit_of
+            (row_limit (point_state self.now) connector asked instant row.now) }
     {
         let base = row.base(self.active_since(connector), asked);
         let limit = row.profile.rate(base, instant)?;

@@ -18,7 +18,9 @@ lesser_bound None other = other
 lesser_bound (Some best) other = lesser (bound_of (Profile best.profile) best.limit) other
 
 abbrev pub prevailing_profile_limit : Purpose → PointState → ℕ → ℕ → ℕ → Option ProfileLimit
-prevailing_profile_limit purpose state connector asked instant = option_map profile_limit_of (prevailing_row purpose state connector asked instant)
+prevailing_profile_limit purpose state connector asked instant =
+    option_map profile_limit_of (prevailing_row purpose state connector asked instant)
 
 abbrev pub transaction_profile_limit : PointState → ℕ → ℕ → ℕ → Option ProfileLimit
-transaction_profile_limit state connector asked instant = option_map profile_limit_of (transaction_row state connector asked instant)
+transaction_profile_limit state connector asked instant =
+    option_map profile_limit_of (transaction_row state connector asked instant)
