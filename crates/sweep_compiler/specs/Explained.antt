@@ -28,7 +28,8 @@ Differ (interval ∷ (next ∷ later)) = (interval.reason ≢ next.reason) × Di
 
 -- the limit of an interval is the limit at each of its seconds, and its reason the reason, in a request of a
 -- connector from a start on
-pub record IsIntervalOf (state : PointState) (connector start : ℕ) (interval : Interval) : Type 0 where
+pub record IsIntervalOf (state : PointState) (connector start : ℕ) (interval : Interval)
+    : Type 0 where
   pub limit :
       (second : ℕ) → interval.start ≤ second → second < interval.end
       → interval.reason.limit ≡ limit_asked state connector start second
@@ -37,8 +38,8 @@ pub record IsIntervalOf (state : PointState) (connector start : ℕ) (interval :
       → interval.reason ≡ reason_asked state connector start second
 
 -- a request of a connector from a start on for a number of seconds, explained
-pub record IsExplanation (state : PointState) (connector start duration : ℕ) (explained : ExplainedSchedule)
-    : Type 0 where
+pub record IsExplanation (state : PointState) (connector start duration : ℕ)
+    (explained : ExplainedSchedule) : Type 0 where
   pub lasts : explained.duration ≡ duration
   pub adjoin : Adjoin 0 duration explained.intervals
   pub each : AllByRecursion (IsIntervalOf state connector start) explained.intervals

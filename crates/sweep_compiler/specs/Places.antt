@@ -51,4 +51,5 @@ places_within is_place duration = count_by is_place (range_with_len 1 (duration 
 
 -- how many seconds within a request, its start left out, are places of what is asked
 abbrev pub places : BookState → Ask → ℕ
-places book ask = places_within (is_second_asked (state_of book) ask.connector ask.start) ask.duration
+places book ask =
+    places_within (is_second_asked (state_of book) ask.connector ask.start) ask.duration

@@ -28,8 +28,8 @@ pub fn explain(
 ) -> Result<Explanation, AllocError>
     requires has_connector { ask.now.connector ≤ length book.now.ceilings }
     requires fresh { turns.old < 2 ^ 63 }
-    ensures explained { IfOk result (λ explained.
-        IsExplanation (state_of book.now) ask.now.connector ask.now.start ask.now.duration explained) }
+    ensures explained { IfOk result (λ explained. IsExplanation (state_of book.now)
+        ask.now.connector ask.now.start ask.now.duration explained) }
     ensures bound { turns.new ≤ turns.old + (1 + places book.now ask.now) }
     ensures counted { turns.old ≤ turns.new }
     ensures each { IfOk result (λ explained. turns.old + length explained.intervals ≤ turns.new) }
@@ -66,7 +66,8 @@ fn explain_along(
     ensures explained { IfOk result (λ explained. IsExplanation (point_state curve.old.view)
         curve.old.connector curve.old.asked duration explained) }
     ensures bound { turns.new ≤ turns.old + (1 + places_within
-        (is_second_asked (point_state curve.old.view) curve.old.connector curve.old.asked) duration) }
+        (is_second_asked (point_state curve.old.view) curve.old.connector curve.old.asked)
+        duration) }
     ensures counted { turns.old ≤ turns.new }
     ensures each { IfOk result (λ explained. turns.old + length explained.intervals ≤ turns.new) }
 {

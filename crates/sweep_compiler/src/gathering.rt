@@ -75,7 +75,8 @@ impl<'a> Gathering<'a> {
     fn looked(&self, connector: u32) -> Result<Vec<Bounded<'a>>, Refusal>
         requires has_connector { connector ≤ length self.now.view.ceilings.now }
         ensures looked { IfOk result (λ looked. AreConnectorsAtStart (point_state self.now.view)
-            self.now.asked self.now.last (looked_at (point_state self.now.view) connector) looked.items) }
+            self.now.asked self.now.last (looked_at (point_state self.now.view) connector)
+            looked.items) }
         ensures cause { IfErr result (λ refusal. refusal ≡ OutOfMemory) }
     {
         if connector == 0 {
@@ -89,7 +90,8 @@ impl<'a> Gathering<'a> {
     /// What bounds each connector with an active transaction.
     fn active(&self) -> Result<Vec<Bounded<'a>>, Refusal>
         ensures looked { IfOk result (λ looked. AreConnectorsAtStart (point_state self.now.view)
-            self.now.asked self.now.last (active_connectors (point_state self.now.view)) looked.items) }
+            self.now.asked self.now.last (active_connectors (point_state self.now.view))
+            looked.items) }
         ensures cause { IfErr result (λ refusal. refusal ≡ OutOfMemory) }
     {
         let mut looked = Vec::new(self.alloc);

@@ -27,10 +27,12 @@ pub record Running : Type 0 where
 
 -- a row at the start of a request, counted from the start of a transaction where it has one
 abbrev pub running_with : Option ℕ → ℕ → ℕ → Row → Running
-running_with started asked last row = record { row = row; base = base row started asked; since = asked; last = last }
+running_with started asked last row =
+    record { row = row; base = base row started asked; since = asked; last = last }
 
 abbrev pub running_from : PointState → ℕ → ℕ → ℕ → Row → Running
-running_from state connector asked last row = running_with (active_since state connector) asked last row
+running_from state connector asked last row =
+    running_with (active_since state connector) asked last row
 
 -- what a row is, wherever it stands on its way
 abbrev pub seen_running : Running → SeenRow
@@ -77,7 +79,9 @@ rank_running run = rank run.row
 
 abbrev pub AreFalling : List Running → Type 0
 AreFalling [] = Unit {0}
-AreFalling (run ∷ later) = AllByRecursion (λ (low : Running). rank_running low < rank_running run) later × AreFalling later
+AreFalling (run ∷ later) =
+    AllByRecursion (λ (low : Running). rank_running low < rank_running run) later
+    × AreFalling later
 
 -- the limit of the first that has one
 abbrev pub first_rate : List Running → Option ℕ
@@ -92,7 +96,8 @@ HasRank n (run ∷ later) = (rank_running run ≡ n) ⊎ HasRank n later
 -- each row's rank has the limit that the row has had since, and no other rank has one
 pub record AreInForce (runs : List Running) (rates : List (ℕ × ℕ)) : Type 0 where
   pub falling : AreFalling runs
-  pub each : AllByRecursion (λ (run : Running). rate_of rates (rank_running run) ≡ rate_running run) runs
+  pub each :
+      AllByRecursion (λ (run : Running). rate_of rates (rank_running run) ≡ rate_running run) runs
   pub no_other : (n limit : ℕ) → rate_of rates n ≡ Some limit → HasRank n runs
 
 -- what bounds a connector, 0 being the whole point: its ceiling, and its rows by falling rank
@@ -122,7 +127,8 @@ abbrev pub own_bound_now : RunningBound → Bound
 own_bound_now bound = lesser_of (first_row bound.runs) (bound_of ConnectorCeiling bound.ceiling)
 
 abbrev pub below_now : RunningBound → Bound → Bound
-below_now point other = lesser_of (first_row point.runs) (lesser other (bound_of PointCeiling point.ceiling))
+below_now point other =
+    lesser_of (first_row point.runs) (lesser other (bound_of PointCeiling point.ceiling))
 
 -- what a connector has in the sum
 abbrev pub share_by : ℕ → Bound → Share
@@ -138,7 +144,11 @@ passed_at zero (run ∷ later) = passed run ∷ later
 passed_at (suc n) (run ∷ later) = run ∷ passed_at n later
 
 abbrev pub bound_passed : ℕ → RunningBound → RunningBound
-bound_passed n bound = record { connector = bound.connector; ceiling = bound.ceiling; runs = passed_at n bound.runs }
+bound_passed n bound = record {
+  connector = bound.connector;
+  ceiling = bound.ceiling;
+  runs = passed_at n bound.runs;
+}
 
 -- the instant of the next place of one of the rows
 abbrev pub due_at : List Running → ℕ → Option ℕ

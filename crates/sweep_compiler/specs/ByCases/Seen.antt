@@ -25,4 +25,5 @@ first_limit instant (seen ∷ later) = or_else (limit_seen instant seen) (first_
 
 -- a row as a connector sees it
 abbrev pub seen_from : PointState → ℕ → ℕ → Row → SeenRow
-seen_from state connector asked row = record { row = row; base = base row (active_since state connector) asked }
+seen_from state connector asked row =
+    record { row = row; base = base row (active_since state connector) asked }
