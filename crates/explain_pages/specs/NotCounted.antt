@@ -51,9 +51,9 @@ holds_for BelowHigherLevel state at asked instant row =
 holds_for BehindTxProfile state at asked instant row =
     is_tx_default row.profile.purpose && is_some (prevailing_row TxProfile state at asked instant)
 
--- What a reason says of a row for a connector at a second, in a schedule asked from `asked` on:
--- that it doesn't prevail for this reason, has no limit, doesn't prevail where it has one, or that
--- it prevails. A ChargePointMaxProfile prevails for the whole point.
+-- What a reason says of a row for a connector at a second, in a schedule asked from `asked` on.
+-- NotPrevailing: the row doesn't prevail, for this cause. NoLimit: it has no limit. BehindOthers: it has no
+-- limit or doesn't prevail. NotLeast: it prevails. A ChargePointMaxProfile prevails for the whole point.
 abbrev pub SaysAt : NoPart → PointState → ℕ → ℕ → ℕ → Row → Type 0
 SaysAt (NotPrevailing why) state connector asked second row =
     holds_for why state (counts_for row.profile.purpose connector) asked second row ≡ true

@@ -125,9 +125,9 @@ fn started_for(view: &View<'_>, ask: &Ask, row: &Row) -> Option<Instant> {
     view.starts.iter().find_map(|start| *start)
 }
 
-/// The instant of a request at which the reason why a profile never sets the limit says most: the first at which
-/// its schedule has a limit, or the start where it has none. (Before it the reason would only be that the
-/// profile is yet to come.)
+/// The instant of a request whose reason says most about why a profile never sets the limit. It is the first at
+/// which the profile's schedule has a limit, or the start where it has none. Before it the reason would only be
+/// that the profile is yet to come.
 pub fn telling_instant(view: &View<'_>, ask: &Ask, row: &Row) -> Instant {
     let base = row.base(started_for(view, ask, row), ask.start);
     first_limit(&row.profile, base, ask)

@@ -11,9 +11,9 @@ use crate::words::{push_profile, sentence};
 use ocpp_scalars::{Instant, push_instant};
 use std::alloc::{AllocError, Global};
 
-/// An explained schedule as a page, a whole HTML file that loads nothing: the picture, the intervals in a table
-/// (the first `MAX_INTERVALS`; where there are more, the page says so), and the profiles that never set the
-/// limit.
+/// An explained schedule as a page, a whole HTML file that loads nothing: the picture, the intervals in a table,
+/// and the profiles that never set the limit. The table has the first `MAX_INTERVALS`; where there are more, the
+/// page says so.
 pub fn write_page(alloc: Global, explained: &ExplainedAsk<'_>) -> Result<String, AllocError> {
     let mut out = String::new(alloc);
     let title = heading(alloc, explained)?;

@@ -20,8 +20,8 @@ use std::alloc::{AllocError, Global};
 /// The most intervals that a picture's description names.
 const DESCRIBED: usize = 12;
 
-/// An explained schedule as a picture, a whole SVG file: the limit as a thick line, under it the profiles and
-/// the ceilings, each with its own dashes and a letter, and below the times what sets each limit. A profile's
+/// An explained schedule as a picture, a whole SVG file. The limit is a thick line; under it are the profiles and
+/// the ceilings, each with its own dashes and a letter. Below the times stands what sets each limit. A profile's
 /// line has at most `MAX_STEPS` steps and the limit at most `MAX_INTERVALS`; where one is cut, the picture
 /// says so.
 pub fn write_picture(alloc: Global, explained: &ExplainedAsk<'_>) -> Result<String, AllocError> {

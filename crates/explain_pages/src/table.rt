@@ -14,8 +14,8 @@ use std::alloc::{AllocError, Global};
 /// The fewest columns of a bar, and the most.
 const BAR: (usize, usize) = (8, 40);
 
-/// The table of an explained schedule: a line for each interval with its beginning and its end in UTC, its
-/// length, its limit and why, and below it the profiles that never set the limit. Where the columns of a
+/// The table of an explained schedule. Each interval has a line with its beginning and its end in UTC, its
+/// length, its limit and why. Below them are the profiles that never set the limit. Where the columns of a
 /// terminal are given, no line is broader than they are (unless one word is), and bars show the limits.
 pub fn write_table(
     alloc: Global,

@@ -13,8 +13,8 @@ use meaning::{Ask, View, WhyNot, why_not};
 use std::alloc::{AllocError, Global};
 use sweep_compiler::Interval;
 
-/// The profiles that never set the limit in the intervals of a request, each with its reason: that it prevails at
-/// some second of the request and yet isn't the least, or else what holds at every second.
+/// The profiles that never set the limit in the intervals of a request, each with its reason. A profile that
+/// prevails at some second isn't the least there; else the reason is what holds at every second.
 pub fn not_counted(
     alloc: Global,
     view: &View<'_>,

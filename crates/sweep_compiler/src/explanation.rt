@@ -6,8 +6,8 @@ ghost use Rattle.sweep_compiler.specs.Explained.{Adjoin};
 use crate::interval::Interval;
 use std::marker::Model;
 
-/// What sets the limits of an asked schedule (chapter 3.13): intervals, the first from second 0 on, each next
-/// one from the end of the one before it, the last up to the end.
+/// What sets the limits of an asked schedule (chapter 3.13), in intervals. The first begins at second 0, each next
+/// one at the end of the one before it, and the last ends with the schedule.
 #[derive(Debug, Drop)]
 pub struct Explanation {
     /// Seconds.

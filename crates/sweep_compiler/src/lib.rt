@@ -1,6 +1,6 @@
-//! The sweep compiler of composite schedules (OCPP 1.6, chapter 5.7): it evaluates the limit at the
-//! start of a request and at the places after it, where a profile may change its limit, and nowhere
-//! else. What a place is stands in `specs/Places.antt`.
+//! The sweep compiler of composite schedules (OCPP 1.6, chapter 5.7). It evaluates the limit at the
+//! start of a request and at the places after it, and nowhere else. At a place a profile may change
+//! its limit: `specs/Places.antt`.
 #![tactic(auto)]
 
 mod bounded;
