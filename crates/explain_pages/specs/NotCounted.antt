@@ -51,9 +51,9 @@ holds_for BelowHigherLevel state at asked instant row =
 holds_for BehindTxProfile state at asked instant row =
     is_tx_default row.profile.purpose && is_some (prevailing_row TxProfile state at asked instant)
 
--- What a reason says of a row for a connector at a second, in a schedule asked from `asked` on:
--- that it doesn't prevail for this reason, has no limit, doesn't prevail where it has one, or that
--- it prevails. A ChargePointMaxProfile prevails for the whole point.
+-- What a reason says of a row for a connector at a second, in a schedule asked from `asked` on.
+-- NotPrevailing: the row doesn't prevail, for this cause. NoLimit: it has no limit. BehindOthers: it has no
+-- limit or doesn't prevail. NotLeast: it prevails. A ChargePointMaxProfile prevails for the whole point.
 abbrev pub SaysAt : NoPart → PointState → ℕ → ℕ → ℕ → Row → Type 0
 SaysAt (NotPrevailing why) state connector asked second row =
     holds_for why state (counts_for row.profile.purpose connector) asked second row ≡ true
@@ -65,7 +65,7 @@ SaysAt BehindOthers state connector asked second row =
 SaysAt NotLeast state connector asked second row = why_not state connector asked second row ≡ None
 SaysAt NoActiveConnector state connector asked second row = ⊥
 
--- ---- in an ask
+-- ---- in a request
 
 -- whether one connector alone is looked at: the one that is asked, or 0 for a ChargePointMaxProfile
 abbrev pub is_of_one : ℕ → Row → Bool
@@ -83,7 +83,7 @@ abbrev pub LooksAt : PointState → ℕ → Row → ℕ → Type 0
 LooksAt state asked row connector =
     (if is_of_one asked row then connector == asked else is_of_active state row connector) ≡ true
 
--- a reason says so at each second of an ask for each connector looked at, and there is one
+-- a reason says so at each second of a request for each connector looked at, and there is one
 pub record SaysThroughout (reason : NoPart) (state : PointState) (ask : Ask) (row : Row)
     : Type 0 where
   pub one : ℕ
@@ -93,7 +93,7 @@ pub record SaysThroughout (reason : NoPart) (state : PointState) (ask : Ask) (ro
       → ask.start ≤ second → second < ask.start + ask.duration
       → SaysAt reason state connector ask.start second row
 
--- a row prevails at a second of an ask for a connector that is looked at
+-- a row prevails at a second of a request for a connector that is looked at
 pub record PrevailsOnce (state : PointState) (ask : Ask) (row : Row) : Type 0 where
   pub connector : ℕ
   pub looked : LooksAt state ask.connector row connector
@@ -102,8 +102,8 @@ pub record PrevailsOnce (state : PointState) (ask : Ask) (row : Row) : Type 0 wh
   pub before : second < ask.start + ask.duration
   pub is : SaysAt NotLeast state connector ask.start second row
 
--- What is told of a row says so throughout the ask; that it prevails, at some second; that no
--- connector for which it may speak has a transaction, where none is looked at.
+-- A reason of a row holds throughout the request. NotLeast says that the row prevails at some second.
+-- NoActiveConnector says that no connector is looked at for the row.
 abbrev pub IsReason : NoPart → PointState → Ask → Row → Type 0
 IsReason (NotPrevailing why) state ask row = SaysThroughout (NotPrevailing why) state ask row
 IsReason NoLimit state ask row = SaysThroughout NoLimit state ask row
@@ -112,10 +112,10 @@ IsReason NotLeast state ask row = PrevailsOnce state ask row
 IsReason NoActiveConnector state ask row =
     (connector : ℕ) → ¬ (LooksAt state ask.connector row connector)
 
--- what is told of a profile that never sets the limit: a row of the point, with a right reason
-pub record IsTold (state : PointState) (ask : Ask) (told : NotCounted) : Type 0 where
+-- an entry of a profile that never sets the limit is a row of the point, with a right reason
+pub record HasReason (state : PointState) (ask : Ask) (entry : NotCounted) : Type 0 where
   pub place : ℕ
   pub row : Row
   pub stands : slice_get state.rows place ≡ Some row
-  pub profile : told.profile ≡ profile_of row
-  pub reason : IsReason told.reason state ask row
+  pub profile : entry.profile ≡ profile_of row
+  pub reason : IsReason entry.reason state ask row

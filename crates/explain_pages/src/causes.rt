@@ -1,21 +1,21 @@
-//! The strip below a picture's field that names what sets the limit of each stretch.
+//! The strip below a picture's field that names what sets the limit of each interval.
 
 use crate::drawing::{Sketch, push_letter};
 use crate::entries::{Entry, place_of};
 use crate::explained_ask::ExplainedAsk;
 use crate::markup::push_escaped;
 use crate::scale::{BOTTOM, LEFT, Scale};
-use crate::steps::MAX_STRETCHES;
+use crate::steps::MAX_INTERVALS;
 use crate::words::{push_length, push_limit, push_short_cause, push_why};
 use std::alloc::{AllocError, Global};
-use sweep_compiler::Stretch;
+use sweep_compiler::Interval;
 
 /// The upper edge of the strip, and its lower one.
 const UPPER: u64 = BOTTOM + 54;
 
 pub(crate) const LOWER: u64 = UPPER + 26;
 
-/// Appends the strip: a field for each stretch with the name of its cause, where that has room, else with
+/// Appends the strip: a field for each interval with the name of its cause, where that has room, else with
 /// its letter. Each field has a title that a pointing device shows.
 pub(crate) fn push_causes(
     alloc: Global,
@@ -28,8 +28,8 @@ pub(crate) fn push_causes(
         "<text class=\"end soft\" x=\"{x}\" y=\"{base}\">set by</text>\n"
     )?;
     let mut is_odd = false;
-    for stretch in sketch.explained.stretches.iter().take(MAX_STRETCHES) {
-        let field = Field::of(sketch.scale, stretch, is_odd);
+    for interval in sketch.explained.intervals.iter().take(MAX_INTERVALS) {
+        let field = Field::of(sketch.scale, interval, is_odd);
         // Without breadth nobody sees it.
         if field.breadth > 0 {
             push_field(alloc, out, sketch.explained, field)?;
@@ -40,22 +40,22 @@ pub(crate) fn push_causes(
     Ok(())
 }
 
-/// The field of a stretch.
+/// The field of an interval.
 #[derive(Clone, Copy)]
 struct Field<'a> {
-    stretch: &'a Stretch,
+    interval: &'a Interval,
     left: u64,
     breadth: u64,
     is_odd: bool,
 }
 
 impl<'a> Field<'a> {
-    fn of(scale: Scale, stretch: &'a Stretch, is_odd: bool) -> Field<'a> {
-        let left = scale.x(stretch.start);
+    fn of(scale: Scale, interval: &'a Interval, is_odd: bool) -> Field<'a> {
+        let left = scale.x(interval.start);
         Field {
-            stretch,
+            interval,
             left,
-            breadth: scale.x(stretch.end).saturating_sub(left),
+            breadth: scale.x(interval.end).saturating_sub(left),
             is_odd,
         }
     }
@@ -71,11 +71,11 @@ fn push_field(
     let class = if field.is_odd { "cause odd" } else { "cause" };
     write!(out, "<rect class=\"{class}\" x=\"{x}\" y=\"{UPPER}\"")?;
     write!(out, " width=\"{width}\" height=\"{height}\"><title>")?;
-    let reason = &field.stretch.reason;
+    let reason = &field.interval.reason;
     let mut title = String::new(alloc);
     push_limit(&mut title, reason.limit, explained.unit)?;
     title.push_str(" for ")?;
-    let length = field.stretch.end.saturating_sub(field.stretch.start);
+    let length = field.interval.end.saturating_sub(field.interval.start);
     push_length(&mut title, length)?;
     title.push_str(": ")?;
     push_why(&mut title, reason, explained.unit)?;
@@ -90,7 +90,7 @@ fn push_name(
     field: Field<'_>,
     entries: &[Entry],
 ) -> Result<(), AllocError> {
-    let Some(place) = place_of(entries, field.stretch.reason.cause) else {
+    let Some(place) = place_of(entries, field.interval.reason.cause) else {
         return Ok(());
     };
     let mut letter = String::new(alloc);
@@ -98,7 +98,7 @@ fn push_name(
     let mut name = String::new(alloc);
     push_letter(&mut name, place)?;
     name.push(' ')?;
-    push_short_cause(&mut name, field.stretch.reason.cause)?;
+    push_short_cause(&mut name, field.interval.reason.cause)?;
     if has_room(field, name.as_str()) {
         push_middle(out, field, name.as_str())
     } else if has_room(field, letter.as_str()) {

@@ -1,15 +1,15 @@
-//! The cells of a table of stretches.
+//! The cells of a table of intervals.
 
 use crate::clock::{ClockTime, needs_seconds, push_date, push_time};
 use crate::explained_ask::ExplainedAsk;
 use crate::words::{push_length, push_limit, push_why};
 use std::alloc::{AllocError, Global};
-use sweep_compiler::Stretch;
+use sweep_compiler::Interval;
 
-/// The cells of a stretch.
+/// The cells of an interval.
 #[derive(Drop)]
 pub(crate) struct Cells {
-    /// When it begins, with the date where the stretch before begins on another day.
+    /// When it begins, with the date where the interval before begins on another day.
     pub(crate) from: String,
     /// When it ends, with the date where that isn't the day of its beginning.
     pub(crate) to: String,
@@ -20,12 +20,12 @@ pub(crate) struct Cells {
     pub(crate) why: String,
 }
 
-/// Makes the cells of one stretch after another.
+/// Makes the cells of one interval after another.
 #[derive(Drop)]
 pub(crate) struct CellMaker<'a> {
     explained: &'a ExplainedAsk<'a>,
     with_seconds: bool,
-    /// The day on which the stretch before begins.
+    /// The day on which the interval before begins.
     day: Option<u64>,
 }
 
@@ -38,24 +38,28 @@ impl<'a> CellMaker<'a> {
         }
     }
 
-    /// The cells of the next stretch.
-    pub(crate) fn cells(&mut self, alloc: Global, stretch: &Stretch) -> Result<Cells, AllocError> {
-        let from = ClockTime::of(self.explained.moment(stretch.start));
-        let to = ClockTime::of(self.explained.moment(stretch.end));
+    /// The cells of the next interval.
+    pub(crate) fn cells(
+        &mut self,
+        alloc: Global,
+        interval: &Interval,
+    ) -> Result<Cells, AllocError> {
+        let from = ClockTime::of(self.explained.moment(interval.start));
+        let to = ClockTime::of(self.explained.moment(interval.end));
         let dates = (self.day != Some(from.day), to.day != from.day);
         self.day = Some(from.day);
         let mut length = String::new(alloc);
-        push_length(&mut length, stretch.end.saturating_sub(stretch.start))?;
+        push_length(&mut length, interval.end.saturating_sub(interval.start))?;
         let mut limit = String::new(alloc);
-        push_limit(&mut limit, stretch.reason.limit, self.explained.unit)?;
+        push_limit(&mut limit, interval.reason.limit, self.explained.unit)?;
         let mut why = String::new(alloc);
-        push_why(&mut why, &stretch.reason, self.explained.unit)?;
+        push_why(&mut why, &interval.reason, self.explained.unit)?;
         Ok(Cells {
             from: self.time(alloc, from, dates.0)?,
             to: self.time(alloc, to, dates.1)?,
             length,
             limit,
-            tenths: stretch.reason.limit,
+            tenths: interval.reason.limit,
             why,
         })
     }
@@ -71,15 +75,15 @@ impl<'a> CellMaker<'a> {
     }
 }
 
-/// The cells of all stretches.
+/// The cells of all intervals.
 pub(crate) fn all_cells(
     alloc: Global,
     explained: &ExplainedAsk<'_>,
 ) -> Result<Vec<Cells>, AllocError> {
     let mut maker = CellMaker::new(explained);
     let mut all = Vec::new(alloc);
-    for stretch in explained.stretches {
-        all.push(maker.cells(alloc, stretch)?)?;
+    for interval in explained.intervals {
+        all.push(maker.cells(alloc, interval)?)?;
     }
     Ok(all)
 }

@@ -85,10 +85,10 @@ pub(crate) fn weekday(day: u64) -> &'static str {
     }
 }
 
-/// Whether a time in the stretches isn't a whole minute.
+/// Whether a time in the intervals isn't a whole minute.
 pub(crate) fn needs_seconds(explained: &ExplainedAsk<'_>) -> bool {
-    for stretch in explained.stretches {
-        if explained.moment(stretch.start) % 60 != 0 || explained.moment(stretch.end) % 60 != 0 {
+    for interval in explained.intervals {
+        if explained.moment(interval.start) % 60 != 0 || explained.moment(interval.end) % 60 != 0 {
             return true;
         }
     }

@@ -18,7 +18,7 @@ pub(crate) struct Sketch<'a> {
     pub(crate) explained: &'a ExplainedAsk<'a>,
     pub(crate) scale: Scale,
     pub(crate) entries: &'a [Entry],
-    /// The limits of the stretches.
+    /// The limits of the intervals.
     pub(crate) limit: &'a Steps,
 }
 
@@ -164,7 +164,7 @@ pub(crate) fn push_time_axis(
     push_dates(alloc, out, explained, scale)
 }
 
-/// The second of an ask at which a moment is, at most its duration.
+/// The second of a request at which a moment is, at most its duration.
 fn second_at(explained: &ExplainedAsk<'_>, moment: u64) -> u32 {
     let second = moment.saturating_sub(explained.moment(0));
     second.min(u64::from(explained.ask.duration)) as u32
@@ -184,7 +184,7 @@ fn push_time_tick(out: &mut String, x: u64, moment: u64, step: u64) -> Result<()
     out.push_str("</text>\n")
 }
 
-/// Appends the date where the ask begins, and where each day begins in it.
+/// Appends the date where the request begins, and where each day begins in it.
 fn push_dates(
     alloc: Global,
     out: &mut String,

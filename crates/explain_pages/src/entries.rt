@@ -1,10 +1,10 @@
-//! What a picture shows beside the limit: the profiles that have one in its time, and the ceilings.
+//! What a picture shows besides the limit: the profiles that have one in its time, and the ceilings.
 
 ghost use Rattle.std.specs.Prelude.{◌≡◌};
 ghost use Rattle.meaning.specs.Cause.{profile_of};
 
 use crate::explained_ask::ExplainedAsk;
-use crate::steps::{MAX_STRETCHES, Steps, first_limit, profile_steps};
+use crate::steps::{MAX_INTERVALS, Steps, first_limit, profile_steps};
 use meaning::{Ask, Cause, PrevailingProfile, View, has_its_transaction};
 use ocpp_scalars::Instant;
 use profile::{Purpose, Row};
@@ -28,7 +28,7 @@ pub(crate) enum Line {
     Nothing,
 }
 
-/// The profiles that have a limit in the time of the ask, the ceilings, and what else sets a limit.
+/// The profiles that have a limit in the time of the request, the ceilings, and what else sets a limit.
 pub(crate) fn entries_of(
     alloc: Global,
     explained: &ExplainedAsk<'_>,
@@ -40,8 +40,8 @@ pub(crate) fn entries_of(
         }
     }
     push_ceilings(&mut entries, explained)?;
-    for stretch in explained.stretches.iter().take(MAX_STRETCHES) {
-        let cause = stretch.reason.cause;
+    for interval in explained.intervals.iter().take(MAX_INTERVALS) {
+        let cause = interval.reason.cause;
         if place_of(entries.as_slice(), cause).is_none() {
             entries.push(Entry {
                 cause,
@@ -57,7 +57,7 @@ pub(crate) fn place_of(entries: &[Entry], cause: Cause) -> Option<usize> {
     entries.iter().position(|entry| entry.cause == cause)
 }
 
-/// The entry of a profile, where it may set a limit and has one in the time of the ask.
+/// The entry of a profile, where it may set a limit and has one in the time of the request.
 fn profile_entry(
     alloc: Global,
     explained: &ExplainedAsk<'_>,
@@ -70,13 +70,13 @@ fn profile_entry(
     Ok(steps.and_then(|steps| stepped_entry(row, steps)))
 }
 
-/// Whether a row may set a limit of the ask: it stands for its connector, and has the transaction that it needs.
+/// Whether a row may set a limit of the request: it stands for its connector, and has the transaction that it needs.
 fn may_count(explained: &ExplainedAsk<'_>, row: &Row) -> bool {
     let started = started_for(&explained.view, &explained.ask, row);
     applies(explained, row) && has_its_transaction(row.profile.purpose, started)
 }
 
-/// The steps of a row in the time of the ask.
+/// The steps of a row in the time of the request.
 fn steps_of(alloc: Global, explained: &ExplainedAsk<'_>, row: &Row) -> Result<Steps, AllocError> {
     let ask = &explained.ask;
     let base = row.base(started_for(&explained.view, ask, row), ask.start);
@@ -87,7 +87,7 @@ fn steps_of(alloc: Global, explained: &ExplainedAsk<'_>, row: &Row) -> Result<St
 fn stepped_entry(row: &Row, steps: Steps) -> Option<Entry> {
     if steps.has_limit() {
         Some(Entry {
-            cause: Cause::Profile(told_by(row)),
+            cause: Cause::Profile(profile_of(row)),
             line: Line::Steps(steps),
         })
     } else {
@@ -95,8 +95,8 @@ fn stepped_entry(row: &Row, steps: Steps) -> Option<Entry> {
     }
 }
 
-/// What the profile of a row is told by.
-pub fn told_by(row: &Row) -> PrevailingProfile
+/// What identifies the profile of a row.
+pub fn profile_of(row: &Row) -> PrevailingProfile
     ensures { result ≡ profile_of row.now }
 {
     PrevailingProfile {
@@ -107,13 +107,13 @@ pub fn told_by(row: &Row) -> PrevailingProfile
     }
 }
 
-/// Whether a row stands for the connector of the ask.
+/// Whether a row stands for the connector of the request.
 fn applies(explained: &ExplainedAsk<'_>, row: &Row) -> bool {
     let connector = explained.ask.connector;
     connector == 0 || row.connector == 0 || row.connector == connector
 }
 
-/// The start of the transaction from which a row counts: that at the connector of the ask; for the whole
+/// The start of the transaction from which a row counts: that at the connector of the request; for the whole
 /// point that at the connector of the row, or the first one.
 fn started_for(view: &View<'_>, ask: &Ask, row: &Row) -> Option<Instant> {
     if ask.connector > 0 {
@@ -125,9 +125,9 @@ fn started_for(view: &View<'_>, ask: &Ask, row: &Row) -> Option<Instant> {
     view.starts.iter().find_map(|start| *start)
 }
 
-/// The instant of an ask at which the reason why a profile never sets the limit says most: the first at which
-/// its schedule has a limit, or the start where it has none. (Before it the reason would only be that the
-/// profile is yet to come.)
+/// The instant of a request whose reason says most about why a profile never sets the limit. It is the first at
+/// which the profile's schedule has a limit, or the start where it has none. Before it the reason would only be
+/// that the profile is yet to come.
 pub fn telling_instant(view: &View<'_>, ask: &Ask, row: &Row) -> Instant {
     let base = row.base(started_for(view, ask, row), ask.start);
     first_limit(&row.profile, base, ask)

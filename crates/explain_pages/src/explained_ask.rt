@@ -4,9 +4,9 @@ ghost use Rattle.std.specs.Prelude.{◌≡◌, ◌+◌, ◌<◌, ◌^◌};
 
 use meaning::{Ask, Cause, PrevailingProfile, View, WhyNot};
 use profile::Unit;
-use sweep_compiler::Stretch;
+use sweep_compiler::Interval;
 
-/// What is explained: an ask of a point's schedule (chapter 5.7), with the stretches that answer it.
+/// What is explained: a request of a point's schedule (chapter 5.7), with the intervals that answer it.
 #[derive(Clone, Copy)]
 pub struct ExplainedAsk<'a> {
     /// The identity of the charge point.
@@ -16,8 +16,8 @@ pub struct ExplainedAsk<'a> {
     pub ask: Ask,
     /// What the point has.
     pub view: View<'a>,
-    /// The stretches of the ask, in order.
-    pub stretches: &'a [Stretch],
+    /// The intervals of the request, in order.
+    pub intervals: &'a [Interval],
     /// The profiles that never set the limit in this time.
     pub not_counted: &'a [NotCounted],
 }
@@ -45,7 +45,7 @@ pub enum NoPart {
 }
 
 impl ExplainedAsk<'_> {
-    /// The second behind the last one of the ask, in seconds since 1970.
+    /// The second behind the last one of the request, in seconds since 1970.
     pub(crate) fn end(&self) -> u64
         ensures value { result ≡ self.now.ask.start + self.now.ask.duration }
         ensures small { result < 2 ^ 40 }
@@ -53,7 +53,7 @@ impl ExplainedAsk<'_> {
         self.ask.start.seconds() + u64::from(self.ask.duration)
     }
 
-    /// A second of the ask, in seconds since 1970.
+    /// A second of the request, in seconds since 1970.
     pub(crate) fn moment(&self, second: u32) -> u64
         ensures value { result ≡ self.now.ask.start + second }
         ensures small { result < 2 ^ 40 }
@@ -62,14 +62,14 @@ impl ExplainedAsk<'_> {
     }
 }
 
-/// Whether a profile sets a limit in one of the stretches, or a share of it.
-pub fn is_named(stretches: &[Stretch], profile: PrevailingProfile) -> bool {
+/// Whether a profile sets a limit in one of the intervals, or a share of it.
+pub fn is_named(intervals: &[Interval], profile: PrevailingProfile) -> bool {
     let cause = Cause::Profile(profile);
-    for stretch in stretches {
-        if stretch.reason.cause == cause {
+    for interval in intervals {
+        if interval.reason.cause == cause {
             return true;
         }
-        for share in stretch.reason.shares.as_slice() {
+        for share in interval.reason.shares.as_slice() {
             if share.cause == cause {
                 return true;
             }

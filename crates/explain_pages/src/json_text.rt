@@ -7,7 +7,7 @@ use meaning::{Cause, PrevailingProfile, Share};
 use messages::{purpose_name, unit_name};
 use ocpp_scalars::{Instant, push_instant, push_tenths};
 use std::alloc::{AllocError, Global};
-use sweep_compiler::Stretch;
+use sweep_compiler::Interval;
 
 /// An explained schedule as one line of JSON: `point`, `connector`, `unit`, `start`, `duration` in seconds,
 /// `stretches`, each with `start`, `end`, `limit`, `cause` and `shares`, and `notCounted`. Limits have one
@@ -18,8 +18,8 @@ pub fn write_json(alloc: Global, explained: &ExplainedAsk<'_>) -> Result<String,
     line.push_asked(explained)?;
     line.out.key("stretches")?;
     line.out.begin_array()?;
-    for stretch in explained.stretches {
-        line.push_stretch(explained, stretch)?;
+    for interval in explained.intervals {
+        line.push_interval(explained, interval)?;
     }
     line.out.end_array()?;
     line.out.key("notCounted")?;
@@ -72,20 +72,20 @@ impl JsonLine {
         self.out.u64(u64::from(explained.ask.duration))
     }
 
-    fn push_stretch(
+    fn push_interval(
         &mut self,
         explained: &ExplainedAsk<'_>,
-        stretch: &Stretch,
+        interval: &Interval,
     ) -> Result<(), AllocError> {
         self.out.begin_object()?;
         self.out.key("start")?;
-        self.push_moment(explained.moment(stretch.start))?;
+        self.push_moment(explained.moment(interval.start))?;
         self.out.key("end")?;
-        self.push_moment(explained.moment(stretch.end))?;
-        self.push_limit(stretch.reason.limit, stretch.reason.cause)?;
+        self.push_moment(explained.moment(interval.end))?;
+        self.push_limit(interval.reason.limit, interval.reason.cause)?;
         self.out.key("shares")?;
         self.out.begin_array()?;
-        for share in stretch.reason.shares.as_slice() {
+        for share in interval.reason.shares.as_slice() {
             self.push_share(share)?;
         }
         self.out.end_array()?;
@@ -141,7 +141,7 @@ impl JsonLine {
         self.out.end_object()
     }
 
-    /// Appends so many tenths, as a number.
+    /// Appends tenths, as a JSON number.
     fn push_tenths(&mut self, tenths: u32) -> Result<(), AllocError> {
         let mut text = String::new(self.alloc);
         push_tenths(&mut text, tenths)?;

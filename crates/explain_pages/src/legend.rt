@@ -16,7 +16,7 @@ const FIRST: u64 = LOWER + 30;
 
 const LINE: u64 = 22;
 
-/// The lower edge of the legend of so many entries, with some room below it.
+/// The lower edge of the legend of a number of entries, with some room below it.
 pub(crate) fn lower_edge(entries: usize) -> u64 {
     (entries as u64)
         .saturating_mul(LINE)

@@ -11,7 +11,7 @@ pub struct Length {
     pub seconds: u32,
 }
 
-/// The length of so many seconds.
+/// The length of a number of seconds.
 pub fn length_of(seconds: u32) -> Length
     ensures whole { result.days * 86400 + result.hours * 3600 + result.minutes * 60 + result.seconds
         ≡ seconds }

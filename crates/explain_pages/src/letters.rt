@@ -55,7 +55,7 @@ fn above(scale: Scale, limit: u32) -> u64 {
     scale.y(limit).saturating_sub(6)
 }
 
-/// The first free spot beside a spot: to its right, or to its left in the right half.
+/// The first free spot next to a spot: to its right, or to its left in the right half.
 fn free_spot(spots: &[(u64, u64)], spot: (u64, u64)) -> Option<(u64, u64)> {
     let (mut x, y) = spot;
     let goes_left = x > (LEFT + RIGHT) / 2;

@@ -1,5 +1,5 @@
 //! ExplainedAsk schedules, for people and for programs: a table with the reason of each limit, the same as JSON,
-//! and a picture as SVG or as an HTML page. Nothing here decides: it prints the stretches that it is given.
+//! and a picture as SVG or as an HTML page. Nothing here decides: it prints the intervals that it is given.
 #![tactic(auto)]
 
 mod causes;
@@ -28,13 +28,13 @@ mod uncounted;
 mod words;
 mod wrapping;
 
-pub use entries::{telling_instant, told_by};
+pub use entries::{profile_of, telling_instant};
 pub use explained_ask::{ExplainedAsk, NoPart, NotCounted, is_named};
 pub use json_text::write_json;
 pub use length::{Length, length_of};
 pub use page::write_page;
 pub use picture::write_picture;
-pub use steps::{MAX_STEPS, MAX_STRETCHES};
+pub use steps::{MAX_INTERVALS, MAX_STEPS};
 pub use table::write_table;
 pub use uncounted::not_counted;
 pub use words::{push_cause, push_length, push_limit, push_profile, push_why, sentence};

@@ -1,4 +1,4 @@
-//! At which connectors a row is looked at in an ask, and what holds at all of them.
+//! At which connectors a row is looked at in a request, and what holds at all of them.
 
 ghost use Rattle.std.specs.Prelude.{◌≡◌, MatchBool};
 ghost use Rattle.meaning.specs.View.{point_state};
@@ -30,7 +30,7 @@ impl RowAsked<'_> {
         None
     }
 
-    /// The first connector, with the first second of the ask, at which what a reason says isn't so.
+    /// The first connector, with the first second of the request, at which what a reason says isn't so.
     pub(crate) fn first_failing(&self, reason: NoPart) -> Option<Instant>
         ensures { FoundFailing reason self.now result }
     {

@@ -4,16 +4,16 @@ use crate::cells::{CellMaker, Cells};
 use crate::explained_ask::{ExplainedAsk, NotCounted};
 use crate::markup::{push_element, push_escaped};
 use crate::picture::{push_more, push_picture};
-use crate::steps::MAX_STRETCHES;
+use crate::steps::MAX_INTERVALS;
 use crate::styles::PAGE;
 use crate::table::{heading, place};
 use crate::words::{push_profile, sentence};
 use ocpp_scalars::{Instant, push_instant};
 use std::alloc::{AllocError, Global};
 
-/// An explained schedule as a page, a whole HTML file that loads nothing: the picture, the stretches in a table
-/// (the first `MAX_STRETCHES`; where there are more, the page says so), and the profiles that never set the
-/// limit.
+/// An explained schedule as a page, a whole HTML file that loads nothing: the picture, the intervals in a table,
+/// and the profiles that never set the limit. The table has the first `MAX_INTERVALS`; where there are more, the
+/// page says so.
 pub fn write_page(alloc: Global, explained: &ExplainedAsk<'_>) -> Result<String, AllocError> {
     let mut out = String::new(alloc);
     let title = heading(alloc, explained)?;
@@ -52,25 +52,25 @@ fn push_table(
 ) -> Result<(), AllocError> {
     out.push_str(HEAD)?;
     let mut maker = CellMaker::new(explained);
-    for stretch in explained.stretches.iter().take(MAX_STRETCHES) {
-        let cells = maker.cells(alloc, stretch)?;
+    for interval in explained.intervals.iter().take(MAX_INTERVALS) {
+        let cells = maker.cells(alloc, interval)?;
         out.push_str("<tr><th scope=\"row\">")?;
-        push_clock(out, explained.moment(stretch.start), cells.from.as_str())?;
+        push_clock(out, explained.moment(interval.start), cells.from.as_str())?;
         out.push_str("</th><td>")?;
-        push_clock(out, explained.moment(stretch.end), cells.to.as_str())?;
+        push_clock(out, explained.moment(interval.end), cells.to.as_str())?;
         push_cells(out, &cells)?;
     }
     out.push_str("</tbody>\n</table>\n</div>\n")?;
-    push_note(out, explained.stretches.len())
+    push_note(out, explained.intervals.len())
 }
 
-/// Appends how many stretches the table leaves out, where it does.
+/// Appends how many intervals the table leaves out, where it does.
 fn push_note(out: &mut String, count: usize) -> Result<(), AllocError> {
-    if count <= MAX_STRETCHES {
+    if count <= MAX_INTERVALS {
         return Ok(());
     }
     out.push_str("<p>")?;
-    push_more(out, count, MAX_STRETCHES)?;
+    push_more(out, count, MAX_INTERVALS)?;
     out.push_str("</p>\n")
 }
 

@@ -9,7 +9,7 @@ use crate::legend::{lower_edge, push_legend};
 use crate::letters::push_letters;
 use crate::markup::{push_element, push_escaped};
 use crate::scale::{BREADTH, LEFT, Scale};
-use crate::steps::stretch_steps;
+use crate::steps::interval_steps;
 use crate::styles::PICTURE;
 use crate::table::{heading, place, push_moment};
 use crate::words::push_length;
@@ -17,12 +17,12 @@ use messages::unit_name;
 use ocpp_scalars::push_integer;
 use std::alloc::{AllocError, Global};
 
-/// So many stretches are told in a picture's description.
-const TOLD: usize = 12;
+/// The most intervals that a picture's description names.
+const DESCRIBED: usize = 12;
 
-/// An explained schedule as a picture, a whole SVG file: the limit as a thick line, under it the profiles and
-/// the ceilings, each with its own dashes and a letter, and below the times what sets each limit. A profile's
-/// line has at most `MAX_STEPS` steps and the limit at most `MAX_STRETCHES`; where one is cut, the picture
+/// An explained schedule as a picture, a whole SVG file. The limit is a thick line; under it are the profiles and
+/// the ceilings, each with its own dashes and a letter. Below the times stands what sets each limit. A profile's
+/// line has at most `MAX_STEPS` steps and the limit at most `MAX_INTERVALS`; where one is cut, the picture
 /// says so.
 pub fn write_picture(alloc: Global, explained: &ExplainedAsk<'_>) -> Result<String, AllocError> {
     let mut out = String::from_str(alloc, "<?xml version=\"1.0\" encoding=\"UTF-8\"?>\n")?;
@@ -37,10 +37,10 @@ pub(crate) fn push_picture(
     explained: &ExplainedAsk<'_>,
 ) -> Result<(), AllocError> {
     let entries = entries_of(alloc, explained)?;
-    let limit = stretch_steps(alloc, explained)?;
+    let limit = interval_steps(alloc, explained)?;
     let height = lower_edge(entries.len());
     push_opening(out, height)?;
-    push_told(alloc, out, explained)?;
+    push_description(alloc, out, explained)?;
     out.push_str(PICTURE)?;
     write!(
         out,
@@ -65,7 +65,7 @@ fn push_opening(out: &mut String, height: u64) -> Result<(), AllocError> {
 }
 
 /// Appends title and description.
-fn push_told(
+fn push_description(
     alloc: Global,
     out: &mut String,
     explained: &ExplainedAsk<'_>,
@@ -79,24 +79,24 @@ fn push_told(
     )?;
     out.push_str("<desc id=\"picture-description\">Times in UTC.")?;
     let mut maker = CellMaker::new(explained);
-    for stretch in explained.stretches.iter().take(TOLD) {
-        let cells = maker.cells(alloc, stretch)?;
+    for interval in explained.intervals.iter().take(DESCRIBED) {
+        let cells = maker.cells(alloc, interval)?;
         push_element(out, " ", cells.from.as_str(), " to ")?;
         push_element(out, "", cells.to.as_str(), ": ")?;
         push_element(out, "", cells.limit.as_str(), ", ")?;
         push_element(out, "", cells.why.as_str(), ".")?;
     }
-    push_more(out, explained.stretches.len(), TOLD)?;
+    push_more(out, explained.intervals.len(), DESCRIBED)?;
     out.push_str("</desc>\n")
 }
 
-/// Appends how many stretches come after those that are told.
-pub(crate) fn push_more(out: &mut String, count: usize, told: usize) -> Result<(), AllocError> {
-    if count <= told {
+/// Appends how many intervals come after those that are shown.
+pub(crate) fn push_more(out: &mut String, count: usize, shown: usize) -> Result<(), AllocError> {
+    if count <= shown {
         return Ok(());
     }
     out.push_str(" Further stretches: ")?;
-    push_integer(out, count - told)?;
+    push_integer(out, count - shown)?;
     out.push('.')
 }
 

@@ -24,7 +24,7 @@ pub(crate) const BREADTH: u64 = 960;
 /// What the edges of the field stand for.
 #[derive(Clone, Copy)]
 pub(crate) struct Scale {
-    /// The duration of the ask, in seconds.
+    /// The duration of the request, in seconds.
     pub(crate) duration: u32,
     /// The limit at the upper edge, in tenths.
     pub(crate) top: u64,
@@ -55,7 +55,7 @@ impl Scale {
         }
     }
 
-    /// Where a second of the ask lies between the left and the right edge.
+    /// Where a second of the request lies between the left and the right edge.
     pub(crate) fn x(self, second: u32) -> u64
         ensures left { LEFT ≤ result }
         ensures right { result ≤ RIGHT }

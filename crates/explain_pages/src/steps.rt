@@ -13,23 +13,23 @@ use std::alloc::{AllocError, Global};
 /// The most steps of a profile's line.
 pub const MAX_STEPS: usize = 2_000;
 
-/// The most stretches that a picture or a page shows.
-pub const MAX_STRETCHES: usize = 20_000;
+/// The most intervals that a picture or a page shows.
+pub const MAX_INTERVALS: usize = 20_000;
 
 /// A limit from a second on, or none.
 #[derive(Clone, Copy)]
 pub(crate) struct Step {
-    /// Counted from the start of the ask.
+    /// Counted from the start of the request.
     pub(crate) second: u32,
     /// In tenths.
     pub(crate) limit: Option<u32>,
 }
 
-/// Limits through an ask, each up to the next.
+/// Limits through a request, each up to the next.
 #[derive(Drop)]
 pub(crate) struct Steps {
     pub(crate) items: Vec<Step>,
-    /// The second behind the last step: the duration of the ask, or less where the steps were cut.
+    /// The second behind the last step: the duration of the request, or less where the steps were cut.
     pub(crate) end: u32,
 }
 
@@ -40,7 +40,7 @@ impl Steps {
     }
 }
 
-/// The limits of a profile through an ask, counted from a base.
+/// The limits of a profile through a request, counted from a base.
 pub(crate) fn profile_steps(
     alloc: Global,
     profile: &Profile,
@@ -72,7 +72,7 @@ pub(crate) fn profile_steps(
     })
 }
 
-/// The first instant of an ask at which a profile has a limit, counted from a base, or its start where it has
+/// The first instant of a request at which a profile has a limit, counted from a base, or its start where it has
 /// none in it.
 pub(crate) fn first_limit(profile: &Profile, base: Instant, ask: &Ask) -> Instant {
     let mut instant = ask.start;
@@ -88,26 +88,26 @@ pub(crate) fn first_limit(profile: &Profile, base: Instant, ask: &Ask) -> Instan
     ask.start
 }
 
-/// The second of an ask at which an instant is, at most its duration.
+/// The second of a request at which an instant is, at most its duration.
 fn second_of(ask: &Ask, instant: Instant) -> u32 {
     let second = instant.seconds().saturating_sub(ask.start.seconds());
     second.min(u64::from(ask.duration)) as u32
 }
 
-/// The limits of the stretches.
-pub(crate) fn stretch_steps(
+/// The limits of the intervals.
+pub(crate) fn interval_steps(
     alloc: Global,
     explained: &ExplainedAsk<'_>,
 ) -> Result<Steps, AllocError> {
     let mut items = Vec::new(alloc);
-    for stretch in explained.stretches.iter().take(MAX_STRETCHES) {
+    for interval in explained.intervals.iter().take(MAX_INTERVALS) {
         items.push(Step {
-            second: stretch.start,
-            limit: Some(stretch.reason.limit),
+            second: interval.start,
+            limit: Some(interval.reason.limit),
         })?;
     }
-    let end = match explained.stretches.get(MAX_STRETCHES) {
-        Some(stretch) => stretch.start,
+    let end = match explained.intervals.get(MAX_INTERVALS) {
+        Some(interval) => interval.start,
         None => explained.ask.duration,
     };
     Ok(Steps { items, end })

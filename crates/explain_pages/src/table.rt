@@ -14,8 +14,8 @@ use std::alloc::{AllocError, Global};
 /// The fewest columns of a bar, and the most.
 const BAR: (usize, usize) = (8, 40);
 
-/// The table of an explained schedule: a line for each stretch with its beginning and its end in UTC, its
-/// length, its limit and why, and below it the profiles that never set the limit. Where the columns of a
+/// The table of an explained schedule. Each interval has a line with its beginning and its end in UTC, its
+/// length, its limit and why. Below them are the profiles that never set the limit. Where the columns of a
 /// terminal are given, no line is broader than they are (unless one word is), and bars show the limits.
 pub fn write_table(
     alloc: Global,
@@ -24,7 +24,7 @@ pub fn write_table(
 ) -> Result<String, AllocError> {
     let mut out = String::new(alloc);
     push_heading(alloc, &mut out, explained, columns)?;
-    push_stretches(alloc, &mut out, explained, columns)?;
+    push_intervals(alloc, &mut out, explained, columns)?;
     push_not_counted(alloc, &mut out, explained.not_counted, columns)?;
     Ok(out)
 }
@@ -69,7 +69,7 @@ pub(crate) fn place(alloc: Global, explained: &ExplainedAsk<'_>) -> Result<Strin
     Ok(text)
 }
 
-/// Appends a second of the ask with its date.
+/// Appends a second of the request with its date.
 pub(crate) fn push_moment(
     alloc: Global,
     out: &mut String,
@@ -140,13 +140,13 @@ impl Widths {
 /// How the lines of a table lie.
 #[derive(Clone, Copy, PartialEq, Eq)]
 enum Layout {
-    /// A line for each stretch, and no bar.
+    /// A line for each interval, and no bar.
     Plain,
-    /// A line for each stretch, with a bar of so many columns in it.
+    /// A line for each interval, with a bar of a number of columns in it.
     OneLine(usize),
-    /// Why stands in a line of its own, and a bar of so many columns is behind the limit.
+    /// Why stands in a line of its own, and a bar of a number of columns is behind the limit.
     TwoLines(usize),
-    /// Each stretch is a paragraph, with a bar of so many columns.
+    /// Each interval is a paragraph, with a bar of a number of columns.
     Paragraphs(usize),
 }
 
@@ -184,7 +184,7 @@ struct Sheet<'a> {
     largest: u32,
 }
 
-fn push_stretches(
+fn push_intervals(
     alloc: Global,
     out: &mut String,
     explained: &ExplainedAsk<'_>,
@@ -210,11 +210,11 @@ fn push_stretches(
     Ok(())
 }
 
-/// The largest limit of the stretches, in tenths.
+/// The largest limit of the intervals, in tenths.
 pub(crate) fn largest_limit(explained: &ExplainedAsk<'_>) -> u32 {
     let mut largest = 0;
-    for stretch in explained.stretches {
-        largest = stretch.reason.limit.max(largest);
+    for interval in explained.intervals {
+        largest = interval.reason.limit.max(largest);
     }
     largest
 }
@@ -241,7 +241,7 @@ impl Sheet<'_> {
         }
     }
 
-    /// Appends a stretch.
+    /// Appends an interval.
     fn push(&self, alloc: Global, out: &mut String, cells: &Cells) -> Result<(), AllocError> {
         match self.layout {
             Layout::Plain => {

@@ -12,7 +12,7 @@ use ocpp_scalars::Instant;
 use recurrence::rate_at;
 
 impl Looked<'_> {
-    /// The first second of the ask at which what a reason says isn't so, or `None` where it is so at each. Where
+    /// The first second of the request at which what a reason says isn't so, or `None` where it is so at each. Where
     /// it is that others come first, the row prevails there.
     pub(crate) fn first_failing(&self, reason: NoPart) -> Option<Instant>
         ensures { FirstFailing reason self.now result }

@@ -60,7 +60,7 @@ pub(crate) fn limit_step(largest: u32) -> u32
     first_that_spans(&LIMIT_STEPS, largest, MOST_LIMITS).unwrap_or(2_000_000_000)
 }
 
-/// The first of some steps of which so many reach as far as wanted.
+/// The first of some steps of which `count` reach as far as wanted.
 fn first_that_spans(steps: &[u32], wanted: u32, count: u32) -> Option<u32>
     ensures spans { IfSome result (λ step. wanted ≤ step * count) }
 {

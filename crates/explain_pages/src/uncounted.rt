@@ -3,39 +3,39 @@
 ghost use Rattle.std.specs.Prelude.{◌≡◌, ◌<◌, length, IfOk};
 ghost use Rattle.std.specs.List.{All};
 ghost use Rattle.meaning.specs.View.{point_state};
-ghost use Rattle.explain_pages.specs.NotCounted.{IsReason, IsTold};
+ghost use Rattle.explain_pages.specs.NotCounted.{IsReason, HasReason};
 ghost use Rattle.explain_pages.specs.ByCases.Throughout.{IsLookedAt};
 
-use crate::entries::{telling_instant, told_by};
+use crate::entries::{profile_of, telling_instant};
 use crate::explained_ask::{NoPart, NotCounted, is_named};
 use crate::looked::RowAsked;
 use meaning::{Ask, View, WhyNot, why_not};
 use std::alloc::{AllocError, Global};
-use sweep_compiler::Stretch;
+use sweep_compiler::Interval;
 
-/// The profiles that never set the limit in the stretches of an ask, each with its reason: that it prevails at
-/// some second of the ask and yet isn't the least, or else what holds at every second.
+/// The profiles that never set the limit in the intervals of a request, each with its reason. A profile that
+/// prevails at some second isn't the least there; else the reason is what holds at every second.
 pub fn not_counted(
     alloc: Global,
     view: &View<'_>,
     ask: &Ask,
-    stretches: &[Stretch],
+    intervals: &[Interval],
 ) -> Result<Vec<NotCounted>, AllocError>
-    ensures { IfOk result (λ rest. All (IsTold (point_state view.now) ask.now) rest.items) }
+    ensures { IfOk result (λ rest. All (HasReason (point_state view.now) ask.now) rest.items) }
 {
     let mut rest = Vec::new(alloc);
     for place in 0..view.rows.len() {
-        if !is_named(stretches, told_by(&view.rows[place])) {
-            rest.push(told_at(view, ask, place))?;
+        if !is_named(intervals, profile_of(&view.rows[place])) {
+            rest.push(not_counted_at(view, ask, place))?;
         }
     }
     Ok(rest)
 }
 
-/// What is told of the row at a place.
-fn told_at(view: &View<'_>, ask: &Ask, place: usize) -> NotCounted
+/// The row at a place as one that never sets the limit, with its reason.
+fn not_counted_at(view: &View<'_>, ask: &Ask, place: usize) -> NotCounted
     requires within { place < length view.now.rows.now }
-    ensures { IsTold (point_state view.now) ask.now result }
+    ensures { HasReason (point_state view.now) ask.now result }
 {
     let row = &view.rows[place];
     let asked = RowAsked {
@@ -45,7 +45,7 @@ fn told_at(view: &View<'_>, ask: &Ask, place: usize) -> NotCounted
         row,
     };
     NotCounted {
-        profile: told_by(row),
+        profile: profile_of(row),
         reason: asked.reason(),
     }
 }

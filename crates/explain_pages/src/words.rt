@@ -101,7 +101,7 @@ pub fn push_length(out: &mut String, seconds: u32) -> Result<(), AllocError> {
     Ok(())
 }
 
-/// Appends what a profile is told by: `TxDefaultProfile 1, stack level 0, at connector 0`.
+/// Appends what identifies a profile: `TxDefaultProfile 1, stack level 0, at connector 0`.
 pub fn push_profile(out: &mut String, profile: PrevailingProfile) -> Result<(), AllocError> {
     push_short_profile(out, profile)?;
     out.push_str(", stack level ")?;

@@ -1,4 +1,4 @@
-//! Texts broken into lines of so many columns.
+//! Texts broken into lines of at most a given number of columns.
 
 use ocpp_scalars::character_count;
 use std::alloc::AllocError;
@@ -12,7 +12,7 @@ pub(crate) struct Margins {
     pub(crate) columns: Option<usize>,
 }
 
-/// Appends so many of a character.
+/// Appends a character a number of times.
 pub(crate) fn push_times(
     out: &mut String,
     character: char,
@@ -49,7 +49,7 @@ pub(crate) fn push_lines(out: &mut String, text: &str, margins: Margins) -> Resu
     out.push('\n')
 }
 
-/// Whether a line that has so many columns holds a blank and a word besides.
+/// Whether a line that is filled up to a column has room for a blank and a word.
 fn fits(column: usize, width: usize, columns: Option<usize>) -> bool {
     columns.is_none_or(|columns| column.saturating_add(width) < columns)
 }

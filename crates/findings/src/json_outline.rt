@@ -3,7 +3,7 @@
 use json::{Reader, Scratch, Token};
 use std::alloc::{AllocError, Global};
 
-/// A stretch of a text, in bytes: its first, and the one behind its last.
+/// A span of a text, in bytes: its first, and the one behind its last.
 #[derive(Clone, Copy, Debug, PartialEq, Eq)]
 pub(crate) struct Span {
     pub start: usize,
@@ -15,7 +15,7 @@ pub(crate) struct Span {
 pub(crate) enum Label {
     /// The whole text.
     Root,
-    /// The member whose name begins here, behind its quote. The stretch is as long as the name, so
+    /// The member whose name begins here, behind its quote. The span is as long as the name, so
     /// it is the name where that has no escape, and has a backslash else.
     Member(Span),
     /// The entry at this index, from 0.

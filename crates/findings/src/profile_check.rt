@@ -174,7 +174,7 @@ fn highest_ceiling(point: SitePoint<'_>, connector: u32, purpose: Purpose) -> u3
     highest.min(point.ceiling)
 }
 
-/// When a profile has no rate: never, or in stretches that probably weren't meant.
+/// When a profile has no rate: never, or in intervals that probably weren't meant.
 fn warn_rates(report: &mut Report, moment: Instant, profile: &Profile) -> Result<(), AllocError> {
     if let Some(why) = never_rated(profile) {
         return report.warn_text(never_sentence(why));

@@ -162,7 +162,7 @@ fn repeated_field(
     }
 }
 
-/// The text of a stretch.
+/// The text of a span.
 pub(crate) fn text_of(text: &str, span: Span) -> Option<&str> {
     let bytes = text.as_bytes().get(span.start..span.end)?;
     std::str::from_utf8(bytes).ok()

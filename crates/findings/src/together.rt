@@ -222,10 +222,10 @@ fn push_turns_of<'a>(
         return Ok(());
     };
     let mut was = 0;
-    for stretch in explain(alloc, week.book, &ask, &mut Turns::new())?.stretches() {
-        let now = u64::from(stretch.reason.limit).saturating_mul(count);
+    for interval in explain(alloc, week.book, &ask, &mut Turns::new())?.intervals() {
+        let now = u64::from(interval.reason.limit).saturating_mul(count);
         turns.push(WeekTurn {
-            second: stretch.start,
+            second: interval.start,
             what: Turning::Limit { was, now },
         })?;
         was = now;

@@ -1,4 +1,4 @@
--- Numbers make no ask by the first of their causes, and else the ask of these numbers.
+-- Numbers are refused by the first of their causes, and else make the request of these numbers.
 use Rattle.std.proofs.Common.{◌≡◌, ℕ, ◌+◌, ◌-◌, ◌<◌, nat_le, nat_lt, Bool, true, false, ◌⊎◌, ◌↔◌, inl, inr, List, [], ◌∷◌, Some, None, Result, Ok, Err, refl, sym, subst, arith, leb-true, ltb-true}
 use Rattle.std.specs.Result.{result_err}
 use Rattle.std.proofs.lemmas.Bool.Decides.{nat_tests}

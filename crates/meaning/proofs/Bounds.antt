@@ -4,23 +4,23 @@ use Rattle.std.proofs.lemmas.List.{append-nil, map-append}
 use Rattle.std.proofs.lemmas.List.Elements.{filter-append}
 use Rattle.meaning.specs.declared.cause.Share.{Share}
 use Rattle.meaning.specs.Cause.{RowLimit, Bound, level_of, lesser_of}
-use Rattle.meaning.specs.ByCases.Cause.{told, level_told, lesser_told}
+use Rattle.meaning.specs.ByCases.Cause.{profile_limit_of, level_of_limit, lesser_bound}
 use Rattle.meaning.specs.Theory.Greatest.{greatest_of}
 
--- the higher of two rows, as it is told
-pub higher_told : (best next : Option RowLimit)
-    → greatest_of level_told (option_map told best) (option_map told next) ≡ option_map told (greatest_of level_of best next)
-higher_told None None = refl
-higher_told None (Some next) = refl
-higher_told (Some best) None = refl
-higher_told (Some best) (Some next) = go (nat_lt (level_of best) (level_of next))
+-- of two rows, the ProfileLimit of the higher is the higher ProfileLimit
+pub higher_is : (best next : Option RowLimit)
+    → greatest_of level_of_limit (option_map profile_limit_of best) (option_map profile_limit_of next) ≡ option_map profile_limit_of (greatest_of level_of best next)
+higher_is None None = refl
+higher_is None (Some next) = refl
+higher_is (Some best) None = refl
+higher_is (Some best) (Some next) = go (nat_lt (level_of best) (level_of next))
   where
-    go : (b : Bool) → Some (cond b (told next) (told best)) ≡ option_map told (Some (cond b next best))
+    go : (b : Bool) → Some (cond b (profile_limit_of next) (profile_limit_of best)) ≡ option_map profile_limit_of (Some (cond b next best))
     go true = refl
     go false = refl
 
--- the lesser of a row and a bound, as the row is told
-pub lesser_is : (best : Option RowLimit) (other : Bound) → lesser_told (option_map told best) other ≡ lesser_of best other
+-- the lesser of a row and a bound, where the row is a ProfileLimit
+pub lesser_is : (best : Option RowLimit) (other : Bound) → lesser_bound (option_map profile_limit_of best) other ≡ lesser_of best other
 lesser_is None other = refl
 lesser_is (Some best) other = refl
 

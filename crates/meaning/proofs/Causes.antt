@@ -140,7 +140,7 @@ is_prevailing purpose state connector asked instant best h =
     record {
       row = best.row;
       stands = of.counts.stands;
-      told = refl;
+      of_row = refl;
       prevails = subst (λ (purpose : Purpose). prevailing_row purpose state (counts_for purpose connector) asked instant ≡ Some best) (sym of.counts.purpose_is) h;
     }
 

@@ -87,11 +87,11 @@ idle = None ∷ (None ∷ [])
 abbrev on_first : List (Option ℕ)
 on_first = at_start 0 ∷ (None ∷ [])
 
--- the exact schedule of a connector, asked so many seconds after midnight for so many seconds
+-- the exact schedule of a connector, asked a number of seconds after midnight for a number of seconds
 abbrev schedule : PointState → ℕ → ℕ → ℕ → List CompositePeriod
 schedule b connector asked duration = exact_periods (λ second. limit b connector (midnight + asked) (midnight + asked + second)) duration
 
--- the limits of so many seconds from one on, in such a schedule
+-- the limits of a number of seconds from one on, in such a schedule
 abbrev limits : PointState → ℕ → ℕ → ℕ → ℕ → List ℕ
 limits b connector asked second many = map (λ (s : ℕ). limit b connector (midnight + asked) (midnight + asked + s)) (range_with_len second many)
 
@@ -177,7 +177,7 @@ sum_of_connectors = refl
 pub sum_above_the_point : schedule (shared 320) 0 10 60 ≡ span 0 320 ∷ []
 sum_above_the_point = refl
 
--- without a startSchedule a default counts from the start of the ask, a maximum from its install
+-- without a startSchedule a default counts from the start of the request, a maximum from its install
 pub from_the_ask : schedule (point idle (row_at 0 TxDefaultProfile 0 low0 Absolute None refl (Some 60) (period 0 100 ∷ []) ∷ [])) 1 30 100
     ≡ span 0 100 ∷ (span 60 320 ∷ [])
 from_the_ask = refl
@@ -211,7 +211,7 @@ profile_at purpose level connector = Profile (record { id = pos 1; purpose = pur
 abbrev because : ℕ → Cause → List Share → Reason
 because limit cause shares = record { limit = limit; cause = cause; shares = shares }
 
--- in a schedule of a connector, asked so many seconds after midnight, at a second after that
+-- in a schedule of a connector, asked a number of seconds after midnight, at a second after that
 abbrev why : PointState → ℕ → ℕ → ℕ → Reason
 why b connector asked second = reason b connector (midnight + asked) (midnight + asked + second)
 
@@ -251,7 +251,7 @@ why_above_the_point = refl
 pub why_the_first_of_equals : why (shared 400) 0 10 0 ≡ because 400 (profile_at ChargePointMaxProfile 0 0) []
 why_the_first_of_equals = refl
 
--- why a row doesn't prevail, in a schedule asked so many seconds after midnight, at its start
+-- why a row doesn't prevail, in a schedule asked a number of seconds after midnight, at its start
 abbrev why_none : PointState → ℕ → ℕ → Row → Option WhyNot
 why_none b connector asked row = why_not b connector (midnight + asked) (midnight + asked) row
 

@@ -27,7 +27,9 @@ with_limit row limit = record { row = row; limit = limit }
 -- a row with its limit for a connector at an instant, where it has one
 abbrev pub row_limit : PointState → ℕ → ℕ → ℕ → Row → Option RowLimit
 row_limit state connector asked instant row =
-    option_map (with_limit row) (rate row.profile (base row (active_since state connector) asked) instant)
+    option_map
+    (with_limit row)
+    (rate row.profile (base row (active_since state connector) asked) instant)
 
 abbrev pub level_of : RowLimit → ℕ
 level_of best = best.row.profile.stack_level
@@ -36,7 +38,9 @@ level_of best = best.row.profile.stack_level
 -- at the instant (OCPP 1.6, 3.13), and its limit is `prevailing`, by the law `reasons`.
 abbrev pub prevailing_row : Purpose → PointState → ℕ → ℕ → ℕ → Option RowLimit
 prevailing_row purpose state connector asked instant =
-    greatest level_of (filter_map (row_limit state connector asked instant) (counted purpose state connector))
+    greatest
+    level_of
+    (filter_map (row_limit state connector asked instant) (counted purpose state connector))
 
 abbrev pub row_or_else : Option RowLimit → Option RowLimit → Option RowLimit
 row_or_else None other = other
@@ -49,7 +53,7 @@ transaction_row state connector asked instant =
     (prevailing_row TxProfile state connector asked instant)
     (prevailing_row TxDefaultProfile state connector asked instant)
 
--- a profile, by what it is told by
+-- what identifies a profile
 abbrev pub profile_of : Row → PrevailingProfile
 profile_of row = record {
   id = row.profile.id;
@@ -126,7 +130,7 @@ abbrev pub reason : PointState → ℕ → ℕ → ℕ → Reason
 reason state connector asked instant =
     reason_by state asked instant (bound state connector asked instant)
 
--- the reasons that an ask of a connector from a start on means: at each count of seconds after it
+-- the reasons that a request of a connector from a start on means: at each count of seconds after it
 abbrev pub reason_asked : PointState → ℕ → ℕ → ℕ → Reason
 reason_asked state connector start second = reason state connector start (start + second)
 
@@ -143,11 +147,11 @@ pub record StandsIn (rows : List Row) (row : Row) : Type 0 where
   pub is : rows ≡ before ++ row ∷ after
 
 -- a profile is a row of the point, which prevails and has exactly this limit
-pub record IsPrevailing (state : PointState) (connector asked instant limit : ℕ) (profile : PrevailingProfile)
-    : Type 0 where
+pub record IsPrevailing (state : PointState) (connector asked instant limit : ℕ)
+    (profile : PrevailingProfile) : Type 0 where
   pub row : Row
   pub stands : StandsIn state.rows row
-  pub told : profile ≡ profile_of row
+  pub of_row : profile ≡ profile_of row
   pub prevails :
       prevailing_row profile.purpose state (counts_for profile.purpose connector) asked instant
       ≡ Some (with_limit row limit)

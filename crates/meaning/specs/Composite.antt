@@ -3,7 +3,7 @@ use Rattle.std.specs.Prelude.{◌≡◌, ℕ, ◌<◌, nat_le, List, [], ◌∷�
 use Rattle.std.specs.List.{AllByRecursion}
 use Rattle.meaning.specs.declared.composite.CompositePeriod.{CompositePeriod}
 
--- limits over so many seconds
+-- limits over a number of seconds
 pub record CompositeSchedule : Type 0 where
   pub duration : ℕ
   pub periods : List CompositePeriod

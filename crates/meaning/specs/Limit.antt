@@ -33,7 +33,9 @@ point_limit state asked instant =
 -- the connectors with an active transaction
 abbrev pub active_connectors : PointState → List ℕ
 active_connectors state =
-    filter (λ connector. is_some (active_since state connector)) (range_with_len 1 (length state.ceilings))
+    filter
+    (λ connector. is_some (active_since state connector))
+    (range_with_len 1 (length state.ceilings))
 
 -- what the active connectors may draw together, a whole number without bound
 abbrev pub shared_limit : PointState → ℕ → ℕ → ℕ
@@ -52,6 +54,6 @@ limit_by false state connector asked instant =
 abbrev pub limit : PointState → ℕ → ℕ → ℕ → ℕ
 limit state connector asked instant = limit_by (connector == 0) state connector asked instant
 
--- the limits that an ask of a connector from a start on means: at each count of seconds after it
+-- the limits that a request of a connector from a start on means: at each count of seconds after it
 abbrev pub limit_asked : PointState → ℕ → ℕ → ℕ → ℕ
 limit_asked state connector start second = limit state connector start (start + second)

@@ -55,7 +55,8 @@ abbrev pub why_no_limit : PointState → ℕ → ℕ → ℕ → Row → Option 
 why_no_limit state connector asked instant row =
     first_of (where_so NotYetValid (not (is_from row.profile.valid_from instant)))
     (first_of (where_so NoLongerValid (not (is_before instant row.profile.valid_to)))
-    (why_no_limit_in row (offset row.profile (base row (active_since state connector) asked) instant)))
+    (why_no_limit_in row
+    (offset row.profile (base row (active_since state connector) asked) instant)))
 
 abbrev pub is_above : ℕ → Option RowLimit → Bool
 is_above level None = false
@@ -66,9 +67,11 @@ abbrev pub why_behind : PointState → ℕ → ℕ → ℕ → Row → Option Wh
 why_behind state connector asked instant row =
     first_of
     (where_so BelowHigherLevel
-    (is_above row.profile.stack_level (prevailing_row row.profile.purpose state connector asked instant)))
+    (is_above row.profile.stack_level
+    (prevailing_row row.profile.purpose state connector asked instant)))
     (where_so BehindTxProfile
-    (is_tx_default row.profile.purpose && is_some (prevailing_row TxProfile state connector asked instant)))
+    (is_tx_default row.profile.purpose
+    && is_some (prevailing_row TxProfile state connector asked instant)))
 
 abbrev pub why_not_for : PointState → ℕ → ℕ → ℕ → Row → Option WhyNot
 why_not_for state connector asked instant row =
@@ -88,7 +91,8 @@ why_not state connector asked instant row =
 pub record Prevails (state : PointState) (connector asked instant : ℕ) (row : Row) : Type 0 where
   pub limit : ℕ
   pub of_purpose :
-      prevailing_row row.profile.purpose state (counts_for row.profile.purpose connector) asked instant
+      prevailing_row
+      row.profile.purpose state (counts_for row.profile.purpose connector) asked instant
       ≡ Some (with_limit row limit)
   pub no_transaction :
       row.profile.purpose ≡ TxDefaultProfile

@@ -10,7 +10,7 @@ use ocpp_scalars::{Instant, LAST_SECOND, Refusal};
 pub const MAX_DURATION: u32 = 604_800;
 
 /// What GetCompositeSchedule asks (chapter 5.7): the limits of a connector, 0 being the whole
-/// point, from a start on for so many seconds, none of them past the last instant.
+/// point, from a start on for a number of seconds, none of them past the last instant.
 #[derive(Clone, Copy, Debug, PartialEq, Eq)]
 pub struct Ask {
     pub connector: u32,
@@ -25,7 +25,7 @@ pub struct Ask {
 impl Ask {
     ghost use Rattle.meaning.specs.Ask.{ask_of};
 
-    /// What is asked of a connector from a start on for so many seconds. The refusals are
+    /// What is asked of a connector from a start on for a number of seconds. The refusals are
     /// `BadDuration`, at 0 and above `MAX_DURATION`, and then `PastCalendar`, where the last second
     /// lies past the last instant.
     pub fn try_new(connector: u32, start: Instant, duration: u32) -> Result<Ask, Refusal>

@@ -1,4 +1,4 @@
-//! The law of asks, on a function that does nothing.
+//! The law of requests, on a function that does nothing.
 
 ghost use Rattle.std.specs.Prelude.{◌≡◌, ◌↔◌, ℕ, Some, None, Ok, Err};
 ghost use Rattle.ocpp_scalars.specs.declared.refusal.Refusal.{Refusal};
@@ -6,8 +6,8 @@ ghost use Rattle.ocpp_scalars.specs.Causes.{IsFirstCause};
 ghost use Rattle.meaning.specs.declared.ask.Ask.{Ask};
 ghost use Rattle.meaning.specs.Ask.{IsAskOf, ask_causes, ask_of};
 
-/// The law of asks: numbers are refused exactly where the cause of the refusal holds and none
-/// before it does, and make an ask exactly where no cause holds; it is the one of these numbers.
+/// The law of requests. Numbers are refused by the first cause that holds. Where none holds, they
+/// make the request of these numbers.
 pub fn asks()
     ensures refused { (connector start duration : ℕ) (refusal : Refusal)
         → (ask_of connector start duration ≡ Err refusal)

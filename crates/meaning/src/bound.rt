@@ -4,7 +4,7 @@ ghost use Rattle.std.specs.Prelude.{◌≡◌, ℕ, [], ◌∷◌};
 ghost use Rattle.std.specs.List.{filter_map};
 ghost use Rattle.profile.specs.Greatest.{greatest};
 ghost use Rattle.meaning.specs.Cause.{lesser, with_limit};
-ghost use Rattle.meaning.specs.ByCases.Cause.{told, level_told, lesser_told};
+ghost use Rattle.meaning.specs.ByCases.Cause.{profile_limit_of, level_of_limit, lesser_bound};
 
 use crate::cause::{Cause, PrevailingProfile};
 use profile::Row;
@@ -48,7 +48,7 @@ pub struct ProfileLimit {
 impl ProfileLimit {
     /// A row's profile with a limit.
     pub fn of(row: &Row, limit: u32) -> ProfileLimit
-        ensures { result ≡ told (with_limit row.now limit) }
+        ensures { result ≡ profile_limit_of (with_limit row.now limit) }
     {
         ProfileLimit {
             profile: PrevailingProfile {
@@ -64,7 +64,7 @@ impl ProfileLimit {
 
 /// Of a profile's limit, where there is one, and a bound the lesser, and the first of equals.
 pub fn lesser_of(best: Option<ProfileLimit>, other: Bound) -> Bound
-    ensures { result ≡ lesser_told best other }
+    ensures { result ≡ lesser_bound best other }
 {
     match best {
         Some(best) => {
@@ -83,7 +83,7 @@ pub(crate) fn higher_level(
     best: Option<ProfileLimit>,
     next: Option<ProfileLimit>,
 ) -> Option<ProfileLimit>
-    ensures { result ≡ greatest level_told (filter_map (λ limit. limit) (best ∷ (next ∷ []))) }
+    ensures { result ≡ greatest level_of_limit (filter_map (λ limit. limit) (best ∷ (next ∷ []))) }
 {
     match (best, next) {
         (Some(first), Some(second)) if first.profile.stack_level < second.profile.stack_level => {

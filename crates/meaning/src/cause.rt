@@ -5,7 +5,7 @@ ghost use Rattle.std.specs.Prelude.{◌≡◌, ◌↔◌, IsTrue};
 use crate::shares::Shares;
 use profile::Purpose;
 
-/// A profile that prevails, by what it is told by (chapter 7, ChargingProfile).
+/// What identifies a profile that prevails (chapter 7, ChargingProfile).
 #[derive(Clone, Copy, Debug, PartialEq, Eq)]
 pub struct PrevailingProfile {
     /// chargingProfileId.

@@ -39,7 +39,7 @@ impl Model for Composite {
 impl Composite {
     ghost use Rattle.meaning.specs.Composite.{IsSchedule};
 
-    /// The schedule of these periods over so many seconds.
+    /// The schedule of these periods over a number of seconds.
     pub fn new(duration: u32, periods: Vec<CompositePeriod>) -> Composite
         requires schedule { IsSchedule duration periods.items }
         ensures lasts { result.duration ≡ duration }

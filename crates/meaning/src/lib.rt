@@ -1,5 +1,5 @@
 //! What the profiles of a charge point mean (OCPP 1.6, chapter 3.13): the limit of a connector at
-//! an instant, and the composite schedule of an ask, found second by second. The definitions in
+//! an instant, and the composite schedule of a request, found second by second. The definitions in
 //! `specs/` are what every faster body is proved against.
 #![tactic(auto)]
 

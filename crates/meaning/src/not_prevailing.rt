@@ -117,7 +117,7 @@ fn is_elsewhere(purpose: Purpose, connector: usize, at: usize) -> bool
     }
 }
 
-/// Why a row has no limit so many seconds into its schedule, or before it.
+/// Why a row has no limit a number of seconds into its schedule, or before it.
 fn why_no_limit_in(row: &Row, offset: Option<u64>) -> Option<WhyNot>
     ensures { result ≡ why_no_limit_in row.now offset }
 {

@@ -14,7 +14,7 @@ use crate::view::View;
 use ocpp_scalars::Refusal;
 use std::alloc::Global;
 
-/// The exact schedule of an ask, found second by second: `ResultTooLong` where it has more than
+/// The exact schedule of a request, found second by second: `ResultTooLong` where it has more than
 /// `MAX_COMPOSITE_PERIODS` periods, and `OutOfMemory`.
 pub fn compile_plain(alloc: Global, view: &View<'_>, ask: &Ask) -> Result<Composite, Refusal>
     requires has_connector { ask.now.connector ≤ length view.now.ceilings.now }

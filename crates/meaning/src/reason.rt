@@ -6,7 +6,7 @@ ghost use Rattle.meaning.specs.declared.cause.Cause.TheVariants.{PointCeiling, S
 ghost use Rattle.meaning.specs.View.{point_state};
 ghost use Rattle.meaning.specs.Limit.{shared_limit};
 ghost use Rattle.meaning.specs.Cause.{row_limit, prevailing_row, bound_of, lesser_of, own_bound, below_point, bound_by, reason, shares_by};
-ghost use Rattle.meaning.specs.ByCases.Cause.{told, prevailing_told, transaction_told};
+ghost use Rattle.meaning.specs.ByCases.Cause.{profile_limit_of, prevailing_profile_limit, transaction_profile_limit};
 
 use crate::bound::{Bound, ProfileLimit, higher_level, lesser_of};
 use crate::cause::{Cause, Reason, Share};
@@ -112,7 +112,8 @@ impl View<'_> {
         asked: Instant,
         instant: Instant,
     ) -> Option<ProfileLimit>
-        ensures { result ≡ transaction_told (point_state self.now) connector asked instant }
+        ensures { result ≡ transaction_profile_limit
+            (point_state self.now) connector asked instant }
     {
         match self.prevailing_profile(Purpose::TxProfile, connector, asked, instant) {
             Some(best) => Some(best),
@@ -139,7 +140,8 @@ impl View<'_> {
     /// What each active connector has in the sum.
     fn shares(&self, alloc: Global, asked: Instant, instant: Instant) -> Result<Shares, AllocError>
         requires numbered { length self.now.ceilings.now < 2 ^ 32 }
-        ensures { IfOk result (λ shares. shares ≡ shares_by Sum (point_state self.now) asked instant) }
+        ensures { IfOk result
+            (λ shares. shares ≡ shares_by Sum (point_state self.now) asked instant) }
     {
         let mut shares = Vec::new(alloc);
         for index in 0..self.ceilings.len() {
@@ -165,7 +167,8 @@ impl View<'_> {
         asked: Instant,
         instant: Instant,
     ) -> Option<ProfileLimit>
-        ensures { result ≡ prevailing_told purpose (point_state self.now) connector asked instant }
+        ensures { result ≡ prevailing_profile_limit
+            purpose (point_state self.now) connector asked instant }
     {
         if !has_its_transaction(purpose, self.active_since(connector)) {
             return None;
@@ -187,7 +190,8 @@ impl View<'_> {
         instant: Instant,
         row: &Row,
     ) -> Option<ProfileLimit>
-        ensures { result ≡ option_map told (row_limit (point_state self.now) connector asked instant row.now) }
+        ensures { result ≡ option_map profile_limit_of
+            (row_limit (point_state self.now) connector asked instant row.now) }
     {
         let base = row.base(self.active_since(connector), asked);
         let limit = row.profile.rate(base, instant)?;

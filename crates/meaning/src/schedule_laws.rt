@@ -10,14 +10,14 @@ ghost use Rattle.meaning.specs.Exact.{IsExact};
 ghost use Rattle.meaning.specs.Compiled.{IsExactAnswer, IsTooLong};
 ghost use Rattle.meaning.specs.ByCases.Exact.{exact_periods, exact_schedule};
 
-/// The law that every ask of a connector of a point has an exact schedule.
+/// The law that every request of a connector of a point has an exact schedule.
 pub fn exact_schedule_exists()
     ensures { (state : PointState) (connector start duration : ℕ) → 0 < duration
         → IsExact (limit_asked state connector start) duration
         (exact_periods (limit_asked state connector start) duration) }
 {}
 
-/// The law that two exact schedules of one ask are equal.
+/// The law that two exact schedules of one request are equal.
 pub fn one_schedule()
     ensures { (state : PointState) (connector start duration : ℕ)
         (one other : List CompositePeriod)

@@ -1,6 +1,6 @@
 -- The faults of fields, by the tables of fields in `ActionKind` and `FieldRow` (OCPP 1.6, chapters
 -- 6 and 7). By the law `first_faults` an action is read exactly where no field of its table has a
--- fault, and else its fault is the first: so what is read is what the tables say.
+-- fault, and else its fault is the first. So what is read is what the tables say.
 use Rattle.std.specs.Prelude.{◌≡◌, ℕ, zero, suc, Bool, true, false, List, [], ◌∷◌, ◌++◌, Option, Some, None}
 use Rattle.std.specs.List.{AllByRecursion, flat_map}
 use Rattle.std.specs.Result.{result_err}
@@ -88,7 +88,7 @@ row_faults inner fields (Required name kind) =
 row_faults inner fields (Optional name kind) =
     own_fault false kind fields name ∷ inside_faults inner kind fields name
 
--- The faults of the fields of a table, down to so many objects in one another.
+-- The faults of the fields of a table, down to a number of objects in one another.
 abbrev pub faults_down : ℕ → List FieldRow → Tree → Checked
 faults_down zero rows fields = []
 faults_down (suc depth) rows fields =

@@ -85,7 +85,7 @@ as_object name entry = if is_object entry then Ok entry else Err (TypeConstraint
 unfoldable pub text : Tree → FieldName → NamedField (List ℕ)
 text fields name = record { name = name; field = text_field_of (field_name name) fields }
 
--- an idTag is a text of at most so many characters (chapter 7, IdToken)
+-- an idTag is a text of at most a given number of characters (chapter 7, IdToken)
 abbrev pub as_id_tag : FieldName → List ℕ → Result (List ℕ) CallFault
 as_id_tag name tag =
     if nat_le (length (chars tag)) max_id_tag_characters then Ok tag

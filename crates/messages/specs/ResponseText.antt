@@ -86,13 +86,13 @@ abbrev pub is_out_of_memory : Refusal → Bool
 is_out_of_memory OutOfMemory = true
 is_out_of_memory _ = false
 
--- a refused install or ask is a result; out of memory is an error, as it is for every action
+-- a refused install or request is a result; out of memory is an error, as it is for every action
 abbrev pub refusal_text : List ℕ → Refusal → List ℕ
 refusal_text id refusal =
     if is_out_of_memory refusal then call_error_text id (codes "InternalError") (codes "OutOfMemory")
     else call_result_text id (rejected_text refusal)
 
--- the text that answers the CALL of an id (OCPP-J 1.6, 4.2): a CALLRESULT, or a CALLERROR with the
+-- the message that answers the CALL of an id (OCPP-J 1.6, 4.2): a CALLRESULT, or a CALLERROR with the
 -- code and the description that name why
 abbrev pub response_text : List ℕ → Response → List ℕ
 response_text id Accepted = call_result_text id (status_text (codes "Accepted"))

@@ -9,7 +9,7 @@ use profile::Unit;
 pub enum Response {
     /// A profile was installed, or a ClearChargingProfile removed some.
     Accepted,
-    /// An install or an ask is refused. Out of memory is answered as an InternalError, as of every
+    /// An install or a request is refused. Out of memory is answered as an InternalError, as of every
     /// action.
     Rejected(Refusal),
     /// A ClearChargingProfile matched no profile.

@@ -21,7 +21,7 @@ const ROOM: usize = 256;
 /// Room for a period, in bytes.
 const PERIOD_ROOM: usize = 40;
 
-/// The text that answers the CALL of this id. Its keys stand in a fixed order, without blanks.
+/// The message that answers the CALL of this id. Its keys stand in a fixed order, without blanks.
 pub fn write_response(alloc: Global, id: &str, response: &Response) -> Result<String, AllocError>
     ensures { IfOk result (λ s. string_bytes s ≡ response_text id.now response.now) }
 {
@@ -41,7 +41,7 @@ fn room(response: &Response) -> usize {
     }
 }
 
-/// Appends the text that answers the CALL of this id.
+/// Appends the message that answers the CALL of this id.
 #[tactic(auto, unfolding(crate::specs::ObjectText::fields_text, crate::specs::ObjectText::object_text))]
 pub fn push_response(out: &mut String, id: &str, response: &Response) -> Result<(), AllocError>
     ensures { Appends result (string_bytes out.old) (string_bytes out.new)
@@ -76,7 +76,7 @@ fn push_result(out: &mut String, id: &str, payload: &str) -> Result<(), AllocErr
     push_frame_end(out)
 }
 
-/// Appends the answer to a refused install or ask. Out of memory is an error, as it is for every
+/// Appends the answer to a refused install or request. Out of memory is an error, as it is for every
 /// action.
 fn push_rejected(out: &mut String, id: &str, refusal: Refusal) -> Result<(), AllocError>
     ensures { Appends result (string_bytes out.old) (string_bytes out.new)

@@ -7,7 +7,7 @@ use crate::action_kind::ActionKind;
 /// Who talks to the central system.
 #[derive(Clone, Copy, Debug, PartialEq, Eq)]
 pub enum Side {
-    /// An operator of the site. The operator's texts have the form of OCPP-J, but are this system's
+    /// An operator of the site. The operator's messages have the form of OCPP-J, but are this system's
     /// own use of it.
     Operator,
     /// A charge point.

@@ -51,7 +51,7 @@ pub data IsOffset : ℤ → List ℕ → Type 0 where
       (hour minute : ℕ) → IsClock hour minute
       → IsOffset (neg_ℤ (pos (clock_seconds hour minute))) (minus ∷ clock_text hour minute)
 
--- the text is a date and a time of day, so many seconds after 1970-01-01T00:00:00Z (or before it):
+-- the text is a date and a time of day, a number of seconds after 1970-01-01T00:00:00Z (or before it):
 -- the seconds of the calendar's day and of the time, less the offset. A fraction of a second counts
 -- for nothing
 pub record SpellsInstant (text : List ℕ) (seconds : ℤ) : Type 0 where

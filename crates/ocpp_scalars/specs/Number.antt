@@ -40,7 +40,7 @@ abbrev pub IsTenths : List ℕ → ℕ → Type 0
 IsTenths text tenths = SpellsTenths text tenths × (tenths ≤ max_tenths)
 
 -- the tenths are those that the text spells; a long text is too long, another that is no number's breaks the
--- form, and a number that isn't so many tenths is out of range
+-- form, and a number that is no whole number of tenths in range is out of range
 abbrev pub IsTenthsReading : List ℕ → Result ℕ NumberFault → Type 0
 IsTenthsReading text (Ok tenths) = IsShort text × IsTenths text tenths
 IsTenthsReading text (Err TooLong) = max_number_bytes < length text

@@ -3,7 +3,7 @@
 use Rattle.std.specs.Prelude.{ℕ, zero, suc, ◌+◌, ◌/◌, ◌%◌, List, [], ◌∷◌, ◌++◌, codes, decimal}
 use Rattle.ocpp_scalars.specs.CalendarDay.{CalendarDay, calendar_day}
 
--- a number in so many decimal digits, with leading zeros (48 is `0`)
+-- a number in a given count of decimal digits, with leading zeros (48 is `0`)
 abbrev pub in_digits : ℕ → ℕ → List ℕ
 in_digits zero number = []
 in_digits (suc count) number = in_digits count (number / 10) ++ (48 + number % 10) ∷ []
@@ -13,7 +13,7 @@ unfoldable pub day_text : CalendarDay → List ℕ
 day_text d =
     in_digits 4 d.year ++ codes "-" ++ in_digits 2 d.month ++ codes "-" ++ in_digits 2 d.day
 
--- `hh:mm:ss` so many seconds after midnight
+-- `hh:mm:ss` a number of seconds after midnight
 unfoldable pub time_of_day_text : ℕ → List ℕ
 time_of_day_text seconds =
     in_digits 2 (seconds / 3600) ++ codes ":"
@@ -26,6 +26,6 @@ instant_text instant =
     day_text (calendar_day (instant / 86_400))
     ++ codes "T" ++ time_of_day_text (instant % 86_400) ++ codes "Z"
 
--- so many tenths as they are printed: the whole part without leading zeros, a point and one digit
+-- tenths as they are printed: the whole part without leading zeros, a point and one digit
 unfoldable pub tenths_text : ℕ → List ℕ
 tenths_text tenths = decimal (tenths / 10) ++ (codes "." ++ decimal (tenths % 10))

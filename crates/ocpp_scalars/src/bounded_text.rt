@@ -1,4 +1,4 @@
-//! Texts of at most so many characters.
+//! Texts of at most a given number of characters.
 ghost use Rattle.std.specs.Prelude.{◌≡◌, ◌↔◌, ◌<◌, ◌≤◌, if◌then◌else◌, IfErr, IfOk, IsOk, None, Some, length, nat_le, string_bytes};
 ghost use Rattle.std.specs.Str.{chars};
 

@@ -25,7 +25,7 @@ impl Model for Instant {
 }
 
 impl Instant {
-    /// The instant of so many seconds, or `None` past the last one.
+    /// The instant of a number of seconds, or `None` past the last one.
     pub fn try_new(seconds: u64) -> Option<Instant>
         ensures valid { IsSome result ↔ (seconds ≤ last_second) }
         ensures value { IfSome result (λ i. i ≡ seconds) }
@@ -45,7 +45,7 @@ impl Instant {
         self.seconds
     }
 
-    /// The instant so many seconds later.
+    /// The instant a number of seconds later.
     pub fn plus(self, seconds: u64) -> Instant
         requires { self + seconds ≤ last_second }
         ensures { result ≡ self + seconds }

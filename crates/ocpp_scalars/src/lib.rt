@@ -1,5 +1,5 @@
 //! The scalars of OCPP 1.6: instants, limits in tenths and whole numbers, read from their texts and
-//! written, beside what every crate above shares: the refusals by name and the source of moments.
+//! written, with what every crate above shares: the refusals by name and the source of moments.
 #![tactic(auto)]
 
 mod bounded_text;

@@ -3,6 +3,6 @@ use crate::instant::Instant;
 
 /// A source of the present moment.
 pub trait Moments {
-    /// The present whole second, or `None` where it can't be told.
+    /// The present whole second, or `None` where the clock can't say it.
     fn now(&self) -> Option<Instant>;
 }

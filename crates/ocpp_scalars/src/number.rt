@@ -111,7 +111,7 @@ fn read_digits(start: u128, digits: &[u8]) -> u128
     value
 }
 
-/// The power of ten of digits with so many places after the point.
+/// The power of ten of digits with a number of places after the point.
 fn power(negative: bool, exponent: u128, places: usize) -> i128
     requires exponent { exponent < 10 ^ 32 }
     requires places { places ≤ 32 }
@@ -153,7 +153,7 @@ fn value_at_most(most: u32, value: u128) -> Option<u32>
     }
 }
 
-/// The digits with so many zeros more behind them, or `None` where that is past `most`.
+/// The digits with a number of zeros added, or `None` where that is past `most`.
 #[tactic(auto, using(crate::proofs::Scaling::scaling))]
 fn with_zeros(most: u32, digits: u128, zeros: u128) -> Option<u128>
     requires { 0 < digits }
@@ -170,7 +170,7 @@ fn with_zeros(most: u32, digits: u128, zeros: u128) -> Option<u128>
     Some(value)
 }
 
-/// The digits without so many zeros behind them, or `None` where they have fewer.
+/// The digits with a number of zeros taken off, or `None` where they have fewer.
 #[tactic(auto, using(crate::proofs::Scaling::scaling))]
 fn without_zeros(digits: u128, zeros: u128) -> Option<u128>
     requires digits { 0 < digits }

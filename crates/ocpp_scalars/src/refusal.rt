@@ -62,8 +62,8 @@ pub enum Refusal {
     Superseded,
     /// No call of this number is in flight to the point.
     NothingInFlight,
-    /// What is posted to a request is for another book or another ask than the request has: given
-    /// by who posts an answer from outside.
+    /// An answer posted from outside is for another book than its request has, or asks for
+    /// something else.
     StrangerInput,
 }
 

@@ -29,7 +29,7 @@ pub fn push_instant(out: &mut String, instant: Instant) -> Result<(), AllocError
     push_seconds(out, instant.seconds())
 }
 
-/// Appends the text of the instant so many seconds after 1970-01-01T00:00:00Z.
+/// Appends the text of the instant a number of seconds after 1970-01-01T00:00:00Z.
 #[tactic(auto, unfolding(crate::specs::Writing::instant_text))]
 fn push_seconds(out: &mut String, seconds: u64) -> Result<(), AllocError>
     requires { seconds ≤ last_second }
@@ -42,7 +42,7 @@ fn push_seconds(out: &mut String, seconds: u64) -> Result<(), AllocError>
     Ok(())
 }
 
-/// Appends the date of the day that comes so many days after 1 January 1970.
+/// Appends the date of the day that comes a number of days after 1 January 1970.
 #[tactic(auto, unfolding(crate::specs::Writing::day_text))]
 fn push_day(out: &mut String, day: u64) -> Result<(), AllocError>
     requires { day ≤ last_day }
@@ -58,7 +58,7 @@ fn push_day(out: &mut String, day: u64) -> Result<(), AllocError>
     push_two(out, day)
 }
 
-/// Year, month and day of the day that comes so many days after 1 January 1970.
+/// Year, month and day of the day that comes a number of days after 1 January 1970.
 fn civil_date(day: u64) -> (u16, u8, u8)
     requires { day ≤ last_day }
     ensures year { result.0 ≡ (calendar_day day).year }
@@ -94,7 +94,7 @@ fn push_two(out: &mut String, number: u8) -> Result<(), AllocError>
     Ok(())
 }
 
-/// The text of so many tenths: the whole part, a point and one digit, or `OutOfMemory`.
+/// The text of tenths: the whole part, a point and one digit, or `OutOfMemory`.
 pub fn write_tenths(alloc: Global, tenths: u32) -> Result<String, Refusal>
     ensures text { IfOk result (λ s. string_bytes s ≡ tenths_text tenths) }
     ensures memory { IsOkUnless result Refusal.OutOfMemory }
@@ -104,7 +104,7 @@ pub fn write_tenths(alloc: Global, tenths: u32) -> Result<String, Refusal>
     Ok(out)
 }
 
-/// Appends the text of so many tenths.
+/// Appends the text of tenths.
 #[tactic(auto, unfolding(crate::specs::Writing::tenths_text))]
 pub fn push_tenths(out: &mut String, tenths: u32) -> Result<(), AllocError>
     ensures { Appends result (string_bytes out.old) (string_bytes out.new) (tenths_text tenths) }

@@ -1,4 +1,4 @@
--- A value, level by level, and a `BTreeMap` beside the members that it stands for.
+-- A value, level by level, and a `BTreeMap` with the members that it stands for.
 use Rattle.std.proofs.Common.{◌≡◌, ℕ, List, [], ◌∷◌, Vec, BTreeMap, Global, Bor, Ordering, Less, Equal, Greater, nat_cmp, refl, ◌∙◌, rules}
 use Rattle.std.specs.BTreeMap.{insert_entry}
 use Rattle.std.specs.contracts.impls.GlobalAllocator.TheImpl.{ghosts}

@@ -34,7 +34,8 @@ value_or_fault (Err e) = WrongValue
 abbrev pub of_scalar : {A E : Type 0} → (Tree → Option (List ℕ)) → (List ℕ → Result A E)
     → Option Tree → Field A
 of_scalar kind read None = Absent
-of_scalar kind read (Some tree) = option_map_or (λ bytes. value_or_fault (read bytes)) (kind tree) WrongKind
+of_scalar kind read (Some tree) =
+    option_map_or (λ bytes. value_or_fault (read bytes)) (kind tree) WrongKind
 
 abbrev pub text_field_of : List ℕ → Tree → Field (List ℕ)
 text_field_of name tree = of_kind as_text (present_field name tree)

@@ -20,19 +20,22 @@ begins_number b = (nat_le digit_zero b && nat_le b digit_nine) || (b == minus)
 
 -- a digit, `-`, `+`, `.`, `e` or `E`
 abbrev pub continues_number : ℕ → Bool
-continues_number b = begins_number b || (b == plus) || (b == dot) || (b == lower_e) || (b == upper_e)
+continues_number b =
+    begins_number b || (b == plus) || (b == dot) || (b == lower_e) || (b == upper_e)
 
 -- what stands before a string's closing quote: a backslash takes the next byte along
 pub data IsContent : List ℕ → Type 0 where
   no_content : IsContent []
-  content_byte : (b : ℕ) (bs : List ℕ) → b ≢ quote → b ≢ backslash → IsContent bs → IsContent (b ∷ bs)
+  content_byte :
+      (b : ℕ) (bs : List ℕ) → b ≢ quote → b ≢ backslash → IsContent bs → IsContent (b ∷ bs)
   content_pair : (b : ℕ) (bs : List ℕ) → IsContent bs → IsContent (backslash ∷ (b ∷ bs))
 
 -- what follows the opening quote of a string that the text doesn't close
 pub data IsUnclosed : List ℕ → Type 0 where
   no_byte : IsUnclosed []
   last_backslash : IsUnclosed (backslash ∷ [])
-  unclosed_byte : (b : ℕ) (bs : List ℕ) → b ≢ quote → b ≢ backslash → IsUnclosed bs → IsUnclosed (b ∷ bs)
+  unclosed_byte :
+      (b : ℕ) (bs : List ℕ) → b ≢ quote → b ≢ backslash → IsUnclosed bs → IsUnclosed (b ∷ bs)
   unclosed_pair : (b : ℕ) (bs : List ℕ) → IsUnclosed bs → IsUnclosed (backslash ∷ (b ∷ bs))
 
 -- each byte may stand in a number
@@ -49,7 +52,9 @@ EndsNumber (b ∷ bs) = continues_number b ≡ false
 pub data IsMarked : List ℕ → List ℕ → Type 0 where
   no_text : IsMarked [] []
   string : (content rest out : List ℕ) → IsContent content → IsMarked rest out
-      → IsMarked (quote ∷ (content ++ (quote ∷ rest))) (quote ∷ (text_mark ∷ (content ++ (quote ∷ out))))
+      → IsMarked
+      (quote ∷ (content ++ (quote ∷ rest)))
+      (quote ∷ (text_mark ∷ (content ++ (quote ∷ out))))
   unclosed_string : (content : List ℕ) → IsUnclosed content
       → IsMarked (quote ∷ content) (quote ∷ (text_mark ∷ content))
   number : (b : ℕ) (bs rest out : List ℕ)

@@ -43,7 +43,8 @@ empty_object = object no_fields
 pub data IsPayload : List Tree → Tree → Type 0 where
   absent_payload : IsPayload [] empty_object
   null_payload : (others : List Tree) → IsPayload (null ∷ others) empty_object
-  object_payload : (fields : Fields) (others : List Tree) → IsPayload (object fields ∷ others) (object fields)
+  object_payload :
+      (fields : Fields) (others : List Tree) → IsPayload (object fields ∷ others) (object fields)
 
 abbrev pub IsNoPayload : Tree → Type 0
 IsNoPayload tree = (is_null tree ≡ false) × (is_object tree ≡ false)
@@ -51,7 +52,8 @@ IsNoPayload tree = (is_null tree ≡ false) × (is_object tree ≡ false)
 -- no whole number stands first
 abbrev pub HasNoType : List Tree → Type 0
 HasNoType [] = Unit {0}
-HasNoType (first ∷ others) = (digits : List ℕ) (n : ℤ) → first ≡ number digits → whole_of digits ≢ Ok n
+HasNoType (first ∷ others) =
+    (digits : List ℕ) (n : ℤ) → first ≡ number digits → whole_of digits ≢ Ok n
 
 -- no id stands first
 abbrev pub HasNoId : List Tree → Type 0
@@ -102,7 +104,8 @@ pub data IsMessage : Tree → Result Message FrameFault → Type 0 where
 
 -- a text, and the message or the fault
 pub data IsMessageOfText : List ℕ → Result Message FrameFault → Type 0 where
-  long_text : (bytes : List ℕ) → max_frame_bytes < length bytes → IsMessageOfText bytes (Err Dropped)
+  long_text :
+      (bytes : List ℕ) → max_frame_bytes < length bytes → IsMessageOfText bytes (Err Dropped)
   refused_text : (bytes : List ℕ) → length bytes ≤ max_frame_bytes → tree_of_text bytes ≡ None
       → IsMessageOfText bytes (Err Dropped)
   read_text : (bytes : List ℕ) (tree : Tree) (result : Result Message FrameFault)

@@ -24,4 +24,5 @@ call_result_text id payload = result_head id ++ (payload ++ frame_end)
 -- the details are an empty object
 abbrev pub call_error_text : List ℕ → List ℕ → List ℕ → List ℕ
 call_error_text id code description =
-    codes "[4," ++ quoted id ++ codes "," ++ quoted code ++ codes "," ++ quoted description ++ codes ",{}]"
+    codes "[4," ++ quoted id ++ codes "," ++ quoted code ++ codes "," ++ quoted description
+    ++ codes ",{}]"

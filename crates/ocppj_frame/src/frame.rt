@@ -58,7 +58,8 @@ pub fn read_frame<'a>(memory: &'a mut ReadingMemory, text: &str) -> Result<Frame
 }
 
 fn frame_of_tree(alloc: Global, tree: Payload<'_>) -> Result<Frame<'_>, FrameFault>
-    ensures message { ReadsUnless is_memory message_in result (message_of_tree (tree_in tree.entry)) }
+    ensures message { ReadsUnless is_memory message_in result
+        (message_of_tree (tree_in tree.entry)) }
     ensures object { IfOk result HasObject }
 {
     let Some(mut elements) = tree.into_elements() else {

@@ -17,7 +17,7 @@ const MAX_DEPTH: usize = 127;
 
 /// The value of a marked text: as `serde_json` has it, but with its strings borrowed, and without
 /// numbers, of which a marked text has none.
-// With `Bool(bool)` in place of `False` and `True` a value would have a byte beside its tag, and be moved in
+// With `Bool(bool)` in place of `False` and `True` a value would have a byte next to its tag, and be moved in
 // two pieces that overlap, for which the processor waits.
 #[derive(Drop)]
 pub(crate) enum MarkedValue<'a> {

@@ -38,9 +38,9 @@ pub record NamesAnother (active : Option ℤ) (profile : Profile) : Type 0 where
 abbrev pub active_for : BookState → Row → Option ℤ
 active_for book row = active_on book.transactions row.connector
 
--- Why a profile isn't installed, in the order in which the causes are checked: a TxProfile is for
--- the transaction that is active at its connector (3.13.1), and no more profiles than the limit
--- stand after an install.
+-- Why a profile isn't installed, in the order in which the causes are checked. A TxProfile is for
+-- the transaction that is active at its connector (3.13.1). After an install there are no more
+-- profiles than the limit.
 abbrev pub install_causes : BookState → Row → List Cause
 install_causes book row =
     (NoTransaction because LacksTransaction (active_for book row) row.profile)

@@ -170,7 +170,7 @@ impl PointBook {
     }
 
     /// Begins a transaction at a connector (chapter 4.8), in place of the one that is active there
-    /// and without that one's TxProfiles, or says that its start was told before, and then changes
+    /// and without that one's TxProfiles. A retransmitted StartTransaction of that one changes
     /// nothing. Allocates nothing.
     pub fn start(&mut self, connector: u32, begin: Begin, next: i32) -> Began
         requires above { 0 < connector }
@@ -185,8 +185,8 @@ impl PointBook {
         began
     }
 
-    /// What a start at a connector would be: a new transaction, or the active one's start, told again.
-    /// Changes nothing.
+    /// What a start at a connector would be: a new transaction, or the active one's StartTransaction,
+    /// retransmitted. Changes nothing.
     pub fn began(&self, connector: u32, begin: &Begin) -> Began
         ensures { result ≡ began self.now.transactions connector begin.now }
     {

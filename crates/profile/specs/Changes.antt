@@ -28,7 +28,7 @@ has_key_of new row =
 abbrev pub is_replaced_by : Row → Row → Bool
 is_replaced_by new row = has_id_of new row || has_key_of new row
 
--- the rows that stay beside a new one
+-- the rows that a new one doesn't replace
 abbrev pub rows_beside : List Row → Row → List Row
 rows_beside rows new = filter (λ row. not (is_replaced_by new row)) rows
 

@@ -27,7 +27,7 @@ start_of Absolute start = start
 start_of (Recurring recurrency) start = start
 start_of Relative start = None
 
--- how far into its schedule a profile is, so many seconds after its anchor (OCPP 1.6, 3.13)
+-- how far into its schedule a profile is, a number of seconds after its anchor (OCPP 1.6, 3.13)
 abbrev pub offset_after : Kind → ℕ → ℕ
 offset_after Absolute seconds = seconds
 offset_after (Recurring recurrency) seconds = seconds % recurrence_length recurrency

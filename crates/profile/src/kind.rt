@@ -69,7 +69,7 @@ impl Kind {
         }
     }
 
-    /// How far into its schedule a profile of this kind is, so many seconds after its anchor.
+    /// How far into its schedule a profile of this kind is, a number of seconds after its anchor.
     pub fn offset_after(self, seconds: u64) -> u64
         ensures { result ≡ offset_after self seconds }
     {

@@ -1,4 +1,4 @@
--- The places of a profile in a stretch of time, in their order, each with the limit there.
+-- The places of a profile in an interval of time, in their order, each with the limit there.
 use Rattle.std.specs.Prelude.{ℕ, ◌+◌, ◌-◌, List, map, filter}
 use Rattle.std.specs.List.{range_with_len}
 use Rattle.profile.specs.declared.charging_profile.Profile.{Profile}

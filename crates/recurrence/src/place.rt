@@ -1,4 +1,4 @@
-//! The places of a profile in a stretch of time, one after another.
+//! The places of a profile in an interval of time, one after another.
 
 ghost use Rattle.std.specs.Prelude.{◌≡◌};
 ghost use Rattle.std.specs.Iterator.{YieldsFirst, item_count};

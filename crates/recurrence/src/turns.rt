@@ -25,7 +25,7 @@ pub(crate) fn next_turn_after(kind: Kind, schedule: &Schedule, seconds: u64) -> 
     }
 }
 
-/// The next turn of a schedule that begins anew after every so many seconds, in seconds after its
+/// The next turn of a schedule that begins anew each time a number of seconds is over, in seconds after its
 /// anchor: in the occurrence that runs, or else where the next one begins.
 fn next_recurring_turn(schedule: &Schedule, length: u64, seconds: u64) -> u64
     requires some { 0 < length }

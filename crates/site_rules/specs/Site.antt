@@ -43,7 +43,8 @@ pub record HasConnector (site : SiteState) (id : List ℕ) (connector : ℕ) : T
 
 -- a point as it is lent
 abbrev pub point_entry : SitePoint → PointEntry
-point_entry point = record { id = point.id.now; ceiling = point.ceiling; ceilings = point.ceilings.now }
+point_entry point =
+    record { id = point.id.now; ceiling = point.ceiling; ceilings = point.ceilings.now }
 
 -- a point as a site keeps it
 abbrev pub kept_entry : {A : Type 0} → String A × PointLimits → PointEntry

@@ -28,7 +28,9 @@ pub data IsPointFault : List PointEntry → Tree → SiteFault → Type 0 where
   no_ceiling : (earlier : List PointEntry) (tree : Tree) (id : List ℕ) → is_object tree ≡ true
       → HasId tree id → IsUnused earlier id → ((ceiling : ℕ) → ¬ HasCeiling tree ceiling)
       → IsPointFault earlier tree BadCeiling
-  no_connectors : (earlier : List PointEntry) (tree : Tree) (id : List ℕ) (ceiling : ℕ) → is_object tree ≡ true
+  no_connectors :
+      (earlier : List PointEntry) (tree : Tree) (id : List ℕ) (ceiling : ℕ)
+      → is_object tree ≡ true
       → HasId tree id → IsUnused earlier id → HasCeiling tree ceiling
       → ((ceilings : List ℕ) → ¬ HasConnectors tree ceilings)
       → IsPointFault earlier tree BadConnectors
@@ -50,7 +52,8 @@ pub data IsTreeFault : Tree → SiteFault → Type 0 where
 -- a file, and its first fault
 pub data IsSiteFault : List ℕ → SiteFault → Type 0 where
   too_large : (bytes : List ℕ) → max_site_bytes < length bytes → IsSiteFault bytes TooLarge
-  no_text : (bytes : List ℕ) → length bytes ≤ max_site_bytes → ¬ IsUtf8 bytes → IsSiteFault bytes NotUtf8
+  no_text :
+      (bytes : List ℕ) → length bytes ≤ max_site_bytes → ¬ IsUtf8 bytes → IsSiteFault bytes NotUtf8
   no_tree : (bytes : List ℕ) → length bytes ≤ max_site_bytes → IsUtf8 bytes
       → tree_of_text bytes ≡ None
       → IsSiteFault bytes NotJson

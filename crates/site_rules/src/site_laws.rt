@@ -11,8 +11,8 @@ ghost use Rattle.site_rules.specs.SiteFaults.{IsSiteFault};
 ghost use Rattle.site_rules.specs.Admission.{admission_causes, admission_refusal};
 ghost use Rattle.site_rules.specs.ByCases.SiteReading.{site_of};
 
-/// The law of all site files: a site is read exactly where the bytes are a file that describes it, and a
-/// fault is found exactly where it is the first that they have.
+/// The law of all site files. A site is read exactly where the bytes are a file that describes it. A fault is
+/// found exactly where it is the first that they have.
 pub fn site_files()
     ensures site { (bytes : List ℕ) (site : SiteState)
         → (site_of bytes ≡ Ok site) ↔ IsSiteFile bytes site }

@@ -6,7 +6,7 @@ ghost use Rattle.profile.specs.Changes.{is_purpose, has_key_of, is_replaced_by, 
 
 use profile::{Criteria, Purpose, Row};
 
-/// How many rows stay beside a new one.
+/// How many rows a new one doesn't replace.
 pub(crate) fn staying(rows: &[Row], new: &Row) -> usize
     ensures { result ≡ length (rows_beside rows.now new.now) }
 {

@@ -1,5 +1,5 @@
 //! The profiles that a charge point has installed (OCPP 1.6, chapters 3.13, 5.5 and 5.16): what an
-//! install replaces, what a clear removes, and which of them speak for a connector, the highest stack
+//! install replaces and what a clear removes. Which of them speak for a connector, the highest stack
 //! level first, and which of their rates prevails. What changes stands in profile's
 //! `specs/Changes.antt`, which rows speak for a connector in its `specs/Candidates.antt`.
 #![tactic(auto)]

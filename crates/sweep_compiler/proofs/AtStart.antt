@@ -1,4 +1,4 @@
--- What is gathered at the start of an ask is a sweep that stands there.
+-- What is gathered at the start of a request is a sweep that stands there.
 use Rattle.std.proofs.Common.{◌≡◌, ℕ, ◌<◌, ◌≤◌, ◌^◌, ◌==◌, zero, suc, Bool, true, false, List, [], ◌∷◌, ◌++◌, length, map, filter, cond, ◌||◌, Some, None, is_some, ⊎_elim, refl, ap, sym, subst, ◌∙◌, arith}
 use Rattle.std.specs.List.{AllByRecursion, AllZip, Contains, list_any, range_with_len}
 use Rattle.std.proofs.lemmas.Bool.{cases_lt}

@@ -1,4 +1,4 @@
--- Stretches so far: with one more, and the periods that they make.
+-- Intervals so far: with one more, and the periods that they make.
 use Rattle.std.proofs.Common.{◌≡◌, ◌≢◌, ℕ, ◌+◌, ◌-◌, ◌<◌, ◌≤◌, zero, suc, Bool, true, List, [], ◌∷◌, ◌++◌, cond, Option, Some, None, refl, ap, sym, ◌∙◌, inl, inr, arith}
 use Rattle.std.specs.List.{AllByRecursion, range_with_len, count_by}
 use Rattle.std.proofs.Common.{append_assoc}
@@ -17,39 +17,39 @@ use Rattle.meaning.specs.Exact.{IsExact}
 use Rattle.meaning.specs.Theory.ExactPeriods.{exact_are}
 use Rattle.meaning.specs.Theory.PlainCompiler.{limit_before}
 use Rattle.meaning.specs.Theory.Reasons.{reason_limit}
-use Rattle.sweep_compiler.specs.declared.stretch.Stretch.{Stretch}
-use Rattle.sweep_compiler.specs.Explained.{ExplainedSchedule, Adjoin, Differ, IsStretchOf, IsExplanation, periods_behind, joined}
+use Rattle.sweep_compiler.specs.declared.interval.Interval.{Interval}
+use Rattle.sweep_compiler.specs.Explained.{ExplainedSchedule, Adjoin, Differ, IsIntervalOf, IsExplanation, periods_behind, joined}
 use Rattle.sweep_compiler.specs.Places.{places_within}
 use Rattle.sweep_compiler.proofs.Sweeping.{count_more, count_upto, periods_upto, before_stays}
 
--- ---- one stretch more
+-- ---- one interval more
 
-pub adjoin_more : (from middle : ℕ) (stretches : List Stretch) (new : Stretch) → Adjoin from middle stretches → new.start ≡ middle → new.start < new.end
-    → Adjoin from new.end (stretches ++ new ∷ [])
+pub adjoin_more : (from middle : ℕ) (intervals : List Interval) (new : Interval) → Adjoin from middle intervals → new.start ≡ middle → new.start < new.end
+    → Adjoin from new.end (intervals ++ new ∷ [])
 adjoin_more from middle [] new h start some = (start ∙ sym h, some, refl)
-adjoin_more from middle (stretch ∷ later) new h start some = (h.0, h.1, adjoin_more stretch.end middle later new h.2 start some)
+adjoin_more from middle (interval ∷ later) new h start some = (h.0, h.1, adjoin_more interval.end middle later new h.2 start some)
 
 pub all_more : {X : Type 0} (P : X → Type 0) (xs : List X) (x : X) → AllByRecursion P xs → P x → AllByRecursion P (xs ++ x ∷ [])
 all_more P [] x h k = (k, tt)
 all_more P (y ∷ xs) x h k = (h.0, all_more P xs x h.1 k)
 
--- what tells a stretch from its neighbours: its reason alone
-abbrev pub with_reason : Reason → Stretch
+-- what tells an interval from its neighbours: its reason alone
+abbrev pub with_reason : Reason → Interval
 with_reason reason = record { start = 0; end = 0; reason = reason }
 
-pub differ_as : (stretches : List Stretch) (one other : Stretch) → one.reason ≡ other.reason → Differ (stretches ++ one ∷ []) → Differ (stretches ++ other ∷ [])
+pub differ_as : (intervals : List Interval) (one other : Interval) → one.reason ≡ other.reason → Differ (intervals ++ one ∷ []) → Differ (intervals ++ other ∷ [])
 differ_as [] one other same h = tt
-differ_as (stretch ∷ []) one other same h = (λ e. h.0 (e ∙ sym same), tt)
-differ_as (stretch ∷ (next ∷ later)) one other same h = (h.0, differ_as (next ∷ later) one other same h.1)
+differ_as (interval ∷ []) one other same h = (λ e. h.0 (e ∙ sym same), tt)
+differ_as (interval ∷ (next ∷ later)) one other same h = (h.0, differ_as (next ∷ later) one other same h.1)
 
-pub differ_more : (stretches : List Stretch) (one other : Stretch) → one.reason ≢ other.reason → Differ (stretches ++ one ∷ []) → Differ ((stretches ++ one ∷ []) ++ other ∷ [])
+pub differ_more : (intervals : List Interval) (one other : Interval) → one.reason ≢ other.reason → Differ (intervals ++ one ∷ []) → Differ ((intervals ++ one ∷ []) ++ other ∷ [])
 differ_more [] one other unlike h = (unlike, tt)
-differ_more (stretch ∷ []) one other unlike h = (h.0, (unlike, tt))
-differ_more (stretch ∷ (next ∷ later)) one other unlike h = (h.0, differ_more (next ∷ later) one other unlike h.1)
+differ_more (interval ∷ []) one other unlike h = (h.0, (unlike, tt))
+differ_more (interval ∷ (next ∷ later)) one other unlike h = (h.0, differ_more (next ∷ later) one other unlike h.1)
 
-pub stretch_of : (state : PointState) (connector start : ℕ) (stretch : Stretch)
-    → ((second : ℕ) → stretch.start ≤ second → second < stretch.end → stretch.reason ≡ reason_asked state connector start second) → IsStretchOf state connector start stretch
-stretch_of state connector start stretch h = record {
+pub interval_of : (state : PointState) (connector start : ℕ) (interval : Interval)
+    → ((second : ℕ) → interval.start ≤ second → second < interval.end → interval.reason ≡ reason_asked state connector start second) → IsIntervalOf state connector start interval
+interval_of state connector start interval h = record {
   limit = λ second from below. ap (λ (reason : Reason). reason.limit) (h second from below) ∙ reason_limit state connector start (start + second);
   reason = h;
 }
@@ -107,39 +107,39 @@ spent_few place n =
 
 -- ---- periods
 
-abbrev GivesLimit : (ℕ → ℕ) → Stretch → Type 0
-GivesLimit limit stretch = (second : ℕ) → stretch.start ≤ second → second < stretch.end → stretch.reason.limit ≡ limit second
+abbrev GivesLimit : (ℕ → ℕ) → Interval → Type 0
+GivesLimit limit interval = (second : ℕ) → interval.start ≤ second → second < interval.end → interval.reason.limit ≡ limit second
 
-periods_are : (limit : ℕ → ℕ) (n end : ℕ) (stretches : List Stretch) (periods : List CompositePeriod) (before : Option ℕ)
-    → Adjoin n end stretches → AllByRecursion (GivesLimit limit) stretches → periods ≡ exact_periods limit n → before ≡ limit_before limit n
-    → periods ++ periods_behind before stretches ≡ exact_periods limit end
+periods_are : (limit : ℕ → ℕ) (n end : ℕ) (intervals : List Interval) (periods : List CompositePeriod) (before : Option ℕ)
+    → Adjoin n end intervals → AllByRecursion (GivesLimit limit) intervals → periods ≡ exact_periods limit n → before ≡ limit_before limit n
+    → periods ++ periods_behind before intervals ≡ exact_periods limit end
 periods_are limit n end [] periods before adjoin each h k = append-nil periods ∙ (h ∙ ap (exact_periods limit) adjoin)
-periods_are limit n end (stretch ∷ later) periods before adjoin each h k =
-    let value = stretch.reason.limit in
+periods_are limit n end (interval ∷ later) periods before adjoin each h k =
+    let value = interval.reason.limit in
     let start = adjoin.0 in
     let some = adjoin.1 in
-    let gives : GivesLimit limit stretch = each.0 in
-    let below : n < stretch.end = omega (arith, start, some) in
+    let gives : GivesLimit limit interval = each.0 in
+    let below : n < interval.end = omega (arith, start, some) in
     let here : value ≡ limit n = gives n (omega (arith, start)) below in
-    let stays : (k : ℕ) → n ≤ k → k < stretch.end → limit k ≡ limit n = λ k from until. sym (gives k (omega (arith, start, from)) until) ∙ here in
-    let added = period_added before (record { start = stretch.start; limit = value }) in
+    let stays : (k : ℕ) → n ≤ k → k < interval.end → limit k ≡ limit n = λ k from until. sym (gives k (omega (arith, start, from)) until) ∙ here in
+    let added = period_added before (record { start = interval.start; limit = value }) in
     let same : periods ++ added ≡ periods ++ period_added before (record { start = n; limit = value }) =
     ap (λ (start : ℕ). periods ++ period_added before (record { start = start; limit = value })) start in
-    let upto : periods ++ added ≡ exact_periods limit stretch.end = periods_upto limit n stretch.end periods (periods ++ added) before value h k here same below stays in
-    let next : Some value ≡ limit_before limit stretch.end = ap (λ (n : ℕ). Some n) here ∙ before_stays limit n stretch.end below stays in
+    let upto : periods ++ added ≡ exact_periods limit interval.end = periods_upto limit n interval.end periods (periods ++ added) before value h k here same below stays in
+    let next : Some value ≡ limit_before limit interval.end = ap (λ (n : ℕ). Some n) here ∙ before_stays limit n interval.end below stays in
     sym (append_assoc periods added (periods_behind (Some value) later))
-    ∙ periods_are limit stretch.end end later (periods ++ added) (Some value) adjoin.2 each.1 upto next
+    ∙ periods_are limit interval.end end later (periods ++ added) (Some value) adjoin.2 each.1 upto next
 
-limits_given : (state : PointState) (connector start : ℕ) (stretches : List Stretch) → AllByRecursion (IsStretchOf state connector start) stretches
-    → AllByRecursion (GivesLimit (limit_asked state connector start)) stretches
+limits_given : (state : PointState) (connector start : ℕ) (intervals : List Interval) → AllByRecursion (IsIntervalOf state connector start) intervals
+    → AllByRecursion (GivesLimit (limit_asked state connector start)) intervals
 limits_given state connector start [] h = tt
-limits_given state connector start (stretch ∷ later) h = (h.0.limit, limits_given state connector start later h.1)
+limits_given state connector start (interval ∷ later) h = (h.0.limit, limits_given state connector start later h.1)
 
 -- the periods of an explanation are those of the composite schedule
 pub joined_exact : (state : PointState) (connector start duration : ℕ) (explained : ExplainedSchedule) → 0 < duration → IsExplanation state connector start duration explained
-    → IsExact (limit_asked state connector start) duration (joined explained.stretches)
+    → IsExact (limit_asked state connector start) duration (joined explained.intervals)
 joined_exact state connector start duration explained some h =
     let limit = limit_asked state connector start in
-    let same : joined explained.stretches ≡ exact_periods limit duration =
-    periods_are limit 0 duration explained.stretches [] None h.adjoin (limits_given state connector start explained.stretches h.each) refl refl in
+    let same : joined explained.intervals ≡ exact_periods limit duration =
+    periods_are limit 0 duration explained.intervals [] None h.adjoin (limits_given state connector start explained.intervals h.each) refl refl in
     rw same (exact_are limit duration some)

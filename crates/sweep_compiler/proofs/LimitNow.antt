@@ -1,4 +1,4 @@
--- What the bounds of an ask have in force is its limit, from where a sweep stands on and up to the next place.
+-- What the bounds of a request have in force is its limit, from where a sweep stands on and up to the next place.
 use Rattle.std.proofs.Common.{◌≡◌, ℕ, ◌+◌, ◌<◌, ◌≤◌, ◌==◌, suc, Bool, true, false, cond, List, [], ◌∷◌, ◌++◌, map, min, get_or, Option, None, Some, refl, ap, sym, ◌∙◌, arith}
 use Rattle.std.specs.List.{AllByRecursion, AllZip, Contains, sum_by}
 use Rattle.std.proofs.lemmas.List.{map-append}

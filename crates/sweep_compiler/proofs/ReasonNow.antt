@@ -1,4 +1,4 @@
--- What the bounds of an ask have in force sets its limit, from where a sweep stands on and up to the next place.
+-- What the bounds of a request have in force sets its limit, from where a sweep stands on and up to the next place.
 use Rattle.std.proofs.Common.{◌≡◌, ℕ, ◌≤◌, ◌<◌, ◌==◌, Bool, true, false, List, [], ◌∷◌, ◌++◌, map, cond, nat_lt, get_or, Option, Some, None, option_map, refl, ap, sym, subst, ◌∙◌, arith}
 use Rattle.std.specs.List.{AllByRecursion, AllZip, Contains}
 use Rattle.std.proofs.lemmas.Bool.Decides.{nat_tests}

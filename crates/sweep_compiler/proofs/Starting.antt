@@ -1,4 +1,4 @@
--- A sweep at the start of an ask.
+-- A sweep at the start of a request.
 use Rattle.std.proofs.Common.{◌≡◌, ℕ, ◌+◌, ◌<◌, ◌≤◌, ◌^◌, zero, suc, Bool, true, false, List, [], ◌∷◌, ◌++◌, length, filter, map, take, cond, get_or, Option, Some, None, is_some, inl, inr, ◌⊎◌, ⊎_elim, refl, ap, sym, subst, ◌∙◌, arith}
 use Rattle.std.specs.List.{AllByRecursion, Contains, sum_by, range_with_len}
 use Rattle.std.specs.List.Sorted.{IsPermutation}

@@ -66,7 +66,7 @@ idle = None ∷ (None ∷ [])
 abbrev on_first : List (Option ℕ)
 on_first = at_start 0 ∷ (None ∷ [])
 
--- how many places are in an ask from a second after midnight on
+-- how many places are in a request from a second after midnight on
 abbrev counted_places : PointState → ℕ → ℕ → ℕ → ℕ
 counted_places state connector second duration = places_within (is_second_asked state connector (midnight + second)) duration
 
@@ -77,7 +77,7 @@ night = point idle (row_at 0 TxDefaultProfile (Recurring Daily) (at_start 79200)
 pub end_of_the_night : counted_places night 1 194398 60 ≡ 1
 end_of_the_night = refl
 
--- the start of an ask is no place of it, its last second may be one, and the second after that is none
+-- the start of a request is no place of it, its last second may be one, and the second after that is none
 pub first_second : counted_places night 1 194400 60 ≡ 0
 first_second = refl
 

@@ -3,7 +3,7 @@ use Rattle.meaning.specs.declared.ask.Ask.{Ask}
 use Rattle.point_book.specs.Book.{BookState}
 use Rattle.sweep_compiler.specs.Right.{ScheduleAnswer}
 
--- the answer to an ask of a book
+-- the answer to a request of a book
 pub record CompiledAnswer : Type 0 where
   pub book : BookState
   pub ask : Ask

@@ -1,4 +1,4 @@
--- An explained schedule: stretches of an ask, each with one limit for one reason (OCPP 1.6, 3.13 and 5.7).
+-- An explained schedule: intervals of a request, each with one limit for one reason (OCPP 1.6, 3.13 and 5.7).
 use Rattle.std.specs.Prelude.{◌≡◌, ◌≢◌, ℕ, ◌<◌, ◌≤◌, List, [], ◌∷◌, ◌++◌, Option, Some, None}
 use Rattle.std.specs.List.{AllByRecursion}
 use Rattle.meaning.specs.declared.composite.CompositePeriod.{CompositePeriod}
@@ -6,52 +6,53 @@ use Rattle.meaning.specs.ByCases.PlainCompiler.{period_added}
 use Rattle.meaning.specs.View.{PointState}
 use Rattle.meaning.specs.Limit.{limit_asked}
 use Rattle.meaning.specs.Cause.{reason_asked}
-use Rattle.sweep_compiler.specs.declared.stretch.Stretch.{Stretch}
+use Rattle.sweep_compiler.specs.declared.interval.Interval.{Interval}
 
--- stretches over so many seconds
+-- intervals over a number of seconds
 pub record ExplainedSchedule : Type 0 where
   pub duration : ℕ
-  pub stretches : List Stretch
+  pub intervals : List Interval
 
--- stretches adjoin from a second up to another: the first begins there, each next one where the one before
+-- intervals adjoin from a second up to another: the first begins there, each next one where the one before
 -- it ends, and the last ends at the other
-abbrev pub Adjoin : ℕ → ℕ → List Stretch → Type 0
+abbrev pub Adjoin : ℕ → ℕ → List Interval → Type 0
 Adjoin from end [] = from ≡ end
-Adjoin from end (stretch ∷ later) =
-    (stretch.start ≡ from) × (stretch.start < stretch.end) × Adjoin stretch.end end later
+Adjoin from end (interval ∷ later) =
+    (interval.start ≡ from) × (interval.start < interval.end) × Adjoin interval.end end later
 
 -- neighbours differ in their limit, their cause or their shares
-abbrev pub Differ : List Stretch → Type 0
+abbrev pub Differ : List Interval → Type 0
 Differ [] = Unit {0}
-Differ (stretch ∷ []) = Unit {0}
-Differ (stretch ∷ (next ∷ later)) = (stretch.reason ≢ next.reason) × Differ (next ∷ later)
+Differ (interval ∷ []) = Unit {0}
+Differ (interval ∷ (next ∷ later)) = (interval.reason ≢ next.reason) × Differ (next ∷ later)
 
--- the limit of a stretch is the limit at each of its seconds, and its reason the reason, in an ask of a
+-- the limit of an interval is the limit at each of its seconds, and its reason the reason, in a request of a
 -- connector from a start on
-pub record IsStretchOf (state : PointState) (connector start : ℕ) (stretch : Stretch) : Type 0 where
-  pub limit :
-      (second : ℕ) → stretch.start ≤ second → second < stretch.end
-      → stretch.reason.limit ≡ limit_asked state connector start second
-  pub reason :
-      (second : ℕ) → stretch.start ≤ second → second < stretch.end
-      → stretch.reason ≡ reason_asked state connector start second
-
--- an ask of a connector from a start on for so many seconds, explained
-pub record IsExplanation (state : PointState) (connector start duration : ℕ) (explained : ExplainedSchedule)
+pub record IsIntervalOf (state : PointState) (connector start : ℕ) (interval : Interval)
     : Type 0 where
+  pub limit :
+      (second : ℕ) → interval.start ≤ second → second < interval.end
+      → interval.reason.limit ≡ limit_asked state connector start second
+  pub reason :
+      (second : ℕ) → interval.start ≤ second → second < interval.end
+      → interval.reason ≡ reason_asked state connector start second
+
+-- a request of a connector from a start on for a number of seconds, explained
+pub record IsExplanation (state : PointState) (connector start duration : ℕ)
+    (explained : ExplainedSchedule) : Type 0 where
   pub lasts : explained.duration ≡ duration
-  pub adjoin : Adjoin 0 duration explained.stretches
-  pub each : AllByRecursion (IsStretchOf state connector start) explained.stretches
-  pub differ : Differ explained.stretches
+  pub adjoin : Adjoin 0 duration explained.intervals
+  pub each : AllByRecursion (IsIntervalOf state connector start) explained.intervals
+  pub differ : Differ explained.intervals
 
--- the periods of stretches behind a limit, where there is one: a stretch whose limit is that of the one
+-- the periods of intervals behind a limit, where there is one: an interval whose limit is that of the one
 -- before it begins none
-abbrev pub periods_behind : Option ℕ → List Stretch → List CompositePeriod
+abbrev pub periods_behind : Option ℕ → List Interval → List CompositePeriod
 periods_behind before [] = []
-periods_behind before (stretch ∷ later) =
-    period_added before (record { start = stretch.start; limit = stretch.reason.limit })
-    ++ periods_behind (Some stretch.reason.limit) later
+periods_behind before (interval ∷ later) =
+    period_added before (record { start = interval.start; limit = interval.reason.limit })
+    ++ periods_behind (Some interval.reason.limit) later
 
--- the periods of stretches, neighbours of equal limit joined
-abbrev pub joined : List Stretch → List CompositePeriod
-joined stretches = periods_behind None stretches
+-- the periods of intervals, neighbours of equal limit joined
+abbrev pub joined : List Interval → List CompositePeriod
+joined intervals = periods_behind None intervals

@@ -1,4 +1,4 @@
--- Where the limit of an ask may change: the places of the profiles that count for it.
+-- Where the limit of a request may change: the places of the profiles that count for it.
 use Rattle.std.specs.Prelude.{ℕ, ◌+◌, ◌-◌, ◌==◌, Bool, ◌||◌, List, [], ◌∷◌, count_by, if◌then◌else◌}
 use Rattle.std.specs.List.{range_with_len, list_any}
 use Rattle.profile.specs.declared.purpose.Purpose.{Purpose}
@@ -29,19 +29,19 @@ is_place_at state connector asked instant =
     is_place_for TxProfile state connector asked instant
     || is_place_for TxDefaultProfile state connector asked instant
 
--- The connectors that an ask looks at: its own, or for the whole point those with an active
+-- The connectors that a request looks at: its own, or for the whole point those with an active
 -- transaction, whose limits are summed up.
 abbrev pub looked_at : PointState → ℕ → List ℕ
 looked_at state connector = if connector == 0 then active_connectors state else connector ∷ []
 
 -- whether an instant is a place of what is asked for a connector: of a ChargePointMaxProfile, which
--- counts for every ask, or of a connector that is looked at
+-- counts for every request, or of a connector that is looked at
 abbrev pub is_place_asked : PointState → ℕ → ℕ → ℕ → Bool
 is_place_asked state connector asked instant =
     is_place_for ChargePointMaxProfile state 0 asked instant
     || list_any (λ looked. is_place_at state looked asked instant) (looked_at state connector)
 
--- the same of an instant so many seconds after the start of the ask
+-- the same of an instant a number of seconds after the start of the request
 abbrev pub is_second_asked : PointState → ℕ → ℕ → ℕ → Bool
 is_second_asked state connector start second = is_place_asked state connector start (start + second)
 
@@ -49,6 +49,7 @@ is_second_asked state connector start second = is_place_asked state connector st
 abbrev pub places_within : (ℕ → Bool) → ℕ → ℕ
 places_within is_place duration = count_by is_place (range_with_len 1 (duration - 1))
 
--- how many seconds within an ask, its start left out, are places of what is asked
+-- how many seconds within a request, its start left out, are places of what is asked
 abbrev pub places : BookState → Ask → ℕ
-places book ask = places_within (is_second_asked (state_of book) ask.connector ask.start) ask.duration
+places book ask =
+    places_within (is_second_asked (state_of book) ask.connector ask.start) ask.duration

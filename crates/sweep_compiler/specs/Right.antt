@@ -1,4 +1,4 @@
--- When an answer is right for a book and an ask (OCPP 1.6, 5.7).
+-- When an answer is right for a book and a request (OCPP 1.6, 5.7).
 use Rattle.std.specs.Prelude.{Result}
 use Rattle.ocpp_scalars.specs.declared.refusal.Refusal.{Refusal}
 use Rattle.meaning.specs.declared.ask.Ask.{Ask}
@@ -11,7 +11,7 @@ use Rattle.point_book.specs.Book.{BookState, state_of}
 abbrev pub ScheduleAnswer : Type 0
 ScheduleAnswer = Result CompositeSchedule Refusal
 
--- What a compiler may answer: the exact schedule of the limits that the book means for the ask, or
+-- What a compiler may answer: the exact schedule of the limits that the book means for the request, or
 -- that it is too long, where it is, or that memory ran out.
 abbrev pub IsCompiledFor : BookState → Ask → ScheduleAnswer → Type 0
 IsCompiledFor book ask answer =

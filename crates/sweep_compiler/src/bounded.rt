@@ -1,11 +1,11 @@
-//! What bounds a connector, or the whole point, on the way through an ask.
+//! What bounds a connector, or the whole point, on the way through a request.
 
 ghost use Rattle.std.specs.Prelude.{◌≡◌, ◌<◌, ◌^◌, length, IfErr, IfOk};
 ghost use Rattle.meaning.specs.declared.cause.Cause.TheVariants.{Sum};
 ghost use Rattle.meaning.specs.Limit.{at_most};
 ghost use Rattle.meaning.specs.Cause.{bound_of};
 ghost use Rattle.ocpp_scalars.specs.declared.refusal.Refusal.TheVariants.{OutOfMemory};
-ghost use Rattle.sweep_compiler.specs.ByCases.Running.{AreFalling, AreInForce, below_now, bound_now, bound_passed, due_at, first_told, own_bound_now, share_now};
+ghost use Rattle.sweep_compiler.specs.ByCases.Running.{AreFalling, AreInForce, below_now, bound_now, bound_passed, due_at, first_profile_limit, own_bound_now, share_now};
 
 use crate::run::Run;
 use meaning::{Bound, Cause, ProfileLimit, Share, lesser_of};
@@ -76,9 +76,9 @@ impl<'a> Bounded<'a> {
 
     /// The profile that prevails, with its limit.
     fn prevailing(&self) -> Option<ProfileLimit>
-        ensures { result ≡ first_told self.now.runs }
+        ensures { result ≡ first_profile_limit self.now.runs }
     {
-        first_told(self.runs.as_slice())
+        first_profile_limit(self.runs.as_slice())
     }
 
     /// What sets the limit of a connector that this bounds.
@@ -156,13 +156,13 @@ impl<'a> Bounded<'a> {
 }
 
 /// The first row that has a limit, with that.
-fn first_told(runs: &[Run<'_>]) -> Option<ProfileLimit>
-    ensures { result ≡ first_told runs.now }
+fn first_profile_limit(runs: &[Run<'_>]) -> Option<ProfileLimit>
+    ensures { result ≡ first_profile_limit runs.now }
 {
     for place in 0..runs.len() {
-        let told = runs[place].told();
-        if told.is_some() {
-            return told;
+        let limit = runs[place].profile_limit();
+        if limit.is_some() {
+            return limit;
         }
     }
     None

@@ -1,4 +1,4 @@
-//! Compiled answers, each with the book and the ask that it is right for.
+//! Compiled answers, each with the book and the request that it is right for.
 
 ghost use Rattle.std.specs.Prelude.{◌≡◌, ◌≤◌, length, Ok};
 ghost use Rattle.std.specs.Arc.{arc_value};
@@ -13,8 +13,8 @@ use std::alloc::Global;
 use std::marker::Model;
 use std::sync::Arc;
 
-/// The answer to an ask of a book (chapter 5.7): the exact schedule, or that it is too long, or that memory ran
-/// out. Whoever has one needn't trust who made it: the answer is right for this book and this ask. It is
+/// The answer to a request of a book (chapter 5.7): the exact schedule, or that it is too long, or that memory ran
+/// out. Whoever has one needn't trust who made it: the answer is right for this book and this request. It is
 /// held twice, so that it can be handed out and kept in a history without memory.
 #[derive(Drop)]
 pub struct Compiled {
@@ -44,7 +44,7 @@ impl Model for Compiled {
 }
 
 impl Compiled {
-    /// The answer to an ask of a book that has its connector. Where memory runs out, that is the answer.
+    /// The answer to a request of a book that has its connector. Where memory runs out, that is the answer.
     pub fn make(alloc: Global, book: Arc<PointBook>, ask: Ask) -> Compiled
         requires has_connector { ask.connector ≤ length (arc_value book).ceilings }
         ensures book { result.book ≡ arc_value book }

@@ -12,8 +12,8 @@ use ocpp_scalars::Refusal;
 use point_book::PointBook;
 use std::alloc::Global;
 
-/// The exact schedule of an ask (chapter 5.7). Its limit is evaluated once for the start, and at
-/// most once for each place after it, however long the ask is. The rows that count are gathered
+/// The exact schedule of a request (chapter 5.7). Its limit is evaluated once for the start, and at
+/// most once for each place after it, however long the request is. The rows that count are gathered
 /// first, in memory that grows with them and with the connectors looked at, and not with the
 /// duration. The refusals are `ResultTooLong`, where the schedule has more than
 /// `MAX_COMPOSITE_PERIODS` periods, and `OutOfMemory`.

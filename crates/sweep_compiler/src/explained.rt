@@ -1,4 +1,4 @@
-//! What sets the limits of an ask.
+//! What sets the limits of a request.
 
 ghost use Rattle.std.specs.Prelude.{◌≡◌, ℕ, ◌+◌, ◌-◌, ◌<◌, ◌≤◌, ◌^◌, length, IfOk};
 ghost use Rattle.point_book.specs.Book.{state_of};
@@ -9,17 +9,17 @@ ghost use Rattle.sweep_compiler.specs.Explained.{IsExplanation};
 
 use crate::explanation::Explanation;
 use crate::gathering::Gathering;
+use crate::interval::Interval;
 use crate::limit_curve::LimitCurve;
-use crate::stretch::Stretch;
 use crate::turns::Turns;
 use meaning::Ask;
 use ocpp_scalars::Refusal;
 use point_book::PointBook;
 use std::alloc::{AllocError, Global};
 
-/// What sets the limit at each second of an ask (chapter 3.13), in stretches. The reason is evaluated
-/// once for the start, and at most once for each place after it, however long the ask is. Memory is
-/// taken for the rows that count, the stretches, and the shares of each.
+/// What sets the limit at each second of a request (chapter 3.13), in intervals. The reason is evaluated
+/// once for the start, and at most once for each place after it, however long the request is. Memory is
+/// taken for the rows that count, the intervals, and the shares of each.
 pub fn explain(
     alloc: Global,
     book: &PointBook,
@@ -28,11 +28,11 @@ pub fn explain(
 ) -> Result<Explanation, AllocError>
     requires has_connector { ask.now.connector ≤ length book.now.ceilings }
     requires fresh { turns.old < 2 ^ 63 }
-    ensures explained { IfOk result (λ explained.
-        IsExplanation (state_of book.now) ask.now.connector ask.now.start ask.now.duration explained) }
+    ensures explained { IfOk result (λ explained. IsExplanation (state_of book.now)
+        ask.now.connector ask.now.start ask.now.duration explained) }
     ensures bound { turns.new ≤ turns.old + (1 + places book.now ask.now) }
     ensures counted { turns.old ≤ turns.new }
-    ensures each { IfOk result (λ explained. turns.old + length explained.stretches ≤ turns.new) }
+    ensures each { IfOk result (λ explained. turns.old + length explained.intervals ≤ turns.new) }
 {
     let gathering = Gathering {
         alloc,
@@ -51,7 +51,7 @@ pub fn explain(
     }
 }
 
-/// The stretches of a curve, found at its first second and then from place to place: one turn for each.
+/// The intervals of a curve, found at its first second and then from place to place: one turn for each.
 fn explain_along(
     alloc: Global,
     curve: &mut LimitCurve<'_>,
@@ -66,25 +66,26 @@ fn explain_along(
     ensures explained { IfOk result (λ explained. IsExplanation (point_state curve.old.view)
         curve.old.connector curve.old.asked duration explained) }
     ensures bound { turns.new ≤ turns.old + (1 + places_within
-        (is_second_asked (point_state curve.old.view) curve.old.connector curve.old.asked) duration) }
+        (is_second_asked (point_state curve.old.view) curve.old.connector curve.old.asked)
+        duration) }
     ensures counted { turns.old ≤ turns.new }
-    ensures each { IfOk result (λ explained. turns.old + length explained.stretches ≤ turns.new) }
+    ensures each { IfOk result (λ explained. turns.old + length explained.intervals ≤ turns.new) }
 {
-    let mut stretches = Vec::new(alloc);
+    let mut intervals = Vec::new(alloc);
     let mut start = 0;
     let mut reason = turns.reason_of(alloc, curve)?;
     loop {
         let Some(next) = curve.go_to_next()? else {
-            stretches.push(Stretch {
+            intervals.push(Interval {
                 start,
                 end: duration,
                 reason,
             })?;
-            return Ok(Explanation::new(duration, stretches));
+            return Ok(Explanation::new(duration, intervals));
         };
         let found = turns.reason_of(alloc, curve)?;
         if !found.same(&reason) {
-            stretches.push(Stretch {
+            intervals.push(Interval {
                 start,
                 end: next,
                 reason,

@@ -3,16 +3,16 @@
 ghost use Rattle.std.specs.Prelude.{◌≡◌};
 ghost use Rattle.sweep_compiler.specs.Explained.{Adjoin};
 
-use crate::stretch::Stretch;
+use crate::interval::Interval;
 use std::marker::Model;
 
-/// What sets the limits of an asked schedule (chapter 3.13): stretches, the first from second 0 on, each next
-/// one from the end of the one before it, the last up to the end.
+/// What sets the limits of an asked schedule (chapter 3.13), in intervals. The first begins at second 0, each next
+/// one at the end of the one before it, and the last ends with the schedule.
 #[derive(Debug, Drop)]
 pub struct Explanation {
     /// Seconds.
     duration: u32,
-    stretches: Vec<Stretch>,
+    intervals: Vec<Interval>,
 }
 
 impl Model for Explanation {
@@ -20,21 +20,21 @@ impl Model for Explanation {
 
     ghost Value = { ExplainedSchedule };
 
-    ghost view = { λ e. record { duration = e.duration; stretches = e.stretches.items } };
+    ghost view = { λ e. record { duration = e.duration; intervals = e.intervals.items } };
 
-    ghost invariant = { λ e. Adjoin 0 e.duration e.stretches.items };
+    ghost invariant = { λ e. Adjoin 0 e.duration e.intervals.items };
 }
 
 impl Explanation {
-    /// The explanation of these stretches over so many seconds.
-    pub(crate) fn new(duration: u32, stretches: Vec<Stretch>) -> Explanation
-        requires adjoin { Adjoin 0 duration stretches.items }
+    /// The explanation of these intervals over a number of seconds.
+    pub(crate) fn new(duration: u32, intervals: Vec<Interval>) -> Explanation
+        requires adjoin { Adjoin 0 duration intervals.items }
         ensures lasts { result.duration ≡ duration }
-        ensures same { result.stretches ≡ stretches.items }
+        ensures same { result.intervals ≡ intervals.items }
     {
         Explanation {
             duration,
-            stretches,
+            intervals,
         }
     }
 
@@ -45,11 +45,11 @@ impl Explanation {
         self.duration
     }
 
-    /// The stretches in order.
-    pub fn stretches(&self) -> &[Stretch]
-        ensures value { result.now ≡ self.now.stretches }
-        ensures adjoin { Adjoin 0 self.now.duration self.now.stretches }
+    /// The intervals in order.
+    pub fn intervals(&self) -> &[Interval]
+        ensures value { result.now ≡ self.now.intervals }
+        ensures adjoin { Adjoin 0 self.now.duration self.now.intervals }
     {
-        self.stretches.as_slice()
+        self.intervals.as_slice()
     }
 }

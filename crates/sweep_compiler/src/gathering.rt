@@ -1,4 +1,4 @@
-//! The rows that count for an ask, gathered once, on their way from its start.
+//! The rows that count for a request, gathered once, on their way from its start.
 
 ghost use Rattle.std.specs.Prelude.{◌≡◌, ◌+◌, ◌<◌, ◌≤◌, ◌^◌, ◌++◌, length, map, is_some, IfErr, IfOk};
 ghost use Rattle.ocpp_scalars.specs.declared.refusal.Refusal.TheVariants.{OutOfMemory};
@@ -23,7 +23,7 @@ use profile::{Purpose, Row};
 use stacking::Candidates;
 use std::alloc::{AllocError, Global};
 
-/// What an ask is of: a book, and from where on up to where.
+/// What a request is of: a book, and from where on up to where.
 #[derive(Clone, Copy)]
 pub(crate) struct Gathering<'a> {
     pub alloc: Global,
@@ -36,7 +36,7 @@ pub(crate) struct Gathering<'a> {
 }
 
 impl<'a> Gathering<'a> {
-    /// The limit of a connector at the start of an ask.
+    /// The limit of a connector at the start of a request.
     pub(crate) fn curve(&self, connector: u32) -> Result<LimitCurve<'a>, Refusal>
         requires has_connector { connector ≤ length self.now.view.ceilings.now }
         requires short { self.now.last < self.now.asked + 2 ^ 32 }
@@ -75,7 +75,8 @@ impl<'a> Gathering<'a> {
     fn looked(&self, connector: u32) -> Result<Vec<Bounded<'a>>, Refusal>
         requires has_connector { connector ≤ length self.now.view.ceilings.now }
         ensures looked { IfOk result (λ looked. AreConnectorsAtStart (point_state self.now.view)
-            self.now.asked self.now.last (looked_at (point_state self.now.view) connector) looked.items) }
+            self.now.asked self.now.last (looked_at (point_state self.now.view) connector)
+            looked.items) }
         ensures cause { IfErr result (λ refusal. refusal ≡ OutOfMemory) }
     {
         if connector == 0 {
@@ -89,7 +90,8 @@ impl<'a> Gathering<'a> {
     /// What bounds each connector with an active transaction.
     fn active(&self) -> Result<Vec<Bounded<'a>>, Refusal>
         ensures looked { IfOk result (λ looked. AreConnectorsAtStart (point_state self.now.view)
-            self.now.asked self.now.last (active_connectors (point_state self.now.view)) looked.items) }
+            self.now.asked self.now.last (active_connectors (point_state self.now.view))
+            looked.items) }
         ensures cause { IfErr result (λ refusal. refusal ≡ OutOfMemory) }
     {
         let mut looked = Vec::new(self.alloc);
@@ -99,7 +101,7 @@ impl<'a> Gathering<'a> {
         Ok(looked)
     }
 
-    /// Adds the connector behind so many where it has an active transaction.
+    /// Adds the connector after the first `before`, where it has an active transaction.
     fn add_active(&self, looked: &mut Vec<Bounded<'a>>, before: usize) -> Result<(), Refusal>
         requires has_connector { before < length self.now.view.ceilings.now }
         ensures added { IfOk result (λ _. IsWithConnector
@@ -205,7 +207,7 @@ fn queue_of(alloc: Global, bounds: &[Bounded<'_>]) -> Result<Queue, AllocError>
     Ok(queue)
 }
 
-/// The next place of each row of one of some bounds, beside those of the bounds before it.
+/// Adds the next place of each row of a bound to those of the bounds before it.
 fn add_rows(queue: &mut Queue, bounds: &[Bounded<'_>], bound: usize) -> Result<(), AllocError>
     requires has_bound { bound < length bounds.now }
     requires before { AreWaiting bounds.now bound 0 queue.old }
@@ -217,7 +219,7 @@ fn add_rows(queue: &mut Queue, bounds: &[Bounded<'_>], bound: usize) -> Result<(
     Ok(())
 }
 
-/// The next place of a row, beside those of the rows and bounds before it.
+/// Adds the next place of a row to those of the rows and bounds before it.
 fn add_row(
     queue: &mut Queue,
     bounds: &[Bounded<'_>],

@@ -1,6 +1,6 @@
-//! The sweep compiler of composite schedules (OCPP 1.6, chapter 5.7): it evaluates the limit at the
-//! start of an ask and at the places after it, where a profile may change its limit, and nowhere
-//! else. What a place is stands in `specs/Places.antt`.
+//! The sweep compiler of composite schedules (OCPP 1.6, chapter 5.7). It evaluates the limit at the
+//! start of a request and at the places after it, and nowhere else. At a place a profile may change
+//! its limit: `specs/Places.antt`.
 #![tactic(auto)]
 
 mod bounded;
@@ -11,10 +11,10 @@ mod explained;
 mod explanation;
 mod explanation_laws;
 mod gathering;
+mod interval;
 mod limit_curve;
 mod queue;
 mod run;
-mod stretch;
 mod sweep;
 mod turns;
 
@@ -23,5 +23,5 @@ pub use compiler::compile;
 pub use explained::explain;
 pub use explanation::Explanation;
 pub use explanation_laws::explanations_are_schedules;
-pub use stretch::Stretch;
+pub use interval::Interval;
 pub use turns::Turns;

@@ -1,4 +1,4 @@
-//! The limit of a connector along the seconds of an ask.
+//! The limit of a connector along the seconds of a request.
 
 ghost use Rattle.std.specs.Prelude.{◌≡◌, ℕ, ◌+◌, ◌-◌, ◌<◌, ◌≤◌, ◌^◌, length, IfErr, IfOk, IfSome};
 ghost use Rattle.ocpp_scalars.specs.declared.refusal.Refusal.TheVariants.{OutOfMemory};
@@ -44,7 +44,8 @@ impl LimitCurve<'_> {
     pub(crate) fn limit_here(&self) -> u32
         requires ready { IsReadyCurve self.now }
         requires within { self.now.at ≤ self.now.last }
-        ensures { result ≡ limit (point_state self.now.view) self.now.connector self.now.asked self.now.at }
+        ensures { result ≡ limit
+            (point_state self.now.view) self.now.connector self.now.asked self.now.at }
     {
         let point = self.bounds[0].limit();
         u64::from(point).min(self.sum) as u32
@@ -54,7 +55,8 @@ impl LimitCurve<'_> {
     fn bound_here(&self) -> Bound
         requires ready { IsReadyCurve self.now }
         requires within { self.now.at ≤ self.now.last }
-        ensures { result ≡ bound (point_state self.now.view) self.now.connector self.now.asked self.now.at }
+        ensures { result ≡ bound
+            (point_state self.now.view) self.now.connector self.now.asked self.now.at }
     {
         let point = &self.bounds[0];
         if self.connector == 0 {
@@ -83,7 +85,7 @@ impl LimitCurve<'_> {
         })
     }
 
-    /// What each active connector has in the sum here, in an ask of the whole point.
+    /// What each active connector has in the sum here, in a request of the whole point.
     fn shares_here(&self, alloc: Global) -> Result<Shares, AllocError>
         requires ready { IsReadyCurve self.now }
         requires within { self.now.at ≤ self.now.last }
@@ -107,7 +109,8 @@ impl LimitCurve<'_> {
             (reason_asked (point_state self.old.view) self.old.connector self.old.asked)
             (is_second_asked (point_state self.old.view) self.old.connector self.old.asked)
             (self.old.last + 1 - self.old.asked) (self.old.at - self.old.asked) next) }
-        ensures here { IfOk result (λ next. IfSome next (λ next. self.new.at - self.new.asked ≡ next)) }
+        ensures here { IfOk result
+            (λ next. IfSome next (λ next. self.new.at - self.new.asked ≡ next)) }
         ensures ready { IfOk result (λ next. IfSome next (λ _. IsReadyCurve self.new)) }
         ensures same { IfOk result (λ _. IsOfOneAsk self.old self.new) }
         ensures cause { IfErr result (λ refusal. refusal ≡ OutOfMemory) }
@@ -187,7 +190,8 @@ fn pass_row(
 ) -> Result<Option<Instant>, Refusal>
     requires has_bound { bound < length bounds.old.items }
     requires has_row { row < row_count bounds.old.items bound }
-    requires small { AllByRecursion (λ (one : RunningBound). one.ceiling < 2 ^ 32) bounds.old.items }
+    requires small { AllByRecursion
+        (λ (one : RunningBound). one.ceiling < 2 ^ 32) bounds.old.items }
     requires few { length bounds.old.items ≤ 2 ^ 32 }
     requires sum { sum.old ≡ shared_now bounds.old.items }
     ensures passed { IfOk result (λ _. bounds.new.items ≡ passed_in bound row bounds.old.items) }

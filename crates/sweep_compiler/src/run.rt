@@ -1,7 +1,7 @@
-//! A row on its way through an ask.
+//! A row on its way through a request.
 
 ghost use Rattle.std.specs.Prelude.{◌≡◌, option_map};
-ghost use Rattle.meaning.specs.ByCases.Cause.{told};
+ghost use Rattle.meaning.specs.ByCases.Cause.{profile_limit_of};
 ghost use Rattle.sweep_compiler.specs.ByCases.Running.{rate_running, row_running, due, passed, rank_running};
 
 use meaning::ProfileLimit;
@@ -10,7 +10,7 @@ use profile::{MAX_STACK_LEVEL, Purpose, Row};
 use recurrence::{Place, Places};
 use std::marker::Model;
 
-/// A row that counts for an ask, the limit that it has at the last of its places that was passed, and
+/// A row that counts for a request, the limit that it has at the last of its places that was passed, and
 /// the places that are still to come.
 #[derive(Drop)]
 pub(crate) struct Run<'a> {
@@ -78,8 +78,8 @@ impl<'a> Run<'a> {
     }
 
     /// Its profile with that limit, where it has one.
-    pub(crate) fn told(&self) -> Option<ProfileLimit>
-        ensures { result ≡ option_map told (row_running self.now) }
+    pub(crate) fn profile_limit(&self) -> Option<ProfileLimit>
+        ensures { result ≡ option_map profile_limit_of (row_running self.now) }
     {
         let limit = self.rate?;
         Some(ProfileLimit::of(self.row, limit))

@@ -9,14 +9,14 @@ use point_book::PointBook;
 use profile::Row;
 use std::alloc::Global;
 use std::process::Abort;
-use sweep_compiler::{Stretch, Turns, compile, explain};
+use sweep_compiler::{Interval, Turns, compile, explain};
 
 /// The next of a sequence of numbers that looks random: a linear congruence.
 fn next_number(number: u32) -> u32 {
     number.wrapping_mul(1_664_525).wrapping_add(1_013_904_223)
 }
 
-/// By the bits of a number, but for so many of them, one of as many numbers from `least` on.
+/// One of `count` numbers from `least` on, by the bits of a number without its last `but`.
 fn drawn(number: u32, but: u32, count: u32, least: u32) -> u32 {
     (number.wrapping_shr(but) % count.max(1)).saturating_add(least)
 }
@@ -102,13 +102,13 @@ fn install(rt: &impl Abort, alloc: Global, book: &mut PointBook, count: u32, bef
     number
 }
 
-/// An ask of a connector for so many seconds from the second from which on the rows change.
+/// A request of a connector for a number of seconds from the second from which on the rows change.
 fn ask_of(rt: &impl Abort, connector: u32, duration: u32) -> Ask {
     let start = instant_at(86_410).expect(rt, "error");
     Ask::try_new(connector, start, duration).expect(rt, "error")
 }
 
-/// That both compilers answer an ask alike.
+/// That both compilers answer a request alike.
 fn expect_alike(rt: &impl Abort, alloc: Global, book: &PointBook, ask: &Ask) {
     assert!(rt; ask.connector <= book.connectors());
     let plain = compile_plain(alloc, &book.view(), ask).expect(rt, "error");
@@ -116,13 +116,13 @@ fn expect_alike(rt: &impl Abort, alloc: Global, book: &PointBook, ask: &Ask) {
     holds(rt, schedule.periods() == plain.periods(), "a schedule");
 }
 
-/// That a stretch tells what `reason_at` finds at one of its seconds.
+/// That an interval tells what `reason_at` finds at one of its seconds.
 fn expect_reason(
     rt: &impl Abort,
     alloc: Global,
     book: &PointBook,
     ask: &Ask,
-    (stretch, second): (&Stretch, u32),
+    (interval, second): (&Interval, u32),
 ) {
     let view = book.view();
     assert!(rt; ask.connector as usize <= view.ceilings.len());
@@ -130,21 +130,21 @@ fn expect_reason(
     let instant = ask.start.seconds().saturating_add(u64::from(second));
     let instant = Instant::try_new(instant).expect(rt, "error");
     let reason = reason_at(alloc, &view, ask.connector, ask.start, instant).expect(rt, "error");
-    holds(rt, reason.same(&stretch.reason), "a reason");
+    holds(rt, reason.same(&interval.reason), "a reason");
 }
 
-/// That each stretch of an explained ask tells its reason at its first second and at its last.
+/// That each interval of an explained request tells its reason at its first second and at its last.
 fn expect_reasons(rt: &impl Abort, alloc: Global, book: &PointBook, ask: &Ask) {
     assert!(rt; ask.connector <= book.connectors());
     let explanation = explain(alloc, book, ask, &mut Turns::new()).expect(rt, "error");
-    for stretch in explanation.stretches() {
-        expect_reason(rt, alloc, book, ask, (stretch, stretch.start));
+    for interval in explanation.intervals() {
+        expect_reason(rt, alloc, book, ask, (interval, interval.start));
         expect_reason(
             rt,
             alloc,
             book,
             ask,
-            (stretch, stretch.end.saturating_sub(1)),
+            (interval, interval.end.saturating_sub(1)),
         );
     }
 }

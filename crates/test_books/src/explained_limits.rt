@@ -1,5 +1,5 @@
 //! Limits and schedules with what sets them, and why a profile doesn't prevail: worked by hand. The lines are
-//! those of `scripted_books.rt`, each stretch with its start, its end and its reason.
+//! those of `scripted_books.rt`, each interval with its start, its end and its reason.
 
 use crate::fixtures::instant_at;
 use crate::reason_words::put_reason;
@@ -74,7 +74,7 @@ row id=2 connector=2 start=0 periods=0:200,30:100
 explain 0 0 60 = 0-30:300:sum(1:100:id=1)(2:200:id=2) 30-60:300:sum(1:200:id=1)(2:100:id=2)";
 
 #[test]
-fn parts_stretches_of_equal_sums(rt: HostRuntime) {
+fn parts_intervals_of_equal_sums(rt: HostRuntime) {
     play(&rt, rt.alloc(), EQUAL_SUMS);
 }
 
@@ -122,10 +122,10 @@ fn expect_64_shares(rt: &impl Abort, alloc: Global, book: &PointBook) {
     let ask = Ask::try_new(0, start, 120).expect(rt, "error");
     assert!(rt; ask.connector <= book.connectors());
     let explanation = explain(alloc, book, &ask, &mut Turns::new()).expect(rt, "error");
-    for stretch in explanation.stretches() {
+    for interval in explanation.intervals() {
         holds(
             rt,
-            stretch.reason.shares.as_slice().len() == 64,
+            interval.reason.shares.as_slice().len() == 64,
             "64 shares",
         );
     }
@@ -136,7 +136,7 @@ fn expect_64_shares(rt: &impl Abort, alloc: Global, book: &PointBook) {
 fn names_each_of_the_most_levels(rt: HostRuntime) {
     let alloc = rt.alloc();
     let mut lines = String::from_str(alloc, "point 630 1 320\n").expect(&rt, "error");
-    let mut stretches = String::from_str(alloc, "explain 1 0 6000 =").expect(&rt, "error");
+    let mut intervals = String::from_str(alloc, "explain 1 0 6000 =").expect(&rt, "error");
     for minute in 0..100u32 {
         let (level, start, end) = (99 - minute, 60 * minute, 60 * (1 + minute));
         let limit = 60 + level;
@@ -145,13 +145,13 @@ fn names_each_of_the_most_levels(rt: HostRuntime) {
             "row id={level} level={level} start=0 to={end} periods=0:{limit}\n"
         )
         .expect(&rt, "error");
-        write!(&mut stretches, " {start}-{end}:{limit}:id={level}").expect(&rt, "error");
+        write!(&mut intervals, " {start}-{end}:{limit}:id={level}").expect(&rt, "error");
     }
-    lines.push_str(stretches.as_str()).expect(&rt, "error");
+    lines.push_str(intervals.as_str()).expect(&rt, "error");
     play(&rt, alloc, lines.as_str());
 }
 
-/// The last second that may be asked is 9999-12-31T23:59:59Z, so many seconds after midnight.
+/// The last second that may be asked is 9999-12-31T23:59:59Z; the numbers count the seconds after midnight.
 const LAST_SECOND: &str = "\
 row id=1 start=0 to=251666611199 periods=0:100
 explain 1 251666611198 2 = 0-1:100:id=1 1-2:320:connector

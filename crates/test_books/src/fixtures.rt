@@ -44,7 +44,7 @@ impl From<fmt::Error> for UnreadWords {
     }
 }
 
-/// The instant so many seconds after midnight.
+/// The instant a number of seconds after midnight.
 pub fn instant_at(second: u64) -> Result<Instant, UnreadWords> {
     instant_of(second).ok_or(UnreadWords::Words)
 }
@@ -93,7 +93,7 @@ fn periods_of_words(alloc: Global, keyed: &str) -> Result<Vec<Period>, UnreadWor
     Ok(periods)
 }
 
-/// 200 periods of so many seconds, of 6 A and 10 A by turns.
+/// 200 periods of a number of seconds, of 6 A and 10 A by turns.
 fn periods_by_turns(alloc: Global, seconds: u32) -> Result<Vec<Period>, UnreadWords> {
     let mut periods = Vec::new(alloc);
     for index in 0..200u32 {
@@ -149,7 +149,7 @@ fn keyed_profile(alloc: Global, keyed: &mut KeyedWords<'_>) -> Result<Profile, U
 
 /// The profile in words: `id=`, `purpose=`, `level=`, `transaction=`, `kind=`, `recurrency=`, `from=`
 /// and `to=` (its validity), `duration=`, `start=`, `unit=`, and `periods=0:160,3600:80` or `turns=432`: 200
-/// periods of so many seconds, of 6 A and 10 A by turns. Instants count from midnight. What isn't said is
+/// periods of a number of seconds, of 6 A and 10 A by turns. Instants count from midnight. What isn't said is
 /// that of an Absolute TxDefaultProfile of 16 A without a start, of id 1 and level 0.
 pub fn profile_of(alloc: Global, words: &str) -> Result<Profile, UnreadWords> {
     keyed_profile(alloc, &mut KeyedWords::of(words))
@@ -169,7 +169,7 @@ pub fn row_of(alloc: Global, words: &str) -> Result<Row, UnreadWords> {
     })
 }
 
-/// A start by an idTag, so many seconds after midnight.
+/// A start by an idTag, a number of seconds after midnight.
 pub fn begin_of(
     alloc: Global,
     tag: &str,
@@ -187,7 +187,7 @@ pub fn begin_of(
     }
 }
 
-/// The limits of so many connectors of 32 A, as a site file has them.
+/// The limits of a number of connectors of 32 A, as a site file has them.
 fn limits_text(alloc: Global, connectors: usize) -> Result<String, UnreadWords> {
     let mut text = String::from_str(alloc, "32")?;
     for _ in 1..connectors {
@@ -196,8 +196,8 @@ fn limits_text(alloc: Global, connectors: usize) -> Result<String, UnreadWords> 
     Ok(text)
 }
 
-/// A site file of so many points of 1,000 A, each with so many connectors of 32 A and an identity of so
-/// many characters: its place, with zeros before it.
+/// A site file of a number of points of 1,000 A, each with a number of connectors of 32 A. Its identity is its
+/// place, with zeros before it up to a number of characters.
 pub fn site_text(
     alloc: Global,
     points: usize,

@@ -2,7 +2,7 @@
 
 use meaning::{Cause, Reason, Share};
 use std::process::Abort;
-use sweep_compiler::Stretch;
+use sweep_compiler::Interval;
 
 fn put_cause(rt: &impl Abort, text: &mut String, cause: Cause) {
     let name = match cause {
@@ -32,8 +32,8 @@ pub(crate) fn put_reason(rt: &impl Abort, text: &mut String, reason: &Reason) {
     }
 }
 
-/// Puts a stretch, as ` 0-2:60:id=1`.
-pub(crate) fn put_stretch(rt: &impl Abort, text: &mut String, stretch: &Stretch) {
-    write!(text, " {}-{}:", stretch.start, stretch.end).expect(rt, "error");
-    put_reason(rt, text, &stretch.reason);
+/// Puts an interval, as ` 0-2:60:id=1`.
+pub(crate) fn put_interval(rt: &impl Abort, text: &mut String, interval: &Interval) {
+    write!(text, " {}-{}:", interval.start, interval.end).expect(rt, "error");
+    put_reason(rt, text, &interval.reason);
 }

@@ -10,7 +10,7 @@ use profile::Schedule;
 use std::alloc::Global;
 use std::process::Abort;
 
-/// The ask of `1 30 60`: connector 1, 30 seconds after midnight, for 60 seconds.
+/// The request of `1 30 60`: connector 1, 30 seconds after midnight, for 60 seconds.
 fn ask_of(rt: &impl Abort, line: &str) -> Ask {
     let mut words = Words::of(line);
     let connector = words.number().expect(rt, line);
@@ -19,7 +19,7 @@ fn ask_of(rt: &impl Abort, line: &str) -> Ask {
     Ask::try_new(connector, start, duration).expect(rt, line)
 }
 
-/// The schedule of an ask, against what is expected: `1 30 60 = 0:100 30:320`, of each period its start and
+/// The schedule of a request, against what is expected: `1 30 60 = 0:100 30:320`, of each period its start and
 /// its limit. At its start it has the limit of that second.
 fn expect(rt: &impl Abort, alloc: Global, view: &View<'_>, line: &str) {
     let (asked, wanted) = line.split_once(" =").expect(rt, line);
@@ -34,7 +34,7 @@ fn expect(rt: &impl Abort, alloc: Global, view: &View<'_>, line: &str) {
     holds(rt, first == Some(limit), line);
 }
 
-/// Asks of a point of two connectors of 32 A, at the first of which a transaction began or not.
+/// Requests of a point of two connectors of 32 A, at the first of which a transaction began or not.
 fn expect_all(rt: &impl Abort, alloc: Global, rows: &str, began: Option<Instant>, lines: &str) {
     let rows = rows_of(rt, alloc, rows);
     let view = View {

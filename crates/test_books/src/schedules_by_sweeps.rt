@@ -1,4 +1,4 @@
-//! Schedules from outside with their turns, beside the plain compiler, and that memory suffices. The lines are
+//! Schedules from outside with their turns, against the plain compiler, and that memory suffices. The lines are
 //! those of `scripted_books.rt`.
 
 use crate::scripted_books::{begin, play, play_on, point};

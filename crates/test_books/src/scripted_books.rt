@@ -2,23 +2,23 @@
 //!
 //! | Line | What is done, and what comes of it |
 //! |---|---|
-//! | `point 630 2 320` | a new book of a ceiling and so many connectors of a ceiling each; the first is this one |
+//! | `point 630 2 320` | a new book of a ceiling and a number of connectors of a ceiling each; the first is this one |
 //! | `row id=1 level=3` | a row is installed: why it is refused, if it is, and then nothing has changed |
-//! | `start 1 ann 100 7` | a start at a connector, by an idTag, so many seconds after midnight, with a number for it, which comes back unless the start is retransmitted: then `again` with the number that it has |
+//! | `start 1 ann 100 7` | a start at a connector, by an idTag, a number of seconds after midnight, with a number for it, which comes back unless the start is retransmitted: then `again` with the number that it has |
 //! | `stop 7` | the transaction of a number ends: at which connector, `-` at none |
 //! | `clear level=3` | rows are cleared by criteria: how many |
 //! | `rows` | the chargingProfileIds of the rows, in their order |
-//! | `schedule 1 30 60` | an ask: connector, second, duration. The periods of its answer, by this compiler and by the plain one |
+//! | `schedule 1 30 60` | a request: connector, second, duration. The periods of its answer, by this compiler and by the plain one |
 //! | `alike 1 30 60` | that both answer alike |
 //! | `counts 1 30 60` | how many periods the answer has, or why there is none; and the turns that it took |
 //! | `twice 1 30 60` | the answer that a `Compiled` has twice: the periods, or why there is none |
-//! | `explain 1 30 60` | the stretches of the answer, each with its reason |
-//! | `reasons 1 30 60` | how many stretches, and turns |
+//! | `explain 1 30 60` | the intervals of the answer, each with its reason |
+//! | `reasons 1 30 60` | how many intervals, and turns |
 
 ghost use Rattle.std.specs.Prelude.{◌≤◌, length};
 
 use crate::fixtures::{begin_of, criteria_of, row_of};
-use crate::reason_words::put_stretch;
+use crate::reason_words::put_interval;
 use crate::same::{holds, same, same_text};
 use crate::words::Words;
 use meaning::{Ask, Composite, compile_plain};
@@ -39,7 +39,7 @@ struct Line<'a> {
     words: Words<'a>,
 }
 
-/// A book of a ceiling, and of so many connectors of a ceiling each.
+/// A book of a ceiling, and of a number of connectors of a ceiling each.
 pub(crate) fn point(
     rt: &impl Abort,
     alloc: Global,
@@ -93,7 +93,7 @@ fn outcome(rt: &impl Abort, book: &mut PointBook, verb: &str, line: Line<'_>) ->
     }
 }
 
-/// What an ask comes to.
+/// What a request comes to.
 fn answer(rt: &impl Abort, book: &PointBook, verb: &str, line: Line<'_>) -> String {
     match verb {
         "schedule" => schedule(rt, book, line),
@@ -197,7 +197,7 @@ fn ids(rt: &impl Abort, book: &PointBook, line: Line<'_>) -> String {
     text
 }
 
-/// The ask of words, of a connector that the book has.
+/// The request of words, of a connector that the book has.
 fn ask_of(rt: &impl Abort, book: &PointBook, line: &mut Line<'_>) -> Ask
     ensures { result.connector ≤ length book.now.ceilings }
 {
@@ -270,8 +270,8 @@ fn explained(rt: &impl Abort, book: &PointBook, mut line: Line<'_>) -> String {
         line.whole,
     );
     let mut text = String::new(line.alloc);
-    for stretch in explanation.stretches() {
-        put_stretch(rt, &mut text, stretch);
+    for interval in explanation.intervals() {
+        put_interval(rt, &mut text, interval);
     }
     text
 }
@@ -280,6 +280,6 @@ fn reasons(rt: &impl Abort, book: &PointBook, mut line: Line<'_>) -> String {
     let ask = ask_of(rt, book, &mut line);
     let mut turns = Turns::new();
     let explanation = explain(line.alloc, book, &ask, &mut turns).expect(rt, line.whole);
-    let stretches = explanation.stretches().len();
-    format!(in line.alloc; "{stretches} {}", turns.count()).expect(rt, line.whole)
+    let intervals = explanation.intervals().len();
+    format!(in line.alloc; "{intervals} {}", turns.count()).expect(rt, line.whole)
 }

@@ -8,7 +8,7 @@ use site_rules::{MAX_SITE_BYTES, Site, SiteFault, admit, read_site};
 use std::alloc::Global;
 use std::process::Abort;
 
-/// What a well-formed point has beside its identity, for which `@` stands in the texts below.
+/// What a well-formed point has besides its identity, for which `@` stands in the texts below.
 const LIMITS: &str = r#""ceiling":16.1,"connectors":[32.0,0.1]"#;
 
 /// Site files, each after its fault.

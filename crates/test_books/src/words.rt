@@ -7,7 +7,7 @@ use profile::Named;
 /// 2025-01-01T00:00:00Z, a Wednesday.
 pub const MIDNIGHT: u64 = 1_735_689_600;
 
-/// The instant so many seconds after midnight.
+/// The instant a number of seconds after midnight.
 pub(crate) fn instant_of(second: u64) -> Option<Instant> {
     Instant::try_new(MIDNIGHT.saturating_add(second))
 }
@@ -47,7 +47,7 @@ impl<'a> Words<'a> {
         self.word().parse::<i32>().ok()
     }
 
-    /// The instant so many seconds after midnight.
+    /// The instant a number of seconds after midnight.
     pub fn instant(&mut self) -> Option<Instant> {
         instant_of(self.long()?)
     }

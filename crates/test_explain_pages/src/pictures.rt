@@ -1,8 +1,8 @@
 //! Pictures and pages, by the parts that can be found by hand.
 
-use crate::samples::{Point, ask, by, profile, stretch};
+use crate::samples::{Point, ask, by, interval, profile};
 use explain_pages::{
-    ExplainedAsk, NoPart, NotCounted, is_named, sentence, telling_instant, told_by, write_json,
+    ExplainedAsk, NoPart, NotCounted, is_named, profile_of, sentence, telling_instant, write_json,
     write_page, write_picture, write_table,
 };
 use meaning::{Cause, WhyNot};
@@ -42,9 +42,9 @@ fn pictures_and_pages(rt: HostRuntime) -> Result<(), Fail> {
         unit: Unit::A,
         ask: ask(1, 0, 86_400)?,
         view: point.view(),
-        stretches: &[
-            stretch(alloc, 0, 43_200, 160, by(1, Purpose::TxDefaultProfile, 0)),
-            stretch(alloc, 43_200, 86_400, 320, Cause::ConnectorCeiling),
+        intervals: &[
+            interval(alloc, 0, 43_200, 160, by(1, Purpose::TxDefaultProfile, 0)),
+            interval(alloc, 43_200, 86_400, 320, Cause::ConnectorCeiling),
         ],
         not_counted: &[],
     };
@@ -69,7 +69,7 @@ kind=Relative periods=30:160 to=30 = 0
 kind=Recurring recurrency=Daily start=0 duration=60 periods=0:160 = 0";
 
 #[test]
-fn reasons_are_told_where_they_say_most(rt: HostRuntime) -> Result<(), Fail> {
+fn telling_instants_of_rows(rt: HostRuntime) -> Result<(), Fail> {
     let alloc = rt.alloc();
     for line in TELLING.lines() {
         let (words, second) = line.split_once(" = ").ok_or("no second")?;
@@ -78,7 +78,7 @@ fn reasons_are_told_where_they_say_most(rt: HostRuntime) -> Result<(), Fail> {
         let row = view.rows.first().ok_or("no row")?;
         let instant = telling_instant(&view, &ask(1, 0, 86_400)?, row);
         assert_eq!(rt; instant, instant_at(second.parse::<u64>()?)?, "{line}");
-        assert_eq!(rt; told_by(row), profile(1, Purpose::TxDefaultProfile, 0));
+        assert_eq!(rt; profile_of(row), profile(1, Purpose::TxDefaultProfile, 0));
     }
     Ok(())
 }
@@ -98,7 +98,7 @@ fn a_hundred_profiles(rt: HostRuntime) -> Result<(), Fail> {
         unit: Unit::W,
         ask: ask(1, 0, 604_800)?,
         view: point.view(),
-        stretches: &[stretch(alloc, 0, 604_800, 60, by(99, Purpose::TxDefaultProfile, 99))],
+        intervals: &[interval(alloc, 0, 604_800, 60, by(99, Purpose::TxDefaultProfile, 99))],
         not_counted: &[],
     };
     let picture = write_picture(alloc, &explained)?;
@@ -108,22 +108,22 @@ fn a_hundred_profiles(rt: HostRuntime) -> Result<(), Fail> {
     Ok(())
 }
 
-/// An ask whose every second is a stretch: pictures and pages say where they end.
+/// A request whose every second is an interval: pictures and pages say where they end.
 #[test]
-fn too_many_stretches(rt: HostRuntime) -> Result<(), Fail> {
+fn too_many_intervals(rt: HostRuntime) -> Result<(), Fail> {
     let alloc = rt.alloc();
     let point = Point::with_rows(alloc, "")?;
-    let mut stretches = Vec::new(alloc);
+    let mut intervals = Vec::new(alloc);
     for second in 0..20_001 {
         let limit = second % 2 * 10;
-        stretches.push(stretch(alloc, second, second + 1, limit, Cause::PointCeiling))?;
+        intervals.push(interval(alloc, second, second + 1, limit, Cause::PointCeiling))?;
     }
     let explained = ExplainedAsk {
         point: "CP1",
         unit: Unit::A,
         ask: ask(1, 0, 20_001)?,
         view: point.view(),
-        stretches: stretches.as_slice(),
+        intervals: intervals.as_slice(),
         not_counted: &[],
     };
     let page = write_page(alloc, &explained)?;
@@ -171,15 +171,15 @@ fn each_reason_has_its_sentence(rt: HostRuntime) -> Result<(), Fail> {
 fn expect_everywhere(rt: &impl Abort, alloc: Global, reason: NoPart) -> Result<(), Fail> {
     let point = Point::with_rows(alloc, "")?;
     let never = profile(3, Purpose::TxProfile, 2);
-    let stretches = [stretch(alloc, 0, 60, 630, by(2, Purpose::TxProfile, 2))];
-    assert!(rt; !is_named(&stretches, never));
-    assert!(rt; is_named(&stretches, profile(2, Purpose::TxProfile, 2)));
+    let intervals = [interval(alloc, 0, 60, 630, by(2, Purpose::TxProfile, 2))];
+    assert!(rt; !is_named(&intervals, never));
+    assert!(rt; is_named(&intervals, profile(2, Purpose::TxProfile, 2)));
     let explained = ExplainedAsk {
         point: "CP1",
         unit: Unit::A,
         ask: ask(1, 0, 60)?,
         view: point.view(),
-        stretches: &stretches,
+        intervals: &intervals,
         not_counted: &[NotCounted {
             profile: never,
             reason,

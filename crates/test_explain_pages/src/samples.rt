@@ -5,7 +5,7 @@ use ocpp_scalars::Instant;
 use profile::{Purpose, Row};
 use std::alloc::Global;
 use std::test::Fail;
-use sweep_compiler::Stretch;
+use sweep_compiler::Interval;
 use test_books::{instant_at, row_of};
 
 /// A point of 63 A with two connectors of 32 A, no transaction, and rows.
@@ -53,7 +53,7 @@ impl Point {
     }
 }
 
-/// What is asked of a connector, so many seconds after midnight.
+/// What is asked of a connector, a number of seconds after midnight.
 pub fn ask(connector: u32, start: u64, duration: u32) -> Result<Ask, Fail> {
     Ok(Ask::try_new(connector, instant_at(start)?, duration)?)
 }
@@ -73,9 +73,9 @@ pub fn by(id: i32, purpose: Purpose, stack_level: u32) -> Cause {
     Cause::Profile(profile(id, purpose, stack_level))
 }
 
-/// A stretch without shares.
-pub fn stretch(alloc: Global, start: u32, end: u32, limit: u32, cause: Cause) -> Stretch {
-    Stretch {
+/// An interval without shares.
+pub fn interval(alloc: Global, start: u32, end: u32, limit: u32, cause: Cause) -> Interval {
+    Interval {
         start,
         end,
         reason: Reason {
@@ -86,15 +86,15 @@ pub fn stretch(alloc: Global, start: u32, end: u32, limit: u32, cause: Cause) ->
     }
 }
 
-/// A stretch of a sum.
+/// An interval of a sum.
 pub fn sum(
     alloc: Global,
     start: u32,
     end: u32,
     limit: u32,
     shares: &[Share],
-) -> Result<Stretch, Fail> {
-    Ok(Stretch {
+) -> Result<Interval, Fail> {
+    Ok(Interval {
         start,
         end,
         reason: Reason {

@@ -1,6 +1,6 @@
 //! Tables for people, against those made by hand.
 
-use crate::samples::{Point, ask, by, profile, stretch, sum};
+use crate::samples::{Point, ask, by, interval, profile, sum};
 use explain_pages::{ExplainedAsk, NoPart, NotCounted, push_length, write_json, write_table};
 use meaning::{Cause, PrevailingProfile, Share, WhyNot};
 use ocpp_scalars::LAST_SECOND;
@@ -87,18 +87,18 @@ fn tables_fit_the_terminal(rt: HostRuntime) -> Result<(), Fail> {
     let point = Point::with_rows(alloc, "")?;
     let night = by(1, Purpose::TxDefaultProfile, 1);
     let day = by(2, Purpose::TxDefaultProfile, 0);
-    let stretches = [
-        stretch(alloc, 0, 21_600, 60, night),
-        stretch(alloc, 21_600, 79_200, 200, day),
-        stretch(alloc, 79_200, 108_000, 60, night),
-        stretch(alloc, 108_000, 172_800, 320, Cause::ConnectorCeiling),
+    let intervals = [
+        interval(alloc, 0, 21_600, 60, night),
+        interval(alloc, 21_600, 79_200, 200, day),
+        interval(alloc, 79_200, 108_000, 60, night),
+        interval(alloc, 108_000, 172_800, 320, Cause::ConnectorCeiling),
     ];
     let explained = ExplainedAsk {
         point: "CP1",
         unit: Unit::A,
         ask: ask(1, 0, 172_800)?,
         view: point.view(),
-        stretches: &stretches,
+        intervals: &intervals,
         not_counted: &[NotCounted {
             profile: profile(7, Purpose::TxProfile, 2),
             reason: NoPart::NotPrevailing(WhyNot::NoTransaction),
@@ -152,7 +152,7 @@ fn two_shares() -> [Share; 2] {
 fn a_sum_has_its_shares(rt: HostRuntime) -> Result<(), Fail> {
     let alloc = rt.alloc();
     let point = Point::with_rows(alloc, "")?;
-    let stretches = [
+    let intervals = [
         sum(alloc, 0, 15, 420, &two_shares())?,
         sum(alloc, 15, 45, 0, &[])?,
     ];
@@ -165,7 +165,7 @@ fn a_sum_has_its_shares(rt: HostRuntime) -> Result<(), Fail> {
         unit: Unit::W,
         ask: ask(0, 0, 45)?,
         view: point.view(),
-        stretches: &stretches,
+        intervals: &intervals,
         not_counted: &[],
     };
     assert_eq!(rt; write_table(alloc, &explained, None)?.as_str(), SUM_TABLE);
@@ -192,14 +192,14 @@ const LAST_JSON: &str =
 fn the_calendar_ends(rt: HostRuntime) -> Result<(), Fail> {
     let alloc = rt.alloc();
     let point = Point::with_rows(alloc, "")?;
-    let stretches = [stretch(alloc, 0, 60, 630, Cause::PointCeiling)];
+    let intervals = [interval(alloc, 0, 60, 630, Cause::PointCeiling)];
     let before = LAST_SECOND - 59 - test_books::MIDNIGHT;
     let explained = ExplainedAsk {
         point: "CP1",
         unit: Unit::A,
         ask: ask(2, before, 60)?,
         view: point.view(),
-        stretches: &stretches,
+        intervals: &intervals,
         not_counted: &[],
     };
     assert_eq!(rt; write_table(alloc, &explained, None)?.as_str(), LAST_TABLE);

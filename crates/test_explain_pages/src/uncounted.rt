@@ -1,6 +1,6 @@
 //! Why profiles have no part, against reasons found by hand.
 
-use crate::samples::{Point, ask, stretch};
+use crate::samples::{Point, ask, interval};
 use explain_pages::{ExplainedAsk, not_counted, write_json};
 use meaning::Cause;
 use profile::Unit;
@@ -8,9 +8,9 @@ use std::alloc::Global;
 use std::test::Fail;
 
 /// A connector that is asked for a day, which of the two connectors have had a transaction since midnight, the rows of
-/// the point, and the reason of each row. One stretch begins at midnight and one at noon (43,200), and no profile sets
+/// the point, and the reason of each row. One interval begins at midnight and one at noon (43,200), and no profile sets
 /// the limit of either. A profile may prevail at one second alone, or for one of two connectors.
-const TOLD: &str = "\
+const UNCOUNTED: &str = "\
 1 none | id=1 start=0; id=2 level=1 start=0 duration=43200 | NotLeast NotLeast
 1 none | id=2 level=1 start=0 duration=43200; id=1 start=0 | NotLeast NotLeast
 1 none | id=1 start=0; id=2 level=1 start=0 duration=43200; id=3 purpose=TxProfile connector=1 start=0 | NotLeast NotLeast NoTransaction
@@ -37,11 +37,11 @@ const TOLD: &str = "\
 #[test]
 fn each_row_has_its_reason(rt: HostRuntime) -> Result<(), Fail> {
     let alloc = rt.alloc();
-    for line in TOLD.lines() {
+    for line in UNCOUNTED.lines() {
         let (asked, rest) = line.split_once(" | ").ok_or("no rows")?;
         let (rows, reasons) = rest.split_once(" | ").ok_or("no reasons")?;
-        let told = reasons_of(alloc, asked, rows)?;
-        assert_eq!(rt; told.as_str(), reasons, "{line}");
+        let found = reasons_of(alloc, asked, rows)?;
+        assert_eq!(rt; found.as_str(), reasons, "{line}");
     }
     Ok(())
 }
@@ -51,17 +51,17 @@ fn reasons_of(alloc: Global, asked: &str, rows: &str) -> Result<String, Fail> {
     let (connector, active) = asked.split_once(' ').ok_or("no connector")?;
     let point = Point::with_transactions(alloc, rows.replace(alloc, "; ", "\n")?.as_str(), active)?;
     let ask = ask(connector.parse::<u32>()?, 0, 86_400)?;
-    let stretches = [
-        stretch(alloc, 0, 43_200, 320, Cause::ConnectorCeiling),
-        stretch(alloc, 43_200, 86_400, 310, Cause::PointCeiling),
+    let intervals = [
+        interval(alloc, 0, 43_200, 320, Cause::ConnectorCeiling),
+        interval(alloc, 43_200, 86_400, 310, Cause::PointCeiling),
     ];
-    let rest = not_counted(alloc, &point.view(), &ask, &stretches)?;
+    let rest = not_counted(alloc, &point.view(), &ask, &intervals)?;
     let explained = ExplainedAsk {
         point: "CP1",
         unit: Unit::A,
         ask,
         view: point.view(),
-        stretches: &stretches,
+        intervals: &intervals,
         not_counted: rest.as_slice(),
     };
     let json = write_json(alloc, &explained)?;

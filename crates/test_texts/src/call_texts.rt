@@ -122,7 +122,7 @@ fn a_call_has_its_number(rt: HostRuntime) {
     }
 }
 
-/// Appends so many periods, a second apart.
+/// Appends a number of periods, a second apart.
 fn push_periods(rt: &impl Abort, text: &mut String, periods: u32) {
     for start in 0..periods {
         let comma = if start > 0 { "," } else { "" };

@@ -156,7 +156,7 @@ fn frames_have_at_most_1048576_bytes(rt: HostRuntime) {
     holds(&rt, is_read, "a byte more as a tree");
 }
 
-/// What is written so many times, what stands within, what is written as often behind that, and whether the
+/// What is written a number of times, what stands within, what is written as often behind that, and whether the
 /// text is read. The inner value is a level of its own.
 const NESTED: [(&str, &str, &str, u32, bool); 12] = [
     ("[", "[]", "]", 126, true),
@@ -212,8 +212,8 @@ fn parts(memory: &mut ReadingMemory, text: &str) -> Option<(usize, Field<i32>)> 
     }
 }
 
-/// Where memory is refused to a text, at whichever of its allocations, it is read into the same memory
-/// once there is some again. `tests/program.py` refuses, twenty in a row; else the text is read at once.
+/// A text whose reading fails at an allocation, whichever it is, is read into the same memory at the next
+/// attempt. `tests/program.py` lets twenty fail in a row; else the text is read at once.
 #[test]
 fn a_text_is_read_again_where_memory_was_refused(rt: HostRuntime) {
     let head = "[2,\"again\",\"DataTransfer\",{\"list\":[";

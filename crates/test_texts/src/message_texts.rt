@@ -33,7 +33,7 @@ connector 1, duration 60, unit Some(A) = [2,"g","GetCompositeSchedule",{"duratio
 Criteria { id: Some(-5), connector: Some(1), purpose: Some(TxProfile), stack_level: Some(3) } = [2,"c","ClearChargingProfile",{"stackLevel":3,"chargingProfilePurpose":"TxProfile","connectorId":1,"id":-5}]"#;
 
 /// On each line the code and the description of the first fault, and the text of the message. The
-/// fields of a text stand in another order than they are checked in.
+/// fields of a message stand in another order than they are checked in.
 const FAULTS: &str =
     r#"OccurenceConstraintViolation connectorId [2,"d","GetCompositeSchedule",{"duration":"60"}]
 TypeConstraintViolation duration [2,"d","GetCompositeSchedule",{"chargingRateUnit":"V","duration":"60","connectorId":1}]
@@ -125,7 +125,7 @@ fn the_first_fault_is_named(rt: HostRuntime) {
     }
 }
 
-/// A SetChargingProfile with so many periods, which start a second apart.
+/// A SetChargingProfile with a number of periods, which start a second apart.
 fn profile_text(rt: &impl Abort, alloc: Global, periods: u32) -> String {
     let mut text = String::from_str(alloc, PROFILE_HEAD).expect(rt, "error");
     for start in 0..periods {

@@ -21,7 +21,7 @@ start_of slot = option_map (λ (active : Transaction). active.begin.timestamp) s
 abbrev pub starts : List (Option Transaction) → List (Option ℕ)
 starts slots = map start_of slots
 
--- Start (OCPP 1.6, 4.8): it is the active transaction's, told again, or a new one begins
+-- Start (OCPP 1.6, 4.8): the active transaction's StartTransaction, retransmitted, or a new transaction
 abbrev pub began_beside : Option Transaction → Begin → Began
 began_beside None begin = Fresh
 began_beside (Some active) begin = if is_repeat begin active.begin then Repeat active.id else Fresh
@@ -29,7 +29,7 @@ began_beside (Some active) begin = if is_repeat begin active.begin then Repeat a
 abbrev pub began : List (Option Transaction) → ℕ → Begin → Began
 began slots connector begin = began_beside (active_at slots connector) begin
 
--- a new transaction takes the place of the one at its connector; a start told again changes nothing
+-- a new transaction takes the place of the one at its connector; a retransmitted start changes nothing
 abbrev pub placed : Began → List (Option Transaction) → ℕ → Transaction → List (Option Transaction)
 placed Fresh slots connector transaction = slice_set slots (connector - 1) (Some transaction)
 placed (Repeat id) slots connector transaction = slots
@@ -54,7 +54,7 @@ emptied (Some place) slots = slice_set slots place None
 abbrev pub stopped : List (Option Transaction) → ℤ → List (Option Transaction)
 stopped slots id = emptied (position (has_id id) slots) slots
 
--- what a table keeps: beside its slots their starts, and as many as connectors have numbers
+-- what a table keeps: its slots and their starts, at most as many as connectors have numbers
 pub record AreSlots (slots : List (Option Transaction)) (kept : List (Option ℕ)) : Type 0 where
   pub kept_starts : kept ≡ starts slots
   pub few : length slots < 2 ^ 32

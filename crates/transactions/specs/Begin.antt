@@ -1,4 +1,4 @@
--- Which starts of a transaction are one start, told twice.
+-- When a StartTransaction is an earlier one, retransmitted.
 use Rattle.std.specs.Prelude.{◌==◌, Bool, ◌&&◌}
 use Rattle.std.specs.Ordering.{int_eq}
 use Rattle.std.specs.Str.{str_eq_ignore_ascii_case}

@@ -17,7 +17,7 @@ use std::marker::Model;
 pub enum Began {
     /// A new transaction began, with the number that was offered for it.
     Fresh,
-    /// The active transaction's start, told again: it has this number.
+    /// A retransmitted StartTransaction of the active transaction, which has this number.
     Repeat(i32),
 }
 
@@ -43,7 +43,7 @@ impl Model for ActiveTable {
 }
 
 impl ActiveTable {
-    /// A table of so many connectors, none with a transaction.
+    /// A table of a number of connectors, none with a transaction.
     pub fn new(alloc: Global, connectors: u32) -> Result<ActiveTable, AllocError>
         ensures { IfOk result (λ table. table ≡ replicate connectors None) }
     {
@@ -52,8 +52,8 @@ impl ActiveTable {
         Ok(ActiveTable { slots, starts })
     }
 
-    /// Begins a transaction at a connector, in place of the one that is active there, or says that
-    /// its start was told before, and then changes nothing. Allocates nothing.
+    /// Begins a transaction at a connector, in place of the one that is active there. A retransmitted
+    /// StartTransaction of that one changes nothing. Allocates nothing.
     pub fn start(&mut self, connector: u32, begin: Begin, next: i32) -> Began
         requires above { 0 < connector }
         requires has { connector ≤ length self.old }

@@ -18,8 +18,8 @@ pub struct Begin {
 }
 
 impl Begin {
-    /// Whether this is what was told before, sent again: an equal idTag, where ASCII letters of
-    /// either case are equal, an equal meterStart and an equal timestamp.
+    /// Whether this is the earlier StartTransaction, retransmitted: meterStart and timestamp are equal,
+    /// and so is idTag, where the case of ASCII letters doesn't count.
     pub fn is_repeat_of(&self, earlier: &Begin) -> bool
         ensures { result ≡ is_repeat self.now earlier.now }
     {

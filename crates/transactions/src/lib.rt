@@ -1,6 +1,6 @@
 //! The active transactions of a charge point (OCPP 1.6, chapters 4.8 and 4.10): at most one at each
-//! connector, begun by a StartTransaction and ended by the StopTransaction of its number or by the
-//! next start at its connector. What a start and a stop change stands in `specs/ActiveTable.antt`.
+//! connector. A StartTransaction begins it; the StopTransaction of its number, or the next start at
+//! its connector, ends it. What a start and a stop change stands in `specs/ActiveTable.antt`.
 #![tactic(auto)]
 
 mod active_table;

@@ -121,13 +121,13 @@ fn print_explained<R: Files + Print + AllocGlobal>(
     let alloc = rt.alloc();
     let explanation = explain(alloc, book, ask, &mut Turns::new())?;
     let view = book.view();
-    let rest = not_counted(alloc, &view, ask, explanation.stretches())?;
+    let rest = not_counted(alloc, &view, ask, explanation.intervals())?;
     let explained = ExplainedAsk {
         point: told.explaining.point,
         unit: told.unit,
         ask: *ask,
         view,
-        stretches: explanation.stretches(),
+        intervals: explanation.intervals(),
         not_counted: rest.as_slice(),
     };
     if let Some(picture) = told.picture {

@@ -34,7 +34,7 @@ Says reason looked second =
 abbrev pub Fails : NoPart → Looked → ℕ → Type 0
 Fails reason looked second = reason ≡ BehindOthers → Says NotLeast looked second
 
--- the first second of an ask at which it isn't so, or that it is so at each
+-- the first second of a request at which it isn't so, or that it is so at each
 pub record IsFailing (reason : NoPart) (looked : Looked) (second : ℕ) : Type 0 where
   pub from : looked.ask.start ≤ second
   pub before : second < looked.ask.start + looked.ask.duration

@@ -17,12 +17,12 @@ begins_period limit (suc before) = not (limit before == limit (suc before))
 abbrev pub period_from : (ℕ → ℕ) → ℕ → CompositePeriod
 period_from limit second = record { start = second; limit = limit second }
 
--- the exact periods of a limit over so many seconds
+-- the exact periods of a limit over a number of seconds
 abbrev pub exact_periods : (ℕ → ℕ) → ℕ → List CompositePeriod
 exact_periods limit duration =
     map (period_from limit) (filter (begins_period limit) (range_with_len 0 duration))
 
--- the exact schedule of a limit over so many seconds, or that it is too long to be an answer
+-- the exact schedule of a limit over a number of seconds, or that it is too long to be an answer
 abbrev pub exact_schedule : (ℕ → ℕ) → ℕ → Result CompositeSchedule Refusal
 exact_schedule limit duration =
     if nat_lt max_composite_periods (length (exact_periods limit duration))

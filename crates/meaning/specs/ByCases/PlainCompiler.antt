@@ -1,4 +1,5 @@
--- What one second more adds to the periods before it: of the clauses of `add_second` alone.
+-- What one second more adds to the periods before it, and why it is refused. The lemmas `periods_added` and
+-- `permitted` of `Theory/PlainCompiler.antt` tie this to `exact_periods` and `IsPermitted`.
 use Rattle.std.specs.Prelude.{ℕ, ◌==◌, ◌<◌, Bool, true, not, List, [], ◌∷◌, Option, Some, None, if◌then◌else◌}
 use Rattle.ocpp_scalars.specs.declared.refusal.Refusal.{Refusal}
 use Rattle.ocpp_scalars.specs.declared.refusal.Refusal.TheVariants.{ResultTooLong, OutOfMemory}
@@ -14,7 +15,7 @@ differs (Some before) limit = not (before == limit)
 abbrev pub period_added : Option ℕ → CompositePeriod → List CompositePeriod
 period_added before period = if differs before period.limit then period ∷ [] else []
 
--- why a period isn't added to so many others
+-- why a period isn't added: by how many there would be with it
 abbrev pub IsAddRefused : ℕ → Refusal → Type 0
 IsAddRefused many ResultTooLong = max_composite_periods < many
 IsAddRefused many OutOfMemory = Unit {0}

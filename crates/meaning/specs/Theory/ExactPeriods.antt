@@ -44,7 +44,7 @@ increasing_after : (p : CompositePeriod) (ps : List CompositePeriod) → AreStri
 increasing_after p [] h = tt
 increasing_after p (q ∷ ps) h = let first : p.start < q.start = h.0 in (first, later_all p.start q.start ps (omega arith) (increasing_after q ps h.1))
 
--- the periods that begin in so many seconds after a second
+-- the periods that begin in a number of seconds after a second
 abbrev after : (ℕ → ℕ) → ℕ → ℕ → List CompositePeriod
 after limit second zero = []
 after limit second (suc n) =
@@ -70,7 +70,7 @@ after_is limit second (suc n) =
 periods_are : (limit : ℕ → ℕ) (n : ℕ) → exact_periods limit (suc n) ≡ period_from limit 0 ∷ after limit 0 n
 periods_are limit n = ap (λ (ps : List CompositePeriod). period_from limit 0 ∷ ps) (after_is limit 0 n)
 
--- A period that gives the limit at a second, and periods after it, are exact for the so many seconds from
+-- A period that gives the limit at a second, and periods after it, are exact for a number of seconds from
 -- there on.
 record Continues (limit : ℕ → ℕ) (second n : ℕ) (p : CompositePeriod) (ps : List CompositePeriod) : Type 0 where
   increasing : AreStrictlyIncreasing (p ∷ ps)

@@ -81,7 +81,7 @@ time_at text = do
   (second, rest) ← two_at second_text
   if nat_lt second 60 then Some (minutes * 60 + second, rest) else None
 
--- what follows so many digits of a fraction
+-- what follows a number of digits of a fraction
 abbrev pub after_some_digits : ℕ → List ℕ → Option (List ℕ)
 after_some_digits count rest = if nat_le 1 count && nat_le count max_fraction_digits then Some rest else None
 
@@ -110,7 +110,7 @@ offset_in (b ∷ bs) =
     else if b == minus then option_map (λ n. neg_ℤ (pos n)) (clock_in bs)
     else None
 
--- the seconds at so many after midnight of a day, less the offset
+-- the seconds up to a time of day, less the offset
 abbrev pub total_seconds : ℤ → ℕ → ℤ → ℤ
 total_seconds date time offset = (date *ℤ pos 86_400 +ℤ pos time) -ℤ offset
 

@@ -29,7 +29,7 @@ abbrev pub at_most : ℕ → Option ℕ → Option ℕ
 at_most most None = None
 at_most most (Some n) = if nat_le n most then Some n else None
 
--- the number of a text of at most so many bytes
+-- the number of a text of at most a given number of bytes
 unfoldable pub number_in : List ℕ → Result Number NumberFault
 number_in text =
     if nat_lt max_number_bytes (length text) then Err TooLong

@@ -17,7 +17,7 @@ abbrev pub place_outside : ℕ → Place
 place_outside b = if b == quote then inside else if begins_number b then in_number else outside
 
 -- where the text goes on after a byte: a backslash takes the next byte along, a quote that it did
--- not take ends the string, and a number is the longest stretch of its bytes
+-- not take ends the string, and a number is the longest run of its bytes
 abbrev pub place_after : Place → ℕ → Place
 place_after outside b = place_outside b
 place_after inside b = if b == backslash then escaped else if b == quote then outside else inside

@@ -57,7 +57,8 @@ message_by (Some Other) id third fourth = Ok other
 message_by (Some Call) None third fourth = Err Dropped
 message_by (Some CallResult) None third fourth = Err Dropped
 message_by (Some CallError) None third fourth = Err Dropped
-message_by (Some Call) (Some id) third fourth = call_of id (option_and_then as_text third) (payload_of fourth)
+message_by (Some Call) (Some id) third fourth =
+    call_of id (option_and_then as_text third) (payload_of fourth)
 message_by (Some CallResult) (Some id) third fourth =
     Ok (call_result id (unwrap_or (payload_of third) empty_object))
 message_by (Some CallError) (Some id) third fourth = Ok (call_error id)

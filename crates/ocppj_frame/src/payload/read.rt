@@ -13,8 +13,8 @@ use crate::read_fault::ReadFault;
 use crate::reading_memory::ReadingMemory;
 use crate::tree::is_tree;
 
-/// Reads a JSON text of any length as a tree, in the place of what `memory` held before. A text that is
-/// refused is `Dropped`, want of memory is `OutOfMemory`; there is never a `Formation`. `memory` is
+/// Reads a JSON text of any length as a tree, in the place of what `memory` held before. A refused
+/// text is `Dropped`, a failed allocation is `OutOfMemory`; there is never a `Formation`. `memory` is
 /// borrowed until the tree is gone, and fit for the next text whatever came of this one.
 pub fn read_tree<'a>(memory: &'a mut ReadingMemory, text: &str) -> Result<Payload<'a>, FrameFault>
     ensures { ReadsUnless is_memory tree_in result

@@ -36,13 +36,14 @@ object_if fault tree false = Err fault
 abbrev pub object_or : SiteFault → Tree → Result Tree SiteFault
 object_or fault tree = object_if fault tree (is_object tree)
 
--- a list of at least one and at most so many
+-- a list of at least one entry and at most `most`
 abbrev pub few_or : SiteFault → ℕ → List Tree → Result (List Tree) SiteFault
 few_or fault most entries =
     if nat_le 1 (length entries) && nat_le (length entries) most then Ok entries else Err fault
 
 abbrev pub is_point_id : List ℕ → Bool
-is_point_id id = nat_le 1 (length id) && nat_le (length id) max_point_id_characters && list_all is_id_byte id
+is_point_id id =
+    nat_le 1 (length id) && nat_le (length id) max_point_id_characters && list_all is_id_byte id
 
 abbrev pub id_or_wrong : Field (List ℕ) → Field (List ℕ)
 id_or_wrong Absent = Absent
@@ -69,7 +70,9 @@ ceiling_of entry = ceiling_by (as_number entry)
 abbrev pub ceilings_of : List Tree → Result (List ℕ) SiteFault
 ceilings_of [] = Ok []
 ceilings_of (entry ∷ entries) =
-    ceiling_of entry >>= (λ (ceiling : ℕ). ceilings_of entries >>= (λ (ceilings : List ℕ). Ok (ceiling ∷ ceilings)))
+    ceiling_of entry >>= (λ (ceiling : ℕ).
+    ceilings_of entries >>= (λ (ceilings : List ℕ).
+    Ok (ceiling ∷ ceilings)))
 
 -- the ceilings of a point's connectors
 unfoldable pub connectors_of : Tree → Result (List ℕ) SiteFault

@@ -31,7 +31,8 @@ pub(crate) fn read_point(
     site: &Site,
     point: Node<'_, '_>,
 ) -> Result<(String, PointLimits), SiteFault>
-    ensures point { ReadsUnless is_memory kept_entry result (point_of site.now (tree_at point.entry)) }
+    ensures point { ReadsUnless is_memory kept_entry result
+        (point_of site.now (tree_at point.entry)) }
     ensures new { IfOk result (λ point. place_of site.now (string_bytes point.0) ≡ None) }
 {
     let fields = object_or(SiteFault::BadPoints, point)?;
@@ -98,7 +99,8 @@ fn read_connectors(alloc: Global, fields: Node<'_, '_>) -> Result<Vec<u32>, Site
 fn read_ceilings(alloc: Global, entries: Entries<'_, '_>) -> Result<Vec<u32>, SiteFault>
     ensures ceilings { ReadsUnless is_memory (λ ceilings. ceilings.items) result
         (ceilings_of (entries_in entries.entry)) }
-    ensures count { IfOk result (λ ceilings. length ceilings.items ≡ length (entries_in entries.entry)) }
+    ensures count { IfOk result
+        (λ ceilings. length ceilings.items ≡ length (entries_in entries.entry)) }
 {
     let mut ceilings = Vec::with_capacity(alloc, entries.len())?;
     for entry in entries.iter() {

@@ -41,7 +41,7 @@ pub(crate) fn object_or<'tree, 'memory>(
     }
 }
 
-/// A list of at least one entry and at most so many, or the fault.
+/// A list of at least one entry and at most `most`, or the fault.
 pub(crate) fn few_or<'tree, 'memory>(
     fault: SiteFault,
     most: usize,

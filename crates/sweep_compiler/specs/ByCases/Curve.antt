@@ -4,7 +4,8 @@ use Rattle.std.specs.Prelude.{◌≡◌, ℕ, ◌<◌, ◌≤◌, Bool, true, Op
 -- a later place up to which a limit, or its reason, stays as it is at a second, or none where it stays so to
 -- the end
 abbrev pub LeadsOn : {X : Type 0} → (ℕ → X) → (ℕ → Bool) → ℕ → ℕ → Option ℕ → Type 0
-LeadsOn value place end second None = (later : ℕ) → second ≤ later → later < end → value later ≡ value second
+LeadsOn value place end second None =
+    (later : ℕ) → second ≤ later → later < end → value later ≡ value second
 LeadsOn value place end second (Some next) =
     (second < next) × (next < end) × (place next ≡ true)
     × ((later : ℕ) → second ≤ later → later < next → value later ≡ value second)

@@ -1,4 +1,4 @@
--- Of private clauses: the rows that count for an ask, on their way through it.
+-- Of private clauses: the rows that count for a request, on their way through it.
 use Rattle.std.specs.Prelude.{◌≡◌, ℕ, ◌+◌, ◌<◌, zero, suc, Bool, List, [], ◌∷◌, Option, Some, None, option_map, option_and_then, slice_get, if◌then◌else◌, ◌⊎◌}
 use Rattle.std.specs.List.{AllByRecursion}
 use Rattle.profile.specs.declared.row.Row.{Row}
@@ -15,22 +15,24 @@ use Rattle.meaning.specs.declared.cause.Cause.TheVariants.{ConnectorCeiling, Poi
 use Rattle.meaning.specs.declared.cause.Share.{Share}
 use Rattle.meaning.specs.Limit.{or_else, at_most}
 use Rattle.meaning.specs.Cause.{RowLimit, Bound, with_limit, row_or_else, bound_of, lesser, lesser_of}
-use Rattle.meaning.specs.ByCases.Cause.{told}
+use Rattle.meaning.specs.ByCases.Cause.{profile_limit_of}
 use Rattle.sweep_compiler.specs.ByCases.Seen.{SeenRow}
 
--- a row, the base from which it counts, the last of its places that was passed, and the last instant of the ask
+-- a row, the base from which it counts, the last of its places that was passed, and the last instant of the request
 pub record Running : Type 0 where
   pub row : Row
   pub base : ℕ
   pub since : ℕ
   pub last : ℕ
 
--- a row at the start of an ask, counted from the start of a transaction where it has one
+-- a row at the start of a request, counted from the start of a transaction where it has one
 abbrev pub running_with : Option ℕ → ℕ → ℕ → Row → Running
-running_with started asked last row = record { row = row; base = base row started asked; since = asked; last = last }
+running_with started asked last row =
+    record { row = row; base = base row started asked; since = asked; last = last }
 
 abbrev pub running_from : PointState → ℕ → ℕ → ℕ → Row → Running
-running_from state connector asked last row = running_with (active_since state connector) asked last row
+running_from state connector asked last row =
+    running_with (active_since state connector) asked last row
 
 -- what a row is, wherever it stands on its way
 abbrev pub seen_running : Running → SeenRow
@@ -59,7 +61,7 @@ passed_by (Some next) run = record { row = run.row; base = run.base; since = nex
 abbrev pub passed : Running → Running
 passed run = passed_by (due run) run
 
--- what is kept of a row beside it: its limit, its next place and those behind that
+-- what is kept with a row: its limit, its next place and those behind that
 abbrev pub IsRun : Running → Option ℕ → Option Place → List Place → Type 0
 IsRun run limit None later = (limit ≡ rate_running run) × (places_left run ≡ []) × (later ≡ [])
 IsRun run limit (Some next) later = (limit ≡ rate_running run) × (places_left run ≡ next ∷ later)
@@ -77,7 +79,9 @@ rank_running run = rank run.row
 
 abbrev pub AreFalling : List Running → Type 0
 AreFalling [] = Unit {0}
-AreFalling (run ∷ later) = AllByRecursion (λ (low : Running). rank_running low < rank_running run) later × AreFalling later
+AreFalling (run ∷ later) =
+    AllByRecursion (λ (low : Running). rank_running low < rank_running run) later
+    × AreFalling later
 
 -- the limit of the first that has one
 abbrev pub first_rate : List Running → Option ℕ
@@ -92,7 +96,8 @@ HasRank n (run ∷ later) = (rank_running run ≡ n) ⊎ HasRank n later
 -- each row's rank has the limit that the row has had since, and no other rank has one
 pub record AreInForce (runs : List Running) (rates : List (ℕ × ℕ)) : Type 0 where
   pub falling : AreFalling runs
-  pub each : AllByRecursion (λ (run : Running). rate_of rates (rank_running run) ≡ rate_running run) runs
+  pub each :
+      AllByRecursion (λ (run : Running). rate_of rates (rank_running run) ≡ rate_running run) runs
   pub no_other : (n limit : ℕ) → rate_of rates n ≡ Some limit → HasRank n runs
 
 -- what bounds a connector, 0 being the whole point: its ceiling, and its rows by falling rank
@@ -113,16 +118,17 @@ abbrev pub first_row : List Running → Option RowLimit
 first_row [] = None
 first_row (run ∷ later) = row_or_else (row_running run) (first_row later)
 
--- the same, as it is told
-abbrev pub first_told : List Running → Option ProfileLimit
-first_told runs = option_map told (first_row runs)
+-- the same, as a ProfileLimit
+abbrev pub first_profile_limit : List Running → Option ProfileLimit
+first_profile_limit runs = option_map profile_limit_of (first_row runs)
 
 -- what sets a connector's own limit, and the lesser of a bound and what sets the point's
 abbrev pub own_bound_now : RunningBound → Bound
 own_bound_now bound = lesser_of (first_row bound.runs) (bound_of ConnectorCeiling bound.ceiling)
 
 abbrev pub below_now : RunningBound → Bound → Bound
-below_now point other = lesser_of (first_row point.runs) (lesser other (bound_of PointCeiling point.ceiling))
+below_now point other =
+    lesser_of (first_row point.runs) (lesser other (bound_of PointCeiling point.ceiling))
 
 -- what a connector has in the sum
 abbrev pub share_by : ℕ → Bound → Share
@@ -138,7 +144,11 @@ passed_at zero (run ∷ later) = passed run ∷ later
 passed_at (suc n) (run ∷ later) = run ∷ passed_at n later
 
 abbrev pub bound_passed : ℕ → RunningBound → RunningBound
-bound_passed n bound = record { connector = bound.connector; ceiling = bound.ceiling; runs = passed_at n bound.runs }
+bound_passed n bound = record {
+  connector = bound.connector;
+  ceiling = bound.ceiling;
+  runs = passed_at n bound.runs;
+}
 
 -- the instant of the next place of one of the rows
 abbrev pub due_at : List Running → ℕ → Option ℕ

@@ -1,4 +1,4 @@
--- Of private clauses: a row that counts for an ask, as a connector sees it.
+-- Of private clauses: a row that counts for a request, as a connector sees it.
 use Rattle.std.specs.Prelude.{ℕ, Bool, List, [], ◌∷◌, Option, None}
 use Rattle.profile.specs.declared.row.Row.{Row}
 use Rattle.profile.specs.ChargingProfile.{rate}
@@ -25,4 +25,5 @@ first_limit instant (seen ∷ later) = or_else (limit_seen instant seen) (first_
 
 -- a row as a connector sees it
 abbrev pub seen_from : PointState → ℕ → ℕ → Row → SeenRow
-seen_from state connector asked row = record { row = row; base = base row (active_since state connector) asked }
+seen_from state connector asked row =
+    record { row = row; base = base row (active_since state connector) asked }

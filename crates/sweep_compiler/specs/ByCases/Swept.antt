@@ -1,4 +1,4 @@
--- Of private clauses: a limit on its way through an ask.
+-- Of private clauses: a limit on its way through a request.
 use Rattle.std.specs.Prelude.{◌≡◌, ℕ, ◌+◌, ◌<◌, ◌≤◌, ◌^◌, ◌==◌, min, zero, suc, Bool, true, false, List, [], ◌∷◌, ◌++◌, length, map, Option, Some, None}
 use Rattle.std.specs.List.{AllByRecursion, AllZip, Contains, sum_by, count_by}
 use Rattle.profile.specs.declared.purpose.Purpose.{Purpose}
@@ -17,10 +17,11 @@ use Rattle.sweep_compiler.specs.ByCases.Running.{Running, RunningBound, seen_run
 use Rattle.sweep_compiler.specs.ByCases.Queue.{Due}
 use Rattle.sweep_compiler.specs.declared.limit_curve.LimitCurve.{LimitCurve}
 
--- ---- what bounds an ask
+-- ---- what bounds a request
 
 -- a connector's ceiling, and the rows that count for it, TxProfiles first, each purpose by falling level
-pub record IsConnectorBound (state : PointState) (asked connector : ℕ) (bound : RunningBound) : Type 0 where
+pub record IsConnectorBound (state : PointState) (asked connector : ℕ) (bound : RunningBound)
+    : Type 0 where
   pub own : List Row
   pub default : List Row
   pub number : bound.connector ≡ connector
@@ -36,12 +37,15 @@ pub record IsPointBound (state : PointState) (asked : ℕ) (bound : RunningBound
   pub most_is : AreByFallingLevel (counted ChargePointMaxProfile state 0) most
   pub runs : map seen_running bound.runs ≡ map (seen_from state 0 asked) most
 
--- what bounds the whole point, and behind it what bounds each connector that an ask looks at
+-- what bounds the whole point, and behind it what bounds each connector that a request looks at
 abbrev pub AreBounds : PointState → ℕ → ℕ → List RunningBound → Type 0
 AreBounds state connector asked [] = ⊥
 AreBounds state connector asked (point ∷ others) =
     IsPointBound state asked point
-    × AllZip (λ looked bound. IsConnectorBound state asked looked bound) (looked_at state connector) others
+    × AllZip
+    (λ looked bound. IsConnectorBound state asked looked bound)
+    (looked_at state connector)
+    others
 
 -- ---- the rows of bounds
 
@@ -76,32 +80,42 @@ shares_now (point ∷ others) = map share_now others
 
 -- ---- on the way
 
--- a row of an ask up to a last instant that has passed its places up to another, but maybe those at it
-pub record IsPassedUpTo (state : PointState) (connector asked last at : ℕ) (run : Running) : Type 0 where
+-- a row of a request up to a last instant that has passed its places up to another, but maybe those at it
+pub record IsPassedUpTo (state : PointState) (connector asked last at : ℕ) (run : Running)
+    : Type 0 where
   pub since : run.since ≤ at
   pub last_is : run.last ≡ last
-  pub speaks : (instant : ℕ) → is_place_seen instant (seen_running run) ≡ true → is_place_asked state connector asked instant ≡ true
+  pub speaks :
+      (instant : ℕ) → is_place_seen instant (seen_running run) ≡ true
+      → is_place_asked state connector asked instant ≡ true
 
-pub record IsWaiting (state : PointState) (connector asked last at : ℕ) (bounds : List RunningBound) (item : Due) : Type 0 where
+pub record IsWaiting (state : PointState) (connector asked last at : ℕ)
+    (bounds : List RunningBound) (item : Due) : Type 0 where
   pub later : at ≤ item.instant
   pub within : item.instant ≤ last
   pub place : is_place_asked state connector asked item.instant ≡ true
   pub has_row : item.row < row_count bounds item.bound
 
 -- each row that has a place left waits for it, and what waits is at a place
-pub record IsSwept (state : PointState) (connector asked last at : ℕ) (bounds : List RunningBound) (items : List Due) (sum : ℕ) : Type 0 where
+pub record IsSwept (state : PointState) (connector asked last at : ℕ)
+    (bounds : List RunningBound) (items : List Due) (sum : ℕ) : Type 0 where
   pub gathered : AreBounds state connector asked bounds
   pub small : AllByRecursion (λ (bound : RunningBound). bound.ceiling < 2 ^ 32) bounds
   pub few : length bounds ≤ 2 ^ 32
   pub sum_is : sum ≡ shared_now bounds
   pub from : asked ≤ at
   pub passed : EachRow (IsPassedUpTo state connector asked last at) bounds
-  pub waits : (n row instant : ℕ) → due_in bounds n row ≡ Some instant → Contains items (record { instant = instant; bound = n; row = row })
-  pub each : (item : Due) → Contains items item → IsWaiting state connector asked last at bounds item
+  pub waits :
+      (n row instant : ℕ) → due_in bounds n row ≡ Some instant
+      → Contains items (record { instant = instant; bound = n; row = row })
+  pub each :
+      (item : Due) → Contains items item → IsWaiting state connector asked last at bounds item
 
 abbrev pub IsSweptCurve : LimitCurve → Type 0
 IsSweptCurve curve =
-    IsSwept (point_state curve.view) curve.connector curve.asked curve.last curve.at curve.bounds.items curve.queue curve.sum
+    IsSwept
+    (point_state curve.view) curve.connector curve.asked curve.last curve.at
+    curve.bounds.items curve.queue curve.sum
 
 -- and not in the midst of a second
 pub record IsReadyCurve (curve : LimitCurve) : Type 0 where
@@ -136,17 +150,20 @@ pub record IsOfOneAsk (old new : LimitCurve) : Type 0 where
 -- ---- at the start
 
 -- the rows that count for a connector among the profiles of a purpose, by falling level, at the start
-pub record AreRunsOf (purpose : Purpose) (state : PointState) (connector asked last : ℕ) (runs : List Running) : Type 0 where
+pub record AreRunsOf (purpose : Purpose) (state : PointState) (connector asked last : ℕ)
+    (runs : List Running) : Type 0 where
   pub rows : List Row
   pub rows_are : AreByFallingLevel (counted purpose state connector) rows
   pub runs_are : runs ≡ map (running_from state connector asked last) rows
 
-pub record IsPointAtStart (state : PointState) (asked last : ℕ) (bound : RunningBound) : Type 0 where
+pub record IsPointAtStart (state : PointState) (asked last : ℕ) (bound : RunningBound)
+    : Type 0 where
   pub ceiling : bound.ceiling ≡ state.ceiling
   pub small : bound.ceiling < 2 ^ 32
   pub most : AreRunsOf ChargePointMaxProfile state 0 asked last bound.runs
 
-pub record IsConnectorAtStart (state : PointState) (asked last connector : ℕ) (bound : RunningBound) : Type 0 where
+pub record IsConnectorAtStart (state : PointState) (asked last connector : ℕ)
+    (bound : RunningBound) : Type 0 where
   pub own : List Running
   pub default : List Running
   pub number : bound.connector ≡ connector
@@ -156,29 +173,42 @@ pub record IsConnectorAtStart (state : PointState) (asked last connector : ℕ) 
   pub default_are : AreRunsOf TxDefaultProfile state connector asked last default
   pub runs_are : bound.runs ≡ own ++ default
 
--- what bounds the connectors that an ask looks at, at the start
+-- what bounds the connectors that a request looks at, at the start
 abbrev pub AreConnectorsAtStart : PointState → ℕ → ℕ → List ℕ → List RunningBound → Type 0
-AreConnectorsAtStart state asked last looked bounds = AllZip (λ connector bound. IsConnectorAtStart state asked last connector bound) looked bounds
+AreConnectorsAtStart state asked last looked bounds =
+    AllZip
+    (λ connector bound. IsConnectorAtStart state asked last connector bound)
+    looked
+    bounds
 
 abbrev pub AreAtStart : PointState → ℕ → ℕ → ℕ → List RunningBound → Type 0
 AreAtStart state connector asked last [] = ⊥
 AreAtStart state connector asked last (point ∷ others) =
-    IsPointAtStart state asked last point × AreConnectorsAtStart state asked last (looked_at state connector) others
+    IsPointAtStart state asked last point
+    × AreConnectorsAtStart state asked last (looked_at state connector) others
 
 -- one connector more, where it has an active transaction
-abbrev pub IsWithConnector : Bool → PointState → ℕ → ℕ → ℕ → List RunningBound → List RunningBound → Type 0
+abbrev pub IsWithConnector :
+    Bool → PointState → ℕ → ℕ → ℕ → List RunningBound → List RunningBound → Type 0
 IsWithConnector true state asked last connector old new =
-    (bound : RunningBound) × IsConnectorAtStart state asked last connector bound × (new ≡ old ++ bound ∷ [])
+    (bound : RunningBound) × IsConnectorAtStart state asked last connector bound
+    × (new ≡ old ++ bound ∷ [])
 IsWithConnector false state asked last connector old new = new ≡ old
 
 -- each row of the bounds before one, and the first rows of that, waits where it has a place left, and none else
 pub record AreWaiting (bounds : List RunningBound) (many rows : ℕ) (items : List Due) : Type 0 where
-  pub before : (n row instant : ℕ) → n < many → due_in bounds n row ≡ Some instant → Contains items (record { instant = instant; bound = n; row = row })
-  pub here : (row instant : ℕ) → row < rows → due_in bounds many row ≡ Some instant → Contains items (record { instant = instant; bound = many; row = row })
-  pub each : (item : Due) → Contains items item → due_in bounds item.bound item.row ≡ Some item.instant
+  pub before :
+      (n row instant : ℕ) → n < many → due_in bounds n row ≡ Some instant
+      → Contains items (record { instant = instant; bound = n; row = row })
+  pub here :
+      (row instant : ℕ) → row < rows → due_in bounds many row ≡ Some instant
+      → Contains items (record { instant = instant; bound = many; row = row })
+  pub each :
+      (item : Due) → Contains items item → due_in bounds item.bound item.row ≡ Some item.instant
 
--- a sweep that stands at the start of an ask
-pub record IsCurveAtStart (view : View) (connector asked last : ℕ) (curve : LimitCurve) : Type 0 where
+-- a sweep that stands at the start of a request
+pub record IsCurveAtStart (view : View) (connector asked last : ℕ) (curve : LimitCurve)
+    : Type 0 where
   pub view_is : curve.view ≡ view
   pub connector_is : curve.connector ≡ connector
   pub asked_is : curve.asked ≡ asked

@@ -1,4 +1,4 @@
--- That the stretches up to the next place, or to the end, are what the loop keeps.
+-- That the intervals up to the next place, or to the end, are what the loop keeps.
 use Rattle.std.proofs.Common.{◌≡◌, ◌≢◌, ℕ, ◌+◌, ◌-◌, ◌<◌, ◌≤◌, ◌∙◌, true, false, [], ◌∷◌, ◌++◌, length, Option, Some, None, refl, ap, sym, subst, arith}
 use Rattle.std.specs.Option.{IfSome}
 use Rattle.std.proofs.lemmas.List.{length-append}
@@ -6,16 +6,16 @@ use Rattle.meaning.specs.declared.cause.Reason.{Reason}
 use Rattle.meaning.specs.declared.view.View.{View}
 use Rattle.meaning.specs.View.{point_state}
 use Rattle.meaning.specs.Cause.{reason, reason_asked}
-use Rattle.sweep_compiler.specs.declared.stretch.Stretch.{Stretch}
+use Rattle.sweep_compiler.specs.declared.interval.Interval.{Interval}
 use Rattle.sweep_compiler.specs.declared.limit_curve.LimitCurve.{LimitCurve}
-use Rattle.sweep_compiler.specs.Explained.{IsStretchOf}
+use Rattle.sweep_compiler.specs.Explained.{IsIntervalOf}
 use Rattle.sweep_compiler.specs.Places.{is_second_asked}
 use Rattle.sweep_compiler.specs.ByCases.Curve.{LeadsOn}
 use Rattle.sweep_compiler.specs.ByCases.Swept.{IsReadyCurve, IsOfOneAsk}
-use Rattle.sweep_compiler.proofs.Explaining.{with_reason, adjoin_more, all_more, differ_as, differ_more, stretch_of, stays_upto, at_one, upto_next, spent_next, spent_end, spent_few}
+use Rattle.sweep_compiler.proofs.Explaining.{with_reason, adjoin_more, all_more, differ_as, differ_more, interval_of, stays_upto, at_one, upto_next, spent_next, spent_end, spent_few}
 use Rattle.sweep_compiler.proofs.explained.explain_along.Goals as goal
 
--- ---- one ask
+-- ---- one request
 
 one_ask : (old now after : LimitCurve) → IsOfOneAsk old now → IsOfOneAsk now after → IsOfOneAsk old after
 one_ask old now after first second = record {
@@ -25,7 +25,7 @@ one_ask old now after first second = record {
   last = second.last ∙ first.last;
 }
 
--- the second at which a sweep stands lies within the ask
+-- the second at which a sweep stands lies within the request
 second_within : (old now : LimitCurve) (duration : ℕ) → IsOfOneAsk old now → IsReadyCurve now → now.at ≤ now.last → old.last + 1 - old.asked ≡ duration
     → now.at - old.asked < duration
 second_within old now duration same ready inside whole =
@@ -34,7 +34,7 @@ second_within old now duration same ready inside whole =
     let from = ready.swept.from in
     omega (arith, last, asked, from, inside, whole)
 
--- and where it lies within the ask, the sweep does
+-- and where it lies within the request, the sweep does
 stands_within : (old now : LimitCurve) (second duration : ℕ) → IsOfOneAsk old now → IsReadyCurve now → now.at - now.asked ≡ second → second < duration → old.last + 1 - old.asked ≡ duration
     → now.at ≤ now.last
 stands_within old now second duration same ready here within whole =
@@ -126,8 +126,8 @@ new-requires c =
     let kept = c.loop-reason.invariant in
     let within = second_within of c.loop-reason.curve c.args.duration kept.same kept.ready kept.inside c.requires.whole in
     let begun = kept.begun in
-    let new : Stretch = record { start = c.loop-reason.start; end = c.args.duration; reason = c.loop-reason.reason } in
-    record { adjoin = rw c.in_ok-push.ensures.items (adjoin_more 0 c.loop-reason.start c.loop-reason.stretches.items new kept.adjoin refl (omega (arith, within, begun))) }
+    let new : Interval = record { start = c.loop-reason.start; end = c.args.duration; reason = c.loop-reason.reason } in
+    record { adjoin = rw c.in_ok-push.ensures.items (adjoin_more 0 c.loop-reason.start c.loop-reason.intervals.items new kept.adjoin refl (omega (arith, within, begun))) }
 
 pub returns-in_default-clause-explained : goal.returns-in_default-clause-explained
 returns-in_default-clause-explained c =
@@ -140,15 +140,15 @@ returns-in_default-clause-explained c =
     let some : c.loop-reason.start < c.args.duration = omega (arith, within, begun) in
     let none : Option ℕ = None in
     let stays = leads_as of now c.args.duration none kept.same c.requires.whole (subst (LeadsTo now) c.in_default.is c.in_ok-next.ensures.reasons) in
-    let new : Stretch = record { start = c.loop-reason.start; end = c.args.duration; reason = c.loop-reason.reason } in
-    let items : c.new.result.stretches ≡ c.loop-reason.stretches.items ++ new ∷ [] = c.new.ensures.same ∙ c.in_ok-push.ensures.items in
+    let new : Interval = record { start = c.loop-reason.start; end = c.args.duration; reason = c.loop-reason.reason } in
+    let items : c.new.result.intervals ≡ c.loop-reason.intervals.items ++ new ∷ [] = c.new.ensures.same ∙ c.in_ok-push.ensures.items in
     record {
       lasts = c.new.ensures.lasts;
-      adjoin = rw items (adjoin_more 0 c.loop-reason.start c.loop-reason.stretches.items new kept.adjoin refl some);
-      each = rw items (all_more (IsStretchOf state of.connector of.asked) c.loop-reason.stretches.items new kept.so_far
-          (stretch_of state of.connector of.asked new
+      adjoin = rw items (adjoin_more 0 c.loop-reason.start c.loop-reason.intervals.items new kept.adjoin refl some);
+      each = rw items (all_more (IsIntervalOf state of.connector of.asked) c.loop-reason.intervals.items new kept.so_far
+          (interval_of state of.connector of.asked new
           (stays_upto (reason_asked state of.connector of.asked) c.loop-reason.reason c.loop-reason.start (now.at - of.asked) c.args.duration kept.open_one begun stays)));
-      differ = rw items (differ_as c.loop-reason.stretches.items (with_reason c.loop-reason.reason) new refl kept.differ);
+      differ = rw items (differ_as c.loop-reason.intervals.items (with_reason c.loop-reason.reason) new refl kept.differ);
     }
 
 -- ---- a place
@@ -184,7 +184,7 @@ loop-reason-preserved-then-not-same c =
     let kept = c.loop-reason.invariant in
     let begun = kept.begun in
     let next = c.in-Some.next in
-    let stretches = c.loop-reason.stretches.items in
+    let intervals = c.loop-reason.intervals.items in
     let leads = leads_as of now c.args.duration (Some next) kept.same c.requires.whole (subst (LeadsTo now) c.in-Some.is c.in_ok-next.ensures.reasons) in
     let before = leads.0 in
     let some : c.loop-reason.start < next = omega (arith, begun, before) in
@@ -198,22 +198,22 @@ loop-reason-preserved-then-not-same c =
     let yes : c.same.result ≡ true = c.same.ensures.1 (sym e) in
     let no : c.same.result ≡ false = c.if-not-same.true in
     cc in
-    let new : Stretch = record { start = c.loop-reason.start; end = next; reason = c.loop-reason.reason } in
-    let items : c.push-then-not-same.new.self.items ≡ stretches ++ new ∷ [] = c.in_ok-push-2.ensures.items in
+    let new : Interval = record { start = c.loop-reason.start; end = next; reason = c.loop-reason.reason } in
+    let items : c.push-then-not-same.new.self.items ≡ intervals ++ new ∷ [] = c.in_ok-push-2.ensures.items in
     let turn = c.in_ok-found.ensures.turn in
     let each = kept.each in
-    let many = ap length items ∙ length-append stretches (new ∷ []) in
+    let many = ap length items ∙ length-append intervals (new ∷ []) in
     record {
       same = same;
       ready = ready;
       inside = stands_within of after next c.args.duration same ready there leads.1 c.requires.whole;
       begun = omega (arith, here);
-      adjoin = rw items (adjoin_more 0 c.loop-reason.start stretches new kept.adjoin refl some);
-      so_far = rw items (all_more (IsStretchOf state of.connector of.asked) stretches new kept.so_far
-          (stretch_of state of.connector of.asked new
+      adjoin = rw items (adjoin_more 0 c.loop-reason.start intervals new kept.adjoin refl some);
+      so_far = rw items (all_more (IsIntervalOf state of.connector of.asked) intervals new kept.so_far
+          (interval_of state of.connector of.asked new
           (stays_upto value c.loop-reason.reason c.loop-reason.start (now.at - of.asked) next kept.open_one begun leads.3)));
       open_one = λ k from upto. at_one value c.in_ok-found.found next found k from (omega (arith, here, upto));
-      differ = rw items (differ_more stretches new (with_reason c.in_ok-found.found) unlike (differ_as stretches (with_reason c.loop-reason.reason) new refl kept.differ));
+      differ = rw items (differ_more intervals new (with_reason c.in_ok-found.found) unlike (differ_as intervals (with_reason c.loop-reason.reason) new refl kept.differ));
       turns = rw here (spent_next _ (now.at - of.asked) next c.loop-reason.turns c.args.turns.now _ leads.0 leads.2 kept.turns turn);
       each = omega (arith, turn, each, many);
     }

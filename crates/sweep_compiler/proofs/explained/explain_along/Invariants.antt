@@ -1,10 +1,10 @@
--- The stretches adjoin up to the one that is open, whose reason holds from its start up to the second at which the
+-- The intervals adjoin up to the one that is open, whose reason holds from its start up to the second at which the
 -- sweep stands, and the turns so far are no more than the first second and the places up to here.
 use Rattle.std.proofs.Common.{◌≡◌, ℕ, ◌+◌, ◌-◌, ◌≤◌, [], ◌∷◌, ◌++◌, length}
 use Rattle.std.specs.List.{AllByRecursion}
 use Rattle.meaning.specs.View.{point_state}
 use Rattle.meaning.specs.Cause.{reason_asked}
-use Rattle.sweep_compiler.specs.Explained.{Adjoin, Differ, IsStretchOf}
+use Rattle.sweep_compiler.specs.Explained.{Adjoin, Differ, IsIntervalOf}
 use Rattle.sweep_compiler.specs.Places.{is_second_asked}
 use Rattle.sweep_compiler.specs.ByCases.Swept.{IsReadyCurve, IsOfOneAsk}
 use Rattle.sweep_compiler.proofs.Explaining.{with_reason, spent_at}
@@ -16,12 +16,12 @@ invariant-loop-reason l = record {
   ready : IsReadyCurve l.curve;
   inside : l.curve.at ≤ l.curve.last;
   begun : l.start ≤ l.curve.at - l.fn.curve.asked;
-  adjoin : Adjoin 0 l.start l.stretches.items;
-  so_far : AllByRecursion (IsStretchOf (point_state l.fn.curve.view) l.fn.curve.connector l.fn.curve.asked) l.stretches.items;
+  adjoin : Adjoin 0 l.start l.intervals.items;
+  so_far : AllByRecursion (IsIntervalOf (point_state l.fn.curve.view) l.fn.curve.connector l.fn.curve.asked) l.intervals.items;
   open_one : (k : ℕ) → l.start ≤ k → k ≤ l.curve.at - l.fn.curve.asked → l.reason ≡ reason_asked (point_state l.fn.curve.view) l.fn.curve.connector l.fn.curve.asked k;
-  differ : Differ (l.stretches.items ++ with_reason l.reason ∷ []);
+  differ : Differ (l.intervals.items ++ with_reason l.reason ∷ []);
   turns : l.turns ≤ l.fn.turns + spent_at (is_second_asked (point_state l.fn.curve.view) l.fn.curve.connector l.fn.curve.asked) (l.curve.at - l.fn.curve.asked);
-  each : l.fn.turns + length l.stretches.items + 1 ≤ l.turns;
+  each : l.fn.turns + length l.intervals.items + 1 ≤ l.turns;
 }
 
 abbrev pub decreases-loop-reason : goal.decreases-loop-reason

@@ -6,10 +6,10 @@ use Rattle.profile.specs.Candidates.{is_candidate}
 use Rattle.meaning.specs.declared.bound.ProfileLimit.{ProfileLimit}
 use Rattle.meaning.specs.View.{point_state}
 use Rattle.meaning.specs.Cause.{RowLimit, level_of, row_limit}
-use Rattle.meaning.specs.ByCases.Cause.{told, level_told}
+use Rattle.meaning.specs.ByCases.Cause.{profile_limit_of, level_of_limit}
 use Rattle.meaning.specs.Theory.Greatest.{greatest_of}
 use Rattle.meaning.proofs.GreatestLemmas.{passing_more}
-use Rattle.meaning.proofs.Bounds.{higher_told}
+use Rattle.meaning.proofs.Bounds.{higher_is}
 use Rattle.meaning.proofs.view.View.prevailing_profile.Goals as goal
 use Rattle.meaning.proofs.view.View.prevailing_profile.Goals.{then-is_candidate, else-is_candidate}
 
@@ -24,10 +24,10 @@ loop-row-preserved c =
     elim c.if-is_candidate.branch [
       | then-is_candidate w ↦
           let here = ap (λ (b : Bool). cond b (greatest_of level_of before (give c.row-item.result)) before) (counted ∙ w.if-is_candidate.true) in
-          let first = ap (λ (best : Option ProfileLimit). greatest_of level_told best w.profile_limit.result) c.loop-row.invariant in
-          let second = ap (λ (next : Option ProfileLimit). greatest_of level_told (option_map told before) next) w.profile_limit.ensures in
-          w.best-is ∙ (w.higher_level-best.ensures ∙ (first ∙ (second ∙ (higher_told before (give c.row-item.result) ∙ ap (option_map told) (sym (more ∙ here))))))
+          let first = ap (λ (best : Option ProfileLimit). greatest_of level_of_limit best w.profile_limit.result) c.loop-row.invariant in
+          let second = ap (λ (next : Option ProfileLimit). greatest_of level_of_limit (option_map profile_limit_of before) next) w.profile_limit.ensures in
+          w.best-is ∙ (w.higher_level-best.ensures ∙ (first ∙ (second ∙ (higher_is before (give c.row-item.result) ∙ ap (option_map profile_limit_of) (sym (more ∙ here))))))
       | else-is_candidate w ↦
           let here = ap (λ (b : Bool). cond b (greatest_of level_of before (give c.row-item.result)) before) (counted ∙ w.if-is_candidate.false) in
-          w.best-is ∙ (c.loop-row.invariant ∙ ap (option_map told) (sym (more ∙ here)))
+          w.best-is ∙ (c.loop-row.invariant ∙ ap (option_map profile_limit_of) (sym (more ∙ here)))
     ]
