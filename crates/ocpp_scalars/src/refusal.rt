@@ -65,6 +65,8 @@ pub enum Refusal {
     /// What is posted to a request is for another book or another ask than the request has: given
     /// by who posts an answer from outside.
     StrangerInput,
+    /// The call of the point's last audit isn't confirmed yet.
+    AuditOpen,
 }
 
 impl Refusal {
@@ -100,6 +102,7 @@ impl Refusal {
             Refusal::Superseded => "Superseded",
             Refusal::NothingInFlight => "NothingInFlight",
             Refusal::StrangerInput => "StrangerInput",
+            Refusal::AuditOpen => "AuditOpen",
         }
     }
 }
