@@ -1,7 +1,7 @@
 -- The names of the refusals.
 use Rattle.std.specs.Prelude.{ℕ, List, codes}
 use Rattle.ocpp_scalars.specs.declared.refusal.Refusal.{Refusal}
-use Rattle.ocpp_scalars.specs.declared.refusal.Refusal.TheVariants.{UnknownPoint, UnknownConnector, MaxNotAtZero, TxAtZero, WrongUnit, LevelTooHigh, TooManyPeriods, PeriodsOutOfOrder, NoRecurrency, NoTransaction, OtherTransaction, TooManyProfiles, OutboxFull, BadDuration, PastCalendar, TooManyOpen, ResultTooLong, VersionsExhausted, TransactionsExhausted, Behind, Stopped, OutOfMemory, UnknownRequest, AlreadyAnswered, Superseded, NothingInFlight, StrangerInput}
+use Rattle.ocpp_scalars.specs.declared.refusal.Refusal.TheVariants.{UnknownPoint, UnknownConnector, MaxNotAtZero, TxAtZero, WrongUnit, LevelTooHigh, TooManyPeriods, PeriodsOutOfOrder, NoRecurrency, NoTransaction, OtherTransaction, TooManyProfiles, OutboxFull, BadDuration, PastCalendar, TooManyOpen, ResultTooLong, VersionsExhausted, TransactionsExhausted, Behind, Stopped, OutOfMemory, UnknownRequest, AlreadyAnswered, Superseded, NothingInFlight, StrangerInput, AuditOpen}
 
 -- the bytes of a refusal's name, as answers print it
 abbrev pub refusal_name : Refusal → List ℕ
@@ -33,3 +33,4 @@ refusal_name AlreadyAnswered = codes "AlreadyAnswered"
 refusal_name Superseded = codes "Superseded"
 refusal_name NothingInFlight = codes "NothingInFlight"
 refusal_name StrangerInput = codes "StrangerInput"
+refusal_name AuditOpen = codes "AuditOpen"

@@ -65,6 +65,8 @@ pub enum Refusal {
     /// An answer posted from outside is for another book than its request has, or asks for
     /// something else.
     StrangerInput,
+    /// The call of the point's last audit isn't confirmed yet.
+    AuditOpen,
 }
 
 impl Refusal {
@@ -100,6 +102,7 @@ impl Refusal {
             Refusal::Superseded => "Superseded",
             Refusal::NothingInFlight => "NothingInFlight",
             Refusal::StrangerInput => "StrangerInput",
+            Refusal::AuditOpen => "AuditOpen",
         }
     }
 }
