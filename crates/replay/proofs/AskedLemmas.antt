@@ -16,7 +16,7 @@ use Rattle.replay.specs.ByCases.Asked.{AsksNoCompile}
 
 pub no_schedule : (id : List ℕ) (response : Response) → is_schedule response ≡ false
     → schedules_on (lines.Answer id response) ≡ []
-no_schedule id (responses.Schedule told) is = absurd (cc)
+no_schedule id (responses.Schedule schedule) is = absurd (cc)
 no_schedule id response is = refl
 
 no_compile_step : (step : Step) → IsOfCall step → IsAsked step

@@ -97,9 +97,9 @@ at_seam [] call later = refl
 at_seam (first ∷ before) call later = at_seam before call later
 
 -- each of the numbered calls stands at its number
-each_at_its_number : (told : List CallBody) (number : ℕ) (before : List Call)
+each_at_its_number : (bodies : List CallBody) (number : ℕ) (before : List Call)
     → length before ≡ number
-    → AllByRecursion (IsOneOf (before ++ numbered number told)) (numbered number told)
+    → AllByRecursion (IsOneOf (before ++ numbered number bodies)) (numbered number bodies)
 each_at_its_number [] number before many = tt
 each_at_its_number (body ∷ later) number before many =
     let call : Call = record { number = number; body = body } in

@@ -73,8 +73,8 @@ never_refused laws old (Err first) refusal is cause = absurd (cc is)
 -- it is asked of the store that was
 pub outlook_of_same : (store was : StoreState) (step : Step) (is_one : Bool) → was ≡ store
     → outlook store.present step ≡ Ok is_one → outlook was.present step ≡ Ok is_one
-outlook_of_same store was step is_one same told =
-    subst (λ (s : StoreState). outlook s.present step ≡ Ok is_one) (sym same) told
+outlook_of_same store was step is_one same outlook_is =
+    subst (λ (s : StoreState). outlook s.present step ≡ Ok is_one) (sym same) outlook_is
 
 -- ---- steps that bring no answer
 

@@ -198,7 +198,7 @@ impl History {
     /// Makes a step that is no event.
     fn reply_alone(&mut self, step: Step) -> Reply
         requires can_fold { may_fold step ≡ true }
-        requires told { outlook self.old.present step ≡ Ok false }
+        requires no_event { outlook self.old.present step ≡ Ok false }
         ensures replies { RepliesAlone self.old step result self.new }
         ensures own { is_reply_to step result ≡ true }
         ensures asked { HasAskedConnector result }

@@ -44,12 +44,12 @@ pub fn explain_file<R: Files + Input + Print + Eprint + AllocGlobal>(
         return Err(ProgramFault::NoSuchConnector);
     }
     note_refused_lines(rt, &played);
-    let told = Told {
+    let presentation = Presentation {
         explaining: &explaining,
         unit,
         picture,
     };
-    print_explained(rt, screen, told, book, &ask)
+    print_explained(rt, screen, presentation, book, &ask)
 }
 
 /// A picture that is wanted.
@@ -59,9 +59,9 @@ struct Picture<'a> {
     form: PictureForm,
 }
 
-/// How an explanation is told.
+/// How an explanation is presented.
 #[derive(Clone, Copy)]
-struct Told<'a> {
+struct Presentation<'a> {
     explaining: &'a Explaining<'a>,
     unit: Unit,
     picture: Option<Picture<'a>>,
@@ -112,7 +112,7 @@ fn ask_of(explaining: &Explaining<'_>) -> Result<Ask, ProgramFault> {
 fn print_explained<R: Files + Print + AllocGlobal>(
     rt: &R,
     screen: Screen,
-    told: Told<'_>,
+    presentation: Presentation<'_>,
     book: &PointBook,
     ask: &Ask,
 ) -> Result<(), ProgramFault>
@@ -123,21 +123,21 @@ fn print_explained<R: Files + Print + AllocGlobal>(
     let view = book.view();
     let rest = not_counted(alloc, &view, ask, explanation.stretches())?;
     let explained = ExplainedAsk {
-        point: told.explaining.point,
-        unit: told.unit,
+        point: presentation.explaining.point,
+        unit: presentation.unit,
         ask: *ask,
         view,
         stretches: explanation.stretches(),
         not_counted: rest.as_slice(),
     };
-    if let Some(picture) = told.picture {
+    if let Some(picture) = presentation.picture {
         let drawn = match picture.form {
             PictureForm::Svg => write_picture(alloc, &explained)?,
             PictureForm::Html => write_page(alloc, &explained)?,
         };
         write_file(rt, picture.path, drawn.as_str())?;
     }
-    let page = if told.explaining.json {
+    let page = if presentation.explaining.json {
         write_json(alloc, &explained)?
     } else {
         write_table(alloc, &explained, screen.columns())?

@@ -35,9 +35,9 @@ impl Machine {
         let (place, ask) = self.asked(take)?;
         let point = point_at(&self.points, place);
         let kept = point.share_book()?;
-        let told = point.share_book()?;
+        let replied = point.share_book()?;
         let number = self.numbers.request + 1;
-        let reply = taken(number, told, &ask);
+        let reply = taken(number, replied, &ask);
         self.requests.push(Request {
             number,
             place,
