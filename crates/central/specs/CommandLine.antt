@@ -17,7 +17,7 @@ use Rattle.central.specs.declared.program.command_line.Explaining.{Explaining}
 use Rattle.central.specs.declared.program.command_line.Checking.{Checking}
 use Rattle.central.specs.declared.program.command_line.Showing.{Showing}
 
--- at most so many workers, and so many connections in all
+-- the most workers, and the most connections in all
 abbrev pub max_workers : ℕ
 max_workers = 8
 

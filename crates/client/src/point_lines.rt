@@ -10,7 +10,7 @@ use std::str::FromStr;
 pub enum PointLine {
     /// To make a call of its own.
     Step(SimStep),
-    /// To wait so many seconds, and to answer what comes meanwhile.
+    /// To wait this many seconds, and to answer what comes meanwhile.
     Pause(u64),
 }
 

@@ -15,7 +15,7 @@ use std::time;
 use std::time::Duration;
 use tungstenite::{MaskKeys, WebSocket};
 
-/// A simulated charge point, connected. What it sends and gets is written, each text on a line of its own
+/// A simulated charge point, connected. What it sends and gets is written, each message on a line of its own
 /// behind `sent` or `got`.
 #[derive(Drop)]
 pub struct TerminalPoint<'a, S: Read + Write, K: MaskKeys, W: Write> {
@@ -94,7 +94,7 @@ impl<S: Read + Write + OpenStream + Drop, K: MaskKeys + Drop, W: Write> Terminal
         Ok(None)
     }
 
-    /// Answers what comes within so many seconds.
+    /// Answers what comes within this many seconds.
     fn pause<R: Wait + Clock, M: Moments>(
         &mut self,
         rt: &R,

@@ -149,7 +149,7 @@ fn check_refused(report: &mut Report, text: &LineText<'_>) -> Result<(), AllocEr
     }
 }
 
-/// Warns of fields of an operator's CALL that stand twice in their object.
+/// Warns of duplicate fields of an operator's CALL.
 pub(crate) fn warn_repeated(
     report: &mut Report,
     frame: &str,

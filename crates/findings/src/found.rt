@@ -12,7 +12,7 @@ pub(crate) const LIMIT: &str = "a number from 0 to 100000000.0 with at most one 
 pub(crate) struct ExpectedField<'a> {
     pub field: &'a str,
     pub wanted: &'a str,
-    /// A field that stands beside it and may be meant.
+    /// A field next to it that may be meant.
     pub hint: Option<&'a str>,
 }
 

@@ -77,7 +77,7 @@ fn place_found(
     }
 }
 
-/// Fields that have no meaning beside the profile's purpose or kind.
+/// Fields that have no meaning with the profile's purpose or kind.
 fn warn_dropped(report: &mut Report, parts: &ProfileParts) -> Result<(), AllocError> {
     if parts.transaction.is_some() && !matches!(parts.purpose, Purpose::TxProfile) {
         report.warn_text("transactionId counts for nothing but in a TxProfile")?;
@@ -158,9 +158,9 @@ fn warn_ceiling(
     report.warn(message)
 }
 
-/// The highest ceiling that a profile could lower, in tenths: the point's for the whole point, else
-/// the lower of the point's and the connector's, of the highest connector where it stands for all
-/// of them.
+/// The highest ceiling that a profile could lower, in tenths. For the whole point it is the
+/// point's, else the lower of the point's and the connector's. Of a profile for all connectors it
+/// is that of the highest connector.
 fn highest_ceiling(point: SitePoint<'_>, connector: u32, purpose: Purpose) -> u32 {
     if matches!(purpose, Purpose::ChargePointMaxProfile) {
         return point.ceiling;

@@ -1,4 +1,4 @@
-//! Why something is refused or counts for nothing, in one sentence each: the tables that all which
+//! Why something is refused or has no effect, in one sentence each: the tables that all which
 //! prints for people reads. A test compares PROTOCOL's, RUNNING's and COMMANDS' tables with them.
 
 use crate::never::NeverRated;

@@ -113,8 +113,7 @@ fn owner_of(text: &str, outline: &Outline, object: usize) -> Option<Option<usize
     }
 }
 
-/// Warns of the fields of the site and of its points that stand twice in their object, a hundred at
-/// the most.
+/// Warns of duplicate fields of the site and of its points, a hundred at the most.
 pub(crate) fn warn_repeated_fields(
     alloc: Global,
     text: &str,

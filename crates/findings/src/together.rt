@@ -192,8 +192,8 @@ fn count_alike(view: &View<'_>, connector: u32) -> u64 {
     count
 }
 
-/// Whether the limits of two connectors are the same: it is one connector, or they have the same
-/// ceiling, transactions that began at the same moment or none, and neither has a profile of its
+/// Whether the limits of two connectors are the same. It is one connector, or they have the same
+/// ceiling and transactions that began at the same moment or none, and neither has a profile of its
 /// own.
 fn are_alike(view: &View<'_>, one: u32, other: u32) -> bool {
     if one == other {

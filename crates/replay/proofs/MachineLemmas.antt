@@ -20,7 +20,7 @@ use Rattle.replay.specs.MachineSteps.{Stepped, sending_of, sent_over, made_or_re
 use Rattle.site_core.specs.Theory.Steps.{CompileOrOther, is_compile, is_other, compile_or_other}
 use Rattle.replay.specs.ByCases.MachineSteps.{ComesOf, IsAsked, is_memory}
 
--- a step that a text asks for and that is made
+-- a step that a message asks for and that is made
 made_exactly : (old : MachineState) (step : Step) (reply : Reply) (new : MachineState) → IsAsked step → Steps old step reply new
     → stepped_exactly old step ≡ record { outcome = Ok reply; after = new }
 unfolding stepped_exactly

@@ -303,7 +303,7 @@ sent_part laws old point = over (link_of old point)
         ∙ no_schedules old.site.unit (acts.Send point link) outcome tt)
         (all_sent point link outcome)
 
--- ---- texts
+-- ---- messages
 
 abbrev HandledPart : PlayerState → Handled → Type 0
 HandledPart old text = Part old.machine text.after.machine text.printed

@@ -41,7 +41,7 @@ schedules_on line = []
 abbrev pub schedules_printed : List PrintedLine → List ScheduleResponse
 schedules_printed lines = flat_map schedules_on lines
 
--- a schedule as the answer to an ask, on a site with limits in this unit
+-- a schedule as the answer to a request, on a site with limits in this unit
 abbrev pub response_of_schedule : Unit → Ask → CompositeSchedule → ScheduleResponse
 response_of_schedule unit ask schedule =
     record { connector = ask.connector; start = ask.start; unit = unit; schedule = schedule }
@@ -130,7 +130,7 @@ pub record IsPrintedRight (site : SiteState) (script : List ℕ) (run : ScriptRu
   -- there is an Answer of a number,
   pub number : ℕ
   pub answers : slice_get run.steps position ≡ Some (Answer number)
-  -- which handed out a schedule, with a book and an ask,
+  -- which handed out a schedule, with a book and an `Ask`,
   pub book : BookState
   pub ask : Ask
   pub schedule : CompositeSchedule

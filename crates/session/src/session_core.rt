@@ -1,4 +1,4 @@
-//! A session by itself: texts to what they ask for, outcomes to texts. It knows no socket and no store.
+//! A session by itself: messages to what they ask for, outcomes to messages. It knows no socket and no store.
 
 ghost use Rattle.std.specs.Prelude.{◌≡◌, IfOk, IfErr, option_map, string_bytes};
 ghost use Rattle.session.specs.Session.{operators, points, side_of, answer_unit, with_link};
@@ -100,7 +100,7 @@ impl SessionCore {
         }
     }
 
-    /// What a text asks for that comes at this moment. The text is read into `memory`. The refusal is
+    /// What a message asks for that comes at this moment. The message is read into `memory`. The refusal is
     /// `OutOfMemory`, and no CALL is refused whose id was known by then: it is to be answered so.
     pub fn read_text(
         &self,
@@ -121,8 +121,8 @@ impl SessionCore {
         }
     }
 
-    /// The text that answers what a text asked for, once its step has this outcome, and where none is
-    /// answered none. A Todo without a step has no outcome. The refusal is `OutOfMemory`.
+    /// The answer to a message, once its step has this outcome, if it is answered. A Todo without a
+    /// step has no outcome. The refusal is `OutOfMemory`.
     pub fn answer(&self, todo: Todo, outcome: Option<Outcome>) -> Result<Option<String>, Refusal>
         ensures text { IfOk result
             (λ text. option_map string_bytes text ≡ answer_text self.now todo outcome) }
@@ -141,7 +141,7 @@ impl SessionCore {
         }
     }
 
-    /// Who sends its texts.
+    /// Who sends its messages.
     pub(crate) fn side(&self) -> Side
         ensures { result ≡ side_of self.now.peer }
     {

@@ -43,9 +43,9 @@ first_call book now (step ∷ steps) =
 
 -- ---- what its reply changes
 
--- A StartTransaction whose reply brings a number begins the transaction of that number, from the moment that
--- the call told on (OCPP 1.6, 4.8); a reply without one begins nothing. Any reply to a StopTransaction is the
--- transaction's end (4.10).
+-- If the reply to a StartTransaction brings a number, the transaction of that number begins, at the
+-- moment that the call has (OCPP 1.6, 4.8). A reply without one begins nothing. Any reply to a
+-- StopTransaction is the transaction's end (4.10).
 abbrev pub book_replied : BookState → PointCall → Option ℤ → BookState
 book_replied book Heartbeat transaction = book
 book_replied book (StartTransaction connector begin) None = book

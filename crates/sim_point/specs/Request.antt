@@ -1,4 +1,4 @@
--- What a text of the central system asks of a charge point: nothing, an answer that it has whatever it
+-- What a message of the central system asks of a charge point: nothing, an answer that it has whatever it
 -- has installed, an action, or the end of its own call.
 use Rattle.std.specs.Prelude.{ℕ, ℤ, codes, List, Option, Some, None, Result, Ok, Err}
 use Rattle.ocppj_frame.specs.declared.fault.FrameFault.{FrameFault}
@@ -48,10 +48,10 @@ whole_in _ = None
 abbrev pub transaction_in : Tree → Option ℤ
 transaction_in payload = whole_in (whole_field_of (codes "transactionId") payload)
 
--- ---- texts
+-- ---- messages
 
--- A CALL is answered, a malformed one too where it has an id; a CALLRESULT or a CALLERROR is the reply to a
--- call of the point's own, and a CALLERROR brings no transactionId.
+-- A CALL is answered, a malformed one too if it has an id. A CALLRESULT or a CALLERROR is the reply
+-- to a call of the point's own, and a CALLERROR brings no transactionId.
 abbrev pub request_of_message : Result Message FrameFault → Request
 request_of_message (Ok (call id name payload)) =
     request_of_kind id (kind_of_sender Operator (action_named name)) payload

@@ -1,4 +1,4 @@
--- The state of a simulated charge point, what a text of the central system comes to, and which call comes
+-- The state of a simulated charge point, what a message of the central system comes to, and which call comes
 -- next.
 use Rattle.std.specs.Prelude.{ℕ, ℤ, ◌+◌, List, [], Option, Some, None, if◌then◌else◌}
 use Rattle.std.specs.Str.{bytes_eq}
@@ -38,7 +38,7 @@ new_point unit ceiling ceilings steps = record {
   next_number = 0;
 }
 
--- ---- a text of the central system
+-- ---- a message of the central system
 
 -- what is answered, if something is, and the state after it
 pub record Heard : Type 0 where
@@ -70,13 +70,13 @@ heard_request old now (Act id action) = acted old id (answered old.unit old.book
 heard_request old now (Reply id transaction) =
     record { answer = None; after = replied old id transaction }
 
--- what a text comes to at a moment
+-- what a message comes to at a moment
 abbrev pub heard : SimState → ℕ → List ℕ → Heard
 heard old now text = heard_request old now (request_of text)
 
 -- ---- the point's own calls
 
--- the text of the call that goes out, if one does, and the state after it
+-- the message of the call that goes out, if one does, and the state after it
 pub record Called : Type 0 where
   pub text : Option (List ℕ)
   pub after : SimState

@@ -32,7 +32,7 @@ pub struct OwnBook {
     running: Vec<Option<Running>>,
 }
 
-// Clauses see the book: the transactions beside it are its own.
+// Clauses see the book: the transactions next to it are its own.
 impl Model for OwnBook {
     ghost use Rattle.std.specs.Prelude.{◌≡◌};
     ghost use Rattle.point_book.specs.Book.{BookState};
@@ -86,8 +86,8 @@ impl OwnBook {
         let _count = self.book.clear(criteria);
     }
 
-    /// Begins a transaction at a connector (chapter 4.8), in place of the one that is active there; a start
-    /// that is told again changes nothing. Allocates nothing.
+    /// Begins a transaction at a connector (chapter 4.8), and ends the one that is active there. A
+    /// retransmitted start changes nothing. Allocates nothing.
     pub fn start(&mut self, connector: u32, begin: Begin, id: i32)
         requires above { 0 < connector }
         requires has { connector ≤ length self.old.ceilings }

@@ -94,7 +94,7 @@ impl SimPoint {
         }
     }
 
-    /// Takes a text of the central system that comes at a moment (OCPP-J 1.6, 4.2), and returns the answer to
+    /// Takes a message of the central system that comes at a moment (OCPP-J 1.6, 4.2), and returns the answer to
     /// it, if it has one. A CALL is answered from the point's own book, which a SetChargingProfile or a
     /// ClearChargingProfile changes. A reply to the point's call in flight ends that call, and with it a
     /// transaction begins or ends. The refusal is `OutOfMemory`, and then nothing changes.
@@ -108,7 +108,7 @@ impl SimPoint {
         Ok(self.on_request(now, request)?)
     }
 
-    /// Does what a text asks, and returns the answer to it, if it has one.
+    /// Does what a message asks, and returns the answer to it, if it has one.
     fn on_request(&mut self, now: Instant, request: Request) -> Result<Option<String>, AllocError>
         ensures heard { IfOk result (λ answer. heard_request self.old now request
             ≡ record { answer = option_map string_bytes answer; after = self.new }) }
@@ -146,7 +146,7 @@ impl SimPoint {
         }
     }
 
-    /// The text of the next call that the steps make, which is then in flight, or `None` where a call is in
+    /// The message of the next call that the steps make, which is then in flight, or `None` where a call is in
     /// flight, or no step is left that makes one. Its id is its number in decimal, and `now` its timestamp. The
     /// refusal is `OutOfMemory`, and then nothing changes.
     pub fn next_call(&mut self, now: Instant) -> Result<Option<String>, Refusal>

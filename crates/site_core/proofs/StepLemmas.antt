@@ -392,7 +392,7 @@ handing old kept answer = record {
   after = record old { requests = without kept.number old.requests };
 }
 
--- an answer is handed out, with the book and the ask of its request
+-- an answer is handed out, with the book and the `Ask` of its request
 pub record IsHanding (old : MachineState) (number : ℕ) (made : Made) : Type 0 where
   pub kept : Kept
   pub found : request_of number old.requests ≡ Some kept

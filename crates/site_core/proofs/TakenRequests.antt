@@ -1,4 +1,4 @@
--- What every kept request comes from: one Take of its number, with its book and its ask.
+-- What every kept request comes from: one Take of its number, with its book and its `Ask`.
 use Rattle.std.proofs.Common.{◌≡◌, ℕ, zero, ◌+◌, ◌<◌, ◌≤◌, ◌==◌, Bool, true, false, cond, List, [], ◌∷◌, ◌++◌, take, append_assoc, append-nil, Option, Some, None, Result, Ok, Err, unwrap_or, refl, sym, ap, ◌∙◌, subst, arith}
 use Rattle.std.proofs.Common.{inl, inr}
 use Rattle.std.specs.Prelude.{IfOk, IfSome, ◌⊎◌}

@@ -82,7 +82,7 @@ traffic_of Loses = Some Lose
 traffic_of Sends = Some Send
 traffic_of (Confirms number) = Some (Confirm number)
 
--- the call that tells the point of it, if there is one
+-- the call that brings it to the point, if there is one
 abbrev pub call_in : Option Traffic → Option CallBody
 call_in (Some (Add body)) = Some body
 call_in other = None
@@ -90,7 +90,7 @@ call_in other = None
 abbrev pub call_of : Deed → Option CallBody
 call_of deed = call_in (traffic_of deed)
 
--- what a point that does at a moment as a call tells it makes of its profiles
+-- what a point that obeys a call at a moment makes of its profiles
 abbrev pub rows_by_call : ℕ → CallBody → List Row → List Row
 rows_by_call moment (bodies.Set connector profile) rows =
     installed rows (record { connector = connector; moment = moment; profile = profile })

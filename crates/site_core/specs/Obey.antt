@@ -1,4 +1,4 @@
--- That a point which does as it is told stays in step: whatever is lost or sent again, the profiles
+-- That a point which obeys its calls stays in step, whatever is lost or sent again. The profiles
 -- that outlast its transactions are those that the central system has for it.
 use Rattle.std.specs.Prelude.{ℕ, ◌≡◌, not, List, [], ◌∷◌, filter, map, Option, None, Some, is_some, zero, suc, slice_get, if◌then◌else◌}
 use Rattle.std.specs.List.{filter_map}

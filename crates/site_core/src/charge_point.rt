@@ -278,8 +278,8 @@ impl ChargePoint {
         }
     }
 
-    /// Begins a transaction with the next number, with a copy of what began, or answers a start that is told
-    /// again.
+    /// Begins a transaction with the next number, with a copy of what began, or answers a
+    /// retransmitted start.
     fn start(
         &mut self,
         numbers: &Numbers,

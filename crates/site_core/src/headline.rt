@@ -40,8 +40,9 @@ pub fn answers_follow_one_take()
         → takes_of number earlier ≡ 1 }
 {}
 
-/// The law that in every legal history from an opening state each answer that is handed out is right for
-/// what the point of that one Take had when the Take was made, and for its ask.
+/// The law that each answer that is handed out is right, in every legal history from an opening
+/// state. It is right for what the point of that one Take had when the Take was made, and for its
+/// `Ask`.
 pub fn answers_are_right()
     ensures { (site : SiteState) (numbers : Numbers) (earlier later : List Event) (number : ℕ)
         (book : BookState) (ask : Ask) (answer : ScheduleAnswer) (new : MachineState)
@@ -50,8 +51,8 @@ pub fn answers_are_right()
         → IsRightAfter (opening_at site numbers) earlier number book ask answer }
 {}
 
-/// The headline: the law that in every run from an opening state, whatever steps it is of and in whatever
-/// order, each schedule that is handed out is right for what its point had when it was asked.
+/// The headline. In every run from an opening state, each schedule that is handed out is right for
+/// what its point had when it was asked. The run may have any steps, in any order.
 pub fn answered_schedules_are_right()
     ensures { (site : SiteState) (numbers : Numbers) (steps : List Step) (outcomes : List Outcome)
         (state : MachineState) → Runs (opening_at site numbers) steps outcomes state
@@ -89,15 +90,15 @@ pub fn runs_keep_the_site()
         → Runs old steps outcomes new → new.site ≡ old.site }
 {}
 
-/// The law that what the points have after a legal history is determined by its events: of two states that
-/// it may lead to, which differ in answers that aren't handed out yet, each has the same points.
+/// The law that what the points have after a legal history is determined by its events. Two states
+/// that it may lead to differ only in answers that aren't handed out yet, and have the same points.
 pub fn points_follow_events()
     ensures { (old one other : MachineState) (events : List Event)
         → Legal old events one → Legal old events other → one.points ≡ other.points }
 {}
 
-/// The law that no request is lost and none is answered twice: in every legal history from an opening state
-/// a number is taken once at most, and then it is answered or still kept.
+/// The law that no request is lost and none is answered twice. In every legal history from an
+/// opening state a number is taken once at most, and then it is answered or still kept.
 pub fn requests_are_answered_once()
     ensures once { (site : SiteState) (numbers : Numbers) (events : List Event)
         (state : MachineState) → Legal (opening_at site numbers) events state
@@ -108,7 +109,7 @@ pub fn requests_are_answered_once()
         → takes_of number events ≡ answers_of number events + kept_of number state.requests }
 {}
 
-/// The law that a request that has its answer keeps it, with its book and its ask, until that answer is
+/// The law that a request that has its answer keeps it, with its book and its `Ask`, until that answer is
 /// handed out.
 pub fn answers_stay()
     ensures { (old new : MachineState) (events : List Event) (number : ℕ) (kept : Kept)
@@ -127,7 +128,7 @@ pub fn stopped_requests_are_answered()
 
 /// The laws of requests from any state that keeps what is right, as the opening does, along every legal
 /// history. It leads to such a state again. Each kept request has the book that its point had at its Take,
-/// or that the old state kept for it. Each answer that is handed out is right for that book and the ask.
+/// or that the old state kept for it. Each answer that is handed out is right for that book and the `Ask`.
 /// Once the central system is stopped, each kept request has its answer, where so it was at first. And from
 /// whatever state, no request is lost and none is answered twice.
 pub fn requests_go_on_from_any_state()
@@ -139,8 +140,9 @@ pub fn requests_go_on_from_any_state()
     ensures balance { RequestsBalance }
 {}
 
-/// The law that the numbers tell of a history: each change of a point's book draws a version of the store,
-/// each Take a request's number, and a request is kept from its Take until its answer is handed out.
+/// The law that the numbers count a history. Each change of a point's book draws a version of the
+/// store, each Take a request's number, and a request is kept from its Take until its answer is
+/// handed out.
 pub fn numbers_tell_of_histories()
     ensures { NumbersTellOfHistories }
 {}

@@ -173,7 +173,8 @@ impl Machine {
         }
     }
 
-    /// The place of its point in the site file and the ask of the request of a number, if it is kept.
+    /// The place of its point in the site file and the `Ask` of the request of a number, if it is
+    /// kept.
     pub fn request_asked(&self, number: u64) -> Option<(usize, Ask)>
         ensures { result
             ≡ option_map (λ (kept : Kept). (kept.place, kept.ask))
@@ -190,8 +191,9 @@ impl Machine {
         point_at(&self.points, place).outbox().link()
     }
 
-    /// The link over which a call is to be sent now to the point of an identity, if there is such a call:
-    /// none where the site has no such point, and none once the central system is stopped. Allocates nothing.
+    /// The link over which a call is to be sent now to the point of an identity, if there is such a
+    /// call. There is none if the site has no such point, and none once the central system is
+    /// stopped. Allocates nothing.
     pub fn link_to_send(&self, point: &str) -> Option<u64>
         ensures { result ≡ link_to_send self.now point.now }
     {
@@ -213,10 +215,11 @@ impl Machine {
         }
     }
 
-    /// Makes a step, or says why not: then nothing has changed, and the step comes back. The refusal is
-    /// the first cause. It is `OutOfMemory` only where no other cause is there and the step would do what
-    /// wants memory: an install, a clear that removes a profile, a start that isn't told again, a stop, a
-    /// take, and a sending. A book that is replied with an ask has the connector that is asked.
+    /// Makes a step, or says why not: then nothing has changed, and the step comes back. The
+    /// refusal is the first cause. It is `OutOfMemory` only if there is no other cause and the step
+    /// needs memory. These need it: an install, a clear that removes a profile, a start that isn't
+    /// retransmitted, a stop, a take, and a sending. A book that is replied with an `Ask` has the
+    /// connector that is asked.
     pub fn step(&mut self, step: Step) -> Result<Reply, Refused>
         ensures made { MatchResult result (λ reply. Steps self.old step reply self.new)
             (λ refused. IsRefused self.old step refused self.new) }

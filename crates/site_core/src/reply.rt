@@ -19,7 +19,7 @@ pub enum Reply {
     Unknown,
     /// The transaction of this number began.
     Started(i32),
-    /// The transaction of this number had begun, and its start is told again: nothing was changed.
+    /// The transaction of this number had begun, and its start was retransmitted: nothing was changed.
     Repeated(i32),
     /// The transaction ended.
     Ended,
@@ -55,7 +55,7 @@ pub enum Reply {
     LinkLost,
 }
 
-/// Of how many changes, Takes and answers a reply tells.
+/// How many changes, Takes and answers a reply counts.
 #[derive(Clone, Copy, Debug, PartialEq, Eq)]
 pub struct Counted {
     pub changes: u64,
@@ -63,7 +63,7 @@ pub struct Counted {
     pub answers: u64,
 }
 
-/// A reply that tells of none.
+/// A reply that counts none.
 const NO_COUNT: Counted = Counted {
     changes: 0,
     takes: 0,
@@ -121,7 +121,7 @@ impl Reply {
         }
     }
 
-    /// Of how many changes, Takes and answers it tells.
+    /// How many changes, Takes and answers it counts.
     pub fn counted(&self) -> Counted
         ensures { result ≡ counted self.now }
     {

@@ -16,7 +16,7 @@ use ocpp_scalars::Refusal;
 use std::alloc::{AllocError, Global};
 use sweep_compiler::{Compiled, Turns, compile};
 
-/// The place in the site file and the ask of the request of a number, if it is kept.
+/// The place in the site file and the `Ask` of the request of a number, if it is kept.
 pub(crate) fn request_asked(requests: &[Request], number: u64) -> Option<(usize, Ask)>
     ensures { result
         ≡ option_map (λ (kept : Kept). (kept.place, kept.ask)) (request_of number requests.now) }

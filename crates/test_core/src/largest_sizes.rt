@@ -98,7 +98,7 @@ fn take(
     }
 }
 
-/// The answer to an ask of a connector from midnight on.
+/// The answer to a request of a connector from midnight on.
 fn answer(
     rt: &impl Abort,
     alloc: Global,

@@ -34,7 +34,7 @@ pub(crate) fn are(rt: &impl Abort, alloc: Global, findings: &[Finding], wanted: 
     assert!(rt; have, "{told}: {findings:?}");
 }
 
-/// A row of a table: what is told, and behind the mark ` => ` what is wanted.
+/// A row of a table: its input, and behind the mark ` => ` what is wanted.
 pub(crate) fn row_of(row: &str) -> (&str, &str) {
     row.split_once(" => ").unwrap_or((row, "no mark"))
 }

@@ -1,5 +1,5 @@
 //! What tests compare, by a function: an assertion is long to prove, and a call of one is not. It
-//! is told what it compares.
+//! has a name for what it compares.
 
 use std::process::Abort;
 

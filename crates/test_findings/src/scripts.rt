@@ -350,7 +350,7 @@ fn sentences_of_answers(rt: HostRuntime) {
     }
 }
 
-/// On each line an operator's text, whether it is a clear by mistake, and pieces of its warnings.
+/// On each line an operator's message, whether it is a clear by mistake, and pieces of its warnings.
 const SENT_TEXTS: &str = r#"[2,"a","ClearChargingProfile",{}] => false => clears EVERYTHING
 [2,"a","ClearChargingProfile"] => false => clears EVERYTHING
 [2,"a","ClearChargingProfile",{"id":null}] => true => "id" is null, which is none

@@ -1,4 +1,4 @@
-//! Texts of an operator and a point, with their answers.
+//! Messages of an operator and a point, with their answers.
 
 pub(crate) const SITE: &str =
     r#"{"unit":"A","points":[{"id":"CP1","ceiling":63.0,"connectors":[32.0,32.0]}]}"#;

@@ -4,7 +4,7 @@
 //! ```text
 //! at SECONDS | -        it is so many seconds after midnight
 //! call | TEXT           the next call
-//! < TEXT | ANSWER       a text comes, and is answered
+//! < TEXT | ANSWER       a message comes, and is answered
 //! ```
 use crate::same::{holds, same_text};
 use ocpp_scalars::{IdTag, Instant};
@@ -75,7 +75,7 @@ struct Day {
 }
 
 impl Day {
-    /// What comes of a line's word and text.
+    /// What comes of a line's word and message.
     fn found(&mut self, rt: &impl Abort, what: &str) -> Option<String> {
         let (word, text) = what.split_once(' ').unwrap_or((what, ""));
         match word {
@@ -242,7 +242,7 @@ fn default_text(
     text
 }
 
-/// What a text at midnight is answered.
+/// What a message at midnight is answered.
 fn answer_of(rt: &impl Abort, point: &mut SimPoint, text: &str) -> String {
     let answer = point.on_text(instant_at(rt, 0), text).expect(rt, "error");
     answer.expect(rt, "no answer")

@@ -67,7 +67,8 @@ pub fn schedule_response(
     }
 }
 
-/// A refused install or ask is answered by its .conf, any other refused CALL by a CALLERROR.
+/// A refused SetChargingProfile or GetCompositeSchedule is answered by its .conf, any other refused
+/// CALL by a CALLERROR.
 pub fn refused_response(kind: ActionKind, refusal: Refusal) -> Response
     ensures { result ≡ refused_response kind refusal }
 {

@@ -52,7 +52,7 @@ abbrev pub may_want_memory : StoreState → Step → Reply → Bool
 may_want_memory old step reply =
     wants_memory reply || (is_event old.present reply && folds old step)
 
--- Nothing is made, for the machine's first cause, or for want of memory where it may want some.
+-- Nothing is made, for the machine's first cause, or because memory ran out, where it may need some.
 abbrev pub IsRefusalTo : StoreState → Step → Result Made Refusal → Refusal → Type 0
 IsRefusalTo old step (Err cause) refusal = refusal ≡ cause
 IsRefusalTo old step (Ok made) refusal =

@@ -43,9 +43,9 @@ abbrev pub confirmed_before : (store : StoreState) → IsStore store → ℕ →
 confirmed_before store is place = length (calls_confirmed (outbox_at (opening is.site) place)
     (traffic_since (opening is.site) place is.earlier))
 
--- Where c calls of a point were confirmed until the base, the base keeps its calls from number c on,
--- and the calls that are sent since begin with call c or the next one: none is left out by a fold.
--- Each later one is the one before it or the next.
+-- If c calls of a point were confirmed until the base, the base keeps its calls from number c on.
+-- The calls that are sent since begin with call c or the next one: a fold leaves none out. Each
+-- later one is the one before it or the next.
 abbrev pub StoresSendOn : Type 0
 StoresSendOn = (store : StoreState) (is : IsStore store) → IsMachine store.base → (place : ℕ)
     → AreKeptFrom store.base place (confirmed_before store is place)
@@ -59,7 +59,7 @@ StoresAnswerOnce = OfEachStore (λ store is whole.
     × (takes_of number whole ≡ answers_of number whole + kept_of number store.present.requests))
 
 -- each answer that is handed out is the headline's: right for what the point of that one Take had when
--- the Take was made, and for its ask
+-- the Take was made, and for its `Ask`
 abbrev pub StoresHandOutRight : Type 0
 StoresHandOutRight = OfEachStore (λ store is whole.
     (number : ℕ) (book : BookState) (ask : Ask) (answer : ScheduleAnswer) (new : StoreState)

@@ -11,7 +11,7 @@ use std::marker::Model;
 use std::sync::Arc;
 
 /// The answer to a request for a composite schedule (chapter 5.7), with the request's number, what its point had when
-/// it was taken, and the ask.
+/// it was taken, and the `Ask`.
 #[derive(Drop)]
 pub struct Answer {
     number: u64,

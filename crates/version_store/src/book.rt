@@ -24,9 +24,9 @@ use std::alloc::{AllocError, Global};
 use std::marker::Model;
 use std::sync::ledger::{Blank, Ledger};
 
-/// The central system of a site with the history that led to it: each call that changes something adds one
-/// event, and none is ever refused because the history is full. A pass fits only the book that it was made
-/// with, and the two ledgers see to that.
+/// The central system of a site with the history that led to it. Each call that changes something
+/// adds one event, and none is ever refused because the history is full. A pass fits only the book
+/// that it was made with, and the two ledgers see to that.
 #[derive(Drop)]
 pub struct Book<C: Ledger, A: Ledger> {
     history: History,
@@ -98,9 +98,9 @@ impl<C: Ledger, A: Ledger> Book<C, A> {
         totals
     }
 
-    /// How many events are stored. With what is always so of a book: its present state is the replay of its
-    /// base and of these events, the history is legal, each kept request has the book that its Take, or
-    /// the base, gave it, and each answer is right for that book and the ask.
+    /// How many events are stored. With what is always so of a book. Its present state is the
+    /// replay of its base and of these events, and the history is legal. Each kept request has the
+    /// book that its Take, or the base, gave it. Each answer is right for that book and the `Ask`.
     pub fn stored(&self) -> usize
         ensures value { result ≡ length self.now.events }
         ensures store { IsStore self.now }

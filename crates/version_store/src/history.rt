@@ -25,7 +25,7 @@ use std::marker::Model;
 use std::mem::replace;
 use sweep_compiler::Compiled;
 
-/// With so many events or more, a call that is to add one folds the history first.
+/// With this many events or more, a call that is to add one folds the history first.
 const FOLD_FROM: usize = 3_900;
 
 /// The state of the central system with the history that led to it.

@@ -71,7 +71,7 @@ impl<C: Ledger, A: Ledger> Pass<C, A> {
     }
 }
 
-/// Passes for so many sessions, which have all the parts.
+/// Passes for this many sessions, which have all the parts.
 pub(crate) fn passes_of<C: Ledger, A: Ledger>(
     alloc: Global,
     mut changed: Share<C>,

@@ -27,7 +27,7 @@ pub fn check_file<R: Files + Input + Print + AllocGlobal>(
     let alloc = rt.alloc();
     let bytes = read_site_bytes(rt, checking.site)?;
     let mut findings = check_site(alloc, bytes.as_slice())?;
-    // What is wrong with the site file is told even where the script can't be read.
+    // What is wrong with the site file is printed even if the script can't be read.
     let page = site_page(alloc, checking.site, findings.as_slice())?;
     print_page(rt, page.as_str())?;
     let script = read_script(rt)?;

@@ -21,8 +21,8 @@ use std::alloc::AllocGlobal;
 use std::rt::Files;
 use sweep_compiler::{Turns, explain};
 
-/// Says why the limits of a connector are what they are after a script. A picture's name, the instants, the site file
-/// and what isn't in it are told before the script is read.
+/// Says why the limits of a connector are what they are after a script. Faults of a picture's name,
+/// the instants and the site file, and what isn't in it, are reported before the script is read.
 pub fn explain_file<R: Files + Input + Print + Eprint + AllocGlobal>(
     rt: &R,
     screen: Screen,
@@ -38,8 +38,8 @@ pub fn explain_file<R: Files + Input + Print + Eprint + AllocGlobal>(
     let Some(book) = played.machine().book_of(explaining.point) else {
         return Err(ProgramFault::NoSuchPoint);
     };
-    // A book has the connectors of its point in the site: so much is known from the check above, though no clause
-    // says it.
+    // A book has the connectors of its point in the site: that is known from the check above,
+    // though no clause says it.
     if ask.connector > book.connectors() {
         return Err(ProgramFault::NoSuchConnector);
     }
@@ -108,7 +108,7 @@ fn ask_of(explaining: &Explaining<'_>) -> Result<Ask, ProgramFault> {
     }
 }
 
-/// Prints the explanation of an ask, and writes its picture.
+/// Prints the explanation of a request, and writes its picture.
 fn print_explained<R: Files + Print + AllocGlobal>(
     rt: &R,
     screen: Screen,

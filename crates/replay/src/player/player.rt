@@ -1,5 +1,5 @@
-//! The player of a script: the central system's machine, the asks that are held, and the memory that
-//! texts are read into.
+//! The player of a script: the central system's machine, the requests that are held, and the memory that
+//! messages are read into.
 
 ghost use Rattle.std.specs.Prelude.{◌≡◌, ◌∷◌, [], ◌++◌, None, IfOk, OnOk};
 ghost use Rattle.site_core.specs.declared.step.Step.TheVariants as steps;
@@ -29,7 +29,7 @@ pub struct Player {
     machine: Machine,
     /// In the order of their lines.
     held: Vec<Held>,
-    /// What texts are read into.
+    /// What messages are read into.
     memory: ReadingMemory,
 }
 
@@ -86,7 +86,7 @@ impl Player {
         self.held.as_slice()
     }
 
-    /// What a text asks for.
+    /// What a message asks for.
     pub fn asked_of(&mut self, text: &SentText<'_>) -> Result<Asked, AllocError>
         ensures asked { IfOk result (λ asked. asked ≡ asked_of text.now) }
         ensures same { self.new ≡ self.old }
@@ -97,7 +97,7 @@ impl Player {
         }
     }
 
-    /// What a held text asks for, or `None` where the text is no CALL of GetCompositeSchedule.
+    /// What a held message asks for, or `None` where the message is no CALL of GetCompositeSchedule.
     pub fn hold_of(&mut self, text: &SentText<'_>) -> Result<Option<Asked>, AllocError>
         ensures asked { IfOk result (λ asked. asked ≡ hold_of text.now) }
         ensures same { self.new ≡ self.old }
@@ -108,7 +108,7 @@ impl Player {
         }
     }
 
-    /// Makes a step that a text asks for.
+    /// Makes a step that a message asks for.
     pub fn step(&mut self, step: Step) -> Result<StepOutcome, AllocError>
         requires { IsAsked step }
         ensures { IfOk result
@@ -117,7 +117,7 @@ impl Player {
         step_exactly(&mut self.machine, step)
     }
 
-    /// Makes a step that a text asks for. A request that it takes is answered at once.
+    /// Makes a step that a message asks for. A request that it takes is answered at once.
     pub fn step_at_once(&mut self, step: Step) -> Result<StepOutcome, AllocError>
         requires { IsAsked step }
         ensures { IfOk result

@@ -18,7 +18,7 @@ use texts::SentText;
 use tungstenite::{MaskKeys, WebSocket};
 use version_store::Pass;
 
-/// Gives a point's session its link, before its first text. Without one it ends.
+/// Gives a point's session its link, before its first message. Without one it ends.
 pub(crate) fn attach<C: Ledger, A: Ledger, R: Wait, M: Moments, J: Journal>(
     context: &Context<'_, C, A, R, M, J>,
     core: &mut SessionCore,
@@ -45,7 +45,7 @@ pub(crate) fn attach<C: Ledger, A: Ledger, R: Wait, M: Moments, J: Journal>(
     }
 }
 
-/// Sends the call that waits for a point over its link, if one does and none is in flight. The text that it follows is
+/// Sends the call that waits for a point over its link, if one does and none is in flight. The message that it follows is
 /// noted, where it isn't yet.
 pub(crate) fn send_call<
     S: Read + Write + Drop,

@@ -10,7 +10,7 @@ pub enum Ended {
     /// The socket failed or ended without a close frame, its peer broke the protocol, no clock could be read, or the
     /// answer of another request came for one of the session.
     Broken,
-    /// Memory ran out where nobody could be told.
+    /// Memory ran out where no answer could say so.
     OutOfMemory,
 }
 

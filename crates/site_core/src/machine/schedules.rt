@@ -76,7 +76,7 @@ impl Machine {
         }
     }
 
-    /// Why a request isn't kept, if memory lasts, though there is an ask.
+    /// Why a request isn't kept, if memory lasts, though there is an `Ask`.
     fn refusal_to_take(&self, take: &Take) -> Option<Refusal>
         ensures { result ≡ refusal_to_take self.now take.now }
     {
@@ -110,7 +110,7 @@ impl Machine {
 
     /// Compiles the request of a number with an answer that is brought (chapter 5.7), by who compiled it
     /// elsewhere. The answer comes back a second time. The refusals are `UnknownRequest`,
-    /// `AlreadyAnswered`, and `StrangerInput`, where the answer is for another book or another ask; then
+    /// `AlreadyAnswered`, and `StrangerInput`, where the answer is for another book or another `Ask`; then
     /// nothing has changed, and what was brought comes back. Allocates nothing.
     pub fn post(
         &mut self,

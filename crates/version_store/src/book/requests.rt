@@ -21,9 +21,9 @@ use std::sync::ledger::Ledger;
 use sweep_compiler::Compiled;
 
 impl<C: Ledger, A: Ledger> Book<C, A> {
-    /// Keeps a request for the composite schedule (chapter 5.7) of a connector of a point, 0 being the
-    /// whole point, from a start on for so many seconds, in a unit where one is given. The job is what is
-    /// to be compiled and posted.
+    /// Keeps a request for the composite schedule (chapter 5.7) of a connector of a point.
+    /// Connector 0 is the whole point. The schedule is from a start on for this many seconds, in a
+    /// unit where one is given. The job is what is to be compiled and posted.
     pub fn take(
         &mut self,
         pass: &mut Pass<C, A>,
