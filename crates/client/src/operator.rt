@@ -39,7 +39,8 @@ impl<S: Read + Write + OpenStream + Drop, K: MaskKeys + Drop> OperatorClient<S, 
         }
     }
 
-    /// Sends a CALL and waits for its answer. Each message that comes until then is written on a line of its own.
+    /// Sends a CALL and waits for its answer. Each message that comes until then is written on a
+    /// line of its own.
     pub fn call<R: Wait, W: Write>(
         &mut self,
         rt: &R,

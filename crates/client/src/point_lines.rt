@@ -17,8 +17,8 @@ pub enum PointLine {
 /// The longest pause, a day in seconds.
 const MAX_PAUSE: u64 = 86_400;
 
-/// Reads a line: `heartbeat`, `start CONNECTOR TAG METER`, `stop CONNECTOR` or `pause SECONDS`, with blanks
-/// between its words. `None` where it is none of these.
+/// Reads a line: `heartbeat`, `start CONNECTOR TAG METER`, `stop CONNECTOR` or `pause SECONDS`,
+/// with blanks between its words. `None` where it is none of these.
 pub fn point_line(alloc: Global, text: &str) -> Result<Option<PointLine>, AllocError> {
     let mut words = text.split_whitespace();
     let line = match words.next() {

@@ -48,7 +48,7 @@ pub(crate) fn what_stands(alloc: Global, node: Option<Node<'_, '_>>) -> Result<S
     };
     if let Some(text) = node.text() {
         let text = excerpt(alloc, text)?;
-        return format!(in alloc; "\"{text}\" is a text");
+        return format!(in alloc; "\"{text}\" is a string");
     }
     if let Some(number) = node.number() {
         let number = excerpt(alloc, number)?;

@@ -80,16 +80,14 @@ fn place_found(
 /// Fields that have no meaning with the profile's purpose or kind.
 fn warn_dropped(report: &mut Report, parts: &ProfileParts) -> Result<(), AllocError> {
     if parts.transaction.is_some() && !matches!(parts.purpose, Purpose::TxProfile) {
-        report.warn_text("transactionId counts for nothing but in a TxProfile")?;
+        report.warn_text("transactionId has no effect except in a TxProfile")?;
     }
     if parts.recurrency.is_some() && parts.kind != ProfileKind::Recurring {
-        report.warn_text(
-            "recurrencyKind counts for nothing unless chargingProfileKind is Recurring",
-        )?;
+        report.warn_text("recurrencyKind has no effect unless chargingProfileKind is Recurring")?;
     }
     if parts.schedule.start.is_some() && parts.kind == ProfileKind::Relative {
         report.warn_text(
-            "startSchedule counts for nothing in a Relative profile, which begins with its transaction",
+            "startSchedule has no effect in a Relative profile, which begins with its transaction",
         )?;
     }
     Ok(())

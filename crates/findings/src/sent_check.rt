@@ -78,7 +78,8 @@ fn check_frame(alloc: Global, text: &str, frame: Frame<'_>) -> Result<SentCheck,
     }
 }
 
-/// Where the JSON of a message breaks, if it does: the line and the column, and what is wanted there.
+/// Where the JSON of a message breaks, if it does: the line and the column, and what is wanted
+/// there.
 pub fn json_break(alloc: Global, text: &str) -> Result<Option<String>, AllocError>
     ensures { IfOk result (λ message. IsSome message ↔ (tree_of_text text.now ≡ None)) }
 {

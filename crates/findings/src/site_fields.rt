@@ -129,7 +129,7 @@ pub(crate) fn warn_repeated_fields(
             reported += 1;
             let place = place_in_text(text, offset);
             let message = format!(in alloc;
-                "\"{name}\" stands twice in its object, and the later one counts"
+                "\"{name}\" is a duplicate field, and the last one counts"
             )?;
             findings.push(Finding::warning(place, message))?;
         }

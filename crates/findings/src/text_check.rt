@@ -78,7 +78,7 @@ fn check_frame(
         }
         Frame::Fault { id } => check_reply(report, text, id.as_str(), Some("an error")),
         Frame::Other => report.warn_text(
-            "the first element of the frame is none of 2 (CALL), 3 (CALLRESULT) and 4 (CALLERROR): the text is dropped without a word",
+            "the first element of the frame is none of 2 (CALL), 3 (CALLRESULT) and 4 (CALLERROR): the frame is discarded without an answer",
         ),
     }
 }
@@ -153,7 +153,7 @@ fn check_dropped(
     }
     let frame = excerpt(report.alloc, text.frame)?;
     let message = format!(in report.alloc;
-        "the text is no message and is dropped without a word: {why}: {frame}"
+        "this is no message and is discarded without an answer: {why}: {frame}"
     )?;
     report.warn(message)
 }
@@ -202,7 +202,7 @@ fn why_no_message(root: Node<'_, '_>) -> &'static str {
         return "the first element of a frame is the number 2, 3 or 4";
     }
     match id.text() {
-        None => "the second element of a frame, its id, is a text in double quotes",
+        None => "the second element of a frame, its id, is a string in double quotes",
         Some(id) if character_count(id) > MAX_ID_CHARACTERS => {
             "the id of a frame has at most 36 characters"
         }

@@ -16,8 +16,8 @@ use Rattle.texts.specs.SentText.{sent}
 use Rattle.replay.specs.Form.{Form, text_line, release_line}
 use Rattle.replay.specs.ByCases.Form.{form_of}
 
--- A point's own message names a point of the site. Whether an operator's does is the central system's to
--- say.
+-- A point's own message names a point of the site. Whether an operator's does is the central
+-- system's to say.
 abbrev pub is_stranger : SiteState → LineWord → List ℕ → Bool
 is_stranger site Operator point = false
 is_stranger site Point point = is_none (place_of site point)

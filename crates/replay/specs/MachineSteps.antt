@@ -15,8 +15,8 @@ use Rattle.site_core.specs.State.{MachineState, Kept, ScheduleAnswer, link_of}
 use Rattle.site_core.specs.Requests.{request_of}
 use Rattle.site_core.specs.Step.{Made, stepped, no_answer}
 
--- what comes of a step: what it replies and the state after it, or why it is refused and the state as
--- it was
+-- what comes of a step: what it replies and the state after it, or why it is refused and the state
+-- as it was
 pub record Stepped : Type 0 where
   pub outcome : Result Reply Refusal
   pub after : MachineState

@@ -76,7 +76,8 @@ abbrev pub asked_handled : PlayerState → Asked → Handled
 asked_handled old asked.Nothing = record { printed = []; change = Nothing; after = old }
 asked_handled old (asked.Respond id response) =
     record { printed = lines.Answer id response ∷ []; change = Nothing; after = old }
-asked_handled old (asked.Step id kind step) = answered old id kind (stepped_at_once old.machine step)
+asked_handled old (asked.Step id kind step) =
+    answered old id kind (stepped_at_once old.machine step)
 asked_handled old (asked.Confirm point number) =
     confirmed old (confirmed_by old.machine point number)
 

@@ -1,5 +1,5 @@
-//! What scripts print, as runs of the central system: a law, a public function whose clauses range over
-//! all sites and scripts.
+//! What scripts print, as runs of the central system: a law, a public function whose clauses range
+//! over all sites and scripts.
 
 ghost use Rattle.std.specs.Prelude.{ℕ, List};
 ghost use Rattle.site_rules.specs.Site.{SiteState};

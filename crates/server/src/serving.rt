@@ -54,7 +54,8 @@ pub fn serve<R: Threads + Wait + Sync, M: Moments + Sync>(
     )
 }
 
-/// Does what `serve` does, and notes the messages that change or ask something, in the order in which their steps are made.
+/// Does what `serve` does, and notes the messages that change or ask something, in the order in
+/// which their steps are made.
 pub fn serve_noted<R: Threads + Wait + Sync, M: Moments + Sync, J: Journal + Sync>(
     rt: &R,
     alloc: Global,
@@ -135,8 +136,8 @@ fn serve_counted<
     }
 }
 
-/// Serves the connections while workers compile on threads of their own. Where no thread can be made for these, the
-/// sessions find nobody to send their jobs to.
+/// Serves the connections while workers compile on threads of their own. Where no thread can be
+/// made for these, the sessions find nobody to send their jobs to.
 fn serve_beside_workers<
     C: Ledger + Send + Sync,
     A: Ledger + Send + Sync,

@@ -1,4 +1,5 @@
--- What a message of a session is answered, once its step was made on the book that all sessions share.
+-- What a message of a session is answered, once its step was made on the book that all sessions
+-- share.
 use Rattle.std.specs.Prelude.{◌≡◌, ◌⊎◌, List, ℕ, Option, Some, None}
 use Rattle.ocpp_scalars.specs.declared.refusal.Refusal.TheVariants.{OutOfMemory, UnknownRequest}
 use Rattle.site_core.specs.declared.step.Step.{Step}
@@ -57,8 +58,8 @@ HasOutcome was _ _ = ⊥
 
 -- what answers a message of a session with this pass: the message that is owed for what was asked,
 -- with the outcome of the step that was asked for
-pub record IsServed (session : SessionState) (was : PassState) (text : Sent) (answer : Option (List ℕ))
-    : Type 0 where
+pub record IsServed (session : SessionState) (was : PassState) (text : Sent)
+    (answer : Option (List ℕ)) : Type 0 where
   pub todo : TodoState
   pub outcome : Option Outcome
   pub asked : IsTodo session text.moment text.frame todo

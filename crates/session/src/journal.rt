@@ -7,7 +7,8 @@ pub trait Journal {
     /// Notes a message. Whoever notes it has the book, so this waits for nothing that takes long.
     fn note(&self, sent: &SentText<'_>);
 
-    /// Writes out what is noted. The session doesn't have the book, and the message isn't answered yet.
+    /// Writes out what is noted. The session doesn't have the book, and the message isn't answered
+    /// yet.
     fn write_out(&self);
 }
 

@@ -24,7 +24,8 @@ pub enum Owed {
     Outcome { id: MessageId, kind: ActionKind },
 }
 
-/// What is to be done for a message: at most one step, and then an answer, if its sender is owed one.
+/// What is to be done for a message: at most one step, and then an answer, if its sender is owed
+/// one.
 #[derive(Drop)]
 pub struct Todo {
     step: Option<Step>,

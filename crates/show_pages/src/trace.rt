@@ -297,7 +297,7 @@ fn text_words(
 
 /// The lines that printed something, each beside what it printed.
 pub fn trace_text(alloc: Global, trace: &Trace<'_>) -> Result<String, AllocError> {
-    let mut table = Table::new(alloc, &["line", "point", "text", "answer"])?;
+    let mut table = Table::new(alloc, &["line", "point", "message", "answer"])?;
     for line in trace.lines() {
         let point = match &line.point {
             Some(point) => point.as_str(),

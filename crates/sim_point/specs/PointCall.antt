@@ -18,8 +18,8 @@ has_connector book connector = nat_lt 0 connector && nat_le connector (length bo
 abbrev pub stop_of : ℕ → Transaction → PointCall
 stop_of now transaction = StopTransaction transaction.id transaction.begin.meter_start now
 
--- The call that a step makes at a moment (OCPP 1.6, 4.6, 4.8 and 4.10). A start at a connector that the
--- point lacks makes none, and no more does a stop where no transaction is active.
+-- The call that a step makes at a moment (OCPP 1.6, 4.6, 4.8 and 4.10). A start at a connector that
+-- the point lacks makes none, and no more does a stop where no transaction is active.
 abbrev pub call_of : BookState → ℕ → SimStep → Option PointCall
 call_of book now steps.Heartbeat = Some Heartbeat
 call_of book now (steps.Start connector tag meter) =

@@ -1,5 +1,5 @@
--- The state of a simulated charge point, what a message of the central system comes to, and which call comes
--- next.
+-- The state of a simulated charge point, what a message of the central system comes to, and which
+-- call comes next.
 use Rattle.std.specs.Prelude.{ℕ, ℤ, ◌+◌, List, [], Option, Some, None, if◌then◌else◌}
 use Rattle.std.specs.Str.{bytes_eq}
 use Rattle.std.specs.Fmt.{decimal}
@@ -48,10 +48,13 @@ pub record Heard : Type 0 where
 -- an action's answer, with the book after it
 abbrev pub acted : SimState → List ℕ → Answered → Heard
 acted old id does =
-    record { answer = Some (response_text id does.response); after = record old { book = does.book } }
+    record {
+      answer = Some (response_text id does.response);
+      after = record old { book = does.book };
+    }
 
--- A reply ends the call in flight where its id is that call's number in decimal (OCPP-J 1.6, 4.1.4); any
--- other is ignored.
+-- A reply ends the call in flight where its id is that call's number in decimal (OCPP-J 1.6,
+-- 4.1.4); any other is ignored.
 abbrev pub replied_to : SimState → Option InFlight → List ℕ → Option ℤ → SimState
 replied_to old None id transaction = old
 replied_to old (Some call) id transaction =

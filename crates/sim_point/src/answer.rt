@@ -22,8 +22,8 @@ pub struct Answering {
     pub now: Instant,
 }
 
-/// Does an action, and returns the message that answers the CALL of this id. Where memory runs out, nothing
-/// changes.
+/// Does an action, and returns the message that answers the CALL of this id. Where memory runs out,
+/// nothing changes.
 pub fn answer_action(
     answering: Answering,
     book: &mut OwnBook,

@@ -31,7 +31,8 @@ pub enum Request {
         id: MessageId,
         action: Action,
     },
-    /// The message is a reply to a call of the point's own of this id, with the transactionId that it brings.
+    /// The message is a reply to a call of the point's own of this id, with the transactionId that
+    /// it brings.
     Reply {
         id: MessageId,
         transaction: Option<i32>,

@@ -76,7 +76,8 @@ abbrev pub deeds_of : SiteState → ℕ → List Event → List Deed
 deeds_of site place history =
     deeds_from (opening_at_place site place) (events_at site place history)
 
--- what holds of each place along every legal history, from any state that a central system may be in
+-- what holds of each place along every legal history, from any state that a central system may be
+-- in
 abbrev pub FromAnyState : (MachineState → ℕ → List Event → MachineState → Type 0) → Type 0
 FromAnyState holds =
     (old : MachineState) (history : List Event) (new : MachineState)
@@ -175,7 +176,8 @@ ConfirmationsAreEvents = OfEachPoint (λ site place history state.
 
 -- ---- the same from any state
 
--- the calls of the point at a place have consecutive numbers, from this one to before the next call's
+-- the calls of the point at a place have consecutive numbers, from this one to before the next
+-- call's
 abbrev pub AreKeptFrom : MachineState → ℕ → ℕ → Type 0
 AreKeptFrom state place first =
     AreFrom first (outbox_at state place).calls (outbox_at state place).next
@@ -186,7 +188,8 @@ CallsBeginAtZero =
     (site : SiteState) (numbers : Numbers) (place : ℕ)
     → AreKeptFrom (opening_at site numbers) place 0
 
--- and where they have, they do so after every history, from as much later on as were confirmed since
+-- and where they have, they do so after every history, from as much later on as were confirmed
+-- since
 abbrev pub CallsStayConsecutive : Type 0
 CallsStayConsecutive = FromAnyState (λ old place history new.
     (first : ℕ) → AreKeptFrom old place first

@@ -1,6 +1,6 @@
 -- What the central system keeps of a charge point, and what a step does there. A step of a point
--- can't see other points or requests. `record old { .. }` is the point with these fields changed and
--- all else as it was.
+-- can't see other points or requests. `record old { .. }` is the point with these fields changed
+-- and all else as it was.
 use Rattle.std.specs.Prelude.{ℕ, ℤ, ◌-◌, List, Option, Some, None, slice_set}
 use Rattle.profile.specs.declared.row.Row.{Row}
 use Rattle.profile.specs.declared.criteria.Criteria.{Criteria}

@@ -78,8 +78,8 @@ pub record IsKeptRight (state : MachineState) (kept : Kept) : Type 0 where
 abbrev pub KeepsRight : MachineState → Type 0
 KeepsRight state = AllByRecursion (IsKeptRight state) state.requests
 
--- A request of a number, with a book and an `Ask`, was kept in a state already, and no Take in these
--- events since has its number.
+-- A request of a number, with a book and an `Ask`, was kept in a state already, and no Take in
+-- these events since has its number.
 pub record IsKeptBefore (old : MachineState) (events : List Event) (number : ℕ) (book : BookState)
     (ask : Ask) : Type 0 where
   pub kept : Kept
@@ -122,8 +122,8 @@ RequestsHaveTheirBooks =
     → KeepsRight old → Legal old events new
     → AllByRecursion (HasItsBook old events) new.requests
 
--- each answer that is handed out is right: for what the point had at the request's Take, or for what
--- the old state kept
+-- each answer that is handed out is right: for what the point had at the request's Take, or for
+-- what the old state kept
 abbrev pub AnswersGoOnRight : Type 0
 AnswersGoOnRight =
     (old : MachineState) (earlier later : List Event) (number : ℕ) (book : BookState) (ask : Ask)

@@ -31,8 +31,8 @@ pub record Obeying : Type 0 where
   pub number : ℕ
   pub moment : ℕ
 
--- what the point has once it has done at a moment as a call tells it; a number without a call tells it
--- nothing
+-- what the point has once it has done at a moment as a call tells it; a number without a call tells
+-- it nothing
 abbrev pub obeyed_call : ℕ → Option CallBody → List Row → List Row
 obeyed_call moment None rows = rows
 obeyed_call moment (Some body) rows = rows_by_call moment body rows

@@ -198,7 +198,8 @@ transaction_number_refusal numbers =
     if numbers.transaction == max_transaction then Some TransactionsExhausted else None
 
 abbrev pub refusal_to_start : Numbers → Option Refusal
-refusal_to_start numbers = first_cause (version_refusal numbers) (transaction_number_refusal numbers)
+refusal_to_start numbers =
+    first_cause (version_refusal numbers) (transaction_number_refusal numbers)
 
 abbrev pub starts_as : Began → Numbers → Result Reply Refusal
 starts_as (Repeat number) numbers = Ok (Repeated number)
@@ -348,8 +349,8 @@ compiles_kept old number answer (Some kept) =
 abbrev pub compiles : MachineState → ℕ → ScheduleAnswer → Result Made Refusal
 compiles old number answer = compiles_kept old number answer (request_of number old.requests)
 
--- Answer: the answer is handed out with the book and the `Ask` that it is for, and the request is no
--- longer kept
+-- Answer: the answer is handed out with the book and the `Ask` that it is for, and the request is
+-- no longer kept
 abbrev pub answers_with : MachineState → Kept → Option ScheduleAnswer → Made
 answers_with old kept None = unchanged old NotYet
 answers_with old kept (Some answer) = record {

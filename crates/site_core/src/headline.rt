@@ -1,5 +1,5 @@
-//! The headline of this repository, as laws: public functions with empty bodies, whose clauses range over
-//! all runs.
+//! The headline of this repository, as laws: public functions with empty bodies, whose clauses
+//! range over all runs.
 
 ghost use Rattle.std.specs.Prelude.{◌≡◌, ◌⊎◌, ℕ, ◌+◌, ◌≤◌, false, List, ◌∷◌, ◌++◌, Some, IsTrue, All, Contains};
 ghost use Rattle.meaning.specs.declared.ask.Ask.{Ask};
@@ -30,8 +30,8 @@ pub fn runs_are_legal()
         → Runs old steps outcomes new → Legal old (history_of steps outcomes) new }
 {}
 
-/// The law that in every legal history from an opening state each Answer that hands out an answer follows
-/// exactly one Take of its number.
+/// The law that in every legal history from an opening state each Answer that hands out an answer
+/// follows exactly one Take of its number.
 pub fn answers_follow_one_take()
     ensures { (site : SiteState) (numbers : Numbers) (earlier later : List Event) (number : ℕ)
         (book : BookState) (ask : Ask) (answer : ScheduleAnswer) (new : MachineState)
@@ -67,16 +67,17 @@ pub fn runs_join()
         → Runs old (steps ++ more) (outcomes ++ others) new }
 {}
 
-/// The law that what is answered without an event changes nothing: of the steps that are made, only the
-/// events lead to another state.
+/// The law that what is answered without an event changes nothing: of the steps that are made, only
+/// the events lead to another state.
 pub fn only_events_change_the_state()
     ensures { (old new : MachineState) (step : Step) (reply : Reply)
         → Steps old step reply new → is_event old reply ≡ false → new ≡ old }
 {}
 
-/// The laws of stored histories, in which a Compile has the answer that it brought: each has one replay, so
-/// one state at its end. The replay is a legal history, where a compiler may give these answers, and
-/// every legal history is the replay of a stored one. An event more is replayed after those before it.
+/// The laws of stored histories, in which a Compile has the answer that it brought: each has one
+/// replay, so one state at its end. The replay is a legal history, where a compiler may give these
+/// answers, and every legal history is the replay of a stored one. An event more is replayed after
+/// those before it.
 pub fn stored_histories_replay()
     ensures one { ReplaysAreOne }
     ensures legal { ReplaysAreLegal }
@@ -109,8 +110,8 @@ pub fn requests_are_answered_once()
         → takes_of number events ≡ answers_of number events + kept_of number state.requests }
 {}
 
-/// The law that a request that has its answer keeps it, with its book and its `Ask`, until that answer is
-/// handed out.
+/// The law that a request that has its answer keeps it, with its book and its `Ask`, until that
+/// answer is handed out.
 pub fn answers_stay()
     ensures { (old new : MachineState) (events : List Event) (number : ℕ) (kept : Kept)
         (answer : ScheduleAnswer) → Legal old events new
@@ -126,11 +127,11 @@ pub fn stopped_requests_are_answered()
         → All IsAnswered state.requests }
 {}
 
-/// The laws of requests from any state that keeps what is right, as the opening does, along every legal
-/// history. It leads to such a state again. Each kept request has the book that its point had at its Take,
-/// or that the old state kept for it. Each answer that is handed out is right for that book and the `Ask`.
-/// Once the central system is stopped, each kept request has its answer, where so it was at first. And from
-/// whatever state, no request is lost and none is answered twice.
+/// The laws of requests from any state that keeps what is right, as the opening does, along every
+/// legal history. It leads to such a state again. Each kept request has the book that its point had
+/// at its Take, or that the old state kept for it. Each answer that is handed out is right for that
+/// book and the `Ask`. Once the central system is stopped, each kept request has its answer, where
+/// so it was at first. And from whatever state, no request is lost and none is answered twice.
 pub fn requests_go_on_from_any_state()
     ensures opening { OpeningsKeepRight }
     ensures stay { RequestsStayRight }
@@ -147,8 +148,8 @@ pub fn numbers_tell_of_histories()
     ensures { NumbersTellOfHistories }
 {}
 
-/// The law that each step has a reply of its own, as an Install has none but Accepted, and that what is
-/// answered without an event wants no memory.
+/// The law that each step has a reply of its own, as an Install has none but Accepted, and that
+/// what is answered without an event wants no memory.
 pub fn replies_are_their_steps()
     ensures own { RepliesAreTheirSteps }
     ensures memory { OnlyEventsWantMemory }

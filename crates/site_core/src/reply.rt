@@ -19,7 +19,8 @@ pub enum Reply {
     Unknown,
     /// The transaction of this number began.
     Started(i32),
-    /// The transaction of this number had begun, and its start was retransmitted: nothing was changed.
+    /// The transaction of this number had begun, and its start was retransmitted: nothing was
+    /// changed.
     Repeated(i32),
     /// The transaction ended.
     Ended,
@@ -71,8 +72,8 @@ const NO_COUNT: Counted = Counted {
 };
 
 impl Reply {
-    /// Whether a step with this reply is an event, where it is known if the central system was stopped
-    /// before it.
+    /// Whether a step with this reply is an event, where it is known if the central system was
+    /// stopped before it.
     pub fn is_event(&self, was_stopped: bool) -> bool
         ensures { (old : MachineState) → old.is_stopped ≡ was_stopped
             → result ≡ is_event old self.now }

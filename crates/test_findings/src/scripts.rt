@@ -23,14 +23,14 @@ const OPERATOR_TEXTS: &str = r#"[2,"a","ClearChargingProfile",{"id":9}] => -
 [2,"a","ClearChargingProfile",{"id":null}] => EVERYTHING that the point has, a fuse limit (ChargePointMaxProfile) too; "id" is null, which is none
 [2,"a","ClearChargingProfile"] => EVERYTHING
 [2,"a","ClearChargingProfile",{"id":9,"stacklevel":1}] => "stacklevel" is no criterion
-[2,"a","ClearChargingProfile",{"id":"9"}] => TypeConstraintViolation: id: "9" is a text
+[2,"a","ClearChargingProfile",{"id":"9"}] => TypeConstraintViolation: id: "9" is a string
 [2,"a","GetCompositeSchedule",{"connectorId":1,"duration":60}] => -
  [2,"a","GetCompositeSchedule",{"connectorId":1,"duration":60}] => -
 [2,"a","GetCompositeSchedule",{"connectorId":1,"duration":60},] => breaks at column 97
 [2,"a","GetCompositeSchedule",{"connectorId":1,"duration":60] => breaks at column 95, where `,` or `}` is wanted, and `]` stands there
-[2,"a","GetCompositeSchedule",{"connectorId":1,"duration":60} => breaks at column 96, where `,` or `]` is wanted, and the text ends
+[2,"a","GetCompositeSchedule",{"connectorId":1,"duration":60} => breaks at column 96, where `,` or `]` is wanted, and the JSON ends
 [2,'a',"GetCompositeSchedule",{}] => double quotes
-[2,“a”,"GetCompositeSchedule",{}] => a quote of a text program
+[2,“a”,"GetCompositeSchedule",{}] => a typographic quote
 [2,5,"GetCompositeSchedule",{}] => dropped without a word: the second element
 [2,"urn:uuid:00000000-0000-0000-0000-000000000000","GetCompositeSchedule",{}] => at most 36 characters
 {} => a frame is a list
@@ -38,7 +38,7 @@ const OPERATOR_TEXTS: &str = r#"[2,"a","ClearChargingProfile",{"id":9}] => -
 [3,"a",{}] => an operator's CALLRESULT
 [2,"a","GetCompositeSchedule",7] => FormationViolation
 [2,"a","GetCompositeSchedul",{}] => NotImplemented: "GetCompositeSchedul" is no action of an operator ("GetCompositeSchedule" is one)
-[2,"a","GetCompositeSchedule",{"connectorId":1,"duration":60,"connectorId":2}] => "connectorId" stands twice
+[2,"a","GetCompositeSchedule",{"connectorId":1,"duration":60,"connectorId":2}] => "connectorId" is a duplicate field
 [2,"a","Heartbeat",{}] => an action of the other side
 [2,"a","GetCompositeSchedule",{"connectorId":7,"duration":60}] => UnknownConnector
 [2,"a","GetCompositeSchedule",{"connectorId":1,"duration":604801}] => BadDuration
@@ -52,11 +52,11 @@ const OPERATOR_TEXTS: &str = r#"[2,"a","ClearChargingProfile",{"id":9}] => -
 /// findings.
 const PROFILES: &str =
     r#"TxDefaultProfile | "chargingProfileKind":"Absolute" | "chargingSchedulePeriod":[{"startPeriod":0,"limit":16}] => -
-TXDefaultProfile | "chargingProfileKind":"Absolute" | "chargingSchedulePeriod":[{"startPeriod":0,"limit":16}] => csChargingProfiles.chargingProfilePurpose: "TXDefaultProfile" is a text
-TxDefaultProfile | "chargingProfileKind":"Absolute" | "chargingSchedulePeriod":[{"startPeriod":0,"limit":16},{"startPeriod":60,"limit":"16"}] => chargingSchedulePeriod[1].limit: "16" is a text
+TXDefaultProfile | "chargingProfileKind":"Absolute" | "chargingSchedulePeriod":[{"startPeriod":0,"limit":16}] => csChargingProfiles.chargingProfilePurpose: "TXDefaultProfile" is a string
+TxDefaultProfile | "chargingProfileKind":"Absolute" | "chargingSchedulePeriod":[{"startPeriod":0,"limit":16},{"startPeriod":60,"limit":"16"}] => chargingSchedulePeriod[1].limit: "16" is a string
 TxDefaultProfile | "chargingProfileKind":"Absolute" | "chargingSchedulePeriod":[{"startPeriod":60,"limit":16},{"startPeriod":60,"limit":10}] => PeriodsOutOfOrder
 TxDefaultProfile | "chargingProfileKind":"Recurring" | "chargingSchedulePeriod":[{"startPeriod":0,"limit":16}] => NoRecurrency
-TxDefaultProfile | "chargingProfileKind":"Absolute","validto":"2026-01-01T00:00:00Z" | "chargingSchedulePeriod":[{"startPeriod":0,"limit":16}] => "validto" is no field of OCPP there and counts for nothing ("validTo" is one)
+TxDefaultProfile | "chargingProfileKind":"Absolute","validto":"2026-01-01T00:00:00Z" | "chargingSchedulePeriod":[{"startPeriod":0,"limit":16}] => "validto" is no field of OCPP there and has no effect ("validTo" is one)
 TxDefaultProfile | "chargingProfileKind":"Absolute","validFrom":"2026-01-02T00:00:00Z","validTo":"2026-01-02T00:00:00Z" | "chargingSchedulePeriod":[{"startPeriod":0,"limit":16}] => never counts: its validTo isn't after its validFrom
 TxDefaultProfile | "chargingProfileKind":"Absolute","validTo":"2026-01-02T00:00:00Z" | "startSchedule":"2026-01-02T00:00:00Z","chargingSchedulePeriod":[{"startPeriod":0,"limit":16}] => never counts: its validTo isn't after its startSchedule
 TxDefaultProfile | "chargingProfileKind":"Absolute","validFrom":"2026-01-02T01:00:00Z" | "duration":3600,"startSchedule":"2026-01-02T00:00:00Z","chargingSchedulePeriod":[{"startPeriod":0,"limit":16}] => never counts: its schedule is over
@@ -68,8 +68,8 @@ TxDefaultProfile | "chargingProfileKind":"Recurring","recurrencyKind":"Weekly" |
 TxDefaultProfile | "chargingProfileKind":"Recurring","recurrencyKind":"Daily" | "duration":36000,"chargingSchedulePeriod":[{"startPeriod":60,"limit":16}] => no limit from 36000 s to 86400 s + no limit from 0 s to 60 s
 TxDefaultProfile | "chargingProfileKind":"Absolute" | "duration":60,"chargingSchedulePeriod":[{"startPeriod":0,"limit":16},{"startPeriod":60,"limit":6}] => chargingSchedulePeriod[1] starts at 60 s, when the duration of 60 s is over
 TxDefaultProfile | "chargingProfileKind":"Absolute","validTo":"2024-01-02T00:00:00Z" | "chargingSchedulePeriod":[{"startPeriod":0,"limit":16}] => validTo, 2024-01-02T00:00:00Z, is over
-TxDefaultProfile | "chargingProfileKind":"Absolute","transactionId":1,"recurrencyKind":"Daily" | "chargingSchedulePeriod":[{"startPeriod":0,"limit":16}] => transactionId counts for nothing + recurrencyKind counts for nothing
-TxDefaultProfile | "chargingProfileKind":"Relative" | "startSchedule":"2026-01-02T00:00:00Z","chargingSchedulePeriod":[{"startPeriod":0,"limit":16}] => startSchedule counts for nothing
+TxDefaultProfile | "chargingProfileKind":"Absolute","transactionId":1,"recurrencyKind":"Daily" | "chargingSchedulePeriod":[{"startPeriod":0,"limit":16}] => transactionId has no effect + recurrencyKind has no effect
+TxDefaultProfile | "chargingProfileKind":"Relative" | "startSchedule":"2026-01-02T00:00:00Z","chargingSchedulePeriod":[{"startPeriod":0,"limit":16}] => startSchedule has no effect
 TxDefaultProfile | "chargingProfileKind":"Relative" | "chargingSchedulePeriod":[{"startPeriod":0,"limit":32.1}] => above the ceiling of the site file there, 32.0
 TxDefaultProfile | "chargingProfileKind":"Relative" | "chargingSchedulePeriod":[{"startPeriod":0,"limit":32}] => -
 TxDefaultProfile | "chargingProfileKind":"Relative" | "chargingSchedulePeriod":[{"startPeriod":0,"limit":40},{"startPeriod":60,"limit":16}] => -
@@ -350,7 +350,8 @@ fn sentences_of_answers(rt: HostRuntime) {
     }
 }
 
-/// On each line an operator's message, whether it is a clear by mistake, and pieces of its warnings.
+/// On each line an operator's message, whether it is a clear by mistake, and pieces of its
+/// warnings.
 const SENT_TEXTS: &str = r#"[2,"a","ClearChargingProfile",{}] => false => clears EVERYTHING
 [2,"a","ClearChargingProfile"] => false => clears EVERYTHING
 [2,"a","ClearChargingProfile",{"id":null}] => true => "id" is null, which is none
@@ -358,9 +359,9 @@ const SENT_TEXTS: &str = r#"[2,"a","ClearChargingProfile",{}] => false => clears
 [2,"a","ClearChargingProfile",{"chargingProfileId":1}] => true => "chargingProfileId" isn't one ("id" is)
 [2,"a","ClearChargingProfile",{"id":1,"level":0}] => false => "level" is no criterion
 [2,"a","ClearChargingProfile",{"id":1}] => false => -
-[2,"a","ClearChargingProfile",{"id":"1","x":2}] => false => TypeConstraintViolation: id: "1" is a text + "x" is no field
+[2,"a","ClearChargingProfile",{"id":"1","x":2}] => false => TypeConstraintViolation: id: "1" is a string + "x" is no field
 [2,"a","GetCompositeSchedule",{"connectorId":1,"durations":1}] => false => OccurenceConstraintViolation: duration: it is absent + "durations" is no field
-[2,"a","GetCompositeSchedule",{"connectorId":1,"duration":1,"duration":2}] => false => "duration" stands twice
+[2,"a","GetCompositeSchedule",{"connectorId":1,"duration":1,"duration":2}] => false => "duration" is a duplicate field
 [2,"a","Heartbeat",{"x":1}] => false => NotImplemented: "Heartbeat" is an action of the other side
 [2,"a","GetCompositeSchedul",{}] => false => NotImplemented: "GetCompositeSchedul" is no action of an operator ("GetCompositeSchedule" is one)
 [2,"s","SetChargingProfile",{"connectorId":1,"csChargingProfiles":{"chargingProfileId":1,"stackLevel":1,"chargingProfilePurpose":"TxProfile","chargingProfileKind":"Relative","chargingSchedule":{"chargingRateUnit":"A","chargingSchedulePeriod":[{"startPeriod":0,"limit":16}]}}}] => false => no transactionId

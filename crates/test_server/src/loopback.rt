@@ -112,7 +112,8 @@ const TOTALS: Result<Totals, ServeFault> = Ok(Totals {
     answers: 1,
 });
 
-/// A start, a stop and a start at the other connector, and what is answered. The first call follows the first answer.
+/// A start, a stop and a start at the other connector, and what is answered. The first call follows
+/// the first answer.
 fn two_starts<K: RandomSource + Drop>(rt: &impl Abort, point: &mut Client<K>) {
     point.ask(
         rt,

@@ -35,7 +35,8 @@ pub(crate) const NOTED_OF_OPERATOR: &str =
 [2,"b","GetCompositeSchedule",{"connectorId":1,"duration":60}]
 "#;
 
-/// What is noted of a point that sends two Heartbeats, of which a call follows the first, and then its reply.
+/// What is noted of a point that sends two Heartbeats, of which a call follows the first, and then
+/// its reply.
 pub(crate) const NOTED_OF_POINT: &str = r#"[2,"1","Heartbeat",{}]
 [3,"0",{"status":"Unknown"}]
 "#;

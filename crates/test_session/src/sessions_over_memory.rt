@@ -72,7 +72,8 @@ impl Served {
 }
 
 impl<C: Ledger, A: Ledger> Desk<C, A> {
-    /// Serves the next session over a client's messages, with a socket that fails after so many calls.
+    /// Serves the next session over a client's messages, with a socket that fails after so many
+    /// calls.
     fn serve<R: Abort + Wait>(
         &mut self,
         rt: &R,
@@ -238,8 +239,8 @@ fn a_retransmitted_start_has_its_number(rt: HostRuntime) {
     point_texts::<Brand, Brand, HostRuntime>(&rt, rt.alloc(), blanks, &texts, &wanted, 2);
 }
 
-/// A socket that fails after so many calls, and the point's next session. The call that was in flight when the
-/// first session ended, if one was, is sent again.
+/// A socket that fails after so many calls, and the point's next session. The call that was in
+/// flight when the first session ended, if one was, is sent again.
 fn failing<C: Ledger, A: Ledger, R: Abort + Wait>(
     rt: &R,
     alloc: Global,

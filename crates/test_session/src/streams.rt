@@ -1,5 +1,5 @@
-//! What is at the other end of a session's socket: a client whose bytes are all there from the beginning, and streams
-//! that fail.
+//! What is at the other end of a session's socket: a client whose bytes are all there from the
+//! beginning, and streams that fail.
 
 use std::alloc::Global;
 use std::io::{self, ErrorKind, Read, Write};

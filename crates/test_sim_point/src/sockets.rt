@@ -1,4 +1,5 @@
-//! A simulated point at a WebSocket over bytes in memory: what it sends, and how it ends where a device fails.
+//! A simulated point at a WebSocket over bytes in memory: what it sends, and how it ends where a
+//! device fails.
 use crate::days::{instant_at, point_with};
 use crate::same::{holds, same_text};
 use ocpp_scalars::{Instant, Moments};
@@ -86,7 +87,8 @@ fn simulated(rt: &impl Abort, alloc: Global) -> SimPoint {
     point_with(rt, alloc, "heartbeat\nstart 1 a 3\nstop 1")
 }
 
-/// The bytes of these messages as a server sends them, behind a binary message, and then of its close.
+/// The bytes of these messages as a server sends them, behind a binary message, and then of its
+/// close.
 fn sent_by_central(rt: &impl Abort, alloc: Global, texts: &str, closes: bool) -> Vec<u8> {
     let stream = Duplex {
         reader: [].as_slice(),

@@ -31,8 +31,8 @@ impl<'a> Model for SentText<'a> {
 impl<'a> SentText<'a> {
     ghost use Rattle.texts.specs.SentText.{sent};
 
-    /// The message `frame`, an OCPP-J frame (OCPP-J 1.6, chapter 4), that comes from an operator for a
-    /// point, or from that point.
+    /// The message `frame`, an OCPP-J frame (OCPP-J 1.6, chapter 4), that comes from an operator
+    /// for a point, or from that point.
     pub fn new(moment: Instant, sender: Side, point: &'a str, frame: &'a str) -> SentText<'a>
         ensures { result ≡ sent moment sender point.entry.now frame.entry.now }
     {

@@ -1,5 +1,5 @@
--- A stored history: a state that it begins with, the events since, and the present state, to which they
--- lead. Where it has grown long it is folded: it begins anew with the present state.
+-- A stored history: a state that it begins with, the events since, and the present state, to which
+-- they lead. Where it has grown long it is folded: it begins anew with the present state.
 use Rattle.std.specs.Prelude.{ℕ, ◌+◌, ◌≡◌, ◌≤◌, nat_le, ◌&&◌, Bool, true, false, List, [], ◌∷◌, ◌++◌, length, is_some, if◌then◌else◌}
 use Rattle.std.specs.List.{AllByRecursion, sum_by}
 use Rattle.site_rules.specs.Site.{SiteState}

@@ -136,8 +136,8 @@ impl History {
         self.spare = Some(room);
     }
 
-    /// Makes a step that brings no answer, and adds its event, if it is one. On a refusal the step comes
-    /// back.
+    /// Makes a step that brings no answer, and adds its event, if it is one. On a refusal the step
+    /// comes back.
     pub fn make(&mut self, step: Step) -> Result<Reply, Refused>
         requires { may_fold step ≡ true }
         ensures makes { IfOk result (λ reply. Makes self.old step reply self.new) }
@@ -248,8 +248,8 @@ impl History {
         Ok(reply)
     }
 
-    /// Compiles the request of a number with an answer that is brought, and adds the event. On a refusal the
-    /// answer comes back.
+    /// Compiles the request of a number with an answer that is brought, and adds the event. On a
+    /// refusal the answer comes back.
     pub fn post(&mut self, number: u64, brought: Compiled) -> Result<(), (Refusal, Compiled)>
         ensures posts { IfOk result (λ _. PostsTo self.old number brought self.new) }
         ensures refused { IfErr result (λ refused.

@@ -10,8 +10,8 @@ use std::alloc::AllocError;
 use std::marker::Model;
 use std::sync::Arc;
 
-/// A request for a composite schedule (chapter 5.7) that was taken: its number, what its point had then, which has
-/// the connector that is asked, and the `Ask`.
+/// A request for a composite schedule (chapter 5.7) that was taken: its number, what its point had
+/// then, which has the connector that is asked, and the `Ask`.
 #[derive(Drop)]
 pub struct Job {
     number: u64,

@@ -8,8 +8,8 @@ use std::alloc::{AllocError, Global};
 use std::marker::Model;
 use std::sync::ledger::{Ledger, Share};
 
-/// What one session counts: the changes and the answers of its own calls, and the newest version of the store
-/// that it has seen. It fits only the book that it was made with.
+/// What one session counts: the changes and the answers of its own calls, and the newest version of
+/// the store that it has seen. It fits only the book that it was made with.
 #[derive(Drop)]
 pub struct Pass<C: Ledger, A: Ledger> {
     /// Its part of the book's changes, and of its answers.

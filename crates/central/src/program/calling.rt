@@ -107,7 +107,8 @@ impl<R: Input + Print + Eprint + AllocGlobal + RandomSource + Wait + Drop> Calle
         self.send(name, text)
     }
 
-    /// Sends a message, which is reported by this name where it is no CALL, or would clear everything by mistake.
+    /// Sends a message, which is reported by this name where it is no CALL, or would clear
+    /// everything by mistake.
     fn send<N: Display + Copy + Drop>(&mut self, name: N, text: &str) -> Result<(), ProgramFault> {
         let checked = check_sent(self.rt.alloc(), text)?;
         self.say_of(name, &checked)?;

@@ -56,7 +56,8 @@ pub fn skim_take(
     Ok(outcome)
 }
 
-/// Whether no other request is kept, and nothing of the answer to a request is wanted: then it makes no difference.
+/// Whether no other request is kept, and nothing of the answer to a request is wanted: then it
+/// makes no difference.
 fn makes_no_difference(machine: &Machine, take: &Take, wanted: Wanted) -> bool
     ensures { IsTrue result → MayBeSkimmed machine.now take.now }
 {
@@ -72,8 +73,8 @@ fn makes_no_difference(machine: &Machine, take: &Take, wanted: Wanted) -> bool
     is_unwanted(machine, take.point.as_str(), &ask, wanted)
 }
 
-/// Whether nothing of the answer to a request is wanted: whether it is too long is known without it where it surely has no
-/// more periods than an answer may have.
+/// Whether nothing of the answer to a request is wanted: whether it is too long is known without it
+/// where it surely has no more periods than an answer may have.
 fn is_unwanted(machine: &Machine, point: &str, ask: &Ask, wanted: Wanted) -> bool {
     match (wanted, machine.book_of(point)) {
         (Wanted::State, _) => true,
@@ -160,7 +161,8 @@ fn call_sent(outcome: StepOutcome) -> Option<Call>
     }
 }
 
-/// Confirms the call of a number to a point over its link. Where that call isn't in flight, nothing changes.
+/// Confirms the call of a number to a point over its link. Where that call isn't in flight, nothing
+/// changes.
 pub fn confirm_call(
     machine: &mut Machine,
     point: PointId,

@@ -62,7 +62,8 @@ impl fmt::Display for LineFault {
 /// What a line of a script says, by its form.
 #[derive(Drop)]
 pub enum ScriptLine<'a> {
-    /// `INSTANT operator ID FRAME` or `INSTANT point ID FRAME`: a message that comes to the central system.
+    /// `INSTANT operator ID FRAME` or `INSTANT point ID FRAME`: a message that comes to the central
+    /// system.
     Text(SentText<'a>),
     /// `INSTANT hold ID FRAME`: an operator's request for a schedule that is answered later.
     Hold(SentText<'a>),

@@ -173,7 +173,8 @@ pub fn text_outcome(player: &mut Player, text: &SentText<'_>) -> Result<LineOutc
     }
 }
 
-/// What comes of a point's message: its answer, and the call that goes out to the point, which has a link then.
+/// What comes of a point's message: its answer, and the call that goes out to the point, which has
+/// a link then.
 fn point_outcome(player: &mut Player, text: &SentText<'_>) -> Result<LineOutcome, AllocError>
     ensures { IfOk result
         (λ outcome. IsHandled (point_handled player.old text.now) outcome player.new) }

@@ -1,4 +1,4 @@
-//! A script that is played line after line without a writer, and what stands after so many of its lines.
+//! A script that is played line after line without a writer, and the state after N of its lines.
 
 ghost use Rattle.std.specs.Prelude.{◌≡◌, ◌+◌, ◌<◌, ◌≤◌, if◌then◌else◌, IfOk, length};
 ghost use Rattle.replay.specs.Limits.{max_script_bytes};
@@ -16,7 +16,8 @@ use site_rules::Site;
 use std::alloc::{AllocError, Global};
 use std::marker::Model;
 
-/// A script on a site, between two of its lines: what the lines so far led to, and those that are left.
+/// A script on a site, between two of its lines: what the lines so far led to, and those that are
+/// left.
 #[derive(Drop)]
 pub struct Playing<'a> {
     player: Player,
@@ -25,7 +26,8 @@ pub struct Playing<'a> {
     /// The number of the next line.
     number: u64,
     script_faults: u64,
-    /// The lines that have a fault, or a message that was refused; a request whose schedule is too long isn't counted.
+    /// The lines that have a fault, or a message that was refused; a request whose schedule is too
+    /// long isn't counted.
     refused_lines: u64,
 }
 
@@ -156,8 +158,9 @@ impl<'a> Playing<'a> {
         self.script_faults
     }
 
-    /// How many of the lines so far have a fault or a message that was refused, by what they printed. A request whose
-    /// schedule is too long isn't among them, since that isn't known where none was made. No clause says this number.
+    /// How many of the lines so far have a fault or a message that was refused, by what they
+    /// printed. A request whose schedule is too long isn't among them, since that isn't known where
+    /// none was made. No clause says this number.
     pub fn refused_lines(&self) -> u64 {
         self.refused_lines
     }

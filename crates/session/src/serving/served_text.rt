@@ -128,7 +128,8 @@ fn outcome_of_step<C: Ledger, A: Ledger, R: Wait, M: Moments, J: Journal>(
     }
 }
 
-/// Makes the one call on the shared book that the step of a message stands for, and notes the message.
+/// Makes the one call on the shared book that the step of a message stands for, and notes the
+/// message.
 fn perform_noted<C: Ledger, A: Ledger, R: Wait, M: Moments, J: Journal>(
     context: &Context<'_, C, A, R, M, J>,
     pass: &mut Pass<C, A>,
