@@ -1,7 +1,7 @@
 //! The central system as a program. `central replay` plays a script from standard input on a site,
-//! and writes its output to standard output. `central serve` serves the site to operators and charge
-//! points over WebSocket. `central call` and `central point` are the other ends: an operator's
-//! client, and a simulated charge point.
+//! and writes its output to standard output. `central serve` serves the site to operators and
+//! charge points over WebSocket. `central call` and `central point` are the other ends: an
+//! operator's client, and a simulated charge point.
 #![tactic(auto)]
 
 mod program;

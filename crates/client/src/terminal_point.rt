@@ -1,4 +1,4 @@
-//! A simulated charge point that is led by lines of text.
+//! A simulated charge point that does what lines of text say.
 
 use crate::fault::ClientFault;
 use crate::lines::Lines;

@@ -257,8 +257,8 @@ fn warn_recurrence(
     }
 }
 
-/// That a Daily or Weekly profile sets no limit from one offset of its day or week to another: by
-/// the clock where that is known, and else in seconds.
+/// That a Daily or Weekly profile sets no limit from one offset of its day or week to another. They
+/// are given by the clock if that is known, and else in seconds.
 fn warn_gap(
     report: &mut Report,
     profile: &Profile,

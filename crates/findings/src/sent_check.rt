@@ -26,11 +26,11 @@ use std::alloc::{AllocError, Global};
 pub struct SentCheck {
     /// Why it is no CALL, where it isn't one.
     pub no_call: Option<String>,
-    /// What is wrong with its action, its fields and its profile by themselves; fields without an
-    /// effect and duplicate fields; and a clear that clears more than it seems to.
+    /// What is wrong with its action, its fields and its profile on their own. Also fields without
+    /// an effect, duplicate fields, and a clear that clears more than it seems to.
     pub findings: Vec<Finding>,
-    /// Whether it is a ClearChargingProfile that would clear everything by mistake: its payload has
-    /// fields, and none of them is a criterion, since they are others or null.
+    /// Whether it is a ClearChargingProfile that would clear everything by mistake. Its payload has
+    /// fields, and none of them is a criterion: they are others or null.
     pub clears_by_mistake: bool,
 }
 

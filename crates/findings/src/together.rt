@@ -193,8 +193,8 @@ fn count_alike(view: &View<'_>, connector: u32) -> u64 {
 }
 
 /// Whether the limits of two connectors are the same. It is one connector, or they have the same
-/// ceiling and transactions that began at the same moment or none, and neither has a profile of its
-/// own.
+/// ceiling, and neither has a profile of its own. Their transactions began at the same moment, or
+/// they have none.
 fn are_alike(view: &View<'_>, one: u32, other: u32) -> bool {
     if one == other {
         return true;

@@ -170,9 +170,9 @@ printed_numbers_obeyed site script place are_obeyed =
     obeyed_numbers are_obeyed
     (numbers_of_calls (calls_printed_to site place (lines_of site script)))
 
--- A point obeys what is printed for it, in the order of the lines, though any of it may be lost: it
--- obeys each call at least once that it confirms. Its lasting rows are then those that the central
--- system had for it at a moment of the last call that it obeyed.
+-- A point obeys what is printed for it, in the order of the lines. Any of it may be lost, but it
+-- obeys each confirmed call at least once. Its lasting rows are then those that the central system
+-- had for it at a moment of the last call that it obeyed.
 abbrev pub PrintedCallsKeepPointsInStep : (site : SiteState) (script : List ℕ)
     → ScriptRun site script → Type 0
 PrintedCallsKeepPointsInStep site script run =

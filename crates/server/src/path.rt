@@ -8,8 +8,8 @@ pub enum PathPeer<'a> {
     Point(&'a str),
 }
 
-/// Whom a path names, which has no query: `/operator/ID` an operator for the point of that
-/// identity, and any other path the point whose identity is its last segment.
+/// Whom a path without a query names. `/operator/ID` is an operator for the point of that identity.
+/// Any other path is the point whose identity is its last segment.
 pub fn peer_of_path(path: &str) -> PathPeer<'_> {
     match path.strip_prefix("/operator/") {
         Some(id) if !id.contains('/') => PathPeer::Operator(id),

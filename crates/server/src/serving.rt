@@ -34,9 +34,9 @@ pub enum ServeFault {
     OutOfMemory,
 }
 
-/// Serves a site: accepts N connections, each served on a thread of its own, with workers next to
-/// them, and ends when all have ended. After the last one the listener is closed. Gives how many
-/// changes were made and answers handed out in all sessions.
+/// Serves a site: accepts N connections, each served on a thread of its own, and ends when all have
+/// ended. Workers on other threads compile. After the last one the listener is closed. Gives how
+/// many changes were made and answers handed out in all sessions.
 pub fn serve<R: Threads + Wait + Sync, M: Moments + Sync>(
     rt: &R,
     alloc: Global,

@@ -17,7 +17,7 @@ use Rattle.session.specs.Session.{SessionState}
 use Rattle.session.specs.Todo.{TodoState, IsTodo, answer_text}
 
 -- An answer is that of a job: for the request of its number, with the book and the `Ask` that the
--- Take of that request kept, and right for these.
+-- Take of that request kept. It is right for these.
 pub record IsAnswerTo (job : RequestedJob) (handed : HandedAnswer) : Type 0 where
   pub number : handed.number ≡ job.number
   pub book : handed.book ≡ job.book

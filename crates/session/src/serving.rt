@@ -24,11 +24,11 @@ use std::sync::ledger::Ledger;
 use tungstenite::{MaskKeys, WebSocket};
 use version_store::{Job, Pass, Shared};
 
-/// Serves a session over its socket, after its handshake, until that is closed or fails: makes the
-/// step of each message on the shared book, and answers it. A request for a schedule goes to the
-/// workers, and is compiled here where none of them takes it. Each message of a point is followed
-/// by the call that waits for the point, if one does; and in the end the point's link is lost.
-/// Gives back the pass, which counts no less than before.
+/// Serves a session over its socket, after its handshake, until that is closed or fails. It makes
+/// the step of each message on the shared book, and answers it. A request for a schedule goes to
+/// the workers, and is compiled here where none of them takes it. Each message of a point is
+/// followed by the call that waits for the point, if one does; and in the end the point's link is
+/// lost. Gives back the pass, which counts no less than before.
 pub fn serve_socket<
     S: Read + Write + Drop,
     K: MaskKeys + Drop,

@@ -56,8 +56,8 @@ impl Model for SimPoint {
 
 impl SimPoint {
     /// A point with limits in this unit, a ceiling and the ceilings of its connectors 1, 2, .., in
-    /// tenths, and with neither profiles nor transactions, which has these steps to do. More
-    /// connectors than fit a `u32` are answered as out of memory.
+    /// tenths. It has neither profiles nor transactions, and these steps to do. More connectors
+    /// than fit a `u32` are answered as out of memory.
     pub fn try_new(
         alloc: Global,
         unit: Unit,
@@ -148,9 +148,9 @@ impl SimPoint {
         }
     }
 
-    /// The message of the next call that the steps make, which is then in flight, or `None` where a
-    /// call is in flight, or no step is left that makes one. Its id is its number in decimal, and
-    /// `now` its timestamp. The refusal is `OutOfMemory`, and then nothing changes.
+    /// The message of the next call that the steps make, which is then in flight. `None` if a call
+    /// is in flight, or no step is left that makes one. Its id is its number in decimal, and `now`
+    /// its timestamp. The refusal is `OutOfMemory`, and then nothing changes.
     pub fn next_call(&mut self, now: Instant) -> Result<Option<String>, Refusal>
         ensures called { IfOk result (λ text. called self.old now
             ≡ record { text = option_map string_bytes text; after = self.new }) }

@@ -26,8 +26,8 @@ opening_point point =
 
 -- ---- what a step does at a point
 
--- All that is said of what a step does at its point is read from here: the point after it, the call
--- to the point, and what the laws over histories say.
+-- All that is said of what a step does at its point is read from here. That is the point after it,
+-- the call to the point, and what the laws over histories say.
 pub data Deed : Type 0 where
   -- a profile is installed, and the point is called to install it (OCPP 1.6, 5.16)
   Installs : (row : Row) → Deed

@@ -15,8 +15,8 @@ ghost use Rattle.site_core.specs.CallOrder.{CallsBeginAtZero, CallsStayConsecuti
 /// The laws of the calls to each point of a site, along every legal history from an opening state.
 /// What the machine keeps of its calls to the point is what the point's own events make of the
 /// opening outbox. The numbers of the calls that Send replies for it begin with 0, and each later
-/// one equals the one before it or is one more. Each call that is sent is the one of its number:
-/// call 0 clears all profiles, and call k is the k-th Install or Clear of the point that was
+/// one equals the one before it or is one more. Each call that is sent is the one of its number.
+/// Call 0 clears all profiles, and call k is the k-th Install or Clear of the point that was
 /// accepted. And the calls that are kept are calls 0, 1, .. without the confirmed ones, which are
 /// those that Confirm took note of, in that order.
 pub fn histories_send_calls_in_order()

@@ -142,7 +142,7 @@ pub fn requests_go_on_from_any_state()
 {}
 
 /// The law that the numbers count a history. Each change of a point's book draws a version of the
-/// store, each Take a request's number, and a request is kept from its Take until its answer is
+/// store, and each Take a request's number. A request is kept from its Take until its answer is
 /// handed out.
 pub fn numbers_tell_of_histories()
     ensures { NumbersTellOfHistories }

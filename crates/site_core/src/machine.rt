@@ -136,7 +136,7 @@ impl Machine {
         self.numbers.version
     }
 
-    /// How many requests for schedules are kept. With what is always so of the central system: no
+    /// How many requests for schedules are kept. With what is always so of the central system. No
     /// number is above its limit, no more requests are kept than may be, and each point of the site
     /// is kept.
     pub fn open_requests(&self) -> usize

@@ -58,8 +58,7 @@ impl PreparedCall {
 }
 
 /// What the central system keeps of its calls to a charge point: the point's present link, and the
-/// calls that aren't confirmed, of which the first is in flight or waits. Call 0 clears all
-/// profiles.
+/// unconfirmed calls. The first of these is in flight or waits. Call 0 clears all profiles.
 #[derive(Debug, Drop)]
 pub struct Outbox {
     /// The number of the point's present link.
@@ -208,9 +207,9 @@ impl Outbox {
         self.next += 1;
     }
 
-    /// A copy of the first call, which is in flight from then on: `None` where there is no link,
-    /// where a call is in flight, and where none waits. Out of memory, which only the copy of a
-    /// call wants, nothing changes.
+    /// A copy of the first call, which is in flight from then on. `None` if there is no link, if a
+    /// call is in flight, and if none waits. Out of memory, which only the copy of a call wants,
+    /// nothing changes.
     pub fn send(&mut self) -> Result<Option<Call>, AllocError>
         ensures call { IfOk result (λ call. call ≡ sendable self.old) }
         ensures outbox { OnOk result (self.new ≡ sent self.old) }

@@ -1,4 +1,4 @@
-//! A seeded run in which sendings, replies and links are lost: after each confirmed call, a point
+//! A seeded run in which sendings, replies and links are lost. After each confirmed call, a point
 //! that obeys has what the store had after the call's change.
 
 use crate::obeying_point::{Keys, RandomNumbers, lasting, obey};

@@ -14,8 +14,8 @@ use std::process::Abort;
 const SITE: &str =
     r#"{"unit":"A","points":[{"id":"CP1","ceiling":63.0,"connectors":[32.0,32.0]},{"id":"garage","ceiling":40.0,"connectors":[32.0]}]}"#;
 
-/// On each line what an operator sends to CP1 at the beginning of 2025, and behind the mark a piece
-/// of each finding, with ` + ` between them, or `-` for none.
+/// On each line what an operator sends to CP1 at the beginning of 2025. Behind the mark stands a
+/// piece of each finding, with ` + ` between them, or `-` for none.
 const OPERATOR_TEXTS: &str = r#"[2,"a","ClearChargingProfile",{"id":9}] => -
 [2,"a","ClearChargingProfile",{"chargingProfileId":9}] => warning: a clear without a criterion clears EVERYTHING
 [2,"a","ClearChargingProfile",{"chargingProfileId":9}] => "chargingProfileId" isn't one ("id" is)
@@ -47,8 +47,8 @@ const OPERATOR_TEXTS: &str = r#"[2,"a","ClearChargingProfile",{"id":9}] => -
 [2,"a","GetCompositeSchedule",{"connector":1,"duration":60}] => OccurenceConstraintViolation: connectorId: it is absent + "connector" is no field of OCPP there
 "#;
 
-/// On each line the chargingProfilePurpose, further fields of a profile and a schedule that are
-/// installed at connector 1 (a ChargePointMaxProfile at 0), and behind the mark pieces of the
+/// On each line the chargingProfilePurpose, further fields of a profile, and a schedule. They are
+/// installed at connector 1 (a ChargePointMaxProfile at 0). Behind the mark stand pieces of the
 /// findings.
 const PROFILES: &str =
     r#"TxDefaultProfile | "chargingProfileKind":"Absolute" | "chargingSchedulePeriod":[{"startPeriod":0,"limit":16}] => -

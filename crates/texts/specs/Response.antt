@@ -26,8 +26,8 @@ schedule_response unit kind ask (Ok schedule) = responses.Schedule
 schedule_response unit kind ask (Err refusal) = refused_response kind refusal
 
 -- A reply as a response to a CALL of this kind. A retransmitted start is answered as the first
--- time. No CALL is answered that its request is taken or compiled, or that the central system is
--- stopped, nor with what becomes of a link or of a call.
+-- time. No answer says that a request is taken or compiled, that the central system is stopped, or
+-- what becomes of a link or of a call.
 abbrev pub reply_response : Unit → ActionKind → Reply → Option Response
 reply_response unit kind Accepted = Some responses.Accepted
 reply_response unit kind Unknown = Some responses.Unknown

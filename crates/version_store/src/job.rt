@@ -11,7 +11,7 @@ use std::marker::Model;
 use std::sync::Arc;
 
 /// A request for a composite schedule (chapter 5.7) that was taken: its number, what its point had
-/// then, which has the connector that is asked, and the `Ask`.
+/// then, and the `Ask`. The point has the connector that is asked.
 #[derive(Drop)]
 pub struct Job {
     number: u64,

@@ -73,8 +73,8 @@ fn makes_no_difference(machine: &Machine, take: &Take, wanted: Wanted) -> bool
     is_unwanted(machine, take.point.as_str(), &ask, wanted)
 }
 
-/// Whether nothing of the answer to a request is wanted: whether it is too long is known without it
-/// where it surely has no more periods than an answer may have.
+/// Whether nothing of the answer to a request is wanted. Whether it is too long is known without it
+/// if it surely has no more periods than an answer may have.
 fn is_unwanted(machine: &Machine, point: &str, ask: &Ask, wanted: Wanted) -> bool {
     match (wanted, machine.book_of(point)) {
         (Wanted::State, _) => true,

@@ -127,8 +127,8 @@ impl Player {
         step_at_once(&mut self.machine, step)
     }
 
-    /// Makes a Take and answers its request at once, for what is wanted of it alone: where it can
-    /// do without, no schedule is made but of the first second.
+    /// Makes a Take and answers its request at once, for what is wanted of it alone. If it can do
+    /// without, no schedule is made but of the first second.
     pub fn skim_take(&mut self, take: Take, wanted: Wanted) -> Result<StepOutcome, AllocError>
         ensures { IfOk result (λ outcome. Skims self.old
             (stepped_at_once self.old.machine (steps.Take take)) outcome self.new) }
