@@ -127,8 +127,8 @@ finished_since opening events number book ask (inr before) finish = inr finish
 
 -- ---- kept requests
 
--- It was taken, or kept before; its answer is right, and Stopped only after a Finish. Its number isn't
--- above the one drawn last.
+-- It was taken, or kept before; its answer is right, and Stopped only after a Finish. Its number
+-- isn't above the one drawn last.
 pub record IsKept (opening : MachineState) (events : List Event) (drawn : ℕ) (kept : Kept)
     : Type 0 where
   pub origin : Origin opening events kept.number kept.book kept.ask

@@ -339,8 +339,8 @@ const ANSWERS: &str = r#"[3,"a",{"status":"Accepted"}] => -
 fn answer(rt: &impl Abort, alloc: Global, row: &str) {
     let (answer, wanted) = row_of(row);
     let sentence = answer_sentence(alloc, answer).expect(rt, "error");
-    let told = sentence.as_deref().unwrap_or("-");
-    holds(rt, told.starts_with(wanted), answer);
+    let found = sentence.as_deref().unwrap_or("-");
+    holds(rt, found.starts_with(wanted), answer);
 }
 
 #[test]
@@ -376,8 +376,8 @@ fn sent_text(rt: &impl Abort, alloc: Global, row: &str) {
     let (text, rest) = row_of(row);
     let (by_mistake, wanted) = row_of(rest);
     let sent = check_sent(alloc, text).expect(rt, "error");
-    let is_told_so = sent.clears_by_mistake == (by_mistake == "true");
-    holds(rt, is_told_so, text);
+    let agrees = sent.clears_by_mistake == (by_mistake == "true");
+    holds(rt, agrees, text);
     are(rt, alloc, &sent.findings, wanted, text);
 }
 

@@ -92,12 +92,12 @@ fn read_fault(alloc: Global, bytes: &[u8]) -> Option<SiteFault> {
 }
 
 /// The fault has this name, which is `-` where there is none.
-fn is_named(rt: &impl Abort, alloc: Global, fault: Option<SiteFault>, wanted: &str, told: &str) {
+fn is_named(rt: &impl Abort, alloc: Global, fault: Option<SiteFault>, wanted: &str, case: &str) {
     let Some(fault) = fault else {
-        return same_text(rt, "-", wanted, told);
+        return same_text(rt, "-", wanted, case);
     };
     let name = format!(in alloc; "{fault}").expect(rt, "error");
-    same_text(rt, name.as_str(), wanted, told);
+    same_text(rt, name.as_str(), wanted, case);
 }
 
 fn first_and_read(rt: &impl Abort, alloc: Global, row: &str) {
