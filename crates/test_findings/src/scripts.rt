@@ -31,7 +31,7 @@ const OPERATOR_TEXTS: &str = r#"[2,"a","ClearChargingProfile",{"id":9}] => -
 [2,"a","GetCompositeSchedule",{"connectorId":1,"duration":60} => breaks at column 96, where `,` or `]` is wanted, and the JSON ends
 [2,'a',"GetCompositeSchedule",{}] => double quotes
 [2,“a”,"GetCompositeSchedule",{}] => a typographic quote
-[2,5,"GetCompositeSchedule",{}] => dropped without a word: the second element
+[2,5,"GetCompositeSchedule",{}] => discarded without an answer: the second element
 [2,"urn:uuid:00000000-0000-0000-0000-000000000000","GetCompositeSchedule",{}] => at most 36 characters
 {} => a frame is a list
 [7,"a"] => none of 2 (CALL)
