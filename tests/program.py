@@ -406,7 +406,7 @@ def order_problems(program, folder):
     none, bad, good = (os.path.join(folder, name) for name in ("none", "blank", "good"))
     read, words = b"central: device: read\n", b"central: command line: "
     no_site = f"central: {none}: it isn't there, is a folder, or may not be read\n".encode() + read
-    payload = f"central: {none}: it isn't there, may not be read, isn't UTF-8, or is longer than a text may be\n".encode() + read
+    payload = f"central: {none}: it isn't there, may not be read, isn't UTF-8, or is longer than a message may be\n".encode() + read
     url = b"central: url: not ws://HOST:PORT/PATH\n"
     # Nobody listens at port 9, and nothing can at `nowhere`.
     point = ["point", "--url", "ws://127.0.0.1:9", "--site"]

@@ -73,7 +73,7 @@ def mistakes_before_a_call(program):
         profile.flush()
         status, out, error = operator(serving, "--set-profile", profile.name)
         expect("a field of no meaning", (status, out), (0, b'[3,"set-profile",{"status":"Accepted"}]\n'))
-        wanted = b'set-profile: warning: "limits" is no field of OCPP there and counts for nothing ("limit" is one)\n'
+        wanted = b'set-profile: warning: "limits" is no field of OCPP there and has no effect ("limit" is one)\n'
         expect("what is said of it", error, wanted)
         kept = (2, b"! clear NoCriterion\n" + SCHEDULE % (b"ask", 1, b"8.0"))
         status, out, error = operator(serving, "--clear", '{"chargingProfileId":1}', "--ask", "1", "60")
@@ -84,7 +84,7 @@ def mistakes_before_a_call(program):
         expect("clears from lines", (status, out), (2, b'! 1 NoCriterion\n[3,"b",{"status":"Accepted"}]\n'))
         first, second = error.splitlines()
         expect("the first", first, CLEARS_ALL.replace(b"clear:", b"1:", 1) + b'; "ID" isn\'t one ("id" is)')
-        expect("the second", second.startswith(b'2: warning: "level" is no criterion and counts for nothing'), True)
+        expect("the second", second.startswith(b'2: warning: "level" is no criterion and has no effect'), True)
         expect("the totals", serving.totals(), (2, 1))
 
 
@@ -101,12 +101,12 @@ def lines_of_call(program):
         b'[4,"e","TypeConstraintViolation","duration",{}]\n'
     )
     why = (
-        b"2: its JSON breaks at column 7, where `,` or `]` is wanted, and the text ends\n"
+        b"2: its JSON breaks at column 7, where `,` or `]` is wanted, and the JSON ends\n"
         b"4: an operator sends CALLs, which begin with [2,\n"
         b'6: NotImplemented: "Reset" is no action of an operator that is known here\n'
         b"6: NotImplemented: the action isn't known here, or is one of the other side\n"
-        b"7: FormationViolation: the CALL is malformed: its action is no text, or its payload no object\n"
-        b'8: TypeConstraintViolation: duration: "60" is a text; a whole number of seconds from 0 on is wanted\n'
+        b"7: FormationViolation: the CALL is malformed: its action is no string, or its payload no object\n"
+        b'8: TypeConstraintViolation: duration: "60" is a string; a whole number of seconds from 0 on is wanted\n'
         b"8: TypeConstraintViolation: duration: the field is of another kind of JSON than it has to be\n"
     )
     with Serving(program, SITE, 2) as serving:
@@ -125,7 +125,7 @@ def faults_of_call(program):
         for path in ("none", "/", binary.name):
             binary.write(b"\xff")
             binary.flush()
-            why = f"central: {path}: it isn't there, may not be read, isn't UTF-8, or is longer than a text may be\n".encode()
+            why = f"central: {path}: it isn't there, may not be read, isn't UTF-8, or is longer than a message may be\n".encode()
             expect(f"the file {path}", operator(serving, "--set-profile", path), (3, b"", why + b"central: device: read\n"))
         expect("the totals", serving.totals(), (0, 0))
     no_url = (4, b"", b"central: url: not ws://HOST:PORT/PATH\n")

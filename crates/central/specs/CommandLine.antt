@@ -17,7 +17,7 @@ use Rattle.central.specs.declared.program.command_line.Explaining.{Explaining}
 use Rattle.central.specs.declared.program.command_line.Checking.{Checking}
 use Rattle.central.specs.declared.program.command_line.Showing.{Showing}
 
--- at most so many workers, and so many connections in all
+-- the most workers, and the most connections in all
 abbrev pub max_workers : ℕ
 max_workers = 8
 
@@ -86,10 +86,12 @@ point_command =
     (needed (codes "id"))
 
 -- A script has no more lines than bytes.
--- `explain --site F --point ID --connector C --start INSTANT --duration D [--at N] [--picture FILE] [--json]`
+-- `explain --site F --point ID --connector C --start INSTANT --duration D
+-- [--at N] [--picture FILE] [--json]`
 abbrev pub explain_command : App
 explain_command =
-    with_rule (with_rule (with_rule (with_rule (with_rule (with_rule (with_rule (with_rule (new_app (codes "explain"))
+    with_rule (with_rule (with_rule (with_rule (with_rule (with_rule (with_rule (with_rule
+    (new_app (codes "explain"))
     (needed (codes "site")))
     (needed (codes "point")))
     (numbered 0 max_connectors (needed (codes "connector"))))
@@ -124,8 +126,8 @@ top_command name =
 -- the program's commands
 unfoldable pub central_app : App
 central_app =
-    with_subcommand (with_subcommand (with_subcommand (with_subcommand (with_subcommand (with_subcommand
-    (with_subcommand (top_command (codes "central"))
+    with_subcommand (with_subcommand (with_subcommand (with_subcommand (with_subcommand
+    (with_subcommand (with_subcommand (top_command (codes "central"))
     replay_command.top) serve_command.top) call_command.top) point_command.top)
     explain_command.top) check_command.top) show_command.top
 

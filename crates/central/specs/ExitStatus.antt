@@ -1,5 +1,5 @@
--- The program's exit statuses: 0 done; 1 the site file has a fault; 2 the script has one; 3 a device
--- or a socket failed or memory ran out; 4 no such command line.
+-- The program's exit statuses: 0 done; 1 the site file has a fault; 2 the script has one; 3 a
+-- device or a socket failed or memory ran out; 4 no such command line.
 use Rattle.std.specs.Prelude.{ℕ, ◌==◌, if◌then◌else◌}
 use Rattle.replay.specs.declared.script.run.ReplayFault.{ReplayFault}
 use Rattle.replay.specs.declared.script.run.ReplayFault.TheVariants as replay_fault

@@ -6,7 +6,7 @@ use Rattle.central.specs.declared.program.program_fault.ProgramFault.{ProgramFau
 use Rattle.central.specs.declared.program.program_fault.ProgramFault.TheVariants.{Site, SiteFile, OutOfMemory}
 use Rattle.site_rules.specs.ByCases.SiteReading.{site_of}
 
--- want of memory is no fault of the site file
+-- a failed allocation is no fault of the site file
 abbrev pub site_stop : SiteFault → ProgramFault
 site_stop site_fault.OutOfMemory = OutOfMemory
 site_stop fault = Site fault

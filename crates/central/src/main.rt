@@ -1,6 +1,6 @@
-//! The central system as a program. `central replay --site F` plays a script from standard input on a site and
-//! writes its output to standard output; `central serve --site F --listen A --workers N --sessions K` serves the
-//! site to operators and charge points over WebSocket. `central call` and `central point` are the other ends: an
+//! The central system as a program. `central replay` plays a script from standard input on a site,
+//! and writes its output to standard output. `central serve` serves the site to operators and
+//! charge points over WebSocket. `central call` and `central point` are the other ends: an
 //! operator's client, and a simulated charge point.
 #![tactic(auto)]
 
@@ -113,7 +113,7 @@ fn naming<T, R: Eprint>(
     let why = match &done {
         Err(ProgramFault::SiteFile) => "it isn't there, is a folder, or may not be read",
         Err(ProgramFault::File) => {
-            "it isn't there, may not be read, isn't UTF-8, or is longer than a text may be"
+            "it isn't there, may not be read, isn't UTF-8, or is longer than a message may be"
         }
         _ => return done,
     };

@@ -59,7 +59,7 @@ pub fn connect<R: Net<Stream = TcpStream> + RandomSource + Copy + Drop>(
     let Ok(stream) = TcpStream::connect(rt, (host, port)) else {
         return Err(ClientFault::Connection);
     };
-    // A text leaves at once. Where that can't be set, it leaves later.
+    // A message leaves at once. Where that can't be set, it leaves later.
     let _ = stream.set_nodelay(true);
     match client(alloc, *rt, request, stream) {
         Ok((socket, _)) => Ok(socket),

@@ -9,8 +9,8 @@ pub enum ClientFault {
     /// The URL isn't of the form `ws://HOST:PORT/PATH`; without a port it is 80.
     #[error("url: not ws://HOST:PORT/PATH")]
     Url,
-    /// The URL of an operator's client doesn't end in `/operator/ID`. At another one it would be taken for the charge
-    /// point of its last segment, and get the calls to that.
+    /// The URL of an operator's client doesn't end in `/operator/ID`. At another one it would be
+    /// taken for the charge point of its last segment, and get the calls to that.
     #[error("url: an operator's URL ends in /operator/ID")]
     NotOperator,
     /// Nobody listens there.
@@ -19,7 +19,8 @@ pub enum ClientFault {
     /// Whoever listens there doesn't speak WebSocket with the subprotocol of OCPP 1.6.
     #[error("url: no OCPP 1.6 there")]
     Handshake,
-    /// The central system closed the connection before the end. It does so at once where its site has no such point.
+    /// The central system closed the connection before the end. It does so at once where its site
+    /// has no such point.
     #[error("url: closed by the central system, which may have no such point")]
     Closed,
     /// The connection failed before the end.

@@ -1,5 +1,6 @@
-//! Programs for people at the other end of the central system's sockets (OCPP-J 1.6): an operator's client, which
-//! sends texts and prints what they are answered, and a simulated charge point that is led by lines of text.
+//! Programs for people at the other end of the central system's sockets (OCPP-J 1.6). An operator's
+//! client sends messages and prints the answers. A simulated charge point does what lines of text
+//! say.
 #![tactic(auto)]
 
 mod connecting;

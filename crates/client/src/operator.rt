@@ -11,12 +11,12 @@ use std::net::OpenStream;
 use std::sync::Wait;
 use tungstenite::{MaskKeys, Utf8Bytes, WebSocket};
 
-/// What became of a text.
+/// What became of a message.
 #[derive(Drop)]
 pub enum CallEnd {
     /// It was answered, neither by an error nor as Rejected.
     Accepted,
-    /// It was answered by a CALLERROR, or as Rejected: by this text.
+    /// It was answered by a CALLERROR, or as Rejected: by this message.
     Refused(Utf8Bytes),
     /// It is no CALL, so it wasn't sent: no answer would ever come.
     NotACall,
@@ -39,7 +39,8 @@ impl<S: Read + Write + OpenStream + Drop, K: MaskKeys + Drop> OperatorClient<S, 
         }
     }
 
-    /// Sends a CALL and waits for its answer. Each text that comes until then is written on a line of its own.
+    /// Sends a CALL and waits for its answer. Each message that comes until then is written on a
+    /// line of its own.
     pub fn call<R: Wait, W: Write>(
         &mut self,
         rt: &R,
@@ -77,7 +78,7 @@ fn write_line<W: Write>(writer: &mut W, text: &str) -> Result<(), ClientFault> {
     }
 }
 
-/// The id of a text's CALL, that of a malformed one too: the central system answers that.
+/// The id of a message's CALL, that of a malformed one too: the central system answers that.
 fn id_of_call(memory: &mut ReadingMemory, text: &str) -> Result<Option<MessageId>, ClientFault> {
     match read_frame(memory, text) {
         Ok(Frame::Call { id, .. }) => Ok(Some(id)),
@@ -95,7 +96,7 @@ enum Verdict {
     Refused,
 }
 
-/// What a text says of the CALL of an id, if it answers that.
+/// What a message says of the CALL of an id, if it answers that.
 fn verdict_of(
     memory: &mut ReadingMemory,
     text: &str,

@@ -13,7 +13,8 @@ pub fn clear_call(alloc: Global, payload: &str) -> Result<String, AllocError> {
     write_call(alloc, "clear", "ClearChargingProfile", payload)
 }
 
-/// GetCompositeSchedule (chapter 5.7) of a connector, and for so many seconds, each given as its text.
+/// GetCompositeSchedule (chapter 5.7) of a connector, and for this many seconds, each given as its
+/// text.
 pub fn ask_call(alloc: Global, connector: &str, seconds: &str) -> Result<String, AllocError> {
     let payload = format!(in alloc; "{{\"connectorId\":{connector},\"duration\":{seconds}}}")?;
     write_call(alloc, "ask", "GetCompositeSchedule", payload.as_str())

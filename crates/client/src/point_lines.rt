@@ -10,15 +10,15 @@ use std::str::FromStr;
 pub enum PointLine {
     /// To make a call of its own.
     Step(SimStep),
-    /// To wait so many seconds, and to answer what comes meanwhile.
+    /// To wait this many seconds, and to answer what comes meanwhile.
     Pause(u64),
 }
 
 /// The longest pause, a day in seconds.
 const MAX_PAUSE: u64 = 86_400;
 
-/// Reads a line: `heartbeat`, `start CONNECTOR TAG METER`, `stop CONNECTOR` or `pause SECONDS`, with blanks
-/// between its words. `None` where it is none of these.
+/// Reads a line: `heartbeat`, `start CONNECTOR TAG METER`, `stop CONNECTOR` or `pause SECONDS`,
+/// with blanks between its words. `None` where it is none of these.
 pub fn point_line(alloc: Global, text: &str) -> Result<Option<PointLine>, AllocError> {
     let mut words = text.split_whitespace();
     let line = match words.next() {

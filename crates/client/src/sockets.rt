@@ -1,4 +1,4 @@
-//! Texts from a socket and to it.
+//! Messages from a socket and to it.
 
 use crate::fault::ClientFault;
 use std::alloc::Global;
@@ -48,8 +48,8 @@ fn came_with(error: Error) -> Result<Came, ClientFault> {
     }
 }
 
-/// The kinds of error by which a system says that the time to wait is over, or that waiting was interrupted: where it
-/// waits for a time, it is interrupted also by a stop of the program that goes on later.
+/// The kinds of error by which a system says that the time to wait is over, or that waiting was
+/// interrupted. A stop of the program that goes on later interrupts it too.
 fn is_no_fault(kind: ErrorKind) -> bool {
     matches!(
         kind,
@@ -57,7 +57,7 @@ fn is_no_fault(kind: ErrorKind) -> bool {
     )
 }
 
-/// Sends a text.
+/// Sends a message.
 pub(crate) fn send<S: Read + Write + Drop, K: MaskKeys + Drop>(
     alloc: Global,
     socket: &mut WebSocket<S, K>,
@@ -71,8 +71,8 @@ pub(crate) fn send<S: Read + Write + Drop, K: MaskKeys + Drop>(
     }
 }
 
-/// Closes the connection, and waits until the other side has done so too. At most so many messages are still read, and
-/// one that doesn't come for so long isn't waited for.
+/// Closes the connection, and waits until the other side has done so too. At most this many
+/// messages are still read, and one that doesn't come for so long isn't waited for.
 pub(crate) fn close<S: Read + Write + OpenStream + Drop, K: MaskKeys + Drop>(
     socket: &mut WebSocket<S, K>,
 ) {

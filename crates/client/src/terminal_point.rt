@@ -1,4 +1,4 @@
-//! A simulated charge point that is led by lines of text.
+//! A simulated charge point that does what lines of text say.
 
 use crate::fault::ClientFault;
 use crate::lines::Lines;
@@ -15,8 +15,8 @@ use std::time;
 use std::time::Duration;
 use tungstenite::{MaskKeys, WebSocket};
 
-/// A simulated charge point, connected. What it sends and gets is written, each text on a line of its own
-/// behind `sent` or `got`.
+/// A simulated charge point, connected. What it sends and gets is written, each message on a line
+/// of its own behind `sent` or `got`.
 #[derive(Drop)]
 pub struct TerminalPoint<'a, S: Read + Write, K: MaskKeys, W: Write> {
     pub alloc: Global,
@@ -26,8 +26,9 @@ pub struct TerminalPoint<'a, S: Read + Write, K: MaskKeys, W: Write> {
 }
 
 impl<S: Read + Write + OpenStream + Drop, K: MaskKeys + Drop, W: Write> TerminalPoint<'_, S, K, W> {
-    /// Does what each line says, and closes the connection behind the last one. A line that says nothing, or a
-    /// step that makes no call, is written as `! NUMBER NAME`. Returns how many there were.
+    /// Does what each line says, and closes the connection behind the last one. A line that says
+    /// nothing, or a step that makes no call, is written as `! NUMBER NAME`. Returns how many there
+    /// were.
     pub fn play<R: Wait + Clock, I: Read + Drop, M: Moments>(
         mut self,
         rt: &R,
@@ -68,7 +69,8 @@ impl<S: Read + Write + OpenStream + Drop, K: MaskKeys + Drop, W: Write> Terminal
         }
     }
 
-    /// Makes the call of a step, and waits for its reply. The name of the fault, if the step makes none.
+    /// Makes the call of a step, and waits for its reply. The name of the fault, if the step makes
+    /// none.
     fn make_step<R: Wait, M: Moments>(
         &mut self,
         rt: &R,
@@ -94,7 +96,7 @@ impl<S: Read + Write + OpenStream + Drop, K: MaskKeys + Drop, W: Write> Terminal
         Ok(None)
     }
 
-    /// Answers what comes within so many seconds.
+    /// Answers what comes within this many seconds.
     fn pause<R: Wait + Clock, M: Moments>(
         &mut self,
         rt: &R,

@@ -8,7 +8,7 @@ use Rattle.version_store.specs.Answers.{RequestedJob}
 use Rattle.version_store.specs.Calls.{PostsTo}
 use Rattle.version_store.specs.Store.{StoreState}
 
--- compiled for the book and the ask of a job; that it is right for these is kept by its type
+-- compiled for the book and the `Ask` of a job; that it is right for these is kept by its type
 pub record IsOfJob (job : RequestedJob) (compiled : CompiledAnswer) : Type 0 where
   pub book : compiled.book ≡ job.book
   pub ask : compiled.ask ≡ job.ask

@@ -1,7 +1,7 @@
 //! What a worker passes before it compiles.
 
-/// A worker passes it with the number of each request before it compiles that. It can hold a worker up, as tests
-/// do, and can't change what is compiled.
+/// A worker passes it with the number of each request before it compiles that. It can hold a worker
+/// up, as tests do, and can't change what is compiled.
 pub trait Gate {
     fn enter(&self, number: u64);
 }

@@ -1,5 +1,5 @@
-//! Workers on threads, which compile requests for schedules (OCPP 1.6, chapter 5.7) outside the lock of the shared
-//! book, and sessions that wait for the answers.
+//! Workers on threads, which compile requests for schedules (OCPP 1.6, chapter 5.7) outside the
+//! lock of the shared book, and sessions that wait for the answers.
 #![tactic(auto)]
 
 mod gate;

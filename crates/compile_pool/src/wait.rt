@@ -10,8 +10,8 @@ use std::sync::Wait;
 use std::sync::ledger::Ledger;
 use version_store::{Answer, Pass, Shared};
 
-/// Waits until the request of a number has its answer, and collects it (chapter 5.7). The refusal is
-/// `UnknownRequest`, where the request isn't kept, or another session has collected it.
+/// Waits until the request of a number has its answer, and collects it (chapter 5.7). The refusal
+/// is `UnknownRequest`, where the request isn't kept, or another session has collected it.
 pub fn wait_answer<C: Ledger, A: Ledger, R: Wait>(
     rt: &R,
     shared: &Shared<C, A>,

@@ -14,8 +14,8 @@ use std::thread::Threads;
 use sweep_compiler::Compiled;
 use version_store::{Book, Job, Shared};
 
-/// What a job asks for, compiled for what its point had when it was taken. Where memory runs out, that is
-/// the answer.
+/// What a job asks for, compiled for what its point had when it was taken. Where memory runs out,
+/// that is the answer.
 fn compile_job(alloc: Global, job: Job) -> (u64, Compiled)
     ensures number { result.0 ≡ job.number }
     ensures compiled { IsOfJob job result.1 }
@@ -24,15 +24,16 @@ fn compile_job(alloc: Global, job: Job) -> (u64, Compiled)
     (number, Compiled::make(alloc, book, ask))
 }
 
-/// Posts what was compiled. What the book refuses is dropped: its request was answered or handed out meanwhile.
+/// Posts what was compiled. What the book refuses is dropped: its request was answered or handed
+/// out meanwhile.
 fn post_or_drop<C: Ledger, A: Ledger>(book: &mut Book<C, A>, number: u64, compiled: Compiled)
     ensures { PostsOrDrops book.old number compiled book.new }
 {
     let _ = book.post(number, compiled);
 }
 
-/// Compiles a job outside the lock, posts the answer under it, and wakes who waits. So does a worker, and a
-/// session whose job can't be sent to one.
+/// Compiles a job outside the lock, posts the answer under it, and wakes who waits. So does a
+/// worker, and a session whose job can't be sent to one.
 pub fn answer_job<C: Ledger, A: Ledger, R: Wait>(
     rt: &R,
     alloc: Global,
@@ -63,8 +64,8 @@ pub fn worker<C: Ledger, A: Ledger, R: Wait, G: Gate>(
     }
 }
 
-/// Answers jobs on this thread and on up to `workers - 1` more, until all senders of the channel are gone. Gives
-/// how many threads did so: fewer than `workers` where a thread couldn't be made.
+/// Answers jobs on this thread and on up to `workers - 1` more, until all senders of the channel
+/// are gone. Gives how many threads did so: fewer than `workers` where a thread couldn't be made.
 pub fn run_pool<
     C: Ledger + Send + Sync,
     A: Ledger + Send + Sync,

@@ -136,8 +136,8 @@ fn check_asked(
     }
 }
 
-/// An action of which nothing more is said here: its refusal, where the point's state has no part in
-/// it.
+/// An action of which nothing more is said here: its refusal, where the point's state has no part
+/// in it.
 fn check_refused(report: &mut Report, text: &LineText<'_>) -> Result<(), AllocError> {
     match text.refusal() {
         Some((refusal, name)) if !depends_on_state(refusal) => {
@@ -149,7 +149,7 @@ fn check_refused(report: &mut Report, text: &LineText<'_>) -> Result<(), AllocEr
     }
 }
 
-/// Warns of fields of an operator's CALL that stand twice in their object.
+/// Warns of duplicate fields of an operator's CALL.
 pub(crate) fn warn_repeated(
     report: &mut Report,
     frame: &str,
@@ -159,7 +159,7 @@ pub(crate) fn warn_repeated(
     let outline = outline_of(alloc, frame)?;
     for name in &repeated_payload_fields(alloc, frame, &outline, kind)? {
         let message = format!(in alloc;
-            "\"{name}\" stands twice in its object, and the later one counts"
+            "\"{name}\" is a duplicate field, and the last one counts"
         )?;
         report.warn(message)?;
     }
@@ -189,12 +189,10 @@ pub(crate) fn warn_unknown(
         let message = match similar_name(alloc, field.name, known.as_slice())? {
             Some(meant) => {
                 format!(in alloc;
-                    "\"{name}\" is no field of OCPP there and counts for nothing (\"{meant}\" is one)"
+                    "\"{name}\" is no field of OCPP there and has no effect (\"{meant}\" is one)"
                 )?
             }
-            None => format!(in alloc;
-                "\"{name}\" is no field of OCPP there and counts for nothing"
-            )?,
+            None => format!(in alloc; "\"{name}\" is no field of OCPP there and has no effect")?,
         };
         report.warn(message)?;
     }
@@ -233,7 +231,7 @@ pub(crate) fn warn_of_clear(
     for field in unknown {
         let name = excerpt(alloc, field.name)?;
         let message = format!(in alloc;
-            "\"{name}\" is no criterion and counts for nothing, so more may be CLEARED than is meant: id, connectorId, chargingProfilePurpose and stackLevel are the criteria"
+            "\"{name}\" is no criterion and has no effect, so more may be CLEARED than is meant: id, connectorId, chargingProfilePurpose and stackLevel are the criteria"
         )?;
         report.warn(message)?;
     }

@@ -1,4 +1,4 @@
-//! What a line changes at a charge point beside what it says: a profile whose place another takes,
+//! What a line changes at a charge point besides what it says: a profile whose place another takes,
 //! and a fuse limit that a clear takes along.
 
 use crate::call_check::has_no_criterion;
@@ -83,7 +83,7 @@ fn named(alloc: Global, profile: PrevailingProfile) -> Result<String, AllocError
     format!(in alloc; "{purpose} {id} (stack level {level}, at connector {connector})")
 }
 
-/// Whether a text is a ClearChargingProfile with criteria, but none that says which profile or
+/// Whether a message is a ClearChargingProfile with criteria, but none that says which profile or
 /// purpose is meant.
 fn clears_at_large(alloc: Global, text: &str) -> Result<bool, AllocError> {
     let mut memory = ReadingMemory::new(alloc);

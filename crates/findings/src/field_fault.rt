@@ -146,7 +146,7 @@ fn wanted_of_kind(kind: FieldKind) -> &'static str {
         FieldKind::WholeFromZero => "a whole number from 0 on",
         FieldKind::Tenths => LIMIT,
         FieldKind::Time => "an instant such as \"2025-01-31T18:00:00Z\"",
-        FieldKind::IdToken => "a text of at most 20 characters",
+        FieldKind::IdToken => "a string of at most 20 characters",
         FieldKind::PurposeName => {
             "\"ChargePointMaxProfile\", \"TxDefaultProfile\" or \"TxProfile\""
         }

@@ -13,7 +13,7 @@ use std::fmt;
 /// How much a finding matters.
 #[derive(Clone, Copy, Debug, PartialEq, Eq)]
 pub enum Severity {
-    /// It is refused: the file isn't accepted, the line isn't played, or its text is refused.
+    /// It is refused: the file isn't accepted, the line isn't played, or its message is refused.
     Fault,
     /// It is let in, and does something else than it says.
     Warning,
@@ -149,7 +149,7 @@ fn line_of(place: &Location) -> u64 {
 }
 
 /// The exit status of a check: 0 where all is well, 1 where there is a fault, 2 where there are
-/// warnings alone. A remark counts for nothing.
+/// warnings alone. A remark has no effect.
 pub fn exit_status(findings: &[Finding]) -> u8
     ensures { result ≡ exit_status findings.now }
 {

@@ -12,7 +12,7 @@ pub(crate) const LIMIT: &str = "a number from 0 to 100000000.0 with at most one 
 pub(crate) struct ExpectedField<'a> {
     pub field: &'a str,
     pub wanted: &'a str,
-    /// A field that stands beside it and may be meant.
+    /// A field next to it that may be meant.
     pub hint: Option<&'a str>,
 }
 
@@ -48,7 +48,7 @@ pub(crate) fn what_stands(alloc: Global, node: Option<Node<'_, '_>>) -> Result<S
     };
     if let Some(text) = node.text() {
         let text = excerpt(alloc, text)?;
-        return format!(in alloc; "\"{text}\" is a text");
+        return format!(in alloc; "\"{text}\" is a string");
     }
     if let Some(number) = node.number() {
         let number = excerpt(alloc, number)?;

@@ -6,8 +6,8 @@ ghost use Rattle.findings.specs.Hidden.{SpeaksForNone, IsHiddenEverywhere};
 use meaning::View;
 use profile::{Purpose, Row, is_candidate};
 
-/// Whether a TxDefaultProfile stands at connector 0 and each connector has one of its own at its
-/// stack level (chapter 3.13): it counts nowhere then, also while the others have no limit.
+/// Whether a TxDefaultProfile is at connector 0 and each connector has one of its own at its stack
+/// level (chapter 3.13). Then it counts nowhere, even while the others have no limit.
 pub(crate) fn is_hidden_everywhere(view: &View<'_>, row: &Row) -> bool
     ensures { IsTrue result
         ↔ IsHiddenEverywhere view.now.rows.now (length view.now.ceilings.now) row.now }

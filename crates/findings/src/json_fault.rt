@@ -57,7 +57,7 @@ impl fmt::Display for Wanted {
             Wanted::CommaOrListEnd => "`,` or `]` is wanted",
             Wanted::Nothing => "nothing more is wanted behind the value",
             Wanted::Digit => "a digit is wanted in the number",
-            Wanted::Quote => "the closing quote of a text is wanted",
+            Wanted::Quote => "the closing quote of a string is wanted",
             Wanted::Escape => "one of \" \\ / b f n r t u is wanted behind the backslash",
             Wanted::HexDigit => "four digits of base 16 are wanted behind \\u",
             Wanted::LowSurrogate => "both halves of a surrogate pair are wanted",
@@ -71,7 +71,7 @@ impl fmt::Display for Wanted {
 pub(crate) fn json_fault_text(alloc: Global, fault: &JsonFault) -> Result<String, AllocError> {
     let wanted = fault.wanted;
     let mut text = match fault.found {
-        None => format!(in alloc; "{wanted}, and the text ends")?,
+        None => format!(in alloc; "{wanted}, and the JSON ends")?,
         Some(found) if is_printable(found) => format!(in alloc;
             "{wanted}, and `{found}` stands there"
         )?,
@@ -101,11 +101,11 @@ fn hint_of(fault: &JsonFault) -> Option<&'static str> {
         (Wanted::NextValue, ']') | (Wanted::NextName, '}') => Some(
             "the comma before it is one too many",
         ),
-        (_, '\'') => Some("JSON's texts stand in double quotes"),
+        (_, '\'') => Some("JSON strings have double quotes"),
         (_, '\u{201c}' | '\u{201d}' | '\u{201e}' | '\u{2018}' | '\u{2019}' | '\u{ab}' | '\u{bb}') =>
-            { Some("a quote of a text program; JSON's is the straight one") }
-        (_, '\u{feff}') => Some("a byte order mark; save the text without it"),
-        (_, '\u{a0}') => Some("a hard blank; JSON has the ordinary one alone"),
+            { Some("a typographic quote; JSON has the straight one") }
+        (_, '\u{feff}') => Some("a byte order mark; save the file without it"),
+        (_, '\u{a0}') => Some("a no-break space; JSON has the ordinary space alone"),
         (Wanted::NoControl | Wanted::Quote, _) => None,
         (_, '#' | '/') => Some("JSON has no comments"),
         (Wanted::Digit, '.') => Some("a digit stands before the point"),

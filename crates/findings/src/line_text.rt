@@ -1,4 +1,4 @@
-//! The text that a line of a script brings, as it is checked.
+//! The message that a line of a script brings, as it is checked.
 
 use crate::finding::FaultName;
 use messages::{CallFault, Response, Side};
@@ -7,7 +7,7 @@ use replay::{PlayedLine, PrintedLine};
 use site_rules::Site;
 use texts::SentText;
 
-/// The second word of a line that brings a text.
+/// The second word of a line that brings a message.
 #[derive(Clone, Copy, Debug, PartialEq, Eq)]
 pub(crate) enum Sender {
     /// `operator`
@@ -19,7 +19,7 @@ pub(crate) enum Sender {
 }
 
 impl Sender {
-    /// Whose text it is.
+    /// Whose message it is.
     pub(crate) fn side(self) -> Side {
         match self {
             Sender::Operator | Sender::Hold => Side::Operator,
@@ -28,7 +28,7 @@ impl Sender {
     }
 }
 
-/// A text that a line brings, and what came of it.
+/// A message that a line brings, and what came of it.
 #[derive(Clone, Copy)]
 pub(crate) struct LineText<'a> {
     pub site: &'a Site,
@@ -44,7 +44,7 @@ pub(crate) struct LineText<'a> {
 }
 
 impl<'a> LineText<'a> {
-    /// The text that a line brings on a site, where its second word is `hold`.
+    /// The message that a line brings on a site, where its second word is `hold`.
     pub(crate) fn held(
         site: &'a Site,
         played: &'a PlayedLine<'_>,
@@ -56,7 +56,7 @@ impl<'a> LineText<'a> {
         }
     }
 
-    /// The text that a line brings on a site.
+    /// The message that a line brings on a site.
     pub(crate) fn new(
         site: &'a Site,
         played: &'a PlayedLine<'_>,
@@ -77,7 +77,7 @@ impl<'a> LineText<'a> {
         }
     }
 
-    /// Why the text is rejected, if it is.
+    /// Why the message is rejected, if it is.
     pub(crate) fn rejection(&self) -> Option<Refusal> {
         for line in self.printed {
             if let PrintedLine::Answer {
@@ -91,7 +91,7 @@ impl<'a> LineText<'a> {
         None
     }
 
-    /// Why the text is refused, if it is, and how its answer names that.
+    /// Why the message is refused, if it is, and how its answer names that.
     pub(crate) fn refusal(&self) -> Option<(Refusal, FaultName)> {
         for line in self.printed {
             let PrintedLine::Answer { response, .. } = line else {

@@ -6,7 +6,7 @@ use crate::site_fields::text_of;
 use messages::{ActionKind, FieldKind, FieldRow, fields_in, fields_of};
 use std::alloc::{AllocError, Global};
 
-/// The most fields of a text that are reported.
+/// The most fields of a message that are reported.
 const MAX_REPORTED: usize = 20;
 
 /// An object of a payload, or a list of objects, with the fields that are looked at in each of

@@ -21,9 +21,9 @@ pub(crate) fn depends_on_state(refusal: Refusal) -> bool {
     )
 }
 
-/// What is wrong by what a replay prints at the line of this number, beside what `check_script`
-/// finds in the line itself: the refusals that depend on the point's state, and clears that match
-/// nothing.
+/// What is wrong by what a replay prints at the line of this number, besides what `check_script`
+/// finds in the line itself. These are the refusals that depend on the point's state, and clears
+/// that match nothing.
 pub fn check_printed(
     alloc: Global,
     line: u64,
@@ -59,7 +59,7 @@ fn finding_of(
     }
 }
 
-/// That a text is refused, if that depends on the point's state.
+/// That a message is refused, if that depends on the point's state.
 fn refused(
     alloc: Global,
     line: u64,

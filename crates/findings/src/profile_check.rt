@@ -77,19 +77,17 @@ fn place_found(
     }
 }
 
-/// Fields that have no meaning beside the profile's purpose or kind.
+/// Fields that have no meaning with the profile's purpose or kind.
 fn warn_dropped(report: &mut Report, parts: &ProfileParts) -> Result<(), AllocError> {
     if parts.transaction.is_some() && !matches!(parts.purpose, Purpose::TxProfile) {
-        report.warn_text("transactionId counts for nothing but in a TxProfile")?;
+        report.warn_text("transactionId has no effect except in a TxProfile")?;
     }
     if parts.recurrency.is_some() && parts.kind != ProfileKind::Recurring {
-        report.warn_text(
-            "recurrencyKind counts for nothing unless chargingProfileKind is Recurring",
-        )?;
+        report.warn_text("recurrencyKind has no effect unless chargingProfileKind is Recurring")?;
     }
     if parts.schedule.start.is_some() && parts.kind == ProfileKind::Relative {
         report.warn_text(
-            "startSchedule counts for nothing in a Relative profile, which begins with its transaction",
+            "startSchedule has no effect in a Relative profile, which begins with its transaction",
         )?;
     }
     Ok(())
@@ -158,9 +156,9 @@ fn warn_ceiling(
     report.warn(message)
 }
 
-/// The highest ceiling that a profile could lower, in tenths: the point's for the whole point, else
-/// the lower of the point's and the connector's, of the highest connector where it stands for all
-/// of them.
+/// The highest ceiling that a profile could lower, in tenths. For the whole point it is the
+/// point's, else the lower of the point's and the connector's. Of a profile for all connectors it
+/// is that of the highest connector.
 fn highest_ceiling(point: SitePoint<'_>, connector: u32, purpose: Purpose) -> u32 {
     if matches!(purpose, Purpose::ChargePointMaxProfile) {
         return point.ceiling;
@@ -259,8 +257,8 @@ fn warn_recurrence(
     }
 }
 
-/// That a Daily or Weekly profile sets no limit from one offset of its day or week to another: by
-/// the clock where that is known, and else in seconds.
+/// That a Daily or Weekly profile sets no limit from one offset of its day or week to another. They
+/// are given by the clock if that is known, and else in seconds.
 fn warn_gap(
     report: &mut Report,
     profile: &Profile,

@@ -1,4 +1,4 @@
-//! What is wrong with a script, as far as each of its texts says it.
+//! What is wrong with a script, as far as each of its messages says it.
 
 use crate::finding::{FaultName, Finding, Location};
 use crate::line_hints::mistake_message;
@@ -11,10 +11,10 @@ use replay::{Held, LineFault, MAX_SCRIPT_BYTES, PlayedLine, Playing, PrintedLine
 use site_rules::Site;
 use std::alloc::{AllocError, Global};
 
-/// What is wrong with a script on a site, line by line: faults of lines, texts that are refused,
-/// and warnings of texts that do something else than they say. A refusal that depends on what the
-/// point has by then (`NoTransaction`, `OtherTransaction`, `TooManyProfiles`, `OutboxFull`,
-/// `ResultTooLong`) isn't found.
+/// What is wrong with a script on a site, line by line: faults of lines, messages that are refused,
+/// and warnings. A message gets a warning if it does something else than it says. A refusal that
+/// depends on what the point has by then (`NoTransaction`, `OtherTransaction`, `TooManyProfiles`,
+/// `OutboxFull`, `ResultTooLong`) isn't found.
 pub fn check_script(alloc: Global, site: Site, script: &[u8]) -> Result<Vec<Finding>, AllocError> {
     if script.len() > MAX_SCRIPT_BYTES {
         return too_long(alloc, script.len());

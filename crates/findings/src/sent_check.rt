@@ -1,4 +1,4 @@
-//! What is wrong with an operator's text by itself, before it is sent.
+//! What is wrong with an operator's message on its own, before it is sent.
 
 ghost use Rattle.std.specs.Prelude.{◌≡◌, ◌↔◌, IfOk, IsSome, None};
 ghost use Rattle.ocppj_frame.specs.Read.{tree_of_text};
@@ -21,21 +21,21 @@ use ocppj_frame::{Frame, FrameFault, Node, ReadingMemory, read_frame};
 use profile::Criteria;
 use std::alloc::{AllocError, Global};
 
-/// What is said of an operator's text before it is sent.
+/// What is said of an operator's message before it is sent.
 #[derive(Debug, Drop)]
 pub struct SentCheck {
     /// Why it is no CALL, where it isn't one.
     pub no_call: Option<String>,
-    /// What is wrong with its action, its fields and its profile by themselves; fields that count
-    /// for nothing or stand twice; and a clear that clears more than it seems to.
+    /// What is wrong with its action, its fields and its profile on their own. Also fields without
+    /// an effect, duplicate fields, and a clear that clears more than it seems to.
     pub findings: Vec<Finding>,
-    /// Whether it is a ClearChargingProfile that would clear everything by mistake: its payload has
-    /// fields, and none of them is a criterion, since they are others or null.
+    /// Whether it is a ClearChargingProfile that would clear everything by mistake. Its payload has
+    /// fields, and none of them is a criterion: they are others or null.
     pub clears_by_mistake: bool,
 }
 
-/// Checks an operator's text by itself: nothing is known of the site, or of what the point has. A
-/// text that is no CALL has no findings.
+/// Checks an operator's message on its own: nothing is known of the site, or of what the point has.
+/// A message that is no CALL has no findings.
 pub fn check_sent(alloc: Global, text: &str) -> Result<SentCheck, AllocError> {
     let mut memory = ReadingMemory::new(alloc);
     match check_message(alloc, &mut memory, text)? {
@@ -47,7 +47,7 @@ pub fn check_sent(alloc: Global, text: &str) -> Result<SentCheck, AllocError> {
     }
 }
 
-/// Checks a text as a message, if it is one.
+/// Checks the message, if it is one.
 fn check_message(
     alloc: Global,
     memory: &mut ReadingMemory,
@@ -78,7 +78,8 @@ fn check_frame(alloc: Global, text: &str, frame: Frame<'_>) -> Result<SentCheck,
     }
 }
 
-/// Where the JSON of a text breaks, if it does: the line and the column, and what is wanted there.
+/// Where the JSON of a message breaks, if it does: the line and the column, and what is wanted
+/// there.
 pub fn json_break(alloc: Global, text: &str) -> Result<Option<String>, AllocError>
     ensures { IfOk result (λ message. IsSome message ↔ (tree_of_text text.now ≡ None)) }
 {
@@ -101,7 +102,7 @@ fn no_operators_action(alloc: Global, name: &str) -> Result<SentCheck, AllocErro
     })
 }
 
-/// Of a text there is nothing to say.
+/// Of a message there is nothing to say.
 fn nothing_said(alloc: Global, no_call: Option<String>) -> Result<SentCheck, AllocError> {
     Ok(SentCheck {
         no_call,

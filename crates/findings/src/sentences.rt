@@ -1,4 +1,4 @@
-//! Why something is refused or counts for nothing, in one sentence each: the tables that all which
+//! Why something is refused or has no effect, in one sentence each: the tables that all which
 //! prints for people reads. A test compares PROTOCOL's, RUNNING's and COMMANDS' tables with them.
 
 use crate::never::NeverRated;
@@ -90,7 +90,7 @@ pub fn line_sentence(fault: LineFault) -> &'static str {
 pub fn call_sentence(fault: CallFault) -> &'static str {
     match fault {
         CallFault::FormationViolation =>
-            "the CALL is malformed: its action is no text, or its payload no object",
+            "the CALL is malformed: its action is no string, or its payload no object",
         CallFault::NotImplemented => "the action isn't known here, or is one of the other side",
         CallFault::OccurenceConstraintViolation(_) =>
             "the field is needed, and is absent, null or an empty list",

@@ -6,8 +6,8 @@ use strsim::osa_distance;
 /// The longest names that are compared, in bytes.
 const MAX_COMPARED: usize = 64;
 
-/// The one of these names that differs least from the one that stands there: in case alone, or by
-/// at most two letters, three where it is long, and at most one in four.
+/// The one of these names that differs least from the one that is there. It differs in case alone,
+/// or by at most two letters, three if it is long, and at most one in four.
 pub(crate) fn similar_name<'a>(
     alloc: Global,
     found: &str,

@@ -113,8 +113,7 @@ fn owner_of(text: &str, outline: &Outline, object: usize) -> Option<Option<usize
     }
 }
 
-/// Warns of the fields of the site and of its points that stand twice in their object, a hundred at
-/// the most.
+/// Warns of duplicate fields of the site and of its points, a hundred at the most.
 pub(crate) fn warn_repeated_fields(
     alloc: Global,
     text: &str,
@@ -130,7 +129,7 @@ pub(crate) fn warn_repeated_fields(
             reported += 1;
             let place = place_in_text(text, offset);
             let message = format!(in alloc;
-                "\"{name}\" stands twice in its object, and the later one counts"
+                "\"{name}\" is a duplicate field, and the last one counts"
             )?;
             findings.push(Finding::warning(place, message))?;
         }

@@ -131,7 +131,7 @@ fn check_id(
     }
     let expected = ExpectedField {
         field: "id",
-        wanted: "a text of 1 to 48 of the characters A-Z, a-z, 0-9, `.`, `_`, `-` and `~`",
+        wanted: "a string of 1 to 48 of the characters A-Z, a-z, 0-9, `.`, `_`, `-` and `~`",
         hint: checked.names.hint(Some(point.index), "id"),
     };
     let message = field_message(checked.alloc, point.fields.field("id"), &expected)?;

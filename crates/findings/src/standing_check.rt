@@ -10,10 +10,11 @@ use point_book::PointBook;
 use profile::{Row, Unit};
 use std::alloc::{AllocError, Global};
 
-/// What is amiss with what the point of an identity has: TxDefaultProfiles for all connectors that
-/// each connector's own one hides, and where the schedules of connectors together go furthest
-/// beyond the ChargePointMaxProfile. Where no profile of a connector prevails there, so that the
-/// ceilings of the site file alone go beyond it, that is a remark.
+/// What is wrong with what the point of an identity has. It may have TxDefaultProfiles for all
+/// connectors that each connector's own one hides. The schedules of its connectors together may go
+/// beyond the ChargePointMaxProfile: that is reported where they go furthest. Where no profile of a
+/// connector prevails there, so that the ceilings of the site file alone go beyond it, that is a
+/// remark.
 pub fn check_standing(
     alloc: Global,
     unit: Unit,

@@ -1,4 +1,4 @@
-//! What is wrong with a text that a line of a script brings, as a frame (OCPP-J 1.6, chapter 4).
+//! What is wrong with a message that a line of a script brings, as a frame (OCPP-J 1.6, chapter 4).
 
 use crate::broken_json::first_break;
 use crate::call_check::{Call, check_call};
@@ -17,7 +17,7 @@ use ocppj_frame::{
 use replay::LineFault;
 use std::alloc::{AllocError, Global};
 
-/// What became of a text.
+/// What became of a message.
 #[derive(Clone, Copy, PartialEq, Eq)]
 enum Reading {
     /// It is a message, and was checked as one.
@@ -26,7 +26,7 @@ enum Reading {
     Dropped,
 }
 
-/// Checks the text of a line.
+/// Checks the message of a line.
 pub(crate) fn check_text(
     report: &mut Report,
     memory: &mut ReadingMemory,
@@ -38,7 +38,7 @@ pub(crate) fn check_text(
     }
 }
 
-/// Checks a text as a message, if it is one.
+/// Checks the line's frame, if it is a message.
 fn check_message(
     report: &mut Report,
     memory: &mut ReadingMemory,
@@ -78,7 +78,7 @@ fn check_frame(
         }
         Frame::Fault { id } => check_reply(report, text, id.as_str(), Some("an error")),
         Frame::Other => report.warn_text(
-            "the first element of the frame is none of 2 (CALL), 3 (CALLRESULT) and 4 (CALLERROR): the text is dropped without a word",
+            "the first element of the frame is none of 2 (CALL), 3 (CALLRESULT) and 4 (CALLERROR): the frame is discarded without an answer",
         ),
     }
 }
@@ -129,7 +129,7 @@ pub(crate) fn not_composite(
     report.fault(FaultName::Line(fault), message)
 }
 
-/// A CALL whose action is no text or whose payload is no object.
+/// A CALL whose action is no string or whose payload is no object.
 fn check_malformed(report: &mut Report, text: &LineText<'_>) -> Result<(), AllocError> {
     if text.sender == Sender::Hold {
         return not_composite(report, text, "it is malformed");
@@ -140,7 +140,7 @@ fn check_malformed(report: &mut Report, text: &LineText<'_>) -> Result<(), Alloc
     report.fault(FaultName::Call(CallFault::FormationViolation), message)
 }
 
-/// A text that is no message.
+/// A frame that is no message.
 fn check_dropped(
     report: &mut Report,
     memory: &mut ReadingMemory,
@@ -153,7 +153,7 @@ fn check_dropped(
     }
     let frame = excerpt(report.alloc, text.frame)?;
     let message = format!(in report.alloc;
-        "the text is no message and is dropped without a word: {why}: {frame}"
+        "this is no message and is discarded without an answer: {why}: {frame}"
     )?;
     report.warn(message)
 }
@@ -202,7 +202,7 @@ fn why_no_message(root: Node<'_, '_>) -> &'static str {
         return "the first element of a frame is the number 2, 3 or 4";
     }
     match id.text() {
-        None => "the second element of a frame, its id, is a text in double quotes",
+        None => "the second element of a frame, its id, is a string in double quotes",
         Some(id) if character_count(id) > MAX_ID_CHARACTERS => {
             "the id of a frame has at most 36 characters"
         }

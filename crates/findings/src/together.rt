@@ -192,9 +192,9 @@ fn count_alike(view: &View<'_>, connector: u32) -> u64 {
     count
 }
 
-/// Whether the limits of two connectors are the same: it is one connector, or they have the same
-/// ceiling, transactions that began at the same moment or none, and neither has a profile of its
-/// own.
+/// Whether the limits of two connectors are the same. It is one connector, or they have the same
+/// ceiling, and neither has a profile of its own. Their transactions began at the same moment, or
+/// they have none.
 fn are_alike(view: &View<'_>, one: u32, other: u32) -> bool {
     if one == other {
         return true;

@@ -1,4 +1,4 @@
--- What a text asks for is no compile, and what it is answered without a step no schedule.
+-- What a message asks for is no compile, and what it is answered without a step no schedule.
 use Rattle.std.proofs.Common.{◌≡◌, ℕ, List, [], false, Some, subst, sym, refl}
 use Rattle.messages.specs.declared.response.Response.{Response}
 use Rattle.messages.specs.declared.response.Response.TheVariants as responses
@@ -16,7 +16,7 @@ use Rattle.replay.specs.ByCases.Asked.{AsksNoCompile}
 
 pub no_schedule : (id : List ℕ) (response : Response) → is_schedule response ≡ false
     → schedules_on (lines.Answer id response) ≡ []
-no_schedule id (responses.Schedule told) is = absurd (cc)
+no_schedule id (responses.Schedule schedule) is = absurd (cc)
 no_schedule id response is = refl
 
 no_compile_step : (step : Step) → IsOfCall step → IsAsked step

@@ -20,7 +20,7 @@ use Rattle.replay.specs.MachineSteps.{Stepped, sending_of, sent_over, made_or_re
 use Rattle.site_core.specs.Theory.Steps.{CompileOrOther, is_compile, is_other, compile_or_other}
 use Rattle.replay.specs.ByCases.MachineSteps.{ComesOf, IsAsked, is_memory}
 
--- a step that a text asks for and that is made
+-- a step that a message asks for and that is made
 made_exactly : (old : MachineState) (step : Step) (reply : Reply) (new : MachineState) → IsAsked step → Steps old step reply new
     → stepped_exactly old step ≡ record { outcome = Ok reply; after = new }
 unfolding stepped_exactly
@@ -93,15 +93,15 @@ found_again number answer (one ∷ others) kept e =
     ] refl e
 
 -- what is handed out of an answered request
-told : (mid : MachineState) (number : ℕ) (kept : Kept) (answer : ScheduleAnswer) (outcome : Result Reply Refusal) (new : MachineState)
+handed_to : (mid : MachineState) (number : ℕ) (kept : Kept) (answer : ScheduleAnswer) (outcome : Result Reply Refusal) (new : MachineState)
     → request_of number mid.requests ≡ Some (with_answer kept answer) → ComesOf mid (steps.Answer number) outcome new
     → outcome ≡ Ok (Answered kept.book kept.ask answer)
-told mid number kept answer (Ok reply) new here made =
+handed_to mid number kept answer (Ok reply) new here made =
     let hands : Made = answers_with mid (with_answer kept answer) (Some answer) in
     let is : Ok hands ≡ Ok (record { reply = reply; after = new }) = ap (answers_kept mid) (sym here) ∙ made in
     let same : hands ≡ record { reply = reply; after = new } = cc is in
     ap (λ (m : Made). Ok m.reply) (sym same)
-told mid number kept answer (Err refusal) new here made =
+handed_to mid number kept answer (Err refusal) new here made =
     let none : cause_of (answers mid number) ≡ None = ap (λ (k : Option Kept). cause_of (answers_kept mid k)) here in
     absurd (cc (none, made.0))
 
@@ -134,7 +134,7 @@ compiled_after old mid new number reply outcome by made other law-answer law-too
     let makes = compiled old number by.answer by.kept (record { reply = reply; after = mid }) (ap (compiles_kept old number by.answer) (sym by.is_kept) ∙ by.made) in
     let again : request_of number mid.requests ≡ Some (with_answer by.kept by.answer) =
     ap (λ (m : Made). request_of number m.after.requests) (sym makes.1) ∙ found_again number by.answer old.requests by.kept by.is_kept in
-    let hands = told mid number by.kept by.answer outcome new again made in
+    let hands = handed_to mid number by.kept by.answer outcome new again made in
     let same = exact by.kept by.answer by.right (ap is_memory (sym hands) ∙ other) law-answer law-too_long in
     rw (by.is_kept, makes.0, same) (ap (λ (m : Made). m.after) makes.1)
 

@@ -1,4 +1,4 @@
--- What the text of a point prints, from what its parts print.
+-- What the message of a point prints, from what its parts print.
 use Rattle.std.proofs.Common.{◌≡◌, ℕ, List, ◌++◌, Option, sym, ap, ◌∙◌, append_assoc}
 use Rattle.messages.specs.declared.call.Call.{Call}
 use Rattle.replay.specs.declared.player.held.Held.{Held}

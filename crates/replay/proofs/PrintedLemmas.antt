@@ -27,7 +27,7 @@ use Rattle.replay.specs.PrintedLine.{PrintedLine}
 use Rattle.replay.specs.declared.script.printed_line.PrintedLine.TheVariants as lines
 use Rattle.replay.specs.Run.{lines_of}
 use Rattle.replay.proofs.ScriptRunLemmas.{Laws, script_part}
-use Rattle.replay.specs.ScriptRun.{schedules_on, schedules_printed, schedule_told, schedules_by}
+use Rattle.replay.specs.ScriptRun.{schedules_on, schedules_printed, response_of_schedule, schedules_by}
 use Rattle.replay.specs.ScriptRun.{schedules_answered, calls_printed, calls_of_step, calls_of_event}
 use Rattle.replay.specs.ScriptRun.{calls_replied, calls_printed_to, ScriptRun, IsPrintedRight}
 
@@ -41,7 +41,7 @@ record HandsOut (unit : Unit) (step : Step) (reply : Reply) : Type 0 where
   pub schedule : CompositeSchedule
   pub step_is : step ≡ acts.Answer number
   pub reply_is : reply ≡ Answered book ask (Ok schedule)
-  pub told : schedules_by unit step reply ≡ schedule_told unit ask schedule ∷ []
+  pub schedules_are : schedules_by unit step reply ≡ response_of_schedule unit ask schedule ∷ []
 
 answer_hands_out : (unit : Unit) (number : ℕ) (reply : Reply)
     → (schedules_by unit (acts.Answer number) reply ≡ [])
@@ -53,7 +53,7 @@ answer_hands_out unit number (Answered book ask (Ok schedule)) = inr (record {
   schedule = schedule;
   step_is = refl;
   reply_is = refl;
-  told = refl;
+  schedules_are = refl;
 })
 answer_hands_out unit number (Answered book ask (Err refusal)) = inl refl
 answer_hands_out unit number reply = inl refl
@@ -65,7 +65,7 @@ hands_out_or_not unit step reply = inl refl
 
 -- the Answer that handed out the schedule after these
 record IsHandedAt (unit : Unit) (steps : List Step) (outcomes : List Outcome)
-    (earlier : List ScheduleResponse) (told : ScheduleResponse) : Type 0 where
+    (earlier : List ScheduleResponse) (response : ScheduleResponse) : Type 0 where
   pub position : ℕ
   pub number : ℕ
   pub book : BookState
@@ -73,19 +73,19 @@ record IsHandedAt (unit : Unit) (steps : List Step) (outcomes : List Outcome)
   pub schedule : CompositeSchedule
   pub answers : slice_get steps position ≡ Some (acts.Answer number)
   pub handed : slice_get outcomes position ≡ Some (Done (Answered book ask (Ok schedule)))
-  pub is : told ≡ schedule_told unit ask schedule
+  pub is : response ≡ response_of_schedule unit ask schedule
   pub before :
       earlier ≡ schedules_answered unit (history_of (take position steps) (take position outcomes))
 
 -- one step more before it
 later : (unit : Unit) (step : Step) (steps : List Step) (outcome : Outcome)
-    (outcomes : List Outcome) (front earlier : List ScheduleResponse) (told : ScheduleResponse)
+    (outcomes : List Outcome) (front earlier : List ScheduleResponse) (response : ScheduleResponse)
     → ((n : ℕ)
     → schedules_answered unit (history_of (step ∷ take n steps) (outcome ∷ take n outcomes))
     ≡ front ++ schedules_answered unit (history_of (take n steps) (take n outcomes)))
-    → IsHandedAt unit steps outcomes earlier told
-    → IsHandedAt unit (step ∷ steps) (outcome ∷ outcomes) (front ++ earlier) told
-later unit step steps outcome outcomes front earlier told first rest = record {
+    → IsHandedAt unit steps outcomes earlier response
+    → IsHandedAt unit (step ∷ steps) (outcome ∷ outcomes) (front ++ earlier) response
+later unit step steps outcome outcomes front earlier response first rest = record {
   position = suc rest.position;
   number = rest.number;
   book = rest.book;
@@ -103,10 +103,10 @@ nil_is_not [] x after is = cc
 nil_is_not (y ∷ earlier) x after is = cc
 
 found_here : (unit : Unit) (step : Step) (steps : List Step) (reply : Reply)
-    (outcomes : List Outcome) (told : ScheduleResponse) → (hands : HandsOut unit step reply)
-    → told ≡ schedule_told unit hands.ask hands.schedule
-    → IsHandedAt unit (step ∷ steps) (Done reply ∷ outcomes) [] told
-found_here unit step steps reply outcomes told hands is = record {
+    (outcomes : List Outcome) (response : ScheduleResponse) → (hands : HandsOut unit step reply)
+    → response ≡ response_of_schedule unit hands.ask hands.schedule
+    → IsHandedAt unit (step ∷ steps) (Done reply ∷ outcomes) [] response
+found_here unit step steps reply outcomes response hands is = record {
   position = 0;
   number = hands.number;
   book = hands.book;
@@ -121,71 +121,71 @@ found_here unit step steps reply outcomes told hands is = record {
 -- wherever a schedule stands among those that a run hands out, there is its Answer
 abbrev AreHanded : Unit → List Step → List Outcome → Type 0
 AreHanded unit steps outcomes =
-    (earlier : List ScheduleResponse) (told : ScheduleResponse) (after : List ScheduleResponse)
-    → schedules_answered unit (history_of steps outcomes) ≡ earlier ++ told ∷ after
-    → IsHandedAt unit steps outcomes earlier told
+    (earlier : List ScheduleResponse) (response : ScheduleResponse) (after : List ScheduleResponse)
+    → schedules_answered unit (history_of steps outcomes) ≡ earlier ++ response ∷ after
+    → IsHandedAt unit steps outcomes earlier response
 
 -- after a step that handed out one
 after_handed : (unit : Unit) (step : Step) (steps : List Step) (reply : Reply)
     (outcomes : List Outcome) → AreHanded unit steps outcomes → (hands : HandsOut unit step reply)
-    → (earlier : List ScheduleResponse) (told : ScheduleResponse) (after : List ScheduleResponse)
-    → schedule_told unit hands.ask hands.schedule
-    ∷ schedules_answered unit (history_of steps outcomes) ≡ earlier ++ told ∷ after
-    → IsHandedAt unit (step ∷ steps) (Done reply ∷ outcomes) earlier told
-after_handed unit step steps reply outcomes rest hands [] told after is =
-    let first : told ≡ schedule_told unit hands.ask hands.schedule = cc is in
-    found_here unit step steps reply outcomes told hands first
-after_handed unit step steps reply outcomes rest hands (one ∷ earlier) told after is =
-    let handed = schedule_told unit hands.ask hands.schedule in
+    → (earlier : List ScheduleResponse) (response : ScheduleResponse) (after : List ScheduleResponse)
+    → response_of_schedule unit hands.ask hands.schedule
+    ∷ schedules_answered unit (history_of steps outcomes) ≡ earlier ++ response ∷ after
+    → IsHandedAt unit (step ∷ steps) (Done reply ∷ outcomes) earlier response
+after_handed unit step steps reply outcomes rest hands [] response after is =
+    let first : response ≡ response_of_schedule unit hands.ask hands.schedule = cc is in
+    found_here unit step steps reply outcomes response hands first
+after_handed unit step steps reply outcomes rest hands (one ∷ earlier) response after is =
+    let handed = response_of_schedule unit hands.ask hands.schedule in
     let first : handed ≡ one = cc is in
-    let others : schedules_answered unit (history_of steps outcomes) ≡ earlier ++ told ∷ after =
+    let others : schedules_answered unit (history_of steps outcomes) ≡ earlier ++ response ∷ after =
     cc is in
     subst (λ (s : ScheduleResponse).
-    IsHandedAt unit (step ∷ steps) (Done reply ∷ outcomes) (s ∷ earlier) told) first
-    (later unit step steps (Done reply) outcomes (handed ∷ []) earlier told
+    IsHandedAt unit (step ∷ steps) (Done reply ∷ outcomes) (s ∷ earlier) response) first
+    (later unit step steps (Done reply) outcomes (handed ∷ []) earlier response
     (λ n. ap (λ l. l ++ schedules_answered unit (history_of (take n steps) (take n outcomes)))
-    hands.told)
-    (rest earlier told after others))
+    hands.schedules_are)
+    (rest earlier response after others))
 
 -- after a step that was made
 after_made : (unit : Unit) (step : Step) (steps : List Step) (reply : Reply)
     (outcomes : List Outcome) → AreHanded unit steps outcomes
     → (schedules_by unit step reply ≡ []) ⊎ HandsOut unit step reply
     → AreHanded unit (step ∷ steps) (Done reply ∷ outcomes)
-after_made unit step steps reply outcomes rest (inl none) earlier told after is =
+after_made unit step steps reply outcomes rest (inl none) earlier response after is =
     let others = schedules_answered unit (history_of steps outcomes) in
-    later unit step steps (Done reply) outcomes [] earlier told
+    later unit step steps (Done reply) outcomes [] earlier response
     (λ n. ap (λ l. l ++ schedules_answered unit (history_of (take n steps) (take n outcomes))) none)
-    (rest earlier told after (ap (λ l. l ++ others) (sym none) ∙ is))
-after_made unit step steps reply outcomes rest (inr hands) earlier told after is =
+    (rest earlier response after (ap (λ l. l ++ others) (sym none) ∙ is))
+after_made unit step steps reply outcomes rest (inr hands) earlier response after is =
     let others = schedules_answered unit (history_of steps outcomes) in
-    after_handed unit step steps reply outcomes rest hands earlier told after
-    (ap (λ l. l ++ others) (sym hands.told) ∙ is)
+    after_handed unit step steps reply outcomes rest hands earlier response after
+    (ap (λ l. l ++ others) (sym hands.schedules_are) ∙ is)
 
 found : (unit : Unit) (steps : List Step) (outcomes : List Outcome)
     → AreHanded unit steps outcomes
-found unit [] outcomes earlier told after is = absurd (nil_is_not earlier told after is)
-found unit (step ∷ steps) [] earlier told after is = absurd (nil_is_not earlier told after is)
-found unit (step ∷ steps) (Refused refused ∷ outcomes) earlier told after is =
-    later unit step steps (Refused refused) outcomes [] earlier told (λ n. refl)
-    (found unit steps outcomes earlier told after is)
-found unit (step ∷ steps) (Done reply ∷ outcomes) earlier told after is =
+found unit [] outcomes earlier response after is = absurd (nil_is_not earlier response after is)
+found unit (step ∷ steps) [] earlier response after is = absurd (nil_is_not earlier response after is)
+found unit (step ∷ steps) (Refused refused ∷ outcomes) earlier response after is =
+    later unit step steps (Refused refused) outcomes [] earlier response (λ n. refl)
+    (found unit steps outcomes earlier response after is)
+found unit (step ∷ steps) (Done reply ∷ outcomes) earlier response after is =
     after_made unit step steps reply outcomes
     (λ front one others same. found unit steps outcomes front one others same)
-    (hands_out_or_not unit step reply) earlier told after is
+    (hands_out_or_not unit step reply) earlier response after is
 
 -- each schedule that is printed is right
 pub printed_right : (site : SiteState) (script : List ℕ) (run : ScriptRun site script)
     → AnswersAreRight (opening site) run.steps run.outcomes
-    → (earlier after : List PrintedLine) (id : List ℕ) (told : ScheduleResponse)
-    → lines_of site script ≡ earlier ++ lines.Answer id (responses.Schedule told) ∷ after
-    → IsPrintedRight site script run earlier told
-printed_right site script run are_right earlier after id told is =
-    let at = found site.unit run.steps run.outcomes (schedules_printed earlier) told
+    → (earlier after : List PrintedLine) (id : List ℕ) (response : ScheduleResponse)
+    → lines_of site script ≡ earlier ++ lines.Answer id (responses.Schedule response) ∷ after
+    → IsPrintedRight site script run earlier response
+printed_right site script run are_right earlier after id response is =
+    let at = found site.unit run.steps run.outcomes (schedules_printed earlier) response
     (schedules_printed after)
     (sym run.schedules ∙ (ap schedules_printed is
     ∙ flat_map-append schedules_on earlier
-    (lines.Answer id (responses.Schedule told) ∷ after))) in
+    (lines.Answer id (responses.Schedule response) ∷ after))) in
     record {
       position = at.position;
       number = at.number;

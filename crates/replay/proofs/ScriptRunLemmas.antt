@@ -177,32 +177,32 @@ quiet_step laws old step lines no_answer no_send schedules calls =
 
 -- ---- answers
 
-refusal_told : (kind : ActionKind) (refusal : Refusal) (id : List ℕ)
+refusal_has_no_schedule : (kind : ActionKind) (refusal : Refusal) (id : List ℕ)
     → schedules_printed (lines.Answer id (refused_response kind refusal) ∷ []) ≡ []
-refusal_told kinds.SetChargingProfile refusal id = refl
-refusal_told kinds.GetCompositeSchedule refusal id = refl
-refusal_told kind refusal id = refl
+refusal_has_no_schedule kinds.SetChargingProfile refusal id = refl
+refusal_has_no_schedule kinds.GetCompositeSchedule refusal id = refl
+refusal_has_no_schedule kind refusal id = refl
 
-no_calls_told : (id : List ℕ) (response : Option Response)
+answer_has_no_call : (id : List ℕ) (response : Option Response)
     → calls_printed (answer_if id response) ≡ []
-no_calls_told id None = refl
-no_calls_told id (Some response) = refl
+answer_has_no_call id None = refl
+answer_has_no_call id (Some response) = refl
 
-none_told : (unit : Unit) (id : List ℕ) (kind : ActionKind) (outcome : Result Reply Refusal)
+outcome_has_no_schedule : (unit : Unit) (id : List ℕ) (kind : ActionKind) (outcome : Result Reply Refusal)
     → IfOk outcome HandsOutNone → schedules_printed (outcome_lines unit id kind outcome) ≡ []
-none_told unit id kind (Err refusal) none = refusal_told kind refusal id
-none_told unit id kind (Ok (Answered book ask answer)) none = absurd none
-none_told unit id kind (Ok reply) none = refl
+outcome_has_no_schedule unit id kind (Err refusal) none = refusal_has_no_schedule kind refusal id
+outcome_has_no_schedule unit id kind (Ok (Answered book ask answer)) none = absurd none
+outcome_has_no_schedule unit id kind (Ok reply) none = refl
 
-all_told : (unit : Unit) (id : List ℕ) (kind : ActionKind) (number : ℕ)
+outcome_has_schedule : (unit : Unit) (id : List ℕ) (kind : ActionKind) (number : ℕ)
     (outcome : Result Reply Refusal)
     → schedules_printed (outcome_lines unit id kind outcome)
     ≡ schedules_answered unit (events_of (acts.Answer number) outcome)
-all_told unit id kind number (Err refusal) = refusal_told kind refusal id
-all_told unit id kind number (Ok (Answered book ask (Ok schedule))) = refl
-all_told unit id kind number (Ok (Answered book ask (Err refusal))) =
-    refusal_told kind refusal id
-all_told unit id kind number (Ok reply) = refl
+outcome_has_schedule unit id kind number (Err refusal) = refusal_has_no_schedule kind refusal id
+outcome_has_schedule unit id kind number (Ok (Answered book ask (Ok schedule))) = refl
+outcome_has_schedule unit id kind number (Ok (Answered book ask (Err refusal))) =
+    refusal_has_no_schedule kind refusal id
+outcome_has_schedule unit id kind number (Ok reply) = refl
 
 -- a request is compiled and answered
 handed_out_part : Laws → (taken : MachineState) (number : ℕ) (id : List ℕ) (kind : ActionKind)
@@ -216,8 +216,8 @@ handed_out_part laws taken number id kind =
     quiet_step laws taken (acts.Compile number) [] tt tt refl refl in
     let answer : Part middle new (outcome_lines middle.site.unit id kind outcome) =
     one_step laws middle (acts.Answer number) (outcome_lines middle.site.unit id kind outcome)
-    (all_told middle.site.unit id kind number outcome)
-    (no_calls_told id _ ∙ no_calls (acts.Answer number) outcome tt) in
+    (outcome_has_schedule middle.site.unit id kind number outcome)
+    (answer_has_no_call id _ ∙ no_calls (acts.Answer number) outcome tt) in
     subst (λ (u : Unit). Part taken new (outcome_lines u id kind outcome))
     (same_unit laws taken middle [] compile)
     (join laws taken middle new [] (outcome_lines middle.site.unit id kind outcome) compile answer)
@@ -232,7 +232,7 @@ answered_part laws old id kind step of_call outcome is =
     (calls_hand_out_none laws.answer laws.too_long laws.own old step of_call) in
     let quiet = of_call_no_answer step of_call in
     quiet_step laws old step (outcome_lines old.site.unit id kind outcome) quiet.0 quiet.1
-    (none_told old.site.unit id kind outcome none) (no_calls_told id _)
+    (outcome_has_no_schedule old.site.unit id kind outcome none) (answer_has_no_call id _)
 
 -- a step of a CALL, at once
 at_once_part : Laws → (old : MachineState) (id : List ℕ) (kind : ActionKind) (step : Step)
@@ -303,7 +303,7 @@ sent_part laws old point = over (link_of old point)
         ∙ no_schedules old.site.unit (acts.Send point link) outcome tt)
         (all_sent point link outcome)
 
--- ---- texts
+-- ---- messages
 
 abbrev HandledPart : PlayerState → Handled → Type 0
 HandledPart old text = Part old.machine text.after.machine text.printed
@@ -320,16 +320,16 @@ point_part : Laws → (old : PlayerState) (text : texts.Sent)
     → HandledPart old (point_handled old text)
 point_part laws old text =
     let linked = attached_once old.machine text.point in
-    let told = asked_handled (with_machine old linked) (asked_of text) in
-    let sending = sent_first told.after.machine text.point in
+    let handled = asked_handled (with_machine old linked) (asked_of text) in
+    let sending = sent_first handled.after.machine text.point in
     let attach : Part old.machine linked [] = attached_part laws old.machine text.point in
-    let answer : Part linked told.after.machine told.printed =
+    let answer : Part linked handled.after.machine handled.printed =
     asked_part laws (with_machine old linked) (asked_of text) (asks_by_call text) in
-    let send : Part told.after.machine sending.after (call_lines text.point sending.call) =
-    sent_part laws told.after.machine text.point in
-    join laws old.machine told.after.machine sending.after
-    told.printed (call_lines text.point sending.call)
-    (join laws old.machine linked told.after.machine [] told.printed attach answer) send
+    let send : Part handled.after.machine sending.after (call_lines text.point sending.call) =
+    sent_part laws handled.after.machine text.point in
+    join laws old.machine handled.after.machine sending.after
+    handled.printed (call_lines text.point sending.call)
+    (join laws old.machine linked handled.after.machine [] handled.printed attach answer) send
 
 text_part : Laws → (old : PlayerState) (sender : Side) (text : texts.Sent)
     → HandledPart old (text_handled old sender text)

@@ -112,7 +112,7 @@ at_end old made = at_once (made_or_refused old made).outcome (made_or_refused ol
 abbrev first_second : Take → Take
 first_second take = record take { duration = 1 }
 
--- an ask and another end alike
+-- a request and another end alike
 by_refusal : (old : MachineState) (place : ℕ) (ask second : Ask) → old.requests ≡ []
     → (refusal : Option Refusal)
     → SameEnd
@@ -124,7 +124,7 @@ by_refusal old place ask second none None =
     let other = handed old place second none in
     record { after = one.after ∙ sym other.after; change = one.change ∙ sym other.change }
 
--- what a Take comes to at a place, by its ask there
+-- what a Take comes to at a place, by its request there
 abbrev taking_asked : MachineState → Take → ℕ → Result Ask Refusal → Result Made Refusal
 taking_asked old take place asked =
     asked >>= (λ ask. unless (refusal_to_take old take) (taking old place ask))

@@ -22,8 +22,8 @@ spelled Hold = codes "hold"
 abbrev pub IsWord : List ℕ → Type 0
 IsWord word = (0 < length word) × EachIndex word (λ k. slice_index word k ≢ space)
 
--- A line is of a form: words with one space between them. The frame is the rest of the line, and the
--- number is printed in decimal.
+-- A line is of a form: words with one space between them. The frame is the rest of the line, and
+-- the number is printed in decimal.
 abbrev pub IsOfForm : List ℕ → Form → Type 0
 IsOfForm line (text_line instant word point frame) =
     (line ≡ instant ++ (space ∷ (spelled word ++ (space ∷ (point ++ space ∷ frame)))))

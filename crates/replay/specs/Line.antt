@@ -16,14 +16,14 @@ use Rattle.texts.specs.SentText.{sent}
 use Rattle.replay.specs.Form.{Form, text_line, release_line}
 use Rattle.replay.specs.ByCases.Form.{form_of}
 
--- A point's own text names a point of the site. Whether an operator's does is the central system's to
--- say.
+-- A point's own message names a point of the site. Whether an operator's does is the central
+-- system's to say.
 abbrev pub is_stranger : SiteState → LineWord → List ℕ → Bool
 is_stranger site Operator point = false
 is_stranger site Point point = is_none (place_of site point)
 is_stranger site Hold point = false
 
--- a held ask is an operator's
+-- a held request is an operator's
 abbrev pub text_of : ℕ → LineWord → List ℕ → List ℕ → ScriptLine
 text_of moment Operator point frame = lines.Text (sent moment sides.Operator point frame)
 text_of moment Point point frame = lines.Text (sent moment sides.Point point frame)

@@ -1,4 +1,4 @@
--- What comes of the steps that a text asks for, where each compile gives the exact schedule or
+-- What comes of the steps that a message asks for, where each compile gives the exact schedule or
 -- ResultTooLong, and of those that its point's link and calls are for.
 use Rattle.std.specs.Prelude.{ℕ, List, Option, Some, None, Result, Ok, Err}
 use Rattle.ocpp_scalars.specs.declared.refusal.Refusal.{Refusal}
@@ -15,8 +15,8 @@ use Rattle.site_core.specs.State.{MachineState, Kept, ScheduleAnswer, link_of}
 use Rattle.site_core.specs.Requests.{request_of}
 use Rattle.site_core.specs.Step.{Made, stepped, no_answer}
 
--- what comes of a step: what it replies and the state after it, or why it is refused and the state as
--- it was
+-- what comes of a step: what it replies and the state after it, or why it is refused and the state
+-- as it was
 pub record Stepped : Type 0 where
   pub outcome : Result Reply Refusal
   pub after : MachineState
@@ -56,7 +56,7 @@ stepped_at_once old step =
 
 -- ---- links and calls (OCPP-J 1.6, 3 and 4)
 
--- a point has a link from its first text on
+-- a point has a link from its first message on
 abbrev pub attached_unless : Option ℕ → MachineState → List ℕ → MachineState
 attached_unless (Some link) old point = old
 attached_unless None old point = (stepped_exactly old (steps.Attach point)).after

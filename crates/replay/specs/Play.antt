@@ -48,9 +48,9 @@ abbrev pub call_lines : List ℕ → Option Call → List PrintedLine
 call_lines point None = []
 call_lines point (Some call) = lines.Call point call ∷ []
 
--- ---- texts
+-- ---- messages
 
--- what is printed, what the text changes at its point, and what is known then
+-- what is printed, what the message changes at its point, and what is known then
 pub record Handled : Type 0 where
   pub printed : List PrintedLine
   pub change : PointChange
@@ -71,16 +71,17 @@ confirmed old step = record {
   after = with_machine old step.after;
 }
 
--- a text is answered at once
+-- a message is answered at once
 abbrev pub asked_handled : PlayerState → Asked → Handled
 asked_handled old asked.Nothing = record { printed = []; change = Nothing; after = old }
 asked_handled old (asked.Respond id response) =
     record { printed = lines.Answer id response ∷ []; change = Nothing; after = old }
-asked_handled old (asked.Step id kind step) = answered old id kind (stepped_at_once old.machine step)
+asked_handled old (asked.Step id kind step) =
+    answered old id kind (stepped_at_once old.machine step)
 asked_handled old (asked.Confirm point number) =
     confirmed old (confirmed_by old.machine point number)
 
--- ---- texts of points
+-- ---- messages of points
 
 -- after what was printed comes the call that goes out now
 abbrev pub call_handled : Handled → List ℕ → Sending → Handled
@@ -93,18 +94,18 @@ call_handled text point sending = record {
 abbrev pub with_call : List ℕ → Handled → Handled
 with_call point text = call_handled text point (sent_first text.after.machine point)
 
--- the text of a point, which has a link then: its answer, and then a Send step
+-- the message of a point, which has a link then: its answer, and then a Send step
 abbrev pub point_handled : PlayerState → texts.Sent → Handled
 point_handled old text =
     with_call text.point
     (asked_handled (with_machine old (attached_once old.machine text.point)) (asked_of text))
 
--- a text by its sender
+-- a message by its sender
 abbrev pub text_handled : PlayerState → Side → texts.Sent → Handled
 text_handled old sides.Operator text = asked_handled old (asked_of text)
 text_handled old sides.Point text = point_handled old text
 
--- ---- held asks
+-- ---- held requests
 
 abbrev pub with_held : PlayerState → MachineState → ℕ → List ℕ → PlayerState
 with_held old taken number id = record {
@@ -203,6 +204,6 @@ pub record IsPlayed (line : LineStep) (outcome : LineOutcome) (new : PlayerState
   pub printed : line.printed ≡ outcome.printed.items
   pub led : LeadsTo line outcome new
 
--- a text was handled so
+-- a message was handled so
 abbrev pub IsHandled : Handled → LineOutcome → PlayerState → Type 0
 IsHandled text outcome new = IsPlayed (text_played text) outcome new

@@ -6,7 +6,7 @@ use Rattle.site_core.specs.declared.reply.Reply.TheVariants as replies
 use Rattle.replay.specs.declared.script.point_change.PointChange.{PointChange}
 use Rattle.replay.specs.declared.script.point_change.PointChange.TheVariants.{Nothing, Profiles, Transaction, Confirmed}
 
--- What a step changes that is made for the text of a line, by its reply. An install and a clear
+-- What a step changes that is made for the message of a line, by its reply. An install and a clear
 -- that removes profiles each add a call that tells the point so; TxProfiles may go with a
 -- transaction.
 abbrev pub change_by : Reply → PointChange

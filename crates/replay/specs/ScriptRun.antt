@@ -34,22 +34,22 @@ use Rattle.replay.specs.Run.{played, lines_of}
 
 -- the schedule that a line prints, if it is the answer to a CALL with one
 abbrev pub schedules_on : PrintedLine → List ScheduleResponse
-schedules_on (printed.Answer id (responses.Schedule told)) = told ∷ []
+schedules_on (printed.Answer id (responses.Schedule response)) = response ∷ []
 schedules_on line = []
 
 -- the schedules that are printed, in the order of their lines
 abbrev pub schedules_printed : List PrintedLine → List ScheduleResponse
 schedules_printed lines = flat_map schedules_on lines
 
--- a schedule as the answer to an ask, on a site with limits in this unit
-abbrev pub schedule_told : Unit → Ask → CompositeSchedule → ScheduleResponse
-schedule_told unit ask schedule =
+-- a schedule as the answer to a request, on a site with limits in this unit
+abbrev pub response_of_schedule : Unit → Ask → CompositeSchedule → ScheduleResponse
+response_of_schedule unit ask schedule =
     record { connector = ask.connector; start = ask.start; unit = unit; schedule = schedule }
 
 -- the schedule that an Answer hands out, if it does
 abbrev pub schedules_by : Unit → Step → Reply → List ScheduleResponse
 schedules_by unit (Answer number) (Answered book ask (Ok schedule)) =
-    schedule_told unit ask schedule ∷ []
+    response_of_schedule unit ask schedule ∷ []
 schedules_by unit step reply = []
 
 abbrev pub schedules_by_event : Unit → Event → List ScheduleResponse
@@ -124,20 +124,20 @@ history_of_run site script run = history_of run.steps run.outcomes
 
 -- A schedule that is printed after these lines is right for what its point had when it was asked:
 pub record IsPrintedRight (site : SiteState) (script : List ℕ) (run : ScriptRun site script)
-    (earlier : List PrintedLine) (told : ScheduleResponse) : Type 0 where
+    (earlier : List PrintedLine) (response : ScheduleResponse) : Type 0 where
   -- at a position of the run
   pub position : ℕ
   -- there is an Answer of a number,
   pub number : ℕ
   pub answers : slice_get run.steps position ≡ Some (Answer number)
-  -- which handed out a schedule, with a book and an ask,
+  -- which handed out a schedule, with a book and an `Ask`,
   pub book : BookState
   pub ask : Ask
   pub schedule : CompositeSchedule
   pub handed :
       slice_get run.outcomes position ≡ Some (Done (Answered book ask (Ok schedule)))
   -- and what is printed is that schedule, for that ask.
-  pub is : told ≡ schedule_told site.unit ask schedule
+  pub is : response ≡ response_of_schedule site.unit ask schedule
   -- The Answers before it handed out the schedules that are printed before.
   pub before :
       schedules_printed earlier
@@ -153,9 +153,9 @@ pub record IsPrintedRight (site : SiteState) (script : List ℕ) (run : ScriptRu
 abbrev pub PrintedSchedulesAreRight : (site : SiteState) (script : List ℕ) → ScriptRun site script
     → Type 0
 PrintedSchedulesAreRight site script run =
-    (earlier later : List PrintedLine) (id : List ℕ) (told : ScheduleResponse)
-    → lines_of site script ≡ earlier ++ printed.Answer id (responses.Schedule told) ∷ later
-    → IsPrintedRight site script run earlier told
+    (earlier later : List PrintedLine) (id : List ℕ) (response : ScheduleResponse)
+    → lines_of site script ≡ earlier ++ printed.Answer id (responses.Schedule response) ∷ later
+    → IsPrintedRight site script run earlier response
 
 -- the calls that are printed for a point are in sending order
 abbrev pub PrintedCallsAreInOrder : SiteState → List ℕ → Type 0
@@ -170,9 +170,9 @@ printed_numbers_obeyed site script place are_obeyed =
     obeyed_numbers are_obeyed
     (numbers_of_calls (calls_printed_to site place (lines_of site script)))
 
--- A point obeys what is printed for it, in the order of the lines, though any of it may be lost: it
--- obeys each call at least once that it confirms. Its lasting rows are then those that the central
--- system had for it at a moment of the last call that it obeyed.
+-- A point obeys what is printed for it, in the order of the lines. Any of it may be lost, but it
+-- obeys each confirmed call at least once. Its lasting rows are then those that the central system
+-- had for it at a moment of the last call that it obeyed.
 abbrev pub PrintedCallsKeepPointsInStep : (site : SiteState) (script : List ℕ)
     → ScriptRun site script → Type 0
 PrintedCallsKeepPointsInStep site script run =

@@ -1,4 +1,5 @@
-//! What plays the lines of a script: the central system's machine, its steps, and the asks that are held.
+//! What plays the lines of a script: the central system's machine, its steps, and the requests that
+//! are held.
 
 pub mod held;
 pub mod machine_steps;

@@ -1,5 +1,5 @@
-//! What scripts print, as runs of the central system: a law, a public function whose clauses range over
-//! all sites and scripts.
+//! What scripts print, as runs of the central system: a law, a public function whose clauses range
+//! over all sites and scripts.
 
 ghost use Rattle.std.specs.Prelude.{ℕ, List};
 ghost use Rattle.site_rules.specs.Site.{SiteState};
@@ -13,14 +13,14 @@ use site_core::{
 };
 
 /// The laws that tie what is printed to the runs of the central system, for every site and every
-/// script, of whatever bytes. A script is such a run from the opening state: the schedules that are
-/// printed are those that the run's Answers handed out, and the calls that are printed are those that
-/// its Sends sent, all of them and in the same order. In each such run every schedule that is printed
-/// is right for what its point had when it was asked. The calls that are printed for a point have the
-/// numbers 0, 1, .., each perhaps several times before the next. And a point that obeys what is printed
-/// for it, and each call at least once that it confirms, has the ChargePointMaxProfiles and
-/// TxDefaultProfiles that the central system had for it after that call, but for when they were
-/// installed.
+/// script, of whatever bytes. A script is such a run from the opening state. The schedules that are
+/// printed are those that the run's Answers handed out. The calls that are printed are those that
+/// its Sends sent, all of them and in the same order. In each such run every schedule that is
+/// printed is right for what its point had when it was asked. The calls that are printed for a
+/// point have the numbers 0, 1, .., each perhaps several times before the next. A point may obey
+/// what is printed for it, and each confirmed call at least once. Then it has the
+/// ChargePointMaxProfiles and TxDefaultProfiles that the central system had for it after that call,
+/// but for when they were installed.
 pub fn scripts_are_runs()
     ensures runs { (site : SiteState) (script : List ℕ) → ScriptRun site script }
     ensures right { (site : SiteState) (script : List ℕ) (run : ScriptRun site script)

@@ -55,7 +55,8 @@ fn core_of<C: Ledger, A: Ledger, R: Wait, M: Moments, J: Journal>(
     Ok(Some(core))
 }
 
-/// Closes a socket whose client isn't served (RFC 6455, section 7.4.1, policy violation). Doesn't wait for its answer.
+/// Closes a socket whose client isn't served (RFC 6455, section 7.4.1, policy violation). Doesn't
+/// wait for its answer.
 fn close_at_once<S: Read + Write + Drop>(mut socket: WebSocket<S, NoMask>) {
     let frame = CloseFrame {
         code: CloseCode::Policy,

@@ -39,8 +39,8 @@ enum Session<C: Ledger, A: Ledger> {
     Ended(Pass<C, A>),
 }
 
-/// Accepts a connection for each pass, and serves it on a thread of its own, or on this one where no thread can be
-/// made. Ends when all have ended, and gives back all passes.
+/// Accepts a connection for each pass, and serves it on a thread of its own, or on this one where
+/// no thread can be made. Ends when all have ended, and gives back all passes.
 pub(crate) fn serve_connections<
     C: Ledger + Send + Sync,
     A: Ledger + Send + Sync,
@@ -75,8 +75,8 @@ pub(crate) fn serve_connections<
     ))
 }
 
-/// Begins a session for each pass, in room for them. Then the listener is closed: nobody is to wait for a connection
-/// that is never accepted.
+/// Begins a session for each pass, in room for them. Then the listener is closed: nobody is to wait
+/// for a connection that is never accepted.
 fn begin_all<
     's,
     E,

@@ -1,5 +1,5 @@
-//! The central system on sockets: operators and charge points connect over WebSocket (OCPP-J 1.6, chapter 3), each
-//! is served on a thread of its own, and workers compile beside them.
+//! The central system on sockets: operators and charge points connect over WebSocket (OCPP-J 1.6,
+//! chapter 3). Each is served on a thread of its own, and workers on other threads compile.
 #![tactic(auto)]
 
 mod connection;

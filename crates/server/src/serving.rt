@@ -1,4 +1,4 @@
-//! The server: it accepts connections, and ends once so many have ended.
+//! The server: it accepts connections, and ends once N of them have ended.
 
 ghost use Rattle.std.specs.Prelude.{◌≡◌, ◌≤◌, IfOk, length};
 
@@ -34,9 +34,9 @@ pub enum ServeFault {
     OutOfMemory,
 }
 
-/// Serves a site: accepts so many connections, each served on a thread of its own, with so many workers beside
-/// them, and ends when all have ended. After the last one the listener is closed. Gives how many changes were made and
-/// answers handed out in all sessions.
+/// Serves a site: accepts N connections, each served on a thread of its own, and ends when all have
+/// ended. Workers on other threads compile. After the last one the listener is closed. Gives how
+/// many changes were made and answers handed out in all sessions.
 pub fn serve<R: Threads + Wait + Sync, M: Moments + Sync>(
     rt: &R,
     alloc: Global,
@@ -54,7 +54,8 @@ pub fn serve<R: Threads + Wait + Sync, M: Moments + Sync>(
     )
 }
 
-/// Does what `serve` does, and notes the texts that change or ask something, in the order in which their steps are made.
+/// Does what `serve` does, and notes the messages that change or ask something, in the order in
+/// which their steps are made.
 pub fn serve_noted<R: Threads + Wait + Sync, M: Moments + Sync, J: Journal + Sync>(
     rt: &R,
     alloc: Global,
@@ -135,8 +136,8 @@ fn serve_counted<
     }
 }
 
-/// Serves the connections while workers compile on threads of their own. Where no thread can be made for these, the
-/// sessions find nobody to send their jobs to.
+/// Serves the connections while workers compile on threads of their own. Where no thread can be
+/// made for these, the sessions find nobody to send their jobs to.
 fn serve_beside_workers<
     C: Ledger + Send + Sync,
     A: Ledger + Send + Sync,

@@ -1,4 +1,4 @@
--- What a text is answered, from the steps that lead there.
+-- What a message is answered, from the steps that lead there.
 use Rattle.std.proofs.Common.{◌≡◌, List, ℕ, Option, None, Result, Ok, Err, IfOk, refl, subst}
 use Rattle.meaning.specs.declared.ask.Ask.{Ask}
 use Rattle.site_core.specs.Right.{IsRight}
@@ -39,7 +39,7 @@ pub of_outcome : (was : PassState) (step : Step) (outcome : Outcome)
 of_outcome was step outcome performed =
     record { performed = performs.Outcome outcome; is_performed = performed; comes = refl }
 
--- the answer to a text whose step was taken out and made
+-- the answer to a message whose step was taken out and made
 pub served : (session : SessionState) (was : PassState) (text : Sent) (todo : TodoState)
     (outcome : Option Outcome) (answer : Option (List ℕ))
     → IsTodo session text.moment text.frame todo → HasOutcome was todo.step outcome

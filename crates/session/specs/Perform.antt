@@ -10,7 +10,7 @@ use Rattle.session.specs.declared.outcome.Performed.{Performed}
 use Rattle.session.specs.declared.outcome.Performed.TheVariants.{Job, Outcome}
 use Rattle.session.specs.declared.outcome.Outcome.TheVariants.{Made, Answered, Refused}
 
--- the steps that a text may ask for: neither those of workers, nor the end
+-- the steps that a message may ask for: neither those of workers, nor the end
 abbrev pub IsOfText : Step → Type 0
 IsOfText step = may_fold step ≡ true
 

@@ -1,4 +1,5 @@
--- What a text of a session is answered, once its step was made on the book that all sessions share.
+-- What a message of a session is answered, once its step was made on the book that all sessions
+-- share.
 use Rattle.std.specs.Prelude.{◌≡◌, ◌⊎◌, List, ℕ, Option, Some, None}
 use Rattle.ocpp_scalars.specs.declared.refusal.Refusal.TheVariants.{OutOfMemory, UnknownRequest}
 use Rattle.site_core.specs.declared.step.Step.{Step}
@@ -15,8 +16,8 @@ use Rattle.session.specs.Perform.{Performs}
 use Rattle.session.specs.Session.{SessionState}
 use Rattle.session.specs.Todo.{TodoState, IsTodo, answer_text}
 
--- An answer is that of a job: for the request of its number, with the book and the ask that the
--- Take of that request kept, and right for these.
+-- An answer is that of a job: for the request of its number, with the book and the `Ask` that the
+-- Take of that request kept. It is right for these.
 pub record IsAnswerTo (job : RequestedJob) (handed : HandedAnswer) : Type 0 where
   pub number : handed.number ≡ job.number
   pub book : handed.book ≡ job.book
@@ -49,16 +50,16 @@ pub record IsOutcomeOf (was : PassState) (step : Step) (outcome : Outcome) : Typ
   pub is_performed : IsPerformed was step performed
   pub comes : ComesTo performed outcome
 
--- a text without a step has no outcome
+-- a message without a step has no outcome
 abbrev pub HasOutcome : PassState → Option Step → Option Outcome → Type 0
 HasOutcome was None None = Unit {0}
 HasOutcome was (Some step) (Some outcome) = IsOutcomeOf was step outcome
 HasOutcome was _ _ = ⊥
 
--- what answers a text of a session with this pass: the text that is owed for what was asked,
+-- what answers a message of a session with this pass: the message that is owed for what was asked,
 -- with the outcome of the step that was asked for
-pub record IsServed (session : SessionState) (was : PassState) (text : Sent) (answer : Option (List ℕ))
-    : Type 0 where
+pub record IsServed (session : SessionState) (was : PassState) (text : Sent)
+    (answer : Option (List ℕ)) : Type 0 where
   pub todo : TodoState
   pub outcome : Option Outcome
   pub asked : IsTodo session text.moment text.frame todo

@@ -8,7 +8,7 @@ use Rattle.session.specs.declared.session_core.Peer.{Peer}
 use Rattle.session.specs.declared.session_core.Peer.TheVariants.{Operator, Point}
 
 pub record SessionState : Type 0 where
-  -- the identity of the point that an operator's texts are for, or that sends its own
+  -- the identity of the point that an operator's messages are for, or that sends its own
   pub point : List ℕ
   -- who is at the other end
   pub peer : Peer

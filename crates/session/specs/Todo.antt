@@ -1,4 +1,4 @@
--- What is to be done for a text of a session: at most one step, and an answer.
+-- What is to be done for a message of a session: at most one step, and an answer.
 use Rattle.std.specs.Prelude.{ℕ, ◌≡◌, ◌⊎◌, List, Option, Some, None, option_map}
 use Rattle.ocpp_scalars.specs.declared.instant.Instant.{Instant}
 use Rattle.ocpp_scalars.specs.declared.refusal.Refusal.TheVariants.{OutOfMemory}
@@ -24,7 +24,7 @@ use Rattle.session.specs.Outcome.{result_of}
 use Rattle.session.specs.Session.{SessionState, side_of, answer_unit}
 
 pub record TodoState : Type 0 where
-  -- the step that the text asks for, if it asks for one, until it is taken
+  -- the step that the message asks for, if it asks for one, until it is taken
   pub step : Option Step
   -- what its sender is owed
   pub owed : Owed
@@ -44,7 +44,7 @@ todo_asked peer (asked.Step id kind step) =
 todo_asked peer (asked.Confirm point call) =
     record { step = confirming peer point call; owed = owed.Nothing }
 
--- what is to be done for a text that comes at a moment
+-- what is to be done for a message that comes at a moment
 abbrev pub todo_of : SessionState → Instant → List ℕ → TodoState
 todo_of session now text =
     todo_asked session.peer (asked_of (sent now (side_of session.peer) session.point text))
@@ -63,7 +63,7 @@ IsTodo session now text todo = (todo ≡ todo_of session now text) ⊎ IsOutOfMe
 
 -- ---- answers
 
--- the text that is owed, on a site of a unit, once the step has an outcome
+-- the message that is owed, on a site of a unit, once the step has an outcome
 abbrev pub text_owed : Owed → Unit → Option Outcome → Option (List ℕ)
 text_owed owed.Nothing unit outcome = None
 text_owed (owed.Response id response) unit outcome = Some (response_text id response)

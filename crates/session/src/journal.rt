@@ -1,13 +1,14 @@
-//! Where sessions note the texts that they serve.
+//! Where sessions note the messages that they serve.
 
 use texts::SentText;
 
-/// Takes down the texts that sessions serve, in the order in which their steps are made.
+/// Takes down the messages that sessions serve, in the order in which their steps are made.
 pub trait Journal {
-    /// Notes a text. Whoever notes it has the book, so this waits for nothing that takes long.
+    /// Notes a message. Whoever notes it has the book, so this waits for nothing that takes long.
     fn note(&self, sent: &SentText<'_>);
 
-    /// Writes out what is noted. The session doesn't have the book, and the text isn't answered yet.
+    /// Writes out what is noted. The session doesn't have the book, and the message isn't answered
+    /// yet.
     fn write_out(&self);
 }
 

@@ -1,4 +1,4 @@
-//! A session over a socket: its texts, their steps on the shared book, and the answers.
+//! A session over a socket: its messages, their steps on the shared book, and the answers.
 
 ghost use Rattle.session.specs.Serving.{KeepsPass};
 
@@ -24,10 +24,11 @@ use std::sync::ledger::Ledger;
 use tungstenite::{MaskKeys, WebSocket};
 use version_store::{Job, Pass, Shared};
 
-/// Serves a session over its socket, after its handshake, until that is closed or fails: makes the step of each
-/// text on the shared book, and answers it. A request for a schedule goes to the workers, and is compiled here
-/// where none of them takes it. Each text of a point is followed by the call that waits for the point, if one
-/// does; and in the end the point's link is lost. Gives back the pass, which counts no less than before.
+/// Serves a session over its socket, after its handshake, until that is closed or fails. It makes
+/// the step of each message on the shared book, and answers it. A request for a schedule goes to
+/// the workers, and is compiled here where none of them takes it. Each message of a point is
+/// followed by the call that waits for the point, if one does; and in the end the point's link is
+/// lost. Gives back the pass, which counts no less than before.
 pub fn serve_socket<
     S: Read + Write + Drop,
     K: MaskKeys + Drop,
@@ -52,8 +53,9 @@ pub fn serve_socket<
     )
 }
 
-/// Does what `serve_socket` does, and notes each text that has a step, and each that is followed by a call to its point,
-/// before it is answered. A text that is neither, as most Heartbeats, isn't noted.
+/// Does what `serve_socket` does, and notes each message that has a step, and each that is followed
+/// by a call to its point, before it is answered. A message that is neither, as most Heartbeats,
+/// isn't noted.
 pub fn serve_noted_socket<
     S: Read + Write + Drop,
     K: MaskKeys + Drop,
@@ -116,7 +118,7 @@ pub fn serve_session<
     (ended, pass)
 }
 
-/// Serves texts until the socket is closed or fails.
+/// Serves messages until the socket is closed or fails.
 fn serve_texts<
     S: Read + Write + Drop,
     K: MaskKeys + Drop,

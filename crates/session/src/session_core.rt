@@ -1,4 +1,5 @@
-//! A session by itself: texts to what they ask for, outcomes to texts. It knows no socket and no store.
+//! A session on its own: from messages to what they ask for, and from outcomes to messages. It
+//! knows no socket and no store.
 
 ghost use Rattle.std.specs.Prelude.{◌≡◌, IfOk, IfErr, option_map, string_bytes};
 ghost use Rattle.session.specs.Session.{operators, points, side_of, answer_unit, with_link};
@@ -43,8 +44,8 @@ impl Model for SessionCore {
 }
 
 impl SessionCore {
-    /// An operator's session for the point of this identity, on a site of this unit, in which schedules
-    /// are answered.
+    /// An operator's session for the point of this identity, on a site of this unit, in which
+    /// schedules are answered.
     pub fn operator(alloc: Global, id: &str, unit: Unit) -> Result<SessionCore, AllocError>
         ensures { IfOk result (λ core. core ≡ operators id.now unit) }
     {
@@ -91,7 +92,8 @@ impl SessionCore {
         self.peer
     }
 
-    /// Takes a link as the point's present one, which its replies confirm calls over. An operator has none.
+    /// Takes a link as the point's present one, which its replies confirm calls over. An operator
+    /// has none.
     pub fn attached(&mut self, link: u64)
         ensures { self.new ≡ with_link self.old link }
     {
@@ -100,8 +102,9 @@ impl SessionCore {
         }
     }
 
-    /// What a text asks for that comes at this moment. The text is read into `memory`. The refusal is
-    /// `OutOfMemory`, and no CALL is refused whose id was known by then: it is to be answered so.
+    /// What a message asks for that comes at this moment. The message is read into `memory`. The
+    /// refusal is `OutOfMemory`, and no CALL is refused whose id was known by then: it is to be
+    /// answered so.
     pub fn read_text(
         &self,
         memory: &mut ReadingMemory,
@@ -121,8 +124,8 @@ impl SessionCore {
         }
     }
 
-    /// The text that answers what a text asked for, once its step has this outcome, and where none is
-    /// answered none. A Todo without a step has no outcome. The refusal is `OutOfMemory`.
+    /// The answer to a message, once its step has this outcome, if it is answered. A Todo without a
+    /// step has no outcome. The refusal is `OutOfMemory`.
     pub fn answer(&self, todo: Todo, outcome: Option<Outcome>) -> Result<Option<String>, Refusal>
         ensures text { IfOk result
             (λ text. option_map string_bytes text ≡ answer_text self.now todo outcome) }
@@ -141,7 +144,7 @@ impl SessionCore {
         }
     }
 
-    /// Who sends its texts.
+    /// Who sends its messages.
     pub(crate) fn side(&self) -> Side
         ensures { result ≡ side_of self.now.peer }
     {

@@ -12,8 +12,8 @@ use site_core::{Reply, Step, Take};
 use std::sync::ledger::Ledger;
 use version_store::{Book, Pass};
 
-/// Makes the one call on the book that a step of a text stands for. A request for a schedule has seen what its
-/// session has, whatever the step names.
+/// Makes the one call on the book that a step of a message stands for. A request for a schedule has
+/// seen what its session has, whatever the step names.
 pub fn perform<C: Ledger, A: Ledger>(
     book: &mut Book<C, A>,
     pass: &mut Pass<C, A>,

@@ -1,4 +1,4 @@
-//! What is to be done for a text of a session: at most one step, and an answer.
+//! What is to be done for a message of a session: at most one step, and an answer.
 
 ghost use Rattle.std.specs.Prelude.{◌≡◌, None, IfSome};
 ghost use Rattle.texts.specs.Asked.{AsksByCall};
@@ -13,10 +13,10 @@ use site_core::{PointId, Step};
 use std::marker::Model;
 use texts::Asked;
 
-/// What the sender of a text is owed.
+/// What the sender of a message is owed.
 #[derive(Drop)]
 pub enum Owed {
-    /// The text isn't answered.
+    /// The message isn't answered.
     Nothing,
     /// The CALL of this id is answered so.
     Response { id: MessageId, response: Response },
@@ -24,7 +24,8 @@ pub enum Owed {
     Outcome { id: MessageId, kind: ActionKind },
 }
 
-/// What is to be done for a text: at most one step, and then an answer, if its sender is owed one.
+/// What is to be done for a message: at most one step, and then an answer, if its sender is owed
+/// one.
 #[derive(Drop)]
 pub struct Todo {
     step: Option<Step>,
@@ -44,7 +45,7 @@ impl Model for Todo {
 }
 
 impl Todo {
-    /// What is to be done for what a text asks.
+    /// What is to be done for what a message asks.
     #[tactic(auto, using(crate::proofs::TodoLemmas::of_call))]
     pub(crate) fn asked(peer: Peer, asked: Asked) -> Todo
         requires { AsksByCall asked }
@@ -91,7 +92,7 @@ impl Todo {
         self.step.take()
     }
 
-    /// What the text's sender is owed.
+    /// What the message's sender is owed.
     pub fn into_owed(self) -> Owed
         ensures { result ≡ self.owed }
     {

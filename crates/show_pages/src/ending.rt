@@ -5,10 +5,10 @@ use crate::traced_calls::{AddedCall, PointCalls};
 use crate::words::counted;
 use std::alloc::{AllocError, Global};
 
-/// What is left undone after the lines of a script, a sentence a line: requests that no line
-/// released, calls that never went out or were never answered, and calls that a point rejected.
-/// Nothing is said of a point that never sent a text and for which only call 0 waits, which clears
-/// what the point has from before.
+/// What is left undone after the lines of a script, a sentence a line. These are requests that no
+/// line released, calls that never went out or were never answered, and calls that a point
+/// rejected. Nothing is said of a point that never sent a message and for which only call 0 waits,
+/// which clears what the point has from before.
 pub fn ending_text(alloc: Global, trace: &Trace<'_>) -> Result<String, AllocError> {
     let mut out = String::new(alloc);
     push_held(&mut out, trace)?;
@@ -89,7 +89,7 @@ fn push_waiting(
     let count = counted(alloc, calls.waiting.len(), "call")?;
     let why = match &calls.in_flight {
         Some(_) => "a call goes out once the one before it is answered",
-        None => "a call goes out after a text of the point",
+        None => "a call goes out after a message of the point",
     };
     write!(
         out,

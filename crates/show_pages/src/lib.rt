@@ -1,5 +1,5 @@
-//! What stands at each charge point after the lines of a script, as tables for people and as JSON;
-//! what each line printed; and what was left undone at the end of a script, in sentences.
+//! What each charge point has after the lines of a script, as tables for people and as JSON. Also
+//! what each line printed, and in sentences what was left undone at the end.
 #![tactic(auto)]
 
 mod call_of_point;

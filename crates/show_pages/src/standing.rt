@@ -12,9 +12,9 @@ use replay::Playing;
 use site_core::{Machine, Outbox};
 use std::alloc::{AllocError, Global};
 
-/// What stands at each point after a script, in the order of the site file, and which requests are
-/// held: profiles, transactions, the calls that wait and those that the point rejected. A point
-/// with nothing has one line.
+/// What each point has after a script, in the order of the site file, and which requests are held.
+/// A point has profiles, transactions, the calls that wait and those that it rejected. A point with
+/// nothing has one line.
 pub fn standing_text(alloc: Global, trace: &Trace<'_>) -> Result<String, AllocError> {
     let playing = trace.playing();
     let machine = playing.machine();

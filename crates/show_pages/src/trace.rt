@@ -20,7 +20,7 @@ const SHOWN_CHARACTERS: usize = 60;
 /// How much is kept of a script.
 #[derive(Clone, Copy, Debug, PartialEq, Eq)]
 pub enum Depth {
-    /// What its lines lead to. No schedule is made for an ask, while none is held.
+    /// What its lines lead to. No schedule is made for a request, while none is held.
     State,
     /// Which lines were refused, too. A schedule is made where one may be too long.
     Refusals,
@@ -165,7 +165,7 @@ impl<'a> Trace<'a> {
         Ok(())
     }
 
-    /// Takes in what a text did at its point.
+    /// Takes in what a message did at its point.
     fn follow(&mut self, sent: &SentText<'_>, played: &PlayedLine<'a>) -> Result<(), AllocError> {
         self.follow_change(sent, played)?;
         for line in &played.outcome.printed {
@@ -187,7 +187,7 @@ impl<'a> Trace<'a> {
         Ok(())
     }
 
-    /// Takes in what a text changed at its point.
+    /// Takes in what a message changed at its point.
     fn follow_change(
         &mut self,
         sent: &SentText<'_>,
@@ -250,7 +250,7 @@ impl<'a> Trace<'a> {
         Ok(())
     }
 
-    /// The point that a line is from or for, and its text.
+    /// The point that a line is from or for, and its message.
     fn words_of(&self, played: &PlayedLine<'a>) -> Result<(Option<String>, String), AllocError> {
         let alloc = self.alloc;
         match &played.said {
@@ -284,7 +284,7 @@ impl<'a> Trace<'a> {
     }
 }
 
-/// The point of a line with a text, and that text.
+/// The point of a line with a message, and that message.
 fn text_words(
     alloc: Global,
     word: &str,
@@ -297,7 +297,7 @@ fn text_words(
 
 /// The lines that printed something, each beside what it printed.
 pub fn trace_text(alloc: Global, trace: &Trace<'_>) -> Result<String, AllocError> {
-    let mut table = Table::new(alloc, &["line", "point", "text", "answer"])?;
+    let mut table = Table::new(alloc, &["line", "point", "message", "answer"])?;
     for line in trace.lines() {
         let point = match &line.point {
             Some(point) => point.as_str(),

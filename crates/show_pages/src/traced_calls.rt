@@ -85,7 +85,7 @@ impl PointCalls {
         Ok(())
     }
 
-    /// The call in flight was answered by this text of the point, in the line of this number.
+    /// The call in flight was answered by this message of the point, in the line of this number.
     pub(crate) fn confirmed(
         &mut self,
         alloc: Global,

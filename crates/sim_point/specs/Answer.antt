@@ -36,15 +36,15 @@ unchanged book response = record { response = response; book = book }
 
 -- ---- SetChargingProfile (OCPP 1.6, 5.16)
 
--- the row of the profile, installed at the moment of its text, or why its fields make none
+-- the row of the profile, installed at the moment of its message, or why its fields make none
 abbrev pub row_made : ℕ → ℕ → Result Profile Refusal → Result Row Refusal
 row_made now connector (Ok profile) =
     Ok (record { connector = connector; moment = now; profile = profile })
 row_made now connector (Err refusal) = Err refusal
 
--- Why a profile may not stand where it is sent, in the order in which it is checked: the point has the
--- connector; a ChargePointMaxProfile stands at connector 0 alone and a TxProfile never does (3.13.1 and
--- 5.16.4); and its limits are in the point's unit (this system's choice).
+-- Why a profile may not be where it is sent, in the order in which it is checked. The point has the
+-- connector. A ChargePointMaxProfile is only at connector 0, and a TxProfile never is (3.13.1 and
+-- 5.16.4). Its limits are in the point's unit (this system's choice).
 abbrev pub place_refusal : Unit → BookState → Row → Option Refusal
 place_refusal unit book row =
     if nat_lt (length book.ceilings) row.connector then Some UnknownConnector
@@ -99,8 +99,8 @@ schedule_of_ask unit book (Err refusal) = Rejected refusal
 
 -- ---- actions
 
--- What a point with this unit and this book answers to an action at a moment, and its book then. Any
--- other action isn't implemented.
+-- What a point with this unit and this book answers to an action at a moment, and its book then.
+-- Any other action isn't implemented.
 abbrev pub answered : Unit → BookState → ℕ → Action → Answered
 answered unit book now (actions.SetChargingProfile connector parts) =
     installed_if_made unit book (row_made now connector (profile_of_parts parts))

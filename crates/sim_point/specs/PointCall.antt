@@ -18,8 +18,8 @@ has_connector book connector = nat_lt 0 connector && nat_le connector (length bo
 abbrev pub stop_of : ℕ → Transaction → PointCall
 stop_of now transaction = StopTransaction transaction.id transaction.begin.meter_start now
 
--- The call that a step makes at a moment (OCPP 1.6, 4.6, 4.8 and 4.10). A start at a connector that the
--- point lacks makes none, and no more does a stop where no transaction is active.
+-- The call that a step makes at a moment (OCPP 1.6, 4.6, 4.8 and 4.10). A start at a connector that
+-- the point lacks makes none, and no more does a stop where no transaction is active.
 abbrev pub call_of : BookState → ℕ → SimStep → Option PointCall
 call_of book now steps.Heartbeat = Some Heartbeat
 call_of book now (steps.Start connector tag meter) =
@@ -43,9 +43,9 @@ first_call book now (step ∷ steps) =
 
 -- ---- what its reply changes
 
--- A StartTransaction whose reply brings a number begins the transaction of that number, from the moment that
--- the call told on (OCPP 1.6, 4.8); a reply without one begins nothing. Any reply to a StopTransaction is the
--- transaction's end (4.10).
+-- If the reply to a StartTransaction brings a number, the transaction of that number begins, at the
+-- moment that the call has (OCPP 1.6, 4.8). A reply without one begins nothing. Any reply to a
+-- StopTransaction is the transaction's end (4.10).
 abbrev pub book_replied : BookState → PointCall → Option ℤ → BookState
 book_replied book Heartbeat transaction = book
 book_replied book (StartTransaction connector begin) None = book

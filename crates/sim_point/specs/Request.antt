@@ -1,5 +1,5 @@
--- What a text of the central system asks of a charge point: nothing, an answer that it has whatever it
--- has installed, an action, or the end of its own call.
+-- What a message of the central system asks of a charge point: nothing, an answer that it has
+-- whatever it has installed, an action, or the end of its own call.
 use Rattle.std.specs.Prelude.{ℕ, ℤ, codes, List, Option, Some, None, Result, Ok, Err}
 use Rattle.ocppj_frame.specs.declared.fault.FrameFault.{FrameFault}
 use Rattle.ocppj_frame.specs.declared.fault.FrameFault.TheVariants.{Formation}
@@ -32,7 +32,8 @@ abbrev pub request_by_reading : List ℕ → Result Action CallFault → Request
 request_by_reading id (Ok action) = Act id action
 request_by_reading id (Err fault) = Respond id (Error fault)
 
--- A charge point is sent an operator's actions; any other isn't implemented, whatever its fields are.
+-- A charge point is sent an operator's actions; any other isn't implemented, whatever its fields
+-- are.
 abbrev pub request_of_kind : List ℕ → Option ActionKind → Tree → Request
 request_of_kind id None payload = Respond id not_implemented
 request_of_kind id (Some kind) payload = request_by_reading id (action_of_kind kind payload)
@@ -48,10 +49,10 @@ whole_in _ = None
 abbrev pub transaction_in : Tree → Option ℤ
 transaction_in payload = whole_in (whole_field_of (codes "transactionId") payload)
 
--- ---- texts
+-- ---- messages
 
--- A CALL is answered, a malformed one too where it has an id; a CALLRESULT or a CALLERROR is the reply to a
--- call of the point's own, and a CALLERROR brings no transactionId.
+-- A CALL is answered, a malformed one too if it has an id. A CALLRESULT or a CALLERROR is the reply
+-- to a call of the point's own, and a CALLERROR brings no transactionId.
 abbrev pub request_of_message : Result Message FrameFault → Request
 request_of_message (Ok (call id name payload)) =
     request_of_kind id (kind_of_sender Operator (action_named name)) payload

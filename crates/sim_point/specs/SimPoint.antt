@@ -1,5 +1,5 @@
--- The state of a simulated charge point, what a text of the central system comes to, and which call comes
--- next.
+-- The state of a simulated charge point, what a message of the central system comes to, and which
+-- call comes next.
 use Rattle.std.specs.Prelude.{ℕ, ℤ, ◌+◌, List, [], Option, Some, None, if◌then◌else◌}
 use Rattle.std.specs.Str.{bytes_eq}
 use Rattle.std.specs.Fmt.{decimal}
@@ -38,7 +38,7 @@ new_point unit ceiling ceilings steps = record {
   next_number = 0;
 }
 
--- ---- a text of the central system
+-- ---- a message of the central system
 
 -- what is answered, if something is, and the state after it
 pub record Heard : Type 0 where
@@ -48,10 +48,13 @@ pub record Heard : Type 0 where
 -- an action's answer, with the book after it
 abbrev pub acted : SimState → List ℕ → Answered → Heard
 acted old id does =
-    record { answer = Some (response_text id does.response); after = record old { book = does.book } }
+    record {
+      answer = Some (response_text id does.response);
+      after = record old { book = does.book };
+    }
 
--- A reply ends the call in flight where its id is that call's number in decimal (OCPP-J 1.6, 4.1.4); any
--- other is ignored.
+-- A reply ends the call in flight where its id is that call's number in decimal (OCPP-J 1.6,
+-- 4.1.4); any other is ignored.
 abbrev pub replied_to : SimState → Option InFlight → List ℕ → Option ℤ → SimState
 replied_to old None id transaction = old
 replied_to old (Some call) id transaction =
@@ -70,13 +73,13 @@ heard_request old now (Act id action) = acted old id (answered old.unit old.book
 heard_request old now (Reply id transaction) =
     record { answer = None; after = replied old id transaction }
 
--- what a text comes to at a moment
+-- what a message comes to at a moment
 abbrev pub heard : SimState → ℕ → List ℕ → Heard
 heard old now text = heard_request old now (request_of text)
 
 -- ---- the point's own calls
 
--- the text of the call that goes out, if one does, and the state after it
+-- the message of the call that goes out, if one does, and the state after it
 pub record Called : Type 0 where
   pub text : Option (List ℕ)
   pub after : SimState

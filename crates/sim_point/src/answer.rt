@@ -22,8 +22,8 @@ pub struct Answering {
     pub now: Instant,
 }
 
-/// Does an action, and returns the text that answers the CALL of this id. Where memory runs out, nothing
-/// changes.
+/// Does an action, and returns the message that answers the CALL of this id. Where memory runs out,
+/// nothing changes.
 pub fn answer_action(
     answering: Answering,
     book: &mut OwnBook,
@@ -84,7 +84,7 @@ fn install(
     if let Some(refusal) = row_refusal(unit, book.book(), &row) {
         return write_response(alloc, id, &Response::Rejected(refusal));
     }
-    // The text comes first: once the profile is installed, nothing can fail.
+    // The message comes first: once the profile is installed, nothing can fail.
     let text = write_response(alloc, id, &Response::Accepted)?;
     match book.install(row) {
         Ok(()) => Ok(text),
@@ -188,7 +188,7 @@ fn is_other_unit(asked: Option<Unit>, unit: Unit) -> bool
     }
 }
 
-/// The exact schedule of an ask, or that it is too long.
+/// The exact schedule of a request, or that it is too long.
 fn compile(alloc: Global, unit: Unit, book: &PointBook, ask: Ask) -> Result<Response, AllocError>
     requires has_connector { ask.connector ≤ length book.now.ceilings }
     ensures { IfOk result (λ response. response ≡ schedule_of_ask unit book.now (Ok ask)) }

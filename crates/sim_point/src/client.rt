@@ -11,17 +11,18 @@ use tungstenite::{Error, MaskKeys, Message, WebSocket};
 pub enum Ended {
     /// After a close handshake.
     Closed,
-    /// The stream failed or came to its end without a close handshake, the other side broke the protocol, or the
-    /// clock told no moment.
+    /// The stream failed or came to its end without a close handshake, the other side broke the
+    /// protocol, or the clock couldn't be read.
     Broken,
     /// Memory ran out.
     OutOfMemory,
 }
 
-/// Runs a simulated point at a socket whose handshake is done (OCPP-J 1.6, chapter 3), until its connection ends.
-/// It sends the first call, answers each text and then sends the next call, if one may go. Once its last step is
-/// answered, it closes the connection, whatever else the central system has to send. Messages that are no texts
-/// are ignored. Waits for the other side, and so owes no return.
+/// Runs a simulated point at a socket whose handshake is done (OCPP-J 1.6, chapter 3), until its
+/// connection ends. It sends the first call, answers each message and then sends the next call, if
+/// one may go. Once its last step is answered, it closes the connection, whatever else the central
+/// system has to send. Other messages than text messages are ignored. Waits for the other side, and
+/// so owes no return.
 pub fn run_client<S: Read + Write + Drop, K: MaskKeys + Drop, R: Wait, M: Moments>(
     rt: &R,
     alloc: Global,
@@ -56,7 +57,7 @@ enum Turn {
     End(Ended),
 }
 
-/// Reads a message, and answers it if it is a text.
+/// Reads a WebSocket message, and answers it if it is a text message.
 fn take_message<S: Read + Write + Drop, K: MaskKeys + Drop, M: Moments>(
     alloc: Global,
     socket: &mut WebSocket<S, K>,
@@ -75,7 +76,7 @@ fn take_message<S: Read + Write + Drop, K: MaskKeys + Drop, M: Moments>(
     }
 }
 
-/// Answers a text, and sends the next call.
+/// Answers a message, and sends the next call.
 fn take_text<S: Read + Write + Drop, K: MaskKeys + Drop>(
     alloc: Global,
     socket: &mut WebSocket<S, K>,

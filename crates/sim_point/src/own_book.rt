@@ -32,7 +32,7 @@ pub struct OwnBook {
     running: Vec<Option<Running>>,
 }
 
-// Clauses see the book: the transactions beside it are its own.
+// Clauses see the book: the transactions next to it are its own.
 impl Model for OwnBook {
     ghost use Rattle.std.specs.Prelude.{◌≡◌};
     ghost use Rattle.point_book.specs.Book.{BookState};
@@ -46,7 +46,8 @@ impl Model for OwnBook {
 }
 
 impl OwnBook {
-    /// The book of a point with these ceilings, in tenths, and with neither profiles nor transactions.
+    /// The book of a point with these ceilings, in tenths, and with neither profiles nor
+    /// transactions.
     pub fn try_new(alloc: Global, ceiling: u32, ceilings: Vec<u32>) -> Result<OwnBook, AllocError>
         ensures { IfOk result (λ book. book ≡ empty_book ceiling ceilings.items) }
     {
@@ -62,7 +63,8 @@ impl OwnBook {
         &self.book
     }
 
-    /// The transaction that is active at a connector; connector 0 and one that the point lacks have none.
+    /// The transaction that is active at a connector; connector 0 and one that the point lacks have
+    /// none.
     pub fn running_at(&self, connector: u32) -> Option<Running>
         ensures { result ≡ option_map running_of (active_at self.now.transactions connector) }
     {
@@ -86,8 +88,8 @@ impl OwnBook {
         let _count = self.book.clear(criteria);
     }
 
-    /// Begins a transaction at a connector (chapter 4.8), in place of the one that is active there; a start
-    /// that is told again changes nothing. Allocates nothing.
+    /// Begins a transaction at a connector (chapter 4.8), and ends the one that is active there. A
+    /// retransmitted start changes nothing. Allocates nothing.
     pub fn start(&mut self, connector: u32, begin: Begin, id: i32)
         requires above { 0 < connector }
         requires has { connector ≤ length self.old.ceilings }
@@ -101,8 +103,8 @@ impl OwnBook {
         }
     }
 
-    /// Ends the transaction of this number (chapter 4.10); where no active one has it, nothing changes.
-    /// Allocates nothing.
+    /// Ends the transaction of this number (chapter 4.10); where no active one has it, nothing
+    /// changes. Allocates nothing.
     pub fn stop(&mut self, id: i32)
         ensures { self.new ≡ book_stopped self.old id }
     {

@@ -19,8 +19,8 @@ use profile::Unit;
 use std::alloc::{AllocError, Global};
 use std::marker::Model;
 
-/// A simulated charge point: its book, the steps that it has still to do, and the call of its own that isn't
-/// answered yet.
+/// A simulated charge point: its book, the steps that it has still to do, and the call of its own
+/// that isn't answered yet.
 #[derive(Drop)]
 pub struct SimPoint {
     alloc: Global,
@@ -55,9 +55,9 @@ impl Model for SimPoint {
 }
 
 impl SimPoint {
-    /// A point with limits in this unit, a ceiling and the ceilings of its connectors 1, 2, .., in tenths, and
-    /// with neither profiles nor transactions, which has these steps to do. More connectors than fit a `u32` are
-    /// answered as out of memory.
+    /// A point with limits in this unit, a ceiling and the ceilings of its connectors 1, 2, .., in
+    /// tenths. It has neither profiles nor transactions, and these steps to do. More connectors
+    /// than fit a `u32` are answered as out of memory.
     pub fn try_new(
         alloc: Global,
         unit: Unit,
@@ -81,7 +81,8 @@ impl SimPoint {
         })
     }
 
-    /// Adds a step behind those that are still to come. Out of memory nothing changes, and the step comes back.
+    /// Adds a step behind those that are still to come. Out of memory nothing changes, and the step
+    /// comes back.
     pub fn add_step(&mut self, step: SimStep) -> Result<(), (AllocError, SimStep)>
         ensures added { OnOk result
             (self.new ≡ record self.old { steps = self.old.steps ++ step ∷ [] }) }
@@ -94,10 +95,11 @@ impl SimPoint {
         }
     }
 
-    /// Takes a text of the central system that comes at a moment (OCPP-J 1.6, 4.2), and returns the answer to
-    /// it, if it has one. A CALL is answered from the point's own book, which a SetChargingProfile or a
-    /// ClearChargingProfile changes. A reply to the point's call in flight ends that call, and with it a
-    /// transaction begins or ends. The refusal is `OutOfMemory`, and then nothing changes.
+    /// Takes a message of the central system that comes at a moment (OCPP-J 1.6, 4.2), and returns
+    /// the answer to it, if it has one. A CALL is answered from the point's own book, which a
+    /// SetChargingProfile or a ClearChargingProfile changes. A reply to the point's call in flight
+    /// ends that call, and with it a transaction begins or ends. The refusal is `OutOfMemory`, and
+    /// then nothing changes.
     pub fn on_text(&mut self, now: Instant, text: &str) -> Result<Option<String>, Refusal>
         ensures heard { IfOk result (λ answer. heard self.old now text.now
             ≡ record { answer = option_map string_bytes answer; after = self.new }) }
@@ -108,7 +110,7 @@ impl SimPoint {
         Ok(self.on_request(now, request)?)
     }
 
-    /// Does what a text asks, and returns the answer to it, if it has one.
+    /// Does what a message asks, and returns the answer to it, if it has one.
     fn on_request(&mut self, now: Instant, request: Request) -> Result<Option<String>, AllocError>
         ensures heard { IfOk result (λ answer. heard_request self.old now request
             ≡ record { answer = option_map string_bytes answer; after = self.new }) }
@@ -146,9 +148,9 @@ impl SimPoint {
         }
     }
 
-    /// The text of the next call that the steps make, which is then in flight, or `None` where a call is in
-    /// flight, or no step is left that makes one. Its id is its number in decimal, and `now` its timestamp. The
-    /// refusal is `OutOfMemory`, and then nothing changes.
+    /// The message of the next call that the steps make, which is then in flight. `None` if a call
+    /// is in flight, or no step is left that makes one. Its id is its number in decimal, and `now`
+    /// its timestamp. The refusal is `OutOfMemory`, and then nothing changes.
     pub fn next_call(&mut self, now: Instant) -> Result<Option<String>, Refusal>
         ensures called { IfOk result (λ text. called self.old now
             ≡ record { text = option_map string_bytes text; after = self.new }) }

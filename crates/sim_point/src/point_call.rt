@@ -37,8 +37,8 @@ pub struct InFlight {
     pub call: PointCall,
 }
 
-/// The first call that steps make at a moment, and how many steps there are up to its own; those before it are
-/// passed over.
+/// The first call that steps make at a moment, and how many steps there are up to its own; those
+/// before it are passed over.
 pub fn first_call(
     alloc: Global,
     book: &OwnBook,
@@ -117,8 +117,8 @@ fn stop_of(book: &OwnBook, connector: u32, now: Instant) -> Option<PointCall>
     }
 }
 
-/// What the reply to a call changes in the point's book, with the transactionId that it brings. Allocates
-/// nothing.
+/// What the reply to a call changes in the point's book, with the transactionId that it brings.
+/// Allocates nothing.
 pub fn reply_to(book: &mut OwnBook, call: PointCall, transaction: Option<i32>)
     requires { Fits book.old call }
     ensures { book.new ≡ book_replied book.old call transaction }

@@ -1,4 +1,4 @@
-//! What a text of the central system asks of a charge point.
+//! What a message of the central system asks of a charge point.
 
 ghost use Rattle.std.specs.Prelude.{◌≡◌, Ok, IfOk};
 ghost use Rattle.ocppj_frame.specs.Frame.{message_in};
@@ -16,10 +16,10 @@ use std::alloc::{AllocError, Global};
 /// The answer to a CALL of an action that isn't known, or that a charge point isn't sent.
 pub(crate) const NOT_IMPLEMENTED: Response = Response::Error(CallFault::NotImplemented);
 
-/// What a text asks of a charge point.
+/// What a message asks of a charge point.
 #[derive(Drop)]
 pub enum Request {
-    /// The text isn't answered, and changes nothing.
+    /// The message isn't answered, and changes nothing.
     Nothing,
     /// The CALL of this id has this answer, whatever the point has.
     Respond {
@@ -31,14 +31,15 @@ pub enum Request {
         id: MessageId,
         action: Action,
     },
-    /// The text is a reply to a call of the point's own of this id, with the transactionId that it brings.
+    /// The message is a reply to a call of the point's own of this id, with the transactionId that
+    /// it brings.
     Reply {
         id: MessageId,
         transaction: Option<i32>,
     },
 }
 
-/// What a text asks. The text is read into `memory`.
+/// What a message asks. The message is read into `memory`.
 #[tactic(auto, unfolding(crate::specs::Request::request_of))]
 pub fn request_of(
     alloc: Global,

@@ -6,15 +6,15 @@ use ocpp_scalars::IdTag;
 pub enum SimStep {
     /// A Heartbeat (chapter 4.6).
     Heartbeat,
-    /// A StartTransaction (chapter 4.8) of this idTag, with meterStart in watt-hours. It is passed over at
-    /// connector 0 and at one that the point lacks.
+    /// A StartTransaction (chapter 4.8) of this idTag, with meterStart in watt-hours. It is passed
+    /// over at connector 0 and at one that the point lacks.
     Start {
         connector: u32,
         tag: IdTag,
         meter: i32,
     },
-    /// A StopTransaction (chapter 4.10) of the transaction that is active at the connector, with the meter of
-    /// its start as meterStop. It is passed over where none is active.
+    /// A StopTransaction (chapter 4.10) of the transaction that is active at the connector, with
+    /// the meter of its start as meterStop. It is passed over where none is active.
     Stop {
         connector: u32,
     },

@@ -1,5 +1,5 @@
--- What comes to the outbox of a point along a history, and what is sent to it; its profiles; the moments
--- of its calls.
+-- What comes to the outbox of a point along a history, and what is sent to it; its profiles; the
+-- moments of its calls.
 use Rattle.std.proofs.Common.{◌≡◌, ℕ, zero, suc, ◌==◌, Bool, true, false, cond, List, [], ◌∷◌, ◌++◌, length, map, filter_map, flat_map, slice_index_or, slice_get, ◌+◌, is_some, Option, Some, None, refl, sym, ap, ap₂, ◌∙◌, subst, arith, append_assoc, length-append, ◌≤◌, ◌-◌, inl}
 use Rattle.std.proofs.lemmas.List.{length-map, map-append}
 use Rattle.std.proofs.lemmas.List.Elements.{filter-append, All-contains_itself, recursion_from_All}
@@ -97,9 +97,9 @@ at_seam [] call later = refl
 at_seam (first ∷ before) call later = at_seam before call later
 
 -- each of the numbered calls stands at its number
-each_at_its_number : (told : List CallBody) (number : ℕ) (before : List Call)
+each_at_its_number : (bodies : List CallBody) (number : ℕ) (before : List Call)
     → length before ≡ number
-    → AllByRecursion (IsOneOf (before ++ numbered number told)) (numbered number told)
+    → AllByRecursion (IsOneOf (before ++ numbered number bodies)) (numbered number bodies)
 each_at_its_number [] number before many = tt
 each_at_its_number (body ∷ later) number before many =
     let call : Call = record { number = number; body = body } in
@@ -269,8 +269,8 @@ confirmed_more point event later first rest =
 
 -- ---- along a history
 
--- the point at a place is what its own events make of it, and it is sent and confirms the calls of their
--- replies
+-- the point at a place is what its own events make of it, and it is sent and confirms the calls of
+-- their replies
 record Follows (place : ℕ) (old : MachineState) (history : List Event)
     (new : MachineState) : Type 0 where
   site : new.site ≡ old.site

@@ -352,9 +352,9 @@ decided_here old step point link place result for found says =
     all : WorkAgrees step (AtPoint n.at)
     all = subst (WorkAgrees step) n.is (agrees step)
 
-    told : (reply : Reply) (b : Bool) → outlook_by (Ok (cond b Does (Answers reply))) ≡ Ok b
-    told reply true = refl
-    told reply false = refl
+    by_reply : (reply : Reply) (b : Bool) → outlook_by (Ok (cond b Does (Answers reply))) ≡ Ok b
+    by_reply reply true = refl
+    by_reply reply false = refl
 
     by : (decided : Result Reply Refusal) → IfOk decided (Agrees old.numbers was step)
         → outlook_of old (decided >>= (λ r. Ok (made_at old step place r)))
@@ -363,7 +363,7 @@ decided_here old step point link place result for found says =
     by (Ok reply) agree =
         ap (λ (r : Reply). Ok (is_event old r)) (reply_after old place reply (deed was step reply))
         ∙ ap Ok (agree.event old ∙ sym (agree.event (record old { is_stopped = false })))
-        ∙ sym (told reply ((facts reply).is_event false))
+        ∙ sym (by_reply reply ((facts reply).is_event false))
 
 -- ---- requests
 

@@ -1,4 +1,5 @@
--- That an obeying point stays in step: a call acts on the lasting rows alone, and again it does nothing.
+-- That an obeying point stays in step: a call acts on the lasting rows alone, and again it does
+-- nothing.
 use Rattle.std.proofs.Common.{◌≡◌, ℕ, ◌+◌, zero, suc, Bool, true, false, not, ◌||◌, ◌&&◌, ◌==◌, ◌⊎◌, inl, inr, refl, sym, ◌∙◌, ap, subst, List, [], ◌∷◌, ◌++◌, filter, map, Option, None, Some, is_some, slice_get, cond, append-nil, arith}
 use Rattle.std.specs.List.{filter_map, cons_option}
 use Rattle.std.specs.Ordering.{int_eq}

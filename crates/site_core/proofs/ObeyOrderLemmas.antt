@@ -1,5 +1,5 @@
--- That a point obeys calls in sending order: a list in sending order keeps it where only such numbers go of
--- which another sending stays.
+-- That a point obeys calls in sending order: a list in sending order keeps it where only such
+-- numbers go of which another sending stays.
 use Rattle.std.proofs.Common.{◌≡◌, ℕ, ◌+◌, ◌<◌, ◌≤◌, ◌==◌, zero, suc, Bool, true, false, cond, ◌⊎◌, inl, inr, refl, sym, ◌∙◌, ap, subst, List, [], ◌∷◌, ◌++◌, length, slice_index_or, Option, None, Some, arith}
 use Rattle.std.specs.List.{AllByRecursion}
 use Rattle.messages.specs.declared.call.Call.{Call}

@@ -9,8 +9,9 @@ use Rattle.site_core.specs.OutboxOrder.{numbers_sent, calls_confirmed}
 abbrev seven : CallBody
 seven = Clear (record { id = Some (pos 7); connector = None; purpose = None; stack_level = None })
 
--- two links, of which the second sends; the session is lost, and call 0 goes again over a third; a reply to
--- call 1 confirms nothing, one to call 0 does; call 1 is sent, and again over a fourth link
+-- two links, of which the second sends; the session is lost, and call 0 goes again over a third; a
+-- reply to call 1 confirms nothing, one to call 0 does; call 1 is sent, and again over a fourth
+-- link
 abbrev day : List Traffic
 day =
     Attach 1 ∷ (Attach 2 ∷ (Send ∷ (Send ∷ (Lose ∷ (Send ∷ (Attach 3 ∷ (Send ∷ (Add seven ∷

@@ -131,7 +131,7 @@ pub handed : (number : ℕ) (requests : List Kept) (place : ℕ) (kept : Kept) (
     → kept ≡ get_or requests place kept → Some reply ≡ option_map (λ
     (answer : ScheduleAnswer). Answered kept.book kept.ask answer) kept.answer
     → handed_out number requests ≡ Ok (reply, remove requests place)
-handed number requests place kept reply found read told =
+handed number requests place kept reply found read reply_is =
     let first = first_of number requests place kept found read in
     let left : without kept.number requests ≡ remove requests place =
     ap (λ (n : ℕ). without n requests) first.same ∙ first.leaves in
@@ -144,7 +144,7 @@ handed number requests place kept reply found read told =
       | None ↦ λ h. absurd (cc h)
       | Some answer ↦ λ h. cc (h, left)
     ] in
-    rw first.is_kept (ap Ok (with kept.answer told))
+    rw first.is_kept (ap Ok (with kept.answer reply_is))
 
 -- it has its answer
 pub answered_before : (number : ℕ) (requests : List Kept) (place : ℕ) (kept : Kept)

@@ -13,5 +13,5 @@ runs_more old [] step [] outcome middle new same has =
     (new, subst (λ (state : MachineState). HasOutcome state step outcome new) same has, refl)
 runs_more old [] step (first ∷ outcomes) outcome middle new never has = absurd never
 runs_more old (first ∷ steps) step [] outcome middle new never has = absurd never
-runs_more old (first ∷ steps) step (told ∷ outcomes) outcome middle new runs has =
+runs_more old (first ∷ steps) step (one ∷ outcomes) outcome middle new runs has =
     (runs.0, runs.1, runs_more runs.0 steps step outcomes outcome middle new runs.2 has)

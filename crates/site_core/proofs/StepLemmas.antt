@@ -1,5 +1,5 @@
--- What the steps that are made do at the point that they name, and what they leave of the site, of the kept
--- requests and of their numbers.
+-- What the steps that are made do at the point that they name, and what they leave of the site, of
+-- the kept requests and of their numbers.
 use Rattle.std.proofs.Common.{◌≡◌, ℕ, ◌+◌, ◌<◌, ◌==◌, Bool, true, false, not, cond, List, [], Option, Some, None, Result, Ok, Err, slice_set, slice_index_or, length, is_some, refl, sym, ap, ◌∙◌, subst, inl, inr, ◌&&◌, add-zero}
 use Rattle.std.proofs.lemmas.Bool.{eqb-true}
 use Rattle.std.proofs.lemmas.List.{length-set, set-get_or}
@@ -392,7 +392,7 @@ handing old kept answer = record {
   after = record old { requests = without kept.number old.requests };
 }
 
--- an answer is handed out, with the book and the ask of its request
+-- an answer is handed out, with the book and the `Ask` of its request
 pub record IsHanding (old : MachineState) (number : ℕ) (made : Made) : Type 0 where
   pub kept : Kept
   pub found : request_of number old.requests ≡ Some kept

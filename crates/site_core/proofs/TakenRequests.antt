@@ -1,4 +1,4 @@
--- What every kept request comes from: one Take of its number, with its book and its ask.
+-- What every kept request comes from: one Take of its number, with its book and its `Ask`.
 use Rattle.std.proofs.Common.{◌≡◌, ℕ, zero, ◌+◌, ◌<◌, ◌≤◌, ◌==◌, Bool, true, false, cond, List, [], ◌∷◌, ◌++◌, take, append_assoc, append-nil, Option, Some, None, Result, Ok, Err, unwrap_or, refl, sym, ap, ◌∙◌, subst, arith}
 use Rattle.std.proofs.Common.{inl, inr}
 use Rattle.std.specs.Prelude.{IfOk, IfSome, ◌⊎◌}
@@ -127,8 +127,8 @@ finished_since opening events number book ask (inr before) finish = inr finish
 
 -- ---- kept requests
 
--- It was taken, or kept before; its answer is right, and Stopped only after a Finish. Its number isn't
--- above the one drawn last.
+-- It was taken, or kept before; its answer is right, and Stopped only after a Finish. Its number
+-- isn't above the one drawn last.
 pub record IsKept (opening : MachineState) (events : List Event) (drawn : ℕ) (kept : Kept)
     : Type 0 where
   pub origin : Origin opening events kept.number kept.book kept.ask

@@ -1,5 +1,6 @@
--- A history worked by hand. A profile is installed between two requests, and both answers are handed out in
--- the other order: each is for what the point had when it was asked. Limits are in tenths.
+-- A history worked by hand. A profile is installed between two requests, and both answers are
+-- handed out in the other order: each is for what the point had when it was asked. Limits are in
+-- tenths.
 use Rattle.std.specs.Prelude.{ℕ, List, [], ◌∷◌, length, Some, None, Result, Ok, Err}
 use Rattle.std.proofs.Common.{◌≡◌, ap, refl}
 use Rattle.std.proofs.Math.IntN.{pos}

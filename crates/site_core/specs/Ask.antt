@@ -1,4 +1,4 @@
--- The ask of a Take at a point, or why there is none (OCPP 1.6, 5.7).
+-- The `Ask` of a Take at a point, or why there is none (OCPP 1.6, 5.7).
 use Rattle.std.specs.Prelude.{nat_lt, Bool, false, not, length, Option, Some, None, Result, Err, if◌then◌else◌}
 use Rattle.ocpp_scalars.specs.declared.refusal.Refusal.{Refusal}
 use Rattle.ocpp_scalars.specs.declared.refusal.Refusal.TheVariants.{UnknownConnector, WrongUnit}
@@ -13,7 +13,7 @@ abbrev pub is_other_unit : Option Unit → Unit → Bool
 is_other_unit None unit = false
 is_other_unit (Some asked) unit = not (unit_eq asked unit)
 
--- The ask of a Take at a point with this book, on a site with limits in this unit, or the first
+-- The `Ask` of a Take at a point with this book, on a site with limits in this unit, or the first
 -- cause in this order.
 abbrev pub ask_at : Unit → BookState → Take → Result Ask Refusal
 ask_at unit book take =

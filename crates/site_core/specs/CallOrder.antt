@@ -76,7 +76,8 @@ abbrev pub deeds_of : SiteState → ℕ → List Event → List Deed
 deeds_of site place history =
     deeds_from (opening_at_place site place) (events_at site place history)
 
--- what holds of each place along every legal history, from any state that a central system may be in
+-- what holds of each place along every legal history, from any state that a central system may be
+-- in
 abbrev pub FromAnyState : (MachineState → ℕ → List Event → MachineState → Type 0) → Type 0
 FromAnyState holds =
     (old : MachineState) (history : List Event) (new : MachineState)
@@ -175,7 +176,8 @@ ConfirmationsAreEvents = OfEachPoint (λ site place history state.
 
 -- ---- the same from any state
 
--- the calls of the point at a place have consecutive numbers, from this one to before the next call's
+-- the calls of the point at a place have consecutive numbers, from this one to before the next
+-- call's
 abbrev pub AreKeptFrom : MachineState → ℕ → ℕ → Type 0
 AreKeptFrom state place first =
     AreFrom first (outbox_at state place).calls (outbox_at state place).next
@@ -186,7 +188,8 @@ CallsBeginAtZero =
     (site : SiteState) (numbers : Numbers) (place : ℕ)
     → AreKeptFrom (opening_at site numbers) place 0
 
--- and where they have, they do so after every history, from as much later on as were confirmed since
+-- and where they have, they do so after every history, from as much later on as were confirmed
+-- since
 abbrev pub CallsStayConsecutive : Type 0
 CallsStayConsecutive = FromAnyState (λ old place history new.
     (first : ℕ) → AreKeptFrom old place first
@@ -199,8 +202,8 @@ calls_since old place history =
     (outbox_at old place).calls
     ++ numbered (outbox_at old place).next (bodies_added (traffic_since old place history))
 
--- the numbers that Send replies begin with that of the first call that isn't confirmed, or the next
--- one, and each later one equals the one before it or is one more
+-- The numbers that Send replies begin with that of the first unconfirmed call, or the next one.
+-- Each later one equals the one before it or is one more.
 abbrev pub CallsGoOnInOrder : Type 0
 CallsGoOnInOrder = FromAnyState (λ old place history new.
     (first : ℕ) → AreKeptFrom old place first
@@ -272,8 +275,8 @@ EachCallHasItsMoment =
 
 -- A point has any rows, and then obeys calls in the order of sending. Its lasting rows are then
 -- those that the machine had for it at a moment of the last of these calls, whatever came later.
--- The moments of call k are those from when the k-th install or clear was accepted, up to the next
--- one; those of call 0 come before the first.
+-- The moments of call k begin when the k-th install or clear was accepted, and end at the next one.
+-- Those of call 0 come before the first.
 abbrev pub PointsStayInStep : Type 0
 PointsStayInStep =
     (site : SiteState) (numbers : Numbers) (history : List Event) (state : MachineState)
@@ -300,9 +303,9 @@ CallsAreObeyedInOrder = OfEachPoint (λ site place history state.
     (calls_confirmed_at site place history)
     → AreInSendingOrder (numbers_obeyed_at site place history are_obeyed))
 
--- The same of a point that obeys what is sent to it, in the order of the sendings, though any of
--- them may be lost: it obeys each call at least once that it confirms. Its lasting rows are then
--- those that the machine had for it at a moment of the last call that it obeyed.
+-- The same of a point that obeys what is sent to it, in the order of the sendings. Any of them may
+-- be lost, but it obeys each confirmed call at least once. Its lasting rows are then those that the
+-- machine had for it at a moment of the last call that it obeyed.
 abbrev pub ObeyingPointsStayInStep : Type 0
 ObeyingPointsStayInStep =
     (site : SiteState) (numbers : Numbers) (history : List Event) (state : MachineState)

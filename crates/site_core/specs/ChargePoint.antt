@@ -1,6 +1,6 @@
 -- What the central system keeps of a charge point, and what a step does there. A step of a point
--- can't see other points or requests. `record old { .. }` is the point with these fields changed and
--- all else as it was.
+-- can't see other points or requests. `record old { .. }` is the point with these fields changed
+-- and all else as it was.
 use Rattle.std.specs.Prelude.{ℕ, ℤ, ◌-◌, List, Option, Some, None, slice_set}
 use Rattle.profile.specs.declared.row.Row.{Row}
 use Rattle.profile.specs.declared.criteria.Criteria.{Criteria}
@@ -26,8 +26,8 @@ opening_point point =
 
 -- ---- what a step does at a point
 
--- All that is said of what a step does at its point is read from here: the point after it, the call
--- to the point, and what the laws over histories say.
+-- All that is said of what a step does at its point is read from here. That is the point after it,
+-- the call to the point, and what the laws over histories say.
 pub data Deed : Type 0 where
   -- a profile is installed, and the point is called to install it (OCPP 1.6, 5.16)
   Installs : (row : Row) → Deed
@@ -82,7 +82,7 @@ traffic_of Loses = Some Lose
 traffic_of Sends = Some Send
 traffic_of (Confirms number) = Some (Confirm number)
 
--- the call that tells the point of it, if there is one
+-- the call that brings it to the point, if there is one
 abbrev pub call_in : Option Traffic → Option CallBody
 call_in (Some (Add body)) = Some body
 call_in other = None
@@ -90,7 +90,7 @@ call_in other = None
 abbrev pub call_of : Deed → Option CallBody
 call_of deed = call_in (traffic_of deed)
 
--- what a point that does at a moment as a call tells it makes of its profiles
+-- what a point that obeys a call at a moment makes of its profiles
 abbrev pub rows_by_call : ℕ → CallBody → List Row → List Row
 rows_by_call moment (bodies.Set connector profile) rows =
     installed rows (record { connector = connector; moment = moment; profile = profile })

@@ -1,5 +1,5 @@
--- What the numbers tell of a history: each change of a point's book draws a version of the store, each
--- Take a request's number, and a request is kept until its answer is handed out.
+-- What the numbers count of a history. Each change of a point's book draws a version of the store,
+-- and each Take a request's number. A request is kept until its answer is handed out.
 use Rattle.std.specs.Prelude.{ℕ, ◌≡◌, ◌+◌, List, length}
 use Rattle.std.specs.List.{sum_by}
 use Rattle.site_core.specs.State.{MachineState}

@@ -1,5 +1,5 @@
--- The headline: after any steps, in any order, every schedule that is handed out is right for what
--- its point had when the schedule was asked, whatever was changed since (OCPP 1.6, 5.7).
+-- The headline. After any steps, in any order, every schedule that is handed out is right for what
+-- its point had when it was asked, whatever was changed since (OCPP 1.6, 5.7).
 use Rattle.std.specs.Prelude.{ℕ, ◌≡◌, ◌≤◌, ◌+◌, ◌⊎◌, true, List, ◌∷◌, ◌++◌, take, slice_get, Some, IfSome, Ok, Err}
 use Rattle.std.specs.List.{AllByRecursion, Contains}
 use Rattle.ocpp_scalars.specs.declared.refusal.Refusal.TheVariants.{Stopped}
@@ -18,7 +18,7 @@ use Rattle.site_core.specs.Ask.{ask_at}
 use Rattle.site_core.specs.Right.{IsRight}
 use Rattle.site_core.specs.History.{Event, Legal, history_of, taken_event, answered_event, finish_event, takes_of, answers_of, kept_of, IsAnswered}
 
--- A request of a number, with a book and an ask, was taken in these events from a state:
+-- A request of a number, with a book and an `Ask`, was taken in these events from a state:
 pub record IsTakenIn (old : MachineState) (events : List Event) (number : ℕ) (book : BookState)
     (ask : Ask) : Type 0 where
   -- There were events before the request was taken,
@@ -42,16 +42,16 @@ pub record IsTakenIn (old : MachineState) (events : List Event) (number : ℕ) (
   pub point : place_of old.site asked.point ≡ Some place
   -- and the book is what that point had in that state: its profiles and transactions.
   pub had : book ≡ book_at state place
-  -- The ask is the one that the request made.
+  -- The `Ask` is the one that the request made.
   pub asks : ask_at old.site.unit book asked ≡ Ok ask
 
--- An answer that is handed out to the request of a number, with a book and an ask, after these
+-- An answer that is handed out to the request of a number, with a book and an `Ask`, after these
 -- events from an opening state, is right:
 pub record IsRightAfter (opening : MachineState) (events : List Event) (number : ℕ)
     (book : BookState) (ask : Ask) (answer : ScheduleAnswer) : Type 0 where
   -- The request was taken in these events, with what its point had then.
   pub taken : IsTakenIn opening events number book ask
-  -- For this book and this ask the answer is right: the exact schedule, or a permitted refusal.
+  -- For this book and this `Ask` the answer is right: the exact schedule, or a permitted refusal.
   pub right : IsRight book ask answer
   -- It is the refusal Stopped only where the central system was stopped since.
   pub stopped : answer ≡ Err Stopped → Contains taken.since finish_event
@@ -68,8 +68,8 @@ AnswersAreRight opening steps outcomes =
 
 -- ---- the same from any state
 
--- In a state a kept request is right: its number was drawn, and its answer, if it has one, is right
--- for its book and its ask, and Stopped only where the central system is stopped.
+-- In a state a kept request is right. Its number was drawn. Its answer, if it has one, is right for
+-- its book and its `Ask`, and Stopped only where the central system is stopped.
 pub record IsKeptRight (state : MachineState) (kept : Kept) : Type 0 where
   pub drawn : kept.number ≤ state.numbers.request
   pub right : IfSome kept.answer (IsRight kept.book kept.ask)
@@ -78,8 +78,8 @@ pub record IsKeptRight (state : MachineState) (kept : Kept) : Type 0 where
 abbrev pub KeepsRight : MachineState → Type 0
 KeepsRight state = AllByRecursion (IsKeptRight state) state.requests
 
--- A request of a number, with a book and an ask, was kept in a state already, and no Take in these
--- events since has its number.
+-- A request of a number, with a book and an `Ask`, was kept in a state already, and no Take in
+-- these events since has its number.
 pub record IsKeptBefore (old : MachineState) (events : List Event) (number : ℕ) (book : BookState)
     (ask : Ask) : Type 0 where
   pub kept : Kept
@@ -122,8 +122,8 @@ RequestsHaveTheirBooks =
     → KeepsRight old → Legal old events new
     → AllByRecursion (HasItsBook old events) new.requests
 
--- each answer that is handed out is right: for what the point had at the request's Take, or for what
--- the old state kept
+-- each answer that is handed out is right: for what the point had at the request's Take, or for
+-- what the old state kept
 abbrev pub AnswersGoOnRight : Type 0
 AnswersGoOnRight =
     (old : MachineState) (earlier later : List Event) (number : ℕ) (book : BookState) (ask : Ask)

@@ -18,8 +18,8 @@ pub record Event : Type 0 where
   pub step : Step
   pub reply : Reply
 
--- A history is legal where each event is a step from the state that the one before led to, the
--- first from the old state, and the last leads to the new one.
+-- A history is legal if each event is a step from the state that the one before led to. The first
+-- is a step from the old state, and the last leads to the new one.
 abbrev pub Legal : MachineState → List Event → MachineState → Type 0
 Legal old [] new = new ≡ old
 Legal old (event ∷ later) new =

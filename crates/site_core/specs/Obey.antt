@@ -1,4 +1,4 @@
--- That a point which does as it is told stays in step: whatever is lost or sent again, the profiles
+-- That a point which obeys its calls stays in step, whatever is lost or sent again. The profiles
 -- that outlast its transactions are those that the central system has for it.
 use Rattle.std.specs.Prelude.{ℕ, ◌≡◌, not, List, [], ◌∷◌, filter, map, Option, None, Some, is_some, zero, suc, slice_get, if◌then◌else◌}
 use Rattle.std.specs.List.{filter_map}
@@ -31,8 +31,8 @@ pub record Obeying : Type 0 where
   pub number : ℕ
   pub moment : ℕ
 
--- what the point has once it has done at a moment as a call tells it; a number without a call tells it
--- nothing
+-- what the point has once it has done at a moment as a call tells it; a number without a call tells
+-- it nothing
 abbrev pub obeyed_call : ℕ → Option CallBody → List Row → List Row
 obeyed_call moment None rows = rows
 obeyed_call moment (Some body) rows = rows_by_call moment body rows

@@ -21,8 +21,8 @@ IsObeyed obeyed call = Contains obeyed call.number
 abbrev pub numbers_obeyed : List Traffic → List Bool → List ℕ
 numbers_obeyed traffic are_obeyed = obeyed_numbers are_obeyed (numbers_sent opening_outbox traffic)
 
--- A point that obeys calls in the order of their sendings, and each that is confirmed at least
--- once, obeys them in sending order: it leaves none out, and goes back to none.
+-- A point may obey calls in the order of their sendings, and each confirmed one at least once. Then
+-- it obeys them in sending order: it leaves none out, and goes back to none.
 abbrev pub AreObeyedInOrder : Type 0
 AreObeyedInOrder =
     (traffic : List Traffic) (are_obeyed : List Bool)

@@ -9,7 +9,8 @@ use Rattle.site_core.specs.Right.{IsCompiledFor}
 use Rattle.site_core.specs.Requests.{request_of}
 use Rattle.site_core.specs.Step.{compiles}
 
--- the brought answer is this request's: for what its point had when it was taken, and for what it asks
+-- the brought answer is this request's: for what its point had when it was taken, and for what it
+-- asks
 pub record IsFor (kept : Kept) (brought : CompiledAnswer) : Type 0 where
   pub book : brought.book ≡ kept.book
   pub ask : brought.ask ≡ kept.ask

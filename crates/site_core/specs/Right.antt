@@ -5,8 +5,8 @@ use Rattle.meaning.specs.declared.ask.Ask.{Ask}
 use Rattle.point_book.specs.Book.{BookState}
 pub use Rattle.sweep_compiler.specs.Right.{IsCompiledFor, ScheduleAnswer}
 
--- A right answer is what a compiler may answer for the book and the ask, or that the central system
--- was stopped before it was compiled.
+-- A right answer is what a compiler may answer for the book and the `Ask`, or that the central
+-- system was stopped before it was compiled.
 abbrev pub IsRight : BookState → Ask → ScheduleAnswer → Type 0
 IsRight book ask (Err Stopped) = Unit {0}
 IsRight book ask answer = IsCompiledFor book ask answer

@@ -80,9 +80,9 @@ abbrev pub is_this_number : ℕ → Option ℕ → Bool
 is_this_number number None = false
 is_this_number number (Some other) = other == number
 
--- the link over which a call is to be sent now to the point at a place, and to the point of an
--- identity, where there is such a call: a stranger has none, and nothing is sent once the central
--- system is stopped
+-- The link over which a call is to be sent now to the point at a place, and to the point of an
+-- identity, where there is such a call. A stranger has none, and nothing is sent once the central
+-- system is stopped.
 abbrev pub link_to_send_at : MachineState → Option ℕ → Option ℕ
 link_to_send_at state None = None
 link_to_send_at state (Some place) = sending_link (outbox_at state place)

@@ -37,7 +37,7 @@ use Rattle.site_core.specs.Right.{IsCompiledFor}
 
 -- ---- what replies tell
 
--- a reply that tells of no change, Take or answer
+-- a reply that counts no change, Take or answer
 abbrev pub no_count : Counted
 no_count = record { changes = 0; takes = 0; answers = 0 }
 
@@ -124,7 +124,7 @@ drawn reply numbers = (facts reply).drawn numbers
 abbrev pub wants_memory : Reply → Bool
 wants_memory reply = (facts reply).wants_memory
 
--- a book that is replied with an ask has the connector that is asked
+-- a book that is replied with an `Ask` has the connector that is asked
 abbrev pub HasAskedConnector : Reply → Type 0
 HasAskedConnector reply = IfSome (facts reply).asks (λ (asked : BookState × Ask).
     asked.1.connector ≤ length asked.0.ceilings)
@@ -188,7 +188,7 @@ clears numbers criteria point =
     then unless (refusal_to_call numbers point) Accepted
     else Ok Unknown
 
--- Start (OCPP 1.6, 4.8): transactions are numbered over the whole site. A start that is told again
+-- Start (OCPP 1.6, 4.8): transactions are numbered over the whole site. A retransmitted start
 -- changes nothing. A transaction is at a connector of the point, and connector 0 is none.
 abbrev pub next_transaction : Numbers → ℤ
 next_transaction numbers = pos (numbers.transaction + 1)
@@ -198,7 +198,8 @@ transaction_number_refusal numbers =
     if numbers.transaction == max_transaction then Some TransactionsExhausted else None
 
 abbrev pub refusal_to_start : Numbers → Option Refusal
-refusal_to_start numbers = first_cause (version_refusal numbers) (transaction_number_refusal numbers)
+refusal_to_start numbers =
+    first_cause (version_refusal numbers) (transaction_number_refusal numbers)
 
 abbrev pub starts_as : Began → Numbers → Result Reply Refusal
 starts_as (Repeat number) numbers = Ok (Repeated number)
@@ -348,8 +349,8 @@ compiles_kept old number answer (Some kept) =
 abbrev pub compiles : MachineState → ℕ → ScheduleAnswer → Result Made Refusal
 compiles old number answer = compiles_kept old number answer (request_of number old.requests)
 
--- Answer: the answer is handed out with the book and the ask that it is for, and the request is no
--- longer kept
+-- Answer: the answer is handed out with the book and the `Ask` that it is for, and the request is
+-- no longer kept
 abbrev pub answers_with : MachineState → Kept → Option ScheduleAnswer → Made
 answers_with old kept None = unchanged old NotYet
 answers_with old kept (Some answer) = record {
@@ -437,7 +438,7 @@ stepped answer old step = worked answer old step (work step)
 abbrev pub no_answer : ScheduleAnswer
 no_answer = Err OutOfMemory
 
--- Compile, with an answer that a compiler may give for the book and the ask of the request
+-- Compile, with an answer that a compiler may give for the book and the `Ask` of the request
 pub record Compiles (old : MachineState) (number : ℕ) (reply : Reply) (new : MachineState)
     : Type 0 where
   pub kept : Kept

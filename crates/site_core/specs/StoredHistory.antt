@@ -1,5 +1,5 @@
--- Histories as they are stored: of each event its step, and for a Compile the answer that it brought.
--- Then a history leads to one state, its replay, and every reply is read from there.
+-- Histories as they are stored: of each event its step, and for a Compile the answer that it
+-- brought. Then a history leads to one state, its replay, and every reply is read from there.
 use Rattle.std.specs.Prelude.{◌≡◌, ℕ, List, [], ◌∷◌, ◌++◌, Some, Result, Ok, IfOk}
 use Rattle.ocpp_scalars.specs.declared.refusal.Refusal.{Refusal}
 use Rattle.ocpp_scalars.specs.ResultSteps.{◌>>=◌}
@@ -56,8 +56,8 @@ AllMayBeGiven old (stored ∷ later) =
 
 -- ---- the laws
 
--- a history and the state after it are stored as these events: it is their replay, and their answers
--- may be given
+-- a history and the state after it are stored as these events: it is their replay, and their
+-- answers may be given
 pub record IsStoredAs (old : MachineState) (events : List Event) (new : MachineState)
     (stored : List StoredEvent) : Type 0 where
   pub replay : replayed old stored ≡ Ok (record { events = events; after = new })

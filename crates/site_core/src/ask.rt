@@ -1,4 +1,4 @@
-//! The ask of a Take, or why there is none.
+//! The `Ask` of a Take, or why there is none.
 
 ghost use Rattle.std.specs.Prelude.{◌≡◌, ◌≤◌, length, IfOk};
 ghost use Rattle.site_core.specs.Ask.{is_other_unit, ask_at};
@@ -9,8 +9,8 @@ use ocpp_scalars::Refusal;
 use point_book::PointBook;
 use profile::Unit;
 
-/// The ask of a Take at a point with this book, on a site with limits in this unit, or the first cause
-/// why there is none: `UnknownConnector`, `WrongUnit`, `BadDuration` or `PastCalendar`.
+/// The `Ask` of a Take at a point with this book, on a site with limits in this unit. Or the first
+/// cause why there is none: `UnknownConnector`, `WrongUnit`, `BadDuration` or `PastCalendar`.
 pub(crate) fn ask_at(unit: Unit, book: &PointBook, take: &Take) -> Result<Ask, Refusal>
     ensures ask { result ≡ ask_at unit book.now take.now }
     ensures connector { IfOk result (λ ask. ask.connector ≤ length book.now.ceilings) }

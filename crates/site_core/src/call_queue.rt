@@ -9,8 +9,8 @@ use std::collections::LinkedList;
 use std::marker::Model;
 use std::sync::Arc;
 
-/// Calls that wait one after another. Those that were gathered are shared with the copies made since, so that
-/// a copy wants no memory for them.
+/// Calls that wait one after another. Those that were gathered are shared with the copies made
+/// since, so that a copy wants no memory for them.
 #[derive(Debug, Drop)]
 pub(crate) struct CallQueue {
     /// The calls up to the last gathering.
@@ -101,8 +101,8 @@ impl CallQueue {
         }
     }
 
-    /// Gathers the calls, so that copies share them, where there are new ones or half of those that were gathered
-    /// have left, and memory lasts. The calls stay the same.
+    /// Gathers the calls, so that copies share them, where there are new ones or half of those that
+    /// were gathered have left, and memory lasts. The calls stay the same.
     pub fn gather(&mut self)
         ensures { self.new ≡ self.old }
     {

@@ -1,5 +1,5 @@
-//! What the central system keeps of a charge point, and what a step does there: a method sees neither
-//! other points nor requests. A step is decided first, without a change, and then done.
+//! What the central system keeps of a charge point, and what a step does there: a method sees
+//! neither other points nor requests. A step is decided first, without a change, and then done.
 
 ghost use Rattle.std.specs.Prelude.{◌≡◌, ◌+◌, ◌<◌, ◌≤◌, ℕ, None, Ok, IfNone, IfOk, length};
 ghost use Rattle.site_rules.specs.Site.{HasConnector, point_entry};
@@ -31,8 +31,8 @@ use std::alloc::{AllocError, Global};
 use std::marker::Model;
 use transactions::{Began, Begin};
 
-/// What the central system keeps of a charge point: its profiles and transactions, the link to it, and the
-/// calls that it hasn't confirmed.
+/// What the central system keeps of a charge point: its profiles and transactions, the link to it,
+/// and the calls that it hasn't confirmed.
 #[derive(Drop)]
 pub(crate) struct ChargePoint {
     alloc: Global,
@@ -76,7 +76,8 @@ impl ChargePoint {
         })
     }
 
-    /// Gathers the calls to the point, as far as memory lasts, so that copies share them. Nothing else is changed.
+    /// Gathers the calls to the point, as far as memory lasts, so that copies share them. Nothing
+    /// else is changed.
     pub fn gather_calls(&mut self)
         ensures { self.new ≡ self.old }
     {
@@ -106,7 +107,8 @@ impl ChargePoint {
 
     // ---- all steps
 
-    /// What a step at this point comes to, or why it is refused, if memory lasts. Allocates nothing.
+    /// What a step at this point comes to, or why it is refused, if memory lasts. Allocates
+    /// nothing.
     pub fn decide(&self, site: &Site, numbers: &Numbers, step: &Step) -> Result<Decision, Refusal>
         requires { IsAtPoint (work step.now) }
         ensures { IsDecided (work step.now) site.now numbers.now self.now result }
@@ -128,8 +130,8 @@ impl ChargePoint {
         }
     }
 
-    /// Makes a step at this point, or says why not: then nothing has changed. The refusal is the one by
-    /// which it is decided, or else `OutOfMemory`.
+    /// Makes a step at this point, or says why not: then nothing has changed. The refusal is the
+    /// one by which it is decided, or else `OutOfMemory`.
     pub fn make(&mut self, site: &Site, numbers: &Numbers, step: &Step) -> Result<Reply, Refusal>
         requires named { IsAtPoint (work step.now) }
         requires numbers { AreNumbers numbers.now }
@@ -226,7 +228,8 @@ impl ChargePoint {
         }
     }
 
-    /// Removes the profiles that match each criterion that is given, and adds the call that tells so.
+    /// Removes the profiles that match each criterion that is given, and adds the call that tells
+    /// so.
     fn clear(
         &mut self,
         numbers: &Numbers,
@@ -278,8 +281,8 @@ impl ChargePoint {
         }
     }
 
-    /// Begins a transaction with the next number, with a copy of what began, or answers a start that is told
-    /// again.
+    /// Begins a transaction with the next number, with a copy of what began, or answers a
+    /// retransmitted start.
     fn start(
         &mut self,
         numbers: &Numbers,

@@ -1,5 +1,5 @@
-//! The headline of this repository, as laws: public functions with empty bodies, whose clauses range over
-//! all runs.
+//! The headline of this repository, as laws: public functions with empty bodies, whose clauses
+//! range over all runs.
 
 ghost use Rattle.std.specs.Prelude.{◌≡◌, ◌⊎◌, ℕ, ◌+◌, ◌≤◌, false, List, ◌∷◌, ◌++◌, Some, IsTrue, All, Contains};
 ghost use Rattle.meaning.specs.declared.ask.Ask.{Ask};
@@ -30,8 +30,8 @@ pub fn runs_are_legal()
         → Runs old steps outcomes new → Legal old (history_of steps outcomes) new }
 {}
 
-/// The law that in every legal history from an opening state each Answer that hands out an answer follows
-/// exactly one Take of its number.
+/// The law that in every legal history from an opening state each Answer that hands out an answer
+/// follows exactly one Take of its number.
 pub fn answers_follow_one_take()
     ensures { (site : SiteState) (numbers : Numbers) (earlier later : List Event) (number : ℕ)
         (book : BookState) (ask : Ask) (answer : ScheduleAnswer) (new : MachineState)
@@ -40,8 +40,9 @@ pub fn answers_follow_one_take()
         → takes_of number earlier ≡ 1 }
 {}
 
-/// The law that in every legal history from an opening state each answer that is handed out is right for
-/// what the point of that one Take had when the Take was made, and for its ask.
+/// The law that each answer that is handed out is right, in every legal history from an opening
+/// state. It is right for what the point of that one Take had when the Take was made, and for its
+/// `Ask`.
 pub fn answers_are_right()
     ensures { (site : SiteState) (numbers : Numbers) (earlier later : List Event) (number : ℕ)
         (book : BookState) (ask : Ask) (answer : ScheduleAnswer) (new : MachineState)
@@ -50,8 +51,8 @@ pub fn answers_are_right()
         → IsRightAfter (opening_at site numbers) earlier number book ask answer }
 {}
 
-/// The headline: the law that in every run from an opening state, whatever steps it is of and in whatever
-/// order, each schedule that is handed out is right for what its point had when it was asked.
+/// The headline. In every run from an opening state, each schedule that is handed out is right for
+/// what its point had when it was asked. The run may have any steps, in any order.
 pub fn answered_schedules_are_right()
     ensures { (site : SiteState) (numbers : Numbers) (steps : List Step) (outcomes : List Outcome)
         (state : MachineState) → Runs (opening_at site numbers) steps outcomes state
@@ -66,16 +67,17 @@ pub fn runs_join()
         → Runs old (steps ++ more) (outcomes ++ others) new }
 {}
 
-/// The law that what is answered without an event changes nothing: of the steps that are made, only the
-/// events lead to another state.
+/// The law that what is answered without an event changes nothing: of the steps that are made, only
+/// the events lead to another state.
 pub fn only_events_change_the_state()
     ensures { (old new : MachineState) (step : Step) (reply : Reply)
         → Steps old step reply new → is_event old reply ≡ false → new ≡ old }
 {}
 
-/// The laws of stored histories, in which a Compile has the answer that it brought: each has one replay, so
-/// one state at its end. The replay is a legal history, where a compiler may give these answers, and
-/// every legal history is the replay of a stored one. An event more is replayed after those before it.
+/// The laws of stored histories, in which a Compile has the answer that it brought: each has one
+/// replay, so one state at its end. The replay is a legal history, where a compiler may give these
+/// answers, and every legal history is the replay of a stored one. An event more is replayed after
+/// those before it.
 pub fn stored_histories_replay()
     ensures one { ReplaysAreOne }
     ensures legal { ReplaysAreLegal }
@@ -89,15 +91,15 @@ pub fn runs_keep_the_site()
         → Runs old steps outcomes new → new.site ≡ old.site }
 {}
 
-/// The law that what the points have after a legal history is determined by its events: of two states that
-/// it may lead to, which differ in answers that aren't handed out yet, each has the same points.
+/// The law that what the points have after a legal history is determined by its events. Two states
+/// that it may lead to differ only in answers that aren't handed out yet, and have the same points.
 pub fn points_follow_events()
     ensures { (old one other : MachineState) (events : List Event)
         → Legal old events one → Legal old events other → one.points ≡ other.points }
 {}
 
-/// The law that no request is lost and none is answered twice: in every legal history from an opening state
-/// a number is taken once at most, and then it is answered or still kept.
+/// The law that no request is lost and none is answered twice. In every legal history from an
+/// opening state a number is taken once at most, and then it is answered or still kept.
 pub fn requests_are_answered_once()
     ensures once { (site : SiteState) (numbers : Numbers) (events : List Event)
         (state : MachineState) → Legal (opening_at site numbers) events state
@@ -108,8 +110,8 @@ pub fn requests_are_answered_once()
         → takes_of number events ≡ answers_of number events + kept_of number state.requests }
 {}
 
-/// The law that a request that has its answer keeps it, with its book and its ask, until that answer is
-/// handed out.
+/// The law that a request that has its answer keeps it, with its book and its `Ask`, until that
+/// answer is handed out.
 pub fn answers_stay()
     ensures { (old new : MachineState) (events : List Event) (number : ℕ) (kept : Kept)
         (answer : ScheduleAnswer) → Legal old events new
@@ -125,11 +127,11 @@ pub fn stopped_requests_are_answered()
         → All IsAnswered state.requests }
 {}
 
-/// The laws of requests from any state that keeps what is right, as the opening does, along every legal
-/// history. It leads to such a state again. Each kept request has the book that its point had at its Take,
-/// or that the old state kept for it. Each answer that is handed out is right for that book and the ask.
-/// Once the central system is stopped, each kept request has its answer, where so it was at first. And from
-/// whatever state, no request is lost and none is answered twice.
+/// The laws of requests from any state that keeps what is right, as the opening does, along every
+/// legal history. It leads to such a state again. Each kept request has the book that its point had
+/// at its Take, or that the old state kept for it. Each answer that is handed out is right for that
+/// book and the `Ask`. Once the central system is stopped, each kept request has its answer, where
+/// so it was at first. And from whatever state, no request is lost and none is answered twice.
 pub fn requests_go_on_from_any_state()
     ensures opening { OpeningsKeepRight }
     ensures stay { RequestsStayRight }
@@ -139,14 +141,15 @@ pub fn requests_go_on_from_any_state()
     ensures balance { RequestsBalance }
 {}
 
-/// The law that the numbers tell of a history: each change of a point's book draws a version of the store,
-/// each Take a request's number, and a request is kept from its Take until its answer is handed out.
+/// The law that the numbers count a history. Each change of a point's book draws a version of the
+/// store, and each Take a request's number. A request is kept from its Take until its answer is
+/// handed out.
 pub fn numbers_tell_of_histories()
     ensures { NumbersTellOfHistories }
 {}
 
-/// The law that each step has a reply of its own, as an Install has none but Accepted, and that what is
-/// answered without an event wants no memory.
+/// The law that each step has a reply of its own, as an Install has none but Accepted, and that
+/// what is answered without an event wants no memory.
 pub fn replies_are_their_steps()
     ensures own { RepliesAreTheirSteps }
     ensures memory { OnlyEventsWantMemory }

@@ -1,7 +1,8 @@
-//! The central system as one machine: the state of a site between two steps, and its steps. Operators
-//! install and clear charging profiles, points start and stop transactions, requests for composite
-//! schedules are taken, compiled and answered, and calls are sent to the points, in any order. What a step
-//! does stands in `specs/Step.antt`, what holds after any run in `specs/Headline.antt`.
+//! The central system as one machine: the state of a site between two steps, and its steps. In any
+//! order, operators install and clear charging profiles, and points start and stop transactions.
+//! Requests for composite schedules are taken, compiled and answered, and calls are sent to the
+//! points. What a step does stands in `specs/Step.antt`, what holds after any run in
+//! `specs/Headline.antt`.
 #![tactic(auto)]
 
 mod ask;

@@ -30,8 +30,8 @@ use std::alloc::{AllocError, Global};
 use std::marker::Model;
 use std::sync::Arc;
 
-/// The central system of a site: what each of its points has, the requests for schedules that are kept,
-/// and the numbers that were drawn last.
+/// The central system of a site: what each of its points has, the requests for schedules that are
+/// kept, and the numbers that were drawn last.
 #[derive(Drop)]
 pub struct Machine {
     alloc: Global,
@@ -113,8 +113,8 @@ impl Machine {
         })
     }
 
-    /// Gathers the calls to each point, as far as memory lasts, so that copies made from then on share them.
-    /// Nothing else is changed by it.
+    /// Gathers the calls to each point, as far as memory lasts, so that copies made from then on
+    /// share them. Nothing else is changed by it.
     pub fn gather_calls(&mut self)
         ensures { self.new ≡ self.old }
     {
@@ -128,15 +128,17 @@ impl Machine {
         &self.site
     }
 
-    /// The version of the store: how many changes of points' books were made, after the one it began with.
+    /// The version of the store: how many changes of points' books were made, after the one it
+    /// began with.
     pub fn version(&self) -> u64
         ensures { result ≡ self.now.numbers.version }
     {
         self.numbers.version
     }
 
-    /// How many requests for schedules are kept. With what is always so of the central system: no number
-    /// is above its limit, no more requests are kept than may be, and each point of the site is kept.
+    /// How many requests for schedules are kept. With what is always so of the central system. No
+    /// number is above its limit, no more requests are kept than may be, and each point of the site
+    /// is kept.
     pub fn open_requests(&self) -> usize
         ensures value { result ≡ length self.now.requests }
         ensures machine { IsMachine self.now }
@@ -144,7 +146,8 @@ impl Machine {
         self.requests.len()
     }
 
-    /// Whether it is stopped, so that no step but compiling, answering and finishing is made any more.
+    /// Whether it is stopped, so that no step but compiling, answering and finishing is made any
+    /// more.
     pub fn is_stopped(&self) -> bool
         ensures { result ≡ self.now.is_stopped }
     {
@@ -173,7 +176,8 @@ impl Machine {
         }
     }
 
-    /// The place of its point in the site file and the ask of the request of a number, if it is kept.
+    /// The place of its point in the site file and the `Ask` of the request of a number, if it is
+    /// kept.
     pub fn request_asked(&self, number: u64) -> Option<(usize, Ask)>
         ensures { result
             ≡ option_map (λ (kept : Kept). (kept.place, kept.ask))
@@ -190,8 +194,9 @@ impl Machine {
         point_at(&self.points, place).outbox().link()
     }
 
-    /// The link over which a call is to be sent now to the point of an identity, if there is such a call:
-    /// none where the site has no such point, and none once the central system is stopped. Allocates nothing.
+    /// The link over which a call is to be sent now to the point of an identity, if there is such a
+    /// call. There is none if the site has no such point, and none once the central system is
+    /// stopped. Allocates nothing.
     pub fn link_to_send(&self, point: &str) -> Option<u64>
         ensures { result ≡ link_to_send self.now point.now }
     {
@@ -203,7 +208,8 @@ impl Machine {
         }
     }
 
-    /// How many calls of the point of an identity aren't confirmed, 0 where the site has no such point.
+    /// How many calls of the point of an identity aren't confirmed, 0 where the site has no such
+    /// point.
     pub fn outbox_len(&self, point: &str) -> usize
         ensures { result ≡ outbox_len self.now point.now }
     {
@@ -213,10 +219,11 @@ impl Machine {
         }
     }
 
-    /// Makes a step, or says why not: then nothing has changed, and the step comes back. The refusal is
-    /// the first cause. It is `OutOfMemory` only where no other cause is there and the step would do what
-    /// wants memory: an install, a clear that removes a profile, a start that isn't told again, a stop, a
-    /// take, and a sending. A book that is replied with an ask has the connector that is asked.
+    /// Makes a step, or says why not: then nothing has changed, and the step comes back. The
+    /// refusal is the first cause. It is `OutOfMemory` only if there is no other cause and the step
+    /// needs memory. These need it: an install, a clear that removes a profile, a start that isn't
+    /// retransmitted, a stop, a take, and a sending. A book that is replied with an `Ask` has the
+    /// connector that is asked.
     pub fn step(&mut self, step: Step) -> Result<Reply, Refused>
         ensures made { MatchResult result (λ reply. Steps self.old step reply self.new)
             (λ refused. IsRefused self.old step refused self.new) }
@@ -226,8 +233,8 @@ impl Machine {
     }
 
     /// Makes a step as `step` does, but copies what is kept of it, so that the caller still has it.
-    // The methods are marked not to be inlined: with all of them in one function, each step would clear
-    // the stack that the others want.
+    // The methods are marked not to be inlined: with all of them in one function, each step would
+    // clear the stack that the others want.
     pub fn make(&mut self, step: &Step) -> Result<Reply, Refusal>
         ensures made { IfOk result (λ reply. Steps self.old step.now reply self.new) }
         ensures refused { IfErr result (λ refusal.
@@ -243,8 +250,8 @@ impl Machine {
         }
     }
 
-    /// What would come of a step, if memory lasts: whether it would be an event, or be answered without a
-    /// change, or why it would be refused. Nothing is changed and nothing allocated.
+    /// What would come of a step, if memory lasts: whether it would be an event, or be answered
+    /// without a change, or why it would be refused. Nothing is changed and nothing allocated.
     pub fn outlook(&self, step: &Step) -> Result<bool, Refusal>
         ensures { result ≡ outlook self.now step.now }
     {
@@ -287,8 +294,8 @@ impl Machine {
         outlook_by(point_at(&self.points, place).decide(&self.site, &self.numbers, step))
     }
 
-    /// Makes steps one after another, each made or refused. Out of memory for the outcomes no step was
-    /// made, and all come back.
+    /// Makes steps one after another, each made or refused. Out of memory for the outcomes no step
+    /// was made, and all come back.
     pub fn run(&mut self, steps: Vec<Step>) -> Result<Vec<Outcome>, RunFault>
         ensures { MatchResult result
             (λ outcomes. Runs self.old steps.items outcomes.items self.new)
@@ -315,8 +322,9 @@ impl Machine {
         }
     }
 
-    /// The place of the point of an identity, while the central system isn't stopped, and over a link only
-    /// where that is the point's present one. The refusals are `Stopped`, `UnknownPoint` and `Superseded`.
+    /// The place of the point of an identity, while the central system isn't stopped, and over a
+    /// link only where that is the point's present one. The refusals are `Stopped`, `UnknownPoint`
+    /// and `Superseded`.
     fn place_for(&self, point: &PointId, link: Option<u64>) -> Result<usize, Refusal>
         ensures place { result ≡ place_for self.now point.now link }
         ensures here { IfOk result (λ place. place_of self.now.site point.now ≡ Some place) }

@@ -1,19 +1,19 @@
-//! The laws of a point that does as it is told.
+//! The laws of a point that obeys its calls.
 
 ghost use Rattle.site_core.specs.Obey.{StaysInStep};
 ghost use Rattle.site_core.specs.ObeyOrder.{AreObeyedInOrder};
 
-/// The law that a point stays in step which does as the calls tell it that are sent to it, in the
-/// order of their sendings: whatever sendings and replies are lost, and whatever calls are sent
-/// again, its ChargePointMaxProfiles and TxDefaultProfiles are, but for the moments of their
-/// installs, those that the central system had for it once it had made the last of these calls.
+/// The law that a point stays in step if it obeys the calls that are sent to it, in the order of
+/// their sendings. Sendings and replies may be lost, and calls may be sent again. Its
+/// ChargePointMaxProfiles and TxDefaultProfiles are those that the central system had for it once
+/// it had made the last of these calls. Only the moments of their installs may differ.
 pub fn obeying_point_stays_in_step()
     ensures { StaysInStep }
 {}
 
-/// The law that a point obeys calls in sending order which obeys them in the order of their
-/// sendings, and each call at least once that is confirmed, whatever sendings are lost: the first
-/// that it obeys is call 0, and each later one is the one before it again, or the next one.
+/// The law that a point leaves no call out if it obeys calls in the order of their sendings, and
+/// each confirmed call at least once. Sendings may be lost. The first call that it obeys is call 0,
+/// and each later one is the one before it again, or the next one.
 pub fn obeying_point_leaves_no_call_out()
     ensures { AreObeyedInOrder }
 {}

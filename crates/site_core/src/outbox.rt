@@ -58,8 +58,7 @@ impl PreparedCall {
 }
 
 /// What the central system keeps of its calls to a charge point: the point's present link, and the
-/// calls that aren't confirmed, of which the first is in flight or waits. Call 0 clears all
-/// profiles.
+/// unconfirmed calls. The first of these is in flight or waits. Call 0 clears all profiles.
 #[derive(Debug, Drop)]
 pub struct Outbox {
     /// The number of the point's present link.
@@ -117,7 +116,8 @@ impl Outbox {
         })
     }
 
-    /// Gathers the calls, as far as memory lasts, so that copies share them. Nothing else is changed by it.
+    /// Gathers the calls, as far as memory lasts, so that copies share them. Nothing else is
+    /// changed by it.
     pub fn gather_calls(&mut self)
         ensures { self.new ≡ self.old }
     {
@@ -132,7 +132,8 @@ impl Outbox {
         self.bodies.len()
     }
 
-    /// The calls that aren't confirmed, in the order of their numbers, which begin with `first_number`.
+    /// The calls that aren't confirmed, in the order of their numbers, which begin with
+    /// `first_number`.
     pub fn bodies(&self, alloc: Global) -> Result<Vec<CallBody>, AllocError>
         ensures { IfOk result (λ bodies.
             numbered (self.now.next - length self.now.calls) bodies.items ≡ self.now.calls) }
@@ -206,9 +207,9 @@ impl Outbox {
         self.next += 1;
     }
 
-    /// A copy of the first call, which is in flight from then on: `None` where there is no link,
-    /// where a call is in flight, and where none waits. Out of memory, which only the copy of a call
-    /// wants, nothing changes.
+    /// A copy of the first call, which is in flight from then on. `None` if there is no link, if a
+    /// call is in flight, and if none waits. Out of memory, which only the copy of a call wants,
+    /// nothing changes.
     pub fn send(&mut self) -> Result<Option<Call>, AllocError>
         ensures call { IfOk result (λ call. call ≡ sendable self.old) }
         ensures outbox { OnOk result (self.new ≡ sent self.old) }
@@ -251,8 +252,8 @@ impl Outbox {
         self.first_number() == number
     }
 
-    /// The number of the first call that isn't confirmed, or the next one's where there is none. So many
-    /// calls are confirmed.
+    /// The number of the first call that isn't confirmed, or the next one's where there is none. So
+    /// many calls are confirmed.
     pub fn first_number(&self) -> u64
         ensures value { result ≡ self.now.next - length self.now.calls }
         ensures outbox { IsOutbox self.now }

@@ -5,7 +5,8 @@ ghost use Rattle.std.specs.Prelude.{◌≡◌, IfOk, string_bytes};
 use std::alloc::{AllocError, Global};
 use std::marker::Model;
 
-/// The identity of a charge point (OCPP-J 1.6, 3.1.1), as a step names it. The site may have no point of it.
+/// The identity of a charge point (OCPP-J 1.6, 3.1.1), as a step names it. The site may have no
+/// point of it.
 #[derive(Debug, Drop)]
 pub struct PointId {
     text: String,

@@ -19,7 +19,8 @@ pub enum Reply {
     Unknown,
     /// The transaction of this number began.
     Started(i32),
-    /// The transaction of this number had begun, and its start is told again: nothing was changed.
+    /// The transaction of this number had begun, and its start was retransmitted: nothing was
+    /// changed.
     Repeated(i32),
     /// The transaction ended.
     Ended,
@@ -55,7 +56,7 @@ pub enum Reply {
     LinkLost,
 }
 
-/// Of how many changes, Takes and answers a reply tells.
+/// How many changes, Takes and answers a reply counts.
 #[derive(Clone, Copy, Debug, PartialEq, Eq)]
 pub struct Counted {
     pub changes: u64,
@@ -63,7 +64,7 @@ pub struct Counted {
     pub answers: u64,
 }
 
-/// A reply that tells of none.
+/// A reply that counts none.
 const NO_COUNT: Counted = Counted {
     changes: 0,
     takes: 0,
@@ -71,8 +72,8 @@ const NO_COUNT: Counted = Counted {
 };
 
 impl Reply {
-    /// Whether a step with this reply is an event, where it is known if the central system was stopped
-    /// before it.
+    /// Whether a step with this reply is an event, where it is known if the central system was
+    /// stopped before it.
     pub fn is_event(&self, was_stopped: bool) -> bool
         ensures { (old : MachineState) → old.is_stopped ≡ was_stopped
             → result ≡ is_event old self.now }
@@ -121,7 +122,7 @@ impl Reply {
         }
     }
 
-    /// Of how many changes, Takes and answers it tells.
+    /// How many changes, Takes and answers it counts.
     pub fn counted(&self) -> Counted
         ensures { result ≡ counted self.now }
     {

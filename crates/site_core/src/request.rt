@@ -60,7 +60,7 @@ impl Request {
     }
 
     /// Whether a brought answer may be this request's. The refusals are `AlreadyAnswered`, and then
-    /// `StrangerInput`, where it is for another book or another ask.
+    /// `StrangerInput`, where it is for another book or another `Ask`.
     pub fn check_post(&self, brought: &Compiled) -> Result<(), Refusal>
         ensures { MatchResult result (λ _. MayBePosted self.now brought.now)
             (λ refusal. IsRefusedFor self.now brought.now refusal) }

@@ -16,7 +16,7 @@ use ocpp_scalars::Refusal;
 use std::alloc::{AllocError, Global};
 use sweep_compiler::{Compiled, Turns, compile};
 
-/// The place in the site file and the ask of the request of a number, if it is kept.
+/// The place in the site file and the `Ask` of the request of a number, if it is kept.
 pub(crate) fn request_asked(requests: &[Request], number: u64) -> Option<(usize, Ask)>
     ensures { result
         ≡ option_map (λ (kept : Kept). (kept.place, kept.ask)) (request_of number requests.now) }
@@ -61,8 +61,9 @@ pub(crate) fn compile_request(
     Ok(())
 }
 
-/// Compiles the request of a number with a brought answer, which comes back a second time. The refusals
-/// are `UnknownRequest`, `AlreadyAnswered` and `StrangerInput`; then the brought one comes back.
+/// Compiles the request of a number with a brought answer, which comes back a second time. The
+/// refusals are `UnknownRequest`, `AlreadyAnswered` and `StrangerInput`; then the brought one comes
+/// back.
 pub(crate) fn post_answer(
     requests: &mut Vec<Request>,
     number: u64,
@@ -103,8 +104,8 @@ pub(crate) fn copy_of_requests(
     Ok(copies)
 }
 
-/// Hands out the answer to the request of a number, which is no longer kept then, or says that it isn't
-/// compiled yet. The refusal is `UnknownRequest`.
+/// Hands out the answer to the request of a number, which is no longer kept then, or says that it
+/// isn't compiled yet. The refusal is `UnknownRequest`.
 pub(crate) fn hand_out(requests: &mut Vec<Request>, number: u64) -> Result<Reply, Refusal>
     ensures made { MatchResult result
         (λ reply. handed_out number requests.old.items ≡ Ok (reply, requests.new.items))
@@ -174,7 +175,8 @@ pub(crate) fn compile_outlook(requests: &[Request], number: u64) -> Result<bool,
     Ok(true)
 }
 
-/// What would come of handing out the answer to the request of a number: whether it has one, or why not.
+/// What would come of handing out the answer to the request of a number: whether it has one, or why
+/// not.
 pub(crate) fn hand_out_outlook(requests: &[Request], number: u64) -> Result<bool, Refusal>
     ensures { result ≡ hand_out_outlook (request_of number requests.now) }
 {

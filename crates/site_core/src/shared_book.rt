@@ -10,8 +10,8 @@ use std::marker::Model;
 use std::sync::Arc;
 use transactions::Begin;
 
-/// The book of a charge point with several owners: a change makes a copy of it first where it has another
-/// owner, so that who took it keeps what it was.
+/// The book of a charge point with several owners. If it has another owner, a change makes a copy
+/// of it first, so that the other keeps what it was.
 #[derive(Drop)]
 pub struct SharedBook {
     book: Arc<PointBook>,

@@ -78,7 +78,8 @@ pub struct Take {
 }
 
 impl Step {
-    /// The point that a step at a point names, and the link that it has to be made over, where it has to.
+    /// The point that a step at a point names, and the link that it has to be made over, where it
+    /// has to.
     pub(crate) fn target(&self) -> (&PointId, Option<u64>)
         requires { IsAtPoint (work self.now) }
         ensures { IsFor (work self.now) result.0.now result.1 }

@@ -1,5 +1,5 @@
-//! A seeded run of calls on a `Book` beside the same steps on a `Machine`, over folds: each has the same
-//! outcome, and in the end the stored events lead from the base to the present state.
+//! A seeded run of calls on a `Book` and of the same steps on a `Machine`, over folds. Each has the
+//! same outcome. In the end the stored events lead from the base to the present state.
 
 ghost use Rattle.std.specs.Prelude.{◌≡◌};
 

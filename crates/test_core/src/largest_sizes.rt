@@ -1,5 +1,5 @@
-//! That memory suffices at the largest sizes, and what comes of one more: a body that gives up for want of
-//! memory is proved whatever its contract says.
+//! That memory suffices at the largest sizes, and what comes of one more: a body that always says
+//! out of memory is proved whatever its contract says.
 
 use crate::same::{holds, same, same_text};
 use crate::scripted_steps::run;
@@ -98,7 +98,7 @@ fn take(
     }
 }
 
-/// The answer to an ask of a connector from midnight on.
+/// The answer to a request of a connector from midnight on.
 fn answer(
     rt: &impl Abort,
     alloc: Global,
@@ -197,7 +197,8 @@ fn install_level(rt: &impl Abort, alloc: Global, machine: &mut Machine, level: u
     holds(rt, refusal.is_none(), "installed");
 }
 
-/// A day's answer of a connector of the last point has 200 periods, of which the first three have these limits.
+/// A day's answer of a connector of the last point has 200 periods, of which the first three have
+/// these limits.
 fn expect_day(
     rt: &impl Abort,
     alloc: Global,
@@ -213,8 +214,9 @@ fn expect_day(
     }
 }
 
-/// 1,000 points with 64 connectors each. The last point has a transaction at each of them and 100 profiles
-/// of 200 periods, of which the highest counts: 6 A and 10 A by turns, a minute each, at each connector.
+/// 1,000 points with 64 connectors each. The last point has a transaction at each of them and 100
+/// profiles of 200 periods, of which the highest counts: 6 A and 10 A by turns, a minute each, at
+/// each connector.
 #[test]
 fn a_point_has_the_most_of_all(rt: HostRuntime) {
     let text = site_text(rt.alloc(), 1_000, 64, 48).expect(&rt, "error");

@@ -1,7 +1,7 @@
-//! Tests of `site_core` and `version_store` from outside, by their public names alone: runs of steps with what
-//! comes of each, the largest sizes, and a charge point that obeys its calls and so stays in step with the
-//! machine; the same steps as calls on a book, and what a book stores. They stand here, since a crate with
-//! tests of its own is proved twice.
+//! Tests of `site_core` and `version_store` from outside, by their public names alone: runs of
+//! steps with what comes of each, and the largest sizes. A charge point obeys its calls and so
+//! stays in step with the machine. The same steps are made as calls on a book, and what a book
+//! stores is compared. They stand here, since a crate with tests of its own is proved twice.
 #![tactic(auto)]
 
 #[cfg(test)]

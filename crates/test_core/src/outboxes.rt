@@ -1,5 +1,5 @@
-//! What an outbox sends from outside, and that memory suffices. A refused allocation of a call or of a
-//! sending is made again, so that the tests pass whichever of these is refused.
+//! What an outbox sends from outside, and that memory suffices. A refused allocation of a call or
+//! of a sending is made again, so that the tests pass whichever of these is refused.
 
 use crate::same::{holds, same};
 use messages::{Call, CallBody};

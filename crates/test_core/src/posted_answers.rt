@@ -85,7 +85,8 @@ fn an_answer_is_for_one_ask(rt: HostRuntime) {
     refused(&rt, &mut machine, (number, other), Refusal::AlreadyAnswered);
 }
 
-/// What comes too late is refused: the request was answered `Stopped`, and then it is kept no longer.
+/// What comes too late is refused: the request was answered `Stopped`, and then it is kept no
+/// longer.
 #[test]
 fn a_late_answer_is_refused(rt: HostRuntime) {
     let mut machine = opening(&rt, rt.alloc());

@@ -1,5 +1,5 @@
-//! A seeded run in which sendings, replies and links are lost: after each confirmed call, a point that
-//! obeys has what the store had after the call's change.
+//! A seeded run in which sendings, replies and links are lost. After each confirmed call, a point
+//! that obeys has what the store had after the call's change.
 
 use crate::obeying_point::{Keys, RandomNumbers, lasting, obey};
 use crate::same::{holds, same};
@@ -135,8 +135,8 @@ impl Trial {
         }
     }
 
-    /// The point's reply to a call. Unless it is lost, it confirms the call, and the point has what the
-    /// store had after the call's change.
+    /// The point's reply to a call. Unless it is lost, it confirms the call, and the point has what
+    /// the store had after the call's change.
     fn reply(&mut self, rt: &impl Abort, call: u64) {
         self.obeyed = None;
         if self.is_lost() {

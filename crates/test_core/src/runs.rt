@@ -1,4 +1,5 @@
-//! Runs of steps with what comes of each, steps at the last numbers, and steps to which memory is refused.
+//! Runs of steps with what comes of each, steps at the last numbers, and steps to which memory is
+//! refused.
 
 use crate::same::{holds, same, same_outcome, same_text};
 use crate::scripted_steps::{parts_of, reply_words, run, step_of, steps_of};
@@ -72,7 +73,8 @@ CP1 clear = Accepted
 - answer 2 = limit 70
 - answer 1 = limit 100";
 
-/// Each answer is of the book that its point had when it was asked, whatever the order of the answers.
+/// Each answer is of the book that its point had when it was asked, whatever the order of the
+/// answers.
 #[test]
 fn answers_are_of_their_books(rt: HostRuntime) {
     let machine = run_anew(&rt, rt.alloc(), OF_THEIR_BOOKS);
@@ -294,8 +296,8 @@ fn reply(rt: &impl Abort, machine: &mut Machine, step: Step, words: &str) -> (&'
     }
 }
 
-/// The reply to a step. Where memory is refused to it, nothing has changed, and the step that comes back is
-/// made again.
+/// The reply to a step. Where memory is refused to it, nothing has changed, and the step that comes
+/// back is made again.
 fn made(rt: &impl Abort, machine: &mut Machine, step: Step) -> (&'static str, u64) {
     let before = (machine.version(), machine.open_requests());
     match machine.step(step) {
@@ -323,8 +325,8 @@ CP1 confirm 1 0 = Confirmed
 CP1 send 1 = Sent 1
 CP1 lost 1 = LinkLost";
 
-/// Passes whichever allocation of a step is refused: what a refused step left shows in what comes of the
-/// same one once more.
+/// Passes whichever allocation of a step is refused: what a refused step left shows in what comes
+/// of the same one once more.
 #[test]
 fn a_step_is_made_again_where_memory_was_refused(rt: HostRuntime) {
     let mut machine = opening(&rt, rt.alloc());
@@ -343,8 +345,8 @@ CP1 take = Taken 2
 CP1 take = Taken 3
 CP1 take = Taken 4";
 
-/// The outcomes of a run of as many steps. Where memory is refused to it, none of them was made, and all come
-/// back and are run again.
+/// The outcomes of a run of as many steps. Where memory is refused to it, none of them was made,
+/// and all come back and are run again.
 fn run_again(rt: &impl Abort, machine: &mut Machine, steps: Vec<Step>) -> Vec<Outcome> {
     let count = steps.len();
     let before = machine.open_requests();
@@ -358,7 +360,8 @@ fn run_again(rt: &impl Abort, machine: &mut Machine, steps: Vec<Step>) -> Vec<Ou
     }
 }
 
-/// What came of one of four takes. Where memory was refused to it, the other three are made, and it is made now.
+/// What came of one of four takes. Where memory was refused to it, the other three are made, and it
+/// is made now.
 fn take_words(rt: &impl Abort, machine: &mut Machine, outcome: Outcome) -> (&'static str, u64) {
     match outcome {
         Outcome::Done(reply) => reply_words(&reply),
@@ -369,8 +372,8 @@ fn take_words(rt: &impl Abort, machine: &mut Machine, outcome: Outcome) -> (&'st
     }
 }
 
-/// Where memory is refused to a run, none of its steps was made; where it is refused to one of them, the
-/// others are made.
+/// Where memory is refused to a run, none of its steps was made; where it is refused to one of
+/// them, the others are made.
 #[test]
 fn a_run_goes_on_where_memory_was_refused(rt: HostRuntime) {
     let mut machine = opening(&rt, rt.alloc());

@@ -1,4 +1,5 @@
-//! KeyedWords steps as the calls of a session on a `Book`, so that the same lines run there and on a `Machine`.
+//! Steps in words, as the calls of a session on a `Book`, so that the same lines run there and on a
+//! `Machine`.
 
 ghost use Rattle.std.specs.Prelude.{◌≡◌};
 
@@ -198,7 +199,8 @@ impl<C: Ledger, A: Ledger> Desk<C, A> {
         Ok(("Taken", number))
     }
 
-    /// What is to be posted for the request of a number: what its job asks for, compiled, where it has one.
+    /// What is to be posted for the request of a number: what its job asks for, compiled, where it
+    /// has one.
     pub(crate) fn compiled(&mut self, number: u64) -> Option<Compiled> {
         let place = self.jobs.iter().position(|job| job.number() == number);
         let Some(place) = place else {

@@ -1,10 +1,11 @@
 //! Steps in words, a line each, with what has to come of them.
 //!
-//! `CP1 install 70 = Accepted`: the identity of a point (`-` where the step names none), the step, its
-//! numbers, and its outcome with its number, where there is one: of a transaction, a request, a link, a call,
-//! or the tenths of the first limit that is answered. A row is a TxDefaultProfile of the whole point with one
-//! limit, and its id is the limit's number of tenths; a start is by `ann` at midnight; an ask is of connector 1
-//! for a minute from midnight on.
+//! `CP1 install 70 = Accepted`: the identity of a point (`-` where the step names none), the step,
+//! its numbers, and its outcome with its number, where there is one. The number is that of a
+//! transaction, a request, a link or a call, or the tenths of the first limit that is answered. A
+//! row is a TxDefaultProfile of the whole point with one limit, and its id is the limit's number of
+//! tenths. A start is by `ann` at midnight. A request is of connector 1 for a minute from midnight
+//! on.
 
 use crate::same::{same, same_outcome};
 use meaning::Composite;

@@ -163,7 +163,8 @@ fn many_starts_are_folded(rt: HostRuntime) {
     play(&rt, rt.alloc(), Story::Starts);
 }
 
-/// Collects the answer to a request, and says whether a transaction was active at the first connector of its book.
+/// Collects the answer to a request, and says whether a transaction was active at the first
+/// connector of its book.
 fn collect<C: Ledger, A: Ledger>(rt: &impl Abort, desk: &mut Desk<C, A>, number: u64) -> bool {
     let collected = desk.book.collect(&mut desk.pass, number);
     let answer = collected.expect(rt, "error").expect(rt, "no answer");

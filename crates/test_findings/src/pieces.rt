@@ -29,12 +29,12 @@ fn have_pieces(rt: &impl Abort, alloc: Global, findings: &[Finding], wanted: &st
 }
 
 /// Each finding has its piece, and no piece is left.
-pub(crate) fn are(rt: &impl Abort, alloc: Global, findings: &[Finding], wanted: &str, told: &str) {
+pub(crate) fn are(rt: &impl Abort, alloc: Global, findings: &[Finding], wanted: &str, case: &str) {
     let have = have_pieces(rt, alloc, findings, wanted);
-    assert!(rt; have, "{told}: {findings:?}");
+    assert!(rt; have, "{case}: {findings:?}");
 }
 
-/// A row of a table: what is told, and behind the mark ` => ` what is wanted.
+/// A row of a table: its input, and behind the mark ` => ` what is wanted.
 pub(crate) fn row_of(row: &str) -> (&str, &str) {
     row.split_once(" => ").unwrap_or((row, "no mark"))
 }

@@ -1,12 +1,12 @@
 //! What tests compare, by a function: an assertion is long to prove, and a call of one is not. It
-//! is told what it compares.
+//! has a name for what it compares.
 
 use std::process::Abort;
 
-pub(crate) fn same_text(rt: &impl Abort, found: &str, wanted: &str, told: &str) {
-    assert!(rt; found == wanted, "{told}: {found}, wanted {wanted}");
+pub(crate) fn same_text(rt: &impl Abort, found: &str, wanted: &str, case: &str) {
+    assert!(rt; found == wanted, "{case}: {found}, wanted {wanted}");
 }
 
-pub(crate) fn holds(rt: &impl Abort, fact: bool, told: &str) {
-    assert!(rt; fact, "{told}");
+pub(crate) fn holds(rt: &impl Abort, fact: bool, case: &str) {
+    assert!(rt; fact, "{case}");
 }

@@ -14,8 +14,8 @@ use std::process::Abort;
 const SITE: &str =
     r#"{"unit":"A","points":[{"id":"CP1","ceiling":63.0,"connectors":[32.0,32.0]},{"id":"garage","ceiling":40.0,"connectors":[32.0]}]}"#;
 
-/// On each line what an operator sends to CP1 at the beginning of 2025, and behind the mark a piece
-/// of each finding, with ` + ` between them, or `-` for none.
+/// On each line what an operator sends to CP1 at the beginning of 2025. Behind the mark stands a
+/// piece of each finding, with ` + ` between them, or `-` for none.
 const OPERATOR_TEXTS: &str = r#"[2,"a","ClearChargingProfile",{"id":9}] => -
 [2,"a","ClearChargingProfile",{"chargingProfileId":9}] => warning: a clear without a criterion clears EVERYTHING
 [2,"a","ClearChargingProfile",{"chargingProfileId":9}] => "chargingProfileId" isn't one ("id" is)
@@ -23,22 +23,22 @@ const OPERATOR_TEXTS: &str = r#"[2,"a","ClearChargingProfile",{"id":9}] => -
 [2,"a","ClearChargingProfile",{"id":null}] => EVERYTHING that the point has, a fuse limit (ChargePointMaxProfile) too; "id" is null, which is none
 [2,"a","ClearChargingProfile"] => EVERYTHING
 [2,"a","ClearChargingProfile",{"id":9,"stacklevel":1}] => "stacklevel" is no criterion
-[2,"a","ClearChargingProfile",{"id":"9"}] => TypeConstraintViolation: id: "9" is a text
+[2,"a","ClearChargingProfile",{"id":"9"}] => TypeConstraintViolation: id: "9" is a string
 [2,"a","GetCompositeSchedule",{"connectorId":1,"duration":60}] => -
  [2,"a","GetCompositeSchedule",{"connectorId":1,"duration":60}] => -
 [2,"a","GetCompositeSchedule",{"connectorId":1,"duration":60},] => breaks at column 97
 [2,"a","GetCompositeSchedule",{"connectorId":1,"duration":60] => breaks at column 95, where `,` or `}` is wanted, and `]` stands there
-[2,"a","GetCompositeSchedule",{"connectorId":1,"duration":60} => breaks at column 96, where `,` or `]` is wanted, and the text ends
+[2,"a","GetCompositeSchedule",{"connectorId":1,"duration":60} => breaks at column 96, where `,` or `]` is wanted, and the JSON ends
 [2,'a',"GetCompositeSchedule",{}] => double quotes
-[2,“a”,"GetCompositeSchedule",{}] => a quote of a text program
-[2,5,"GetCompositeSchedule",{}] => dropped without a word: the second element
+[2,“a”,"GetCompositeSchedule",{}] => a typographic quote
+[2,5,"GetCompositeSchedule",{}] => discarded without an answer: the second element
 [2,"urn:uuid:00000000-0000-0000-0000-000000000000","GetCompositeSchedule",{}] => at most 36 characters
 {} => a frame is a list
 [7,"a"] => none of 2 (CALL)
 [3,"a",{}] => an operator's CALLRESULT
 [2,"a","GetCompositeSchedule",7] => FormationViolation
 [2,"a","GetCompositeSchedul",{}] => NotImplemented: "GetCompositeSchedul" is no action of an operator ("GetCompositeSchedule" is one)
-[2,"a","GetCompositeSchedule",{"connectorId":1,"duration":60,"connectorId":2}] => "connectorId" stands twice
+[2,"a","GetCompositeSchedule",{"connectorId":1,"duration":60,"connectorId":2}] => "connectorId" is a duplicate field
 [2,"a","Heartbeat",{}] => an action of the other side
 [2,"a","GetCompositeSchedule",{"connectorId":7,"duration":60}] => UnknownConnector
 [2,"a","GetCompositeSchedule",{"connectorId":1,"duration":604801}] => BadDuration
@@ -47,16 +47,16 @@ const OPERATOR_TEXTS: &str = r#"[2,"a","ClearChargingProfile",{"id":9}] => -
 [2,"a","GetCompositeSchedule",{"connector":1,"duration":60}] => OccurenceConstraintViolation: connectorId: it is absent + "connector" is no field of OCPP there
 "#;
 
-/// On each line the chargingProfilePurpose, further fields of a profile and a schedule that are
-/// installed at connector 1 (a ChargePointMaxProfile at 0), and behind the mark pieces of the
+/// On each line the chargingProfilePurpose, further fields of a profile, and a schedule. They are
+/// installed at connector 1 (a ChargePointMaxProfile at 0). Behind the mark stand pieces of the
 /// findings.
 const PROFILES: &str =
     r#"TxDefaultProfile | "chargingProfileKind":"Absolute" | "chargingSchedulePeriod":[{"startPeriod":0,"limit":16}] => -
-TXDefaultProfile | "chargingProfileKind":"Absolute" | "chargingSchedulePeriod":[{"startPeriod":0,"limit":16}] => csChargingProfiles.chargingProfilePurpose: "TXDefaultProfile" is a text
-TxDefaultProfile | "chargingProfileKind":"Absolute" | "chargingSchedulePeriod":[{"startPeriod":0,"limit":16},{"startPeriod":60,"limit":"16"}] => chargingSchedulePeriod[1].limit: "16" is a text
+TXDefaultProfile | "chargingProfileKind":"Absolute" | "chargingSchedulePeriod":[{"startPeriod":0,"limit":16}] => csChargingProfiles.chargingProfilePurpose: "TXDefaultProfile" is a string
+TxDefaultProfile | "chargingProfileKind":"Absolute" | "chargingSchedulePeriod":[{"startPeriod":0,"limit":16},{"startPeriod":60,"limit":"16"}] => chargingSchedulePeriod[1].limit: "16" is a string
 TxDefaultProfile | "chargingProfileKind":"Absolute" | "chargingSchedulePeriod":[{"startPeriod":60,"limit":16},{"startPeriod":60,"limit":10}] => PeriodsOutOfOrder
 TxDefaultProfile | "chargingProfileKind":"Recurring" | "chargingSchedulePeriod":[{"startPeriod":0,"limit":16}] => NoRecurrency
-TxDefaultProfile | "chargingProfileKind":"Absolute","validto":"2026-01-01T00:00:00Z" | "chargingSchedulePeriod":[{"startPeriod":0,"limit":16}] => "validto" is no field of OCPP there and counts for nothing ("validTo" is one)
+TxDefaultProfile | "chargingProfileKind":"Absolute","validto":"2026-01-01T00:00:00Z" | "chargingSchedulePeriod":[{"startPeriod":0,"limit":16}] => "validto" is no field of OCPP there and has no effect ("validTo" is one)
 TxDefaultProfile | "chargingProfileKind":"Absolute","validFrom":"2026-01-02T00:00:00Z","validTo":"2026-01-02T00:00:00Z" | "chargingSchedulePeriod":[{"startPeriod":0,"limit":16}] => never counts: its validTo isn't after its validFrom
 TxDefaultProfile | "chargingProfileKind":"Absolute","validTo":"2026-01-02T00:00:00Z" | "startSchedule":"2026-01-02T00:00:00Z","chargingSchedulePeriod":[{"startPeriod":0,"limit":16}] => never counts: its validTo isn't after its startSchedule
 TxDefaultProfile | "chargingProfileKind":"Absolute","validFrom":"2026-01-02T01:00:00Z" | "duration":3600,"startSchedule":"2026-01-02T00:00:00Z","chargingSchedulePeriod":[{"startPeriod":0,"limit":16}] => never counts: its schedule is over
@@ -68,8 +68,8 @@ TxDefaultProfile | "chargingProfileKind":"Recurring","recurrencyKind":"Weekly" |
 TxDefaultProfile | "chargingProfileKind":"Recurring","recurrencyKind":"Daily" | "duration":36000,"chargingSchedulePeriod":[{"startPeriod":60,"limit":16}] => no limit from 36000 s to 86400 s + no limit from 0 s to 60 s
 TxDefaultProfile | "chargingProfileKind":"Absolute" | "duration":60,"chargingSchedulePeriod":[{"startPeriod":0,"limit":16},{"startPeriod":60,"limit":6}] => chargingSchedulePeriod[1] starts at 60 s, when the duration of 60 s is over
 TxDefaultProfile | "chargingProfileKind":"Absolute","validTo":"2024-01-02T00:00:00Z" | "chargingSchedulePeriod":[{"startPeriod":0,"limit":16}] => validTo, 2024-01-02T00:00:00Z, is over
-TxDefaultProfile | "chargingProfileKind":"Absolute","transactionId":1,"recurrencyKind":"Daily" | "chargingSchedulePeriod":[{"startPeriod":0,"limit":16}] => transactionId counts for nothing + recurrencyKind counts for nothing
-TxDefaultProfile | "chargingProfileKind":"Relative" | "startSchedule":"2026-01-02T00:00:00Z","chargingSchedulePeriod":[{"startPeriod":0,"limit":16}] => startSchedule counts for nothing
+TxDefaultProfile | "chargingProfileKind":"Absolute","transactionId":1,"recurrencyKind":"Daily" | "chargingSchedulePeriod":[{"startPeriod":0,"limit":16}] => transactionId has no effect + recurrencyKind has no effect
+TxDefaultProfile | "chargingProfileKind":"Relative" | "startSchedule":"2026-01-02T00:00:00Z","chargingSchedulePeriod":[{"startPeriod":0,"limit":16}] => startSchedule has no effect
 TxDefaultProfile | "chargingProfileKind":"Relative" | "chargingSchedulePeriod":[{"startPeriod":0,"limit":32.1}] => above the ceiling of the site file there, 32.0
 TxDefaultProfile | "chargingProfileKind":"Relative" | "chargingSchedulePeriod":[{"startPeriod":0,"limit":32}] => -
 TxDefaultProfile | "chargingProfileKind":"Relative" | "chargingSchedulePeriod":[{"startPeriod":0,"limit":40},{"startPeriod":60,"limit":16}] => -
@@ -339,8 +339,8 @@ const ANSWERS: &str = r#"[3,"a",{"status":"Accepted"}] => -
 fn answer(rt: &impl Abort, alloc: Global, row: &str) {
     let (answer, wanted) = row_of(row);
     let sentence = answer_sentence(alloc, answer).expect(rt, "error");
-    let told = sentence.as_deref().unwrap_or("-");
-    holds(rt, told.starts_with(wanted), answer);
+    let found = sentence.as_deref().unwrap_or("-");
+    holds(rt, found.starts_with(wanted), answer);
 }
 
 #[test]
@@ -350,7 +350,8 @@ fn sentences_of_answers(rt: HostRuntime) {
     }
 }
 
-/// On each line an operator's text, whether it is a clear by mistake, and pieces of its warnings.
+/// On each line an operator's message, whether it is a clear by mistake, and pieces of its
+/// warnings.
 const SENT_TEXTS: &str = r#"[2,"a","ClearChargingProfile",{}] => false => clears EVERYTHING
 [2,"a","ClearChargingProfile"] => false => clears EVERYTHING
 [2,"a","ClearChargingProfile",{"id":null}] => true => "id" is null, which is none
@@ -358,9 +359,9 @@ const SENT_TEXTS: &str = r#"[2,"a","ClearChargingProfile",{}] => false => clears
 [2,"a","ClearChargingProfile",{"chargingProfileId":1}] => true => "chargingProfileId" isn't one ("id" is)
 [2,"a","ClearChargingProfile",{"id":1,"level":0}] => false => "level" is no criterion
 [2,"a","ClearChargingProfile",{"id":1}] => false => -
-[2,"a","ClearChargingProfile",{"id":"1","x":2}] => false => TypeConstraintViolation: id: "1" is a text + "x" is no field
+[2,"a","ClearChargingProfile",{"id":"1","x":2}] => false => TypeConstraintViolation: id: "1" is a string + "x" is no field
 [2,"a","GetCompositeSchedule",{"connectorId":1,"durations":1}] => false => OccurenceConstraintViolation: duration: it is absent + "durations" is no field
-[2,"a","GetCompositeSchedule",{"connectorId":1,"duration":1,"duration":2}] => false => "duration" stands twice
+[2,"a","GetCompositeSchedule",{"connectorId":1,"duration":1,"duration":2}] => false => "duration" is a duplicate field
 [2,"a","Heartbeat",{"x":1}] => false => NotImplemented: "Heartbeat" is an action of the other side
 [2,"a","GetCompositeSchedul",{}] => false => NotImplemented: "GetCompositeSchedul" is no action of an operator ("GetCompositeSchedule" is one)
 [2,"s","SetChargingProfile",{"connectorId":1,"csChargingProfiles":{"chargingProfileId":1,"stackLevel":1,"chargingProfilePurpose":"TxProfile","chargingProfileKind":"Relative","chargingSchedule":{"chargingRateUnit":"A","chargingSchedulePeriod":[{"startPeriod":0,"limit":16}]}}}] => false => no transactionId
@@ -375,8 +376,8 @@ fn sent_text(rt: &impl Abort, alloc: Global, row: &str) {
     let (text, rest) = row_of(row);
     let (by_mistake, wanted) = row_of(rest);
     let sent = check_sent(alloc, text).expect(rt, "error");
-    let is_told_so = sent.clears_by_mistake == (by_mistake == "true");
-    holds(rt, is_told_so, text);
+    let agrees = sent.clears_by_mistake == (by_mistake == "true");
+    holds(rt, agrees, text);
     are(rt, alloc, &sent.findings, wanted, text);
 }
 

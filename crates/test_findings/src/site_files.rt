@@ -55,17 +55,17 @@ const SITES: &str =
 const FOUND: &str =
     r#"{"unit":"A","points":[{"id":"CP1","ceiling":63.0,"connectors":[32.0,31.0]}]} => -
 {"unit":"A","points":[{"id":"CP1","ceiling":63.0,"connectors":[32.0,32.0]}]} => points[0] (CP1): remark: the connectors' ceilings are 64.0 together
-{"unit":"A","points":[{"id":"CP1","ceiling":"63","connectors":[1]}]} => points[0] (CP1): ceiling: "63" is a text; a number from 0 to 100000000.0 with at most one decimal is wanted
+{"unit":"A","points":[{"id":"CP1","ceiling":"63","connectors":[1]}]} => points[0] (CP1): ceiling: "63" is a string; a number from 0 to 100000000.0 with at most one decimal is wanted
 {"unit":"A","points":[{"id":"CP1","ceilng":63.0,"connectors":[1]}]} => is "ceilng" meant + line 1, column 35: warning: "ceilng" is no field
 {"unit":"A","points":[{"id":"CP1","ceiling":63.25,"connectors":[32.05,1]}]} => points[0] (CP1): ceiling: 63.25 is a number + points[0] (CP1): connectors[0]: 32.05 is a number
 {"unit":"A","points":[{"id":"CP1","ceiling":63.0,"connectors":2}]} => connectors: 2 is a number; a list of 1 to 64 ceilings
 {"unit":"A","points":{"id":"CP1"}} => points: an object stands there
-{"unit":"kW","points":[]} => unit: "kW" is a text; "A" or "W" is wanted + points: 0 entries
+{"unit":"kW","points":[]} => unit: "kW" is a string; "A" or "W" is wanted + points: 0 entries
 {"unit":"A","points":[{"id":"CP1","ceiling":1,"connectors":[1]},{"id":"CP2","ceiling":1,"connectors":[1]},{"id":"CP1","ceiling":1,"connectors":[1]}]} => points[2] (CP1): id: points[0] has it too
-{"unit":"A","points":[{"id":"CP1","ceiling":1,"connectors":[1]},7,{"id":"C P","connectors":null}]} => points[1]: 7 is a number + points[2] (C P): id: "C P" is a text + points[2] (C P): ceiling: it is absent + points[2] (C P): connectors: null counts as absent
+{"unit":"A","points":[{"id":"CP1","ceiling":1,"connectors":[1]},7,{"id":"C P","connectors":null}]} => points[1]: 7 is a number + points[2] (C P): id: "C P" is a string + points[2] (C P): ceiling: it is absent + points[2] (C P): connectors: null counts as absent
 {"unit":"A","points":[{"id":"CP1","ceiling":63.0,"connectors":[32.0,]}]} => line 1, column 69: a value is wanted behind the comma, and `]` stands there: the comma before it is one too many
 {"unit":"A",// amperes => line 1, column 13: a name in double quotes is wanted behind the comma, and `/` stands there: JSON has no comments
-{"unit":"A","points":[{"id":"CP1","ceiling":63.0,"connectors":[32.0]}] => line 1, column 71: `,` or `}` is wanted, and the text ends
+{"unit":"A","points":[{"id":"CP1","ceiling":63.0,"connectors":[32.0]}] => line 1, column 71: `,` or `}` is wanted, and the JSON ends
 {"unit":"A" "points":[]} => line 1, column 13: `,` or `}` is wanted, and `"` stands there: a comma is missing before it
 {"unit":"A","points":[{"id":"CP1","ceiling":.5}]} => line 1, column 45: a value is wanted, and `.` stands there
 {"unit":"A","points":[{"id":"CP1","ceiling":1,"connectors":[1],"phases":3}],"name":"garage"} => column 64: warning: "phases" is no field that is looked at + column 77: warning: "name" is no field
@@ -92,12 +92,12 @@ fn read_fault(alloc: Global, bytes: &[u8]) -> Option<SiteFault> {
 }
 
 /// The fault has this name, which is `-` where there is none.
-fn is_named(rt: &impl Abort, alloc: Global, fault: Option<SiteFault>, wanted: &str, told: &str) {
+fn is_named(rt: &impl Abort, alloc: Global, fault: Option<SiteFault>, wanted: &str, case: &str) {
     let Some(fault) = fault else {
-        return same_text(rt, "-", wanted, told);
+        return same_text(rt, "-", wanted, case);
     };
     let name = format!(in alloc; "{fault}").expect(rt, "error");
-    same_text(rt, name.as_str(), wanted, told);
+    same_text(rt, name.as_str(), wanted, case);
 }
 
 fn first_and_read(rt: &impl Abort, alloc: Global, row: &str) {

@@ -9,10 +9,10 @@ use std::alloc::Global;
 use std::process::Abort;
 
 /// On each line what an operator installs at CP1 (63 A, two connectors of 32 A) at the beginning of
-/// 2025, with ` & ` between the profiles, each as its connector, id, stack level, purpose and
-/// periods; and behind the mark a piece of each finding. The sums, by hand: 32 + 32 = 64, 20 + 20 =
-/// 40, 20.1 + 20.1 = 40.2, 25 + 25 = 50, 20.3 + 20.2 = 40.5, 6 + 32 = 38, and 10 + 10 where both
-/// connectors lie below 10.
+/// 2025. The profiles have ` & ` between them. Each is its connector, id, stack level, purpose and
+/// periods. Behind the mark stands a piece of each finding. The sums, by hand: 32 + 32 = 64, 20 +
+/// 20 = 40, 20.1 + 20.1 = 40.2, 25 + 25 = 50, 20.3 + 20.2 = 40.5, 6 + 32 = 38, and 10 + 10 where
+/// both connectors lie below 10.
 const STANDING: &str = r#"0 1 1 TxDefaultProfile [{"startPeriod":0,"limit":16}] => -
 0 1 1 TxDefaultProfile [{"startPeriod":0,"limit":16}] & 1 2 1 TxDefaultProfile [{"startPeriod":0,"limit":6}] => -
 0 1 1 TxDefaultProfile [{"startPeriod":0,"limit":16}] & 1 2 1 TxDefaultProfile [{"startPeriod":9,"limit":6}] & 2 3 1 TxDefaultProfile [{"startPeriod":0,"limit":8}] => CP1, at the end: warning: TxDefaultProfile 1 at connector 0 never counts

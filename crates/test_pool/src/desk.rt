@@ -1,5 +1,5 @@
-//! The session that sits before the workers: it takes requests, sends their jobs, changes what points have, and waits
-//! for answers.
+//! The session that sits before the workers: it takes requests, sends their jobs, changes what
+//! points have, and waits for answers.
 
 use compile_pool::wait_answer;
 use crossbeam_channel::Sender;

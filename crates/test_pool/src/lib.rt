@@ -1,6 +1,7 @@
-//! Tests of `compile_pool` and of the shared book of `version_store` from outside, by their public names alone:
-//! workers on threads beside sessions. Each test ends, and says the same however the threads take their turns. Of
-//! two sessions that count their own changes it is proved that the totals are what both counted.
+//! Tests of `compile_pool` and of the shared book of `version_store` from outside, by their public
+//! names alone: workers on threads beside sessions. Each test ends, and says the same however the
+//! threads take their turns. Of two sessions that count their own changes it is proved that the
+//! totals are what both counted.
 #![tactic(auto)]
 
 #[cfg(test)]

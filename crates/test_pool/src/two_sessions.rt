@@ -98,8 +98,8 @@ fn count_on_both<C: Ledger + Send + Sync, A: Ledger + Send + Sync, R: Threads + 
     )
 }
 
-/// Two sessions install on threads of their own, however these take their turns. The changes of all are what
-/// both counted.
+/// Two sessions install on threads of their own, however these take their turns. The changes of all
+/// are what both counted.
 pub fn count_on_two_threads<
     C: Ledger + Send + Sync,
     A: Ledger + Send + Sync,

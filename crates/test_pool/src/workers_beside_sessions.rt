@@ -123,7 +123,8 @@ fn many<C: Ledger, A: Ledger, R: Abort + Wait>(
     Ok(())
 }
 
-/// Those that are held up are answered that the central system is stopped, and the others that, or their schedule.
+/// Those that are held up are answered that the central system is stopped, and the others that, or
+/// their schedule.
 fn finish<C: Ledger, A: Ledger, R: Abort + Wait>(
     rt: &R,
     desk: &Desk<'_, C, A>,

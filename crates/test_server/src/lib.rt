@@ -1,4 +1,5 @@
-//! Tests of `server` by its public names alone: over loopback, server and clients on threads of one process.
+//! Tests of `server` by its public names alone: over loopback, server and clients on threads of one
+//! process.
 #![tactic(auto)]
 
 #[cfg(test)]

@@ -38,14 +38,14 @@ struct Client<K: RandomSource> {
 }
 
 impl<K: RandomSource + Drop> Client<K> {
-    /// Sends a text, and the next that comes is this.
+    /// Sends a message, and the next that comes is this.
     fn ask(&mut self, rt: &impl Abort, text: &str, wanted: &str) {
         let message = Message::text(self.alloc, text).expect(rt, "error");
         self.socket.send(message).expect(rt, text);
         self.next(rt, wanted);
     }
 
-    /// The next text that comes is this.
+    /// The next message that comes is this.
     fn next(&mut self, rt: &impl Abort, wanted: &str) {
         match self.socket.read().expect(rt, wanted) {
             Message::Text(text) => same_text(rt, text.as_str(), wanted, "a text"),
@@ -112,7 +112,8 @@ const TOTALS: Result<Totals, ServeFault> = Ok(Totals {
     answers: 1,
 });
 
-/// A start, a stop and a start at the other connector, and what is answered. The first call follows the first answer.
+/// A start, a stop and a start at the other connector, and what is answered. The first call follows
+/// the first answer.
 fn two_starts<K: RandomSource + Drop>(rt: &impl Abort, point: &mut Client<K>) {
     point.ask(
         rt,

@@ -1,4 +1,5 @@
-//! What tests compare, by a function: an assertion is long to prove, and a call of one is not. It is told what it compares.
+//! What tests compare, by a function: an assertion is long to prove, and a call of one is not. It
+//! has a name for what it compares.
 
 use std::process::Abort;
 

@@ -1,4 +1,5 @@
-//! Tests of `session` by its public names alone: sessions over memory, on a book and on a shared one.
+//! Tests of `session` by its public names alone: sessions over memory, on a book and on a shared
+//! one.
 #![tactic(auto)]
 
 #[cfg(test)]

@@ -1,4 +1,4 @@
-//! Texts of an operator and a point, with their answers.
+//! Messages of an operator and a point, with their answers.
 
 pub(crate) const SITE: &str =
     r#"{"unit":"A","points":[{"id":"CP1","ceiling":63.0,"connectors":[32.0,32.0]}]}"#;
@@ -35,7 +35,8 @@ pub(crate) const NOTED_OF_OPERATOR: &str =
 [2,"b","GetCompositeSchedule",{"connectorId":1,"duration":60}]
 "#;
 
-/// What is noted of a point that sends two Heartbeats, of which a call follows the first, and then its reply.
+/// What is noted of a point that sends two Heartbeats, of which a call follows the first, and then
+/// its reply.
 pub(crate) const NOTED_OF_POINT: &str = r#"[2,"1","Heartbeat",{}]
 [3,"0",{"status":"Unknown"}]
 "#;

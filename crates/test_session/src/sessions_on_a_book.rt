@@ -1,4 +1,4 @@
-//! Texts of sessions, their steps on a book, and their answers.
+//! Messages of sessions, their steps on a book, and their answers.
 
 ghost use Rattle.std.specs.Prelude.{◌≡◌};
 ghost use Rattle.session.specs.Perform.{IsOfText};
@@ -57,7 +57,7 @@ impl<C: Ledger, A: Ledger> Desk<C, A> {
         Some(self.outcome(rt, step))
     }
 
-    /// What a text that comes so many seconds after midnight is answered.
+    /// What a message that comes so many seconds after midnight is answered.
     fn answers(
         &mut self,
         rt: &impl Abort,

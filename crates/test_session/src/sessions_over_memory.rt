@@ -60,7 +60,7 @@ struct Served {
 }
 
 impl Served {
-    /// It ended by a close, and its client read these texts.
+    /// It ended by a close, and its client read these messages.
     fn tells(&self, rt: &impl Abort, wanted: &[&str]) {
         holds(rt, self.ended == Ended::Closed, "it ended by a close");
         holds(rt, self.is_closed, "its client was said the close");
@@ -72,7 +72,8 @@ impl Served {
 }
 
 impl<C: Ledger, A: Ledger> Desk<C, A> {
-    /// Serves the next session over a client's messages, with a socket that fails after so many calls.
+    /// Serves the next session over a client's messages, with a socket that fails after so many
+    /// calls.
     fn serve<R: Abort + Wait>(
         &mut self,
         rt: &R,
@@ -111,7 +112,7 @@ impl<C: Ledger, A: Ledger> Desk<C, A> {
         self.serve(rt, core, messages, 100)
     }
 
-    /// Serves the point, which sends these texts and closes.
+    /// Serves the point, which sends these messages and closes.
     fn serve_point<R: Abort + Wait>(&mut self, rt: &R, texts: &[&str], calls: usize) -> Served {
         let messages = messages_of(rt, self.alloc, texts, true);
         let core = SessionCore::point(self.alloc, "CP1").expect(rt, "error");
@@ -238,8 +239,8 @@ fn a_retransmitted_start_has_its_number(rt: HostRuntime) {
     point_texts::<Brand, Brand, HostRuntime>(&rt, rt.alloc(), blanks, &texts, &wanted, 2);
 }
 
-/// A socket that fails after so many calls, and the point's next session. The call that was in flight when the
-/// first session ended, if one was, is sent again.
+/// A socket that fails after so many calls, and the point's next session. The call that was in
+/// flight when the first session ended, if one was, is sent again.
 fn failing<C: Ledger, A: Ledger, R: Abort + Wait>(
     rt: &R,
     alloc: Global,
@@ -291,7 +292,7 @@ fn padded(rt: &impl Abort, alloc: Global, bytes: usize) -> String {
     text
 }
 
-/// Without a moment no text is read, and a text that is too long isn't either.
+/// Without a moment no message is read, and a message that is too long isn't either.
 fn unread<C: Ledger, A: Ledger, R: Abort + Wait>(rt: &R, alloc: Global, blanks: (Blank, Blank))
     requires changes { (blanks.0.name ≡ C.name) × (blanks.0.parts ≡ C.parts)
         × (blanks.0.parts ≡ 2) }
@@ -306,7 +307,7 @@ fn unread<C: Ledger, A: Ledger, R: Abort + Wait>(rt: &R, alloc: Global, blanks: 
     let longest = padded(rt, alloc, 1_048_576);
     let too_long = padded(rt, alloc, 1_048_577);
     let texts = [too_long.as_str(), HEARTBEAT, longest.as_str()];
-    // The call follows the text that was dropped.
+    // The call follows the message that was dropped.
     let served = desk.serve_point(rt, &texts, 10_000);
     served.tells(rt, &[CLEAR, MOMENT, MOMENT]);
 }
@@ -316,7 +317,7 @@ fn texts_that_arent_read(rt: HostRuntime) {
     unread::<Brand, Brand, HostRuntime>(&rt, rt.alloc(), (Blank::new(2), Blank::new(2)));
 }
 
-/// What sessions noted, each text on a line of its own, and how much of it was written out.
+/// What sessions noted, each message on a line of its own, and how much of it was written out.
 #[derive(Drop)]
 struct Lines<'a, R: Wait> {
     rt: &'a R,
@@ -349,7 +350,7 @@ impl<R: Abort + Wait> Journal for Lines<'_, R> {
 }
 
 impl<C: Ledger, A: Ledger> Desk<C, A> {
-    /// Serves the next session over a client's messages, whose texts these lines note.
+    /// Serves the next session over a client's messages, whose text messages these lines note.
     fn serve_noting<R: Abort + Wait>(
         &mut self,
         rt: &R,
@@ -369,7 +370,7 @@ impl<C: Ledger, A: Ledger> Desk<C, A> {
     }
 }
 
-/// A text without a step is noted where a call follows it, and else isn't.
+/// A message without a step is noted where a call follows it, and else isn't.
 fn noted<C: Ledger, A: Ledger, R: Abort + Wait>(rt: &R, alloc: Global, blanks: (Blank, Blank))
     requires changes { (blanks.0.name ≡ C.name) × (blanks.0.parts ≡ C.parts)
         × (blanks.0.parts ≡ 2) }

@@ -1,5 +1,5 @@
-//! What is at the other end of a session's socket: a client whose bytes are all there from the beginning, and streams
-//! that fail.
+//! What is at the other end of a session's socket: a client whose bytes are all there from the
+//! beginning, and streams that fail.
 
 use std::alloc::Global;
 use std::io::{self, ErrorKind, Read, Write};
@@ -30,7 +30,7 @@ pub(crate) fn client_bytes(rt: &impl Abort, alloc: Global, messages: Vec<Message
     socket.into_inner().writer
 }
 
-/// The texts that a client reads from a server's bytes, and whether the server closed.
+/// The messages that a client reads from a server's bytes, and whether the server closed.
 pub(crate) fn client_texts(rt: &impl Abort, alloc: Global, bytes: &[u8]) -> (Vec<String>, bool) {
     let stream = Duplex {
         reader: bytes,
@@ -53,7 +53,7 @@ fn push_text(rt: &impl Abort, alloc: Global, texts: &mut Vec<String>, text: &str
     texts.push(text).ok().expect(rt, "error");
 }
 
-/// A client's texts, with a close frame behind them where it closes.
+/// A client's messages, with a close frame behind them where it closes.
 pub(crate) fn messages_of(
     rt: &impl Abort,
     alloc: Global,

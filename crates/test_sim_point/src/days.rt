@@ -1,10 +1,11 @@
-//! What no clause says: worked days of a simulated point, text by text, and that memory suffices at the largest
-//! sizes. Each is a text of lines `WHAT | WANTED`, where `-` is wanted for nothing:
+//! What no clause says: worked days of a simulated point, message by message, and that memory
+//! suffices at the largest sizes. Each is a text of lines `WHAT | WANTED`, where `-` is wanted for
+//! nothing:
 //!
 //! ```text
 //! at SECONDS | -        it is so many seconds after midnight
 //! call | TEXT           the next call
-//! < TEXT | ANSWER       a text comes, and is answered
+//! < TEXT | ANSWER       a message comes, and is answered
 //! ```
 use crate::same::{holds, same_text};
 use ocpp_scalars::{IdTag, Instant};
@@ -53,8 +54,8 @@ fn step_of(rt: &impl Abort, alloc: Global, line: &str) -> SimStep {
     }
 }
 
-/// A point of 32.0 A with two connectors of 16.0 A, and its steps, a line each: `start CONNECTOR TAG METER`,
-/// `stop CONNECTOR` or `heartbeat`.
+/// A point of 32.0 A with two connectors of 16.0 A, and its steps, a line each: `start CONNECTOR
+/// TAG METER`, `stop CONNECTOR` or `heartbeat`.
 pub(crate) fn point_with(rt: &impl Abort, alloc: Global, lines: &str) -> SimPoint {
     let mut steps = Vec::new(alloc);
     for line in lines.lines() {
@@ -75,7 +76,7 @@ struct Day {
 }
 
 impl Day {
-    /// What comes of a line's word and text.
+    /// What comes of a line's word and message.
     fn found(&mut self, rt: &impl Abort, what: &str) -> Option<String> {
         let (word, text) = what.split_once(' ').unwrap_or((what, ""));
         match word {
@@ -131,8 +132,9 @@ call | [2,"5","Heartbeat",{}]
 call | -
 < [3,"5"] | -"#;
 
-/// The second stop is of a start that the central system refused, the fourth of a transaction that has ended, though
-/// the central system answered its stop with an error, and the fifth of a start whose reply has no whole number.
+/// The second stop is of a start that the central system refused. The fourth is of a transaction
+/// that has ended, though the central system answered its stop with an error. The fifth is of a
+/// start whose reply has no whole number.
 const ALL_STEPS: &str = r#"stop 1
 heartbeat
 start 0 x 1
@@ -179,8 +181,8 @@ fn transactions_are_those_of_the_replies(rt: HostRuntime) {
     );
 }
 
-/// Installs, clears and asks, with each refusal and fault that needs no transaction. Where two causes hold, the
-/// first one is named.
+/// Installs, clears and asks, with each refusal and fault that needs no transaction. Where two
+/// causes hold, the first one is named.
 const CALLS: &str =
     r#"< [2,"a","SetChargingProfile",{"connectorId":3,"csChargingProfiles":{"chargingProfileId":1,"stackLevel":0,"chargingProfilePurpose":"ChargePointMaxProfile","chargingProfileKind":"Absolute","chargingSchedule":{"chargingRateUnit":"W","chargingSchedulePeriod":[{"startPeriod":0,"limit":10.0}]}}}] | [3,"a",{"status":"Rejected","reason":"UnknownConnector"}]
 < [2,"b","SetChargingProfile",{"connectorId":2,"csChargingProfiles":{"chargingProfileId":1,"stackLevel":0,"chargingProfilePurpose":"ChargePointMaxProfile","chargingProfileKind":"Absolute","chargingSchedule":{"chargingRateUnit":"W","chargingSchedulePeriod":[{"startPeriod":0,"limit":10.0}]}}}] | [3,"b",{"status":"Rejected","reason":"MaxNotAtZero"}]
@@ -242,7 +244,7 @@ fn default_text(
     text
 }
 
-/// What a text at midnight is answered.
+/// What a message at midnight is answered.
 fn answer_of(rt: &impl Abort, point: &mut SimPoint, text: &str) -> String {
     let answer = point.on_text(instant_at(rt, 0), text).expect(rt, "error");
     answer.expect(rt, "no answer")

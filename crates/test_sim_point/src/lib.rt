@@ -1,5 +1,5 @@
-//! Tests of `sim_point` from outside, by its public names alone: what a simulated charge point answers and calls,
-//! and how it ends over streams in memory.
+//! Tests of `sim_point` from outside, by its public names alone: what a simulated charge point
+//! answers and calls, and how it ends over streams in memory.
 #![tactic(auto)]
 
 #[cfg(test)]

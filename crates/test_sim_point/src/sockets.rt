@@ -1,4 +1,5 @@
-//! A simulated point at a WebSocket over bytes in memory: what it sends, and how it ends where a device fails.
+//! A simulated point at a WebSocket over bytes in memory: what it sends, and how it ends where a
+//! device fails.
 use crate::days::{instant_at, point_with};
 use crate::same::{holds, same_text};
 use ocpp_scalars::{Instant, Moments};
@@ -68,7 +69,7 @@ impl<S: Write> Write for Failing<S> {
     }
 }
 
-/// What the central system sends, a text on each line.
+/// What the central system sends, a message on each line.
 const CENTRAL: &str = r#"[2,"a","ClearChargingProfile",{}]
 [3,"0",{"currentTime":"2025-01-01T00:00:00Z"}]
 [3,"1",{"idTagInfo":{"status":"Accepted"},"transactionId":7}]
@@ -86,7 +87,8 @@ fn simulated(rt: &impl Abort, alloc: Global) -> SimPoint {
     point_with(rt, alloc, "heartbeat\nstart 1 a 3\nstop 1")
 }
 
-/// The bytes of these texts as a server sends them, behind a binary message, and then of its close.
+/// The bytes of these messages as a server sends them, behind a binary message, and then of its
+/// close.
 fn sent_by_central(rt: &impl Abort, alloc: Global, texts: &str, closes: bool) -> Vec<u8> {
     let stream = Duplex {
         reader: [].as_slice(),
@@ -113,7 +115,7 @@ fn is_text(rt: &impl Abort, message: &Message, wanted: &str) {
     }
 }
 
-/// The point sent these texts, and then its close.
+/// The point sent these messages, and then its close.
 fn are_texts(rt: &impl Abort, alloc: Global, bytes: &[u8], texts: &str) {
     let stream = Duplex {
         reader: bytes,
@@ -171,7 +173,7 @@ fn a_device_that_fails_ends_it(rt: HostRuntime) {
             Ended::OutOfMemory => rt.panic("out of memory"),
         }
     }
-    // Each call before the close may fail: five texts and a close written, each flushed.
+    // Each call before the close may fail: five messages and a close written, each flushed.
     holds(&rt, failed >= 10, "each call before the close may fail");
 }
 

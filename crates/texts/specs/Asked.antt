@@ -1,4 +1,4 @@
--- What a text asks for: nothing, an answer without a step, a step, or that a call is confirmed.
+-- What a message asks for: nothing, an answer without a step, a step, or that a call is confirmed.
 use Rattle.std.specs.Prelude.{ℕ, ◌≡◌, codes, Bool, true, false, List, Option, Some, None, Result, Ok, Err, if◌then◌else◌}
 use Rattle.std.specs.Str.{bytes_eq}
 use Rattle.ocpp_scalars.specs.declared.refusal.Refusal.{Refusal}
@@ -53,7 +53,7 @@ abbrev pub begin_of : StartTransaction → Begin
 begin_of start =
     record { id_tag = start.id_tag; meter_start = start.meter_start; timestamp = start.timestamp }
 
--- what is asked from the moment of the text on, whatever versions were seen before
+-- what is asked from the moment of the message on, whatever versions were seen before
 abbrev pub take_of : Sent → ScheduleRequest → Take
 take_of text request = record {
   point = text.point;
@@ -115,7 +115,7 @@ abbrev pub asked_of_reply : Side → List ℕ → List ℕ → Asked
 asked_of_reply Operator point id = asked.Nothing
 asked_of_reply Point point id = asked_confirm point (call_numbered id)
 
--- ---- texts
+-- ---- messages
 
 -- only a CALL is answered, a malformed one too where it has an id
 abbrev pub asked_of_message : Sent → Result Message FrameFault → Asked
@@ -129,7 +129,7 @@ asked_of_message text (Err _) = asked.Nothing
 unfoldable pub asked_of : Sent → Asked
 asked_of text = asked_of_message text (message_of_text text.frame)
 
--- ---- what any text asks for
+-- ---- what any message asks for
 
 -- what is made over a link comes of the link itself
 abbrev pub IsOverNone : Option ℕ → Type 0
@@ -157,7 +157,7 @@ AsksByCall (asked.Step id kind step) = IsOfCall step
 AsksByCall (asked.Respond id response) = is_schedule response ≡ false
 AsksByCall _ = Unit {0}
 
--- ---- held texts
+-- ---- held messages
 
 abbrev pub is_schedule_kind : Option ActionKind → Bool
 is_schedule_kind (Some kinds.GetCompositeSchedule) = true
@@ -168,6 +168,6 @@ abbrev pub asks_schedule : Result Message FrameFault → Bool
 asks_schedule (Ok (call id name payload)) = is_schedule_kind (action_named name)
 asks_schedule _ = false
 
--- what a held text asks for, where it is a CALL of GetCompositeSchedule
+-- what a held message asks for, where it is a CALL of GetCompositeSchedule
 abbrev pub hold_of : Sent → Option Asked
 hold_of text = if asks_schedule (message_of_text text.frame) then Some (asked_of text) else None

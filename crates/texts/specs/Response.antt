@@ -12,7 +12,8 @@ use Rattle.site_core.specs.declared.reply.Reply.{Reply}
 use Rattle.site_core.specs.declared.reply.Reply.TheVariants.{Accepted, Unknown, Started, Repeated, Ended, NoSuch, Taken, Compiled, Answered, NotYet, Finished, Attached, Sent, Nothing, Confirmed, LinkLost}
 use Rattle.site_core.specs.State.{ScheduleAnswer}
 
--- a refused install or ask is answered by its .conf, any other refused CALL by a CALLERROR
+-- a refused SetChargingProfile or GetCompositeSchedule is answered by its .conf, any other refused
+-- CALL by a CALLERROR
 abbrev pub refused_response : ActionKind → Refusal → Response
 refused_response kinds.SetChargingProfile refusal = responses.Rejected refusal
 refused_response kinds.GetCompositeSchedule refusal = responses.Rejected refusal
@@ -24,9 +25,9 @@ schedule_response unit kind ask (Ok schedule) = responses.Schedule
     (record { connector = ask.connector; start = ask.start; unit = unit; schedule = schedule })
 schedule_response unit kind ask (Err refusal) = refused_response kind refusal
 
--- A reply as a response to a CALL of this kind. A start that is told again is answered as the first
--- time. No CALL is answered that its request is taken or compiled, or that the central system is
--- stopped, nor with what becomes of a link or of a call.
+-- A reply as a response to a CALL of this kind. A retransmitted start is answered as the first
+-- time. No answer says that a request is taken or compiled, that the central system is stopped, or
+-- what becomes of a link or of a call.
 abbrev pub reply_response : Unit → ActionKind → Reply → Option Response
 reply_response unit kind Accepted = Some responses.Accepted
 reply_response unit kind Unknown = Some responses.Unknown

@@ -1,4 +1,4 @@
--- A text that comes to the central system.
+-- A message that comes to the central system.
 use Rattle.std.specs.Prelude.{ℕ, List}
 use Rattle.messages.specs.declared.side.Side.{Side}
 
@@ -7,9 +7,9 @@ pub record Sent : Type 0 where
   pub moment : ℕ
   -- who sends it
   pub sender : Side
-  -- the identity of the point that an operator's text is for, or that sends its own
+  -- the identity of the point that an operator's message is for, or that sends its own
   pub point : List ℕ
-  -- the text itself
+  -- the message itself
   pub frame : List ℕ
 
 abbrev pub sent : ℕ → Side → List ℕ → List ℕ → Sent

@@ -1,4 +1,4 @@
--- Texts that memory runs out for.
+-- Messages that couldn't be read, because memory ran out.
 use Rattle.std.specs.Prelude.{◌≡◌, List, ℕ, Option, Some, None, Result, Ok}
 use Rattle.ocppj_frame.specs.declared.fault.FrameFault.{FrameFault}
 use Rattle.ocppj_frame.specs.Tree.{Tree}

@@ -1,4 +1,4 @@
-//! What a text asks for: nothing, an answer without a step, a step, or that a call is confirmed.
+//! What a message asks for: nothing, an answer without a step, a step, or that a call is confirmed.
 
 ghost use Rattle.std.specs.Prelude.{◌≡◌, None, Ok, IfOk, IfErr};
 ghost use Rattle.ocppj_frame.specs.Frame.{message_in};
@@ -25,10 +25,10 @@ use transactions::Begin;
 /// The answer to a CALL of an action that isn't known, or isn't its sender's.
 const NOT_IMPLEMENTED: Response = Response::Error(CallFault::NotImplemented);
 
-/// What a text asks for.
+/// What a message asks for.
 #[derive(Drop)]
 pub enum Asked {
-    /// The text isn't answered.
+    /// The message isn't answered.
     Nothing,
     /// The CALL of this id is answered without a step.
     Respond {
@@ -41,7 +41,7 @@ pub enum Asked {
         kind: ActionKind,
         step: Step,
     },
-    /// The text is the point's reply to the call of this number.
+    /// The message is the point's reply to the call of this number.
     Confirm {
         point: PointId,
         call: u64,
@@ -56,8 +56,8 @@ enum Wanted {
     Response(Response),
 }
 
-/// What a text asks for. The text is read into `memory`. Where memory runs out, a CALL's id is told, if it
-/// was known by then.
+/// What a message asks for. The message is read into `memory`. Where memory runs out, the error has
+/// a CALL's id, if it was known by then.
 #[tactic(auto, unfolding(crate::specs::Asked::asked_of))]
 pub fn asked_of(
     alloc: Global,
@@ -79,8 +79,8 @@ pub fn asked_of(
     }
 }
 
-/// What a held text asks for: as [`asked_of`] has it, or `None` where the text is no CALL of
-/// GetCompositeSchedule. The text is read into `memory`.
+/// What a held message asks for: as [`asked_of`] has it, or `None` where the message is no CALL of
+/// GetCompositeSchedule. The message is read into `memory`.
 #[tactic(auto, unfolding(crate::specs::Asked::asked_of))]
 pub fn hold_of(
     alloc: Global,

@@ -1,4 +1,4 @@
-//! What a text asks for, and what came of it as an answer: no socket, no store.
+//! What a message asks for, and what came of it as an answer: no socket, no store.
 #![tactic(auto)]
 
 mod asked;

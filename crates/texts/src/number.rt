@@ -1,4 +1,5 @@
-//! Numbers in a text from 1 on, in decimal without leading zeros: of requests, and of calls after call 0.
+//! Numbers in a text from 1 on, in decimal without leading zeros: of requests, and of calls after
+//! call 0.
 
 ghost use Rattle.std.specs.Prelude.{◌≡◌, ◌↔◌, ℕ, Some};
 ghost use Rattle.texts.specs.Number.{IsDecimalOf};
@@ -24,7 +25,8 @@ pub fn number_of(word: &str) -> Option<u64>
     Some(number)
 }
 
-/// Whether a word begins with a byte above the digit 0. `parse` takes a plus and zeros before a number.
+/// Whether a word begins with a byte above the digit 0. `parse` takes a plus and zeros before a
+/// number.
 fn begins_above_zero(word: &str) -> bool
     ensures { result ≡ begins_above_zero word.now }
 {

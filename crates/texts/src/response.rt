@@ -9,8 +9,8 @@ use ocpp_scalars::Refusal;
 use profile::Unit;
 use site_core::Reply;
 
-/// What came of a step as a response to a CALL of this kind, on a site of this unit. `None` where that isn't
-/// answered: a request that is taken or compiled has no answer yet.
+/// What came of a step as a response to a CALL of this kind, on a site of this unit. `None` where
+/// that isn't answered: a request that is taken or compiled has no answer yet.
 pub fn response_of(
     unit: Unit,
     kind: ActionKind,
@@ -67,7 +67,8 @@ pub fn schedule_response(
     }
 }
 
-/// A refused install or ask is answered by its .conf, any other refused CALL by a CALLERROR.
+/// A refused SetChargingProfile or GetCompositeSchedule is answered by its .conf, any other refused
+/// CALL by a CALLERROR.
 pub fn refused_response(kind: ActionKind, refusal: Refusal) -> Response
     ensures { result ≡ refused_response kind refusal }
 {

@@ -1,4 +1,4 @@
-//! A text that comes to the central system, with its moment, its sender and its point.
+//! A message that comes to the central system, with its moment, its sender and its point.
 
 ghost use Rattle.std.specs.Prelude.{◌≡◌};
 
@@ -6,7 +6,7 @@ use messages::Side;
 use ocpp_scalars::Instant;
 use std::marker::Model;
 
-/// A text that comes to the central system.
+/// A message that comes to the central system.
 #[derive(Drop)]
 pub struct SentText<'a> {
     moment: Instant,
@@ -31,8 +31,8 @@ impl<'a> Model for SentText<'a> {
 impl<'a> SentText<'a> {
     ghost use Rattle.texts.specs.SentText.{sent};
 
-    /// The text `frame`, an OCPP-J frame (OCPP-J 1.6, chapter 4), that comes from an operator for a
-    /// point, or from that point.
+    /// The message `frame`, an OCPP-J frame (OCPP-J 1.6, chapter 4), that comes from an operator
+    /// for a point, or from that point.
     pub fn new(moment: Instant, sender: Side, point: &'a str, frame: &'a str) -> SentText<'a>
         ensures { result ≡ sent moment sender point.entry.now frame.entry.now }
     {
@@ -58,14 +58,14 @@ impl<'a> SentText<'a> {
         self.sender
     }
 
-    /// The identity of the point that an operator's text is for, or that sends its own.
+    /// The identity of the point that an operator's message is for, or that sends its own.
     pub fn point(&self) -> &str
         ensures { result.now ≡ self.now.point }
     {
         self.point
     }
 
-    /// The text itself.
+    /// The message itself.
     pub fn frame(&self) -> &str
         ensures { result.now ≡ self.now.frame }
     {

@@ -1,10 +1,10 @@
-//! Texts that memory runs out for.
+//! Messages that couldn't be read, because memory ran out.
 
 use ocppj_frame::MessageId;
 
-/// Memory ran out while a text was read.
+/// Memory ran out while a message was read.
 #[derive(Debug, Drop)]
 pub struct Unread {
-    /// The id of the CALL that the text is, where that was known before.
+    /// The id of the CALL that the message is, where that was known before.
     pub call: Option<MessageId>,
 }

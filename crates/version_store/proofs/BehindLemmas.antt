@@ -22,7 +22,7 @@ use Rattle.version_store.specs.Passes.{PassState}
 use Rattle.version_store.specs.Store.{StoreState}
 use Rattle.version_store.specs.Calls.{IsRefusalTo, IsRefusalOf, IsBehind}
 
--- ---- no ask is refused as Behind
+-- ---- no `Ask` is refused as Behind
 
 -- what is refused in two steps is refused in the first, or after it
 refused_in_steps : {A : Type 0} (first : Result A Refusal) (next : A → Result Ask Refusal)

@@ -1,4 +1,4 @@
--- What the machine's outlook and its step tell of a call on the store.
+-- What follows for a call on the store from the machine's outlook and its step.
 use Rattle.std.proofs.Common.{◌≡◌, ◌<◌, ◌≤◌, nat_le, ◌||◌, ◌&&◌, Bool, true, false, cond, [], ◌∷◌, Result, Ok, Err, refl, sym, ap, ◌∙◌, subst, length, arith}
 use Rattle.std.proofs.lemmas.Bool.Decides.{nat_tests}
 use Rattle.ocpp_scalars.specs.declared.refusal.Refusal.{Refusal}
@@ -56,7 +56,7 @@ refused_fold store step (Ok made) refusal is can many memory =
     by false true false full e c f = absurd (cc c)
     by false true true false e c f = absurd (cc f)
 
--- what would be an event is refused for want of memory alone
+-- what would be an event is refused only because memory ran out
 pub refused_event : (old : MachineState) (result : Result Made Refusal) (refusal : Refusal)
     → outlook_of old result ≡ Ok true → IsRefusalOf result refusal → refusal ≡ OutOfMemory
 refused_event old (Ok made) refusal is cause = cause.1
@@ -73,8 +73,8 @@ never_refused laws old (Err first) refusal is cause = absurd (cc is)
 -- it is asked of the store that was
 pub outlook_of_same : (store was : StoreState) (step : Step) (is_one : Bool) → was ≡ store
     → outlook store.present step ≡ Ok is_one → outlook was.present step ≡ Ok is_one
-outlook_of_same store was step is_one same told =
-    subst (λ (s : StoreState). outlook s.present step ≡ Ok is_one) (sym same) told
+outlook_of_same store was step is_one same outlook_is =
+    subst (λ (s : StoreState). outlook s.present step ≡ Ok is_one) (sym same) outlook_is
 
 -- ---- steps that bring no answer
 

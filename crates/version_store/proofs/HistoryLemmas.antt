@@ -20,7 +20,7 @@ use Rattle.version_store.proofs.RoomLemmas.{few_to_come}
 abbrev pub made_with : Reply → MachineState → Made
 made_with reply after = record { reply = reply; after = after }
 
--- a reply that tells of no change and no answer
+-- a reply that counts no change and no answer
 abbrev totals_of : ℕ → ℕ → Totals
 totals_of changes answers = record { changes = changes; answers = answers }
 

@@ -67,9 +67,9 @@ handed_out old number book ask answer after made = found (request_of number old.
         → HandedOut old book ask answer after
     found None here is = absurd (cc is)
     found (Some kept) here is =
-        let told : answers_with old kept kept.answer ≡ made_with (Answered book ask answer) after
+        let handed : answers_with old kept kept.answer ≡ made_with (Answered book ask answer) after
         = cc is in
-        with_answer kept here kept.answer refl told
+        with_answer kept here kept.answer refl handed
 
 -- ---- compiling
 

@@ -20,8 +20,8 @@ use Rattle.site_core.specs.Post.{Posts}
 use Rattle.version_store.specs.Passes.{PassState, pass_after}
 use Rattle.version_store.specs.Store.{StoreState, with_event, folded_for, folds}
 
--- One event is added, after the history was folded where it had to be; the state and the reply are what
--- the machine makes of the event.
+-- One event is added, after the history was folded where it had to be; the state and the reply are
+-- what the machine makes of the event.
 pub record Adds (old : StoreState) (stored : StoredEvent) (reply : Reply) (new : StoreState)
     : Type 0 where
   pub made : made_of old.present stored ≡ Ok (record { reply = reply; after = new.present })
@@ -30,7 +30,8 @@ pub record Adds (old : StoreState) (stored : StoredEvent) (reply : Reply) (new :
       (record { reply = reply; after = new.present })
 
 -- the machine's reply alone, which is no event
-pub record RepliesAlone (old : StoreState) (step : Step) (reply : Reply) (new : StoreState) : Type 0 where
+pub record RepliesAlone (old : StoreState) (step : Step) (reply : Reply) (new : StoreState)
+    : Type 0 where
   pub made : stepped no_answer old.present step ≡ Ok (unchanged old.present reply)
   pub no_event : is_event old.present reply ≡ false
   pub kept : new ≡ old
@@ -52,7 +53,8 @@ abbrev pub may_want_memory : StoreState → Step → Reply → Bool
 may_want_memory old step reply =
     wants_memory reply || (is_event old.present reply && folds old step)
 
--- Nothing is made, for the machine's first cause, or for want of memory where it may want some.
+-- Nothing is made, for the machine's first cause, or because memory ran out, where it may need
+-- some.
 abbrev pub IsRefusalTo : StoreState → Step → Result Made Refusal → Refusal → Type 0
 IsRefusalTo old step (Err cause) refusal = refusal ≡ cause
 IsRefusalTo old step (Ok made) refusal =
@@ -62,8 +64,8 @@ abbrev pub IsRefusalOf : StoreState → Step → Refusal → Type 0
 IsRefusalOf old step refusal = IsRefusalTo old step (stepped no_answer old.present step) refusal
 
 -- a call of a session: what it makes, and what its pass counts then
-pub record Calls (old : StoreState) (was : PassState) (step : Step) (reply : Reply) (new : StoreState)
-    (pass : PassState) : Type 0 where
+pub record Calls (old : StoreState) (was : PassState) (step : Step) (reply : Reply)
+    (new : StoreState) (pass : PassState) : Type 0 where
   pub makes : Makes old step reply new
   pub counts : pass ≡ pass_after was reply new.present.numbers.version
 
@@ -90,10 +92,10 @@ abbrev pub ending : Bool → Reply
 ending true = Ended
 ending false = NoSuch
 
--- A start gives the number of the transaction that began, or of the one that is retransmitted. This system
--- draws them from 1 on.
-pub record StartsAs (old : StoreState) (was : PassState) (step : Step) (given : ℕ) (new : StoreState)
-    (pass : PassState) : Type 0 where
+-- A start gives the number of the transaction that began, or of the one that is retransmitted. This
+-- system draws them from 1 on.
+pub record StartsAs (old : StoreState) (was : PassState) (step : Step) (given : ℕ)
+    (new : StoreState) (pass : PassState) : Type 0 where
   pub id : ℤ
   pub number : given ≡ unsigned_abs id
   pub calls : Calls old was step (Started id) new pass ⊎ Calls old was step (Repeated id) new pass
@@ -109,8 +111,8 @@ take_of point connector start duration unit was = record {
   seen = was.seen;
 }
 
--- A Take is behind where its session has seen a newer version than the store is at: it never comes back
--- from a later store to an older one.
+-- A Take is behind where its session has seen a newer version than the store is at: it never comes
+-- back from a later store to an older one.
 pub record IsBehind (version newest : ℕ) (seen found : ℕ) : Type 0 where
   pub seen_is : seen ≡ newest
   pub found_is : found ≡ version

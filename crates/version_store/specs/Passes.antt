@@ -1,5 +1,5 @@
--- What is counted: the changes that were made and the answers that were handed out, of all sessions and
--- of each.
+-- What is counted: the changes that were made and the answers that were handed out, of all sessions
+-- and of each.
 use Rattle.std.specs.Prelude.{ℕ, ◌+◌, max, List, sum_by}
 use Rattle.site_core.specs.declared.reply.Reply.{Reply}
 use Rattle.site_core.specs.Step.{counted}

@@ -1,5 +1,5 @@
--- A stored history: a state that it begins with, the events since, and the present state, to which they
--- lead. Where it has grown long it is folded: it begins anew with the present state.
+-- A stored history: a state that it begins with, the events since, and the present state, to which
+-- they lead. Where it has grown long it is folded: it begins anew with the present state.
 use Rattle.std.specs.Prelude.{ℕ, ◌+◌, ◌≡◌, ◌≤◌, nat_le, ◌&&◌, Bool, true, false, List, [], ◌∷◌, ◌++◌, length, is_some, if◌then◌else◌}
 use Rattle.std.specs.List.{AllByRecursion, sum_by}
 use Rattle.site_rules.specs.Site.{SiteState}
@@ -67,10 +67,11 @@ folded_for old step = if folds old step then folded old else old
 
 -- ---- what is always so
 
--- The present state is the replay of the base and the stored events, and what is played is a legal
--- history, as what led to the base was, from the opening state on. Each kept request has the book that
--- its Take, or the base, gave it, and each answer is right for its book and its ask; once the central
--- system is stopped each has one. And the changes and answers are those of these histories.
+-- The present state is the replay of the base and the stored events. What is played is a legal
+-- history, and so is what led to the base from the opening state on. Each kept request has the book
+-- that its Take, or the base, gave it, and each answer is right for its book and its `Ask`. Once
+-- the central system is stopped, each has one. And the changes and answers are those of these
+-- histories.
 pub record IsStore (store : StoreState) : Type 0 where
   -- until the base
   pub site : SiteState

@@ -1,5 +1,5 @@
--- The laws of a store over its whole history: what was done until its base, and since. So they are the
--- laws of the machine from its opening state on, however often the history was folded.
+-- The laws of a store over its whole history: what was done until its base, and since. So they are
+-- the laws of the machine from its opening state on, however often the history was folded.
 use Rattle.std.specs.Prelude.{ℕ, ◌+◌, ◌≤◌, ◌≡◌, List, ◌++◌, length, Some}
 use Rattle.meaning.specs.declared.ask.Ask.{Ask}
 use Rattle.site_rules.specs.Site.{place_of}
@@ -20,7 +20,8 @@ whole_history store is = is.earlier ++ is.played
 
 -- what holds of each store, with its whole history
 abbrev pub OfEachStore : ((store : StoreState) → IsStore store → List Event → Type 0) → Type 0
-OfEachStore holds = (store : StoreState) (is : IsStore store) → holds store is (whole_history store is)
+OfEachStore holds =
+    (store : StoreState) (is : IsStore store) → holds store is (whole_history store is)
 
 -- it is legal, and led from the opening of its site to the present state
 abbrev pub StoresAreReached : Type 0
@@ -31,8 +32,8 @@ abbrev pub StoresCountAll : Type 0
 StoresCountAll = OfEachStore (λ store is whole.
     (store.made.changes ≡ changes_in whole) × (store.made.answers ≡ answers_in whole))
 
--- the calls that were sent to a point are in sending order: call 0 comes first, and a call is sent again
--- only directly after itself
+-- the calls that were sent to a point are in sending order: call 0 comes first, and a call is sent
+-- again only directly after itself
 abbrev pub StoresSendInOrder : Type 0
 StoresSendInOrder = OfEachStore (λ store is whole.
     (point : List ℕ) (place : ℕ) → place_of is.site point ≡ Some place
@@ -43,9 +44,9 @@ abbrev pub confirmed_before : (store : StoreState) → IsStore store → ℕ →
 confirmed_before store is place = length (calls_confirmed (outbox_at (opening is.site) place)
     (traffic_since (opening is.site) place is.earlier))
 
--- Where c calls of a point were confirmed until the base, the base keeps its calls from number c on,
--- and the calls that are sent since begin with call c or the next one: none is left out by a fold.
--- Each later one is the one before it or the next.
+-- If c calls of a point were confirmed until the base, the base keeps its calls from number c on.
+-- The calls that are sent since begin with call c or the next one: a fold leaves none out. Each
+-- later one is the one before it or the next.
 abbrev pub StoresSendOn : Type 0
 StoresSendOn = (store : StoreState) (is : IsStore store) → IsMachine store.base → (place : ℕ)
     → AreKeptFrom store.base place (confirmed_before store is place)
@@ -58,8 +59,8 @@ StoresAnswerOnce = OfEachStore (λ store is whole.
     (number : ℕ) → (takes_of number whole ≤ 1)
     × (takes_of number whole ≡ answers_of number whole + kept_of number store.present.requests))
 
--- each answer that is handed out is the headline's: right for what the point of that one Take had when
--- the Take was made, and for its ask
+-- each answer that is handed out is the headline's: right for what the point of that one Take had
+-- when the Take was made, and for its `Ask`
 abbrev pub StoresHandOutRight : Type 0
 StoresHandOutRight = OfEachStore (λ store is whole.
     (number : ℕ) (book : BookState) (ask : Ask) (answer : ScheduleAnswer) (new : StoreState)

@@ -10,8 +10,8 @@ use site_core::SharedBook;
 use std::marker::Model;
 use std::sync::Arc;
 
-/// The answer to a request for a composite schedule (chapter 5.7), with the request's number, what its point had when
-/// it was taken, and the ask.
+/// The answer to a request for a composite schedule (chapter 5.7), with the request's number, what
+/// its point had when it was taken, and the `Ask`.
 #[derive(Drop)]
 pub struct Answer {
     number: u64,
@@ -75,8 +75,8 @@ impl Answer {
         &self.ask
     }
 
-    /// The answer: the exact schedule, or that it is too long, that memory ran out, or that the central system was
-    /// stopped before.
+    /// The answer: the exact schedule, or that it is too long, that memory ran out, or that the
+    /// central system was stopped before.
     pub fn answer(&self) -> &Result<Composite, Refusal>
         ensures { result.now ≡ self.now.answer }
     {

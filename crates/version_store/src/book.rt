@@ -24,9 +24,9 @@ use std::alloc::{AllocError, Global};
 use std::marker::Model;
 use std::sync::ledger::{Blank, Ledger};
 
-/// The central system of a site with the history that led to it: each call that changes something adds one
-/// event, and none is ever refused because the history is full. A pass fits only the book that it was made
-/// with, and the two ledgers see to that.
+/// The central system of a site with the history that led to it. Each call that changes something
+/// adds one event, and none is ever refused because the history is full. A pass fits only the book
+/// that it was made with, and the two ledgers see to that.
 #[derive(Drop)]
 pub struct Book<C: Ledger, A: Ledger> {
     history: History,
@@ -45,7 +45,8 @@ impl<C: Ledger, A: Ledger> Model for Book<C, A> {
 }
 
 impl<C: Ledger, A: Ledger> Book<C, A> {
-    /// The book of a site where nothing was done yet, with a pass for each session, which counts nothing yet.
+    /// The book of a site where nothing was done yet, with a pass for each session, which counts
+    /// nothing yet.
     pub fn make(
         alloc: Global,
         changes: Blank,
@@ -67,7 +68,8 @@ impl<C: Ledger, A: Ledger> Book<C, A> {
         Ok((Book { history, ledgers }, passes))
     }
 
-    /// Makes a step of a session: what each of its calls stands for. On a refusal the step comes back.
+    /// Makes a step of a session: what each of its calls stands for. On a refusal the step comes
+    /// back.
     pub fn make_step(&mut self, pass: &mut Pass<C, A>, step: Step) -> Result<Reply, Refused>
         requires { may_fold step ≡ true }
         ensures calls { IfOk result
@@ -85,8 +87,8 @@ impl<C: Ledger, A: Ledger> Book<C, A> {
         Ok(reply)
     }
 
-    /// Ends the book. With the passes of all its sessions, the numbers of changes that were made and of
-    /// answers that were handed out are what those passes count together.
+    /// Ends the book. With the passes of all its sessions, the numbers of changes that were made
+    /// and of answers that were handed out are what those passes count together.
     pub fn settle(self, passes: Vec<Pass<C, A>>) -> Totals
         requires changes { C.parts ≤ length passes.items }
         requires answers { A.parts ≤ length passes.items }
@@ -98,9 +100,9 @@ impl<C: Ledger, A: Ledger> Book<C, A> {
         totals
     }
 
-    /// How many events are stored. With what is always so of a book: its present state is the replay of its
-    /// base and of these events, the history is legal, each kept request has the book that its Take, or
-    /// the base, gave it, and each answer is right for that book and the ask.
+    /// How many events are stored. With what is always so of a book. Its present state is the
+    /// replay of its base and of these events, and the history is legal. Each kept request has the
+    /// book that its Take, or the base, gave it. Each answer is right for that book and the `Ask`.
     pub fn stored(&self) -> usize
         ensures value { result ≡ length self.now.events }
         ensures store { IsStore self.now }
@@ -132,14 +134,16 @@ impl<C: Ledger, A: Ledger> Book<C, A> {
         self.history.present()
     }
 
-    /// What the last fold left behind, if it wasn't taken yet. Whoever shares the book drops it without its lock.
+    /// What the last fold left behind, if it wasn't taken yet. Whoever shares the book drops it
+    /// without its lock.
     pub fn take_folded(&mut self) -> Option<Folded>
         ensures { self.new ≡ self.old }
     {
         self.history.take_folded()
     }
 
-    /// Gives back the memory of events that `Folded::into_room` left, so that the next fold needs no new one.
+    /// Gives back the memory of events that `Folded::into_room` left, so that the next fold needs
+    /// no new one.
     pub fn give_room(&mut self, room: EventRoom)
         ensures { self.new ≡ self.old }
     {
@@ -167,7 +171,8 @@ impl<C: Ledger, A: Ledger> Book<C, A> {
         self.present().open_requests()
     }
 
-    /// How many calls of the point of an identity aren't confirmed, 0 where the site has no such point.
+    /// How many calls of the point of an identity aren't confirmed, 0 where the site has no such
+    /// point.
     pub fn outbox_len(&self, point: &str) -> usize
         ensures { result ≡ outbox_len self.now.present point.now }
     {
@@ -181,7 +186,8 @@ impl<C: Ledger, A: Ledger> Book<C, A> {
         self.present().link_of(point)
     }
 
-    /// The link over which a call is to be sent now to the point of an identity, if there is such a call.
+    /// The link over which a call is to be sent now to the point of an identity, if there is such a
+    /// call.
     pub fn link_to_send(&self, point: &str) -> Option<u64>
         ensures { result ≡ link_to_send self.now.present point.now }
     {

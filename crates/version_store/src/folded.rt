@@ -55,8 +55,8 @@ impl EventRoom {
     }
 }
 
-/// What a fold leaves behind: the old base and the events since. Nothing is read from it any more, but to drop it
-/// takes longer than the fold, since the points' books have mostly changed since.
+/// What a fold leaves behind: the old base and the events since. Nothing is read from it any more,
+/// but to drop it takes longer than the fold, since the points' books have mostly changed since.
 #[derive(Drop)]
 pub struct Folded {
     base: Machine,

@@ -25,7 +25,7 @@ use std::marker::Model;
 use std::mem::replace;
 use sweep_compiler::Compiled;
 
-/// With so many events or more, a call that is to add one folds the history first.
+/// With this many events or more, a call that is to add one folds the history first.
 const FOLD_FROM: usize = 3_900;
 
 /// The state of the central system with the history that led to it.
@@ -136,8 +136,8 @@ impl History {
         self.spare = Some(room);
     }
 
-    /// Makes a step that brings no answer, and adds its event, if it is one. On a refusal the step comes
-    /// back.
+    /// Makes a step that brings no answer, and adds its event, if it is one. On a refusal the step
+    /// comes back.
     pub fn make(&mut self, step: Step) -> Result<Reply, Refused>
         requires { may_fold step ≡ true }
         ensures makes { IfOk result (λ reply. Makes self.old step reply self.new) }
@@ -198,7 +198,7 @@ impl History {
     /// Makes a step that is no event.
     fn reply_alone(&mut self, step: Step) -> Reply
         requires can_fold { may_fold step ≡ true }
-        requires told { outlook self.old.present step ≡ Ok false }
+        requires no_event { outlook self.old.present step ≡ Ok false }
         ensures replies { RepliesAlone self.old step result self.new }
         ensures own { is_reply_to step result ≡ true }
         ensures asked { HasAskedConnector result }
@@ -248,8 +248,8 @@ impl History {
         Ok(reply)
     }
 
-    /// Compiles the request of a number with an answer that is brought, and adds the event. On a refusal the
-    /// answer comes back.
+    /// Compiles the request of a number with an answer that is brought, and adds the event. On a
+    /// refusal the answer comes back.
     pub fn post(&mut self, number: u64, brought: Compiled) -> Result<(), (Refusal, Compiled)>
         ensures posts { IfOk result (λ _. PostsTo self.old number brought self.new) }
         ensures refused { IfErr result (λ refused.

@@ -10,8 +10,8 @@ use std::alloc::AllocError;
 use std::marker::Model;
 use std::sync::Arc;
 
-/// A request for a composite schedule (chapter 5.7) that was taken: its number, what its point had then, which has
-/// the connector that is asked, and the ask.
+/// A request for a composite schedule (chapter 5.7) that was taken: its number, what its point had
+/// then, and the `Ask`. The point has the connector that is asked.
 #[derive(Drop)]
 pub struct Job {
     number: u64,
@@ -66,7 +66,7 @@ impl Job {
         &self.ask
     }
 
-    /// The request's number, what its point had when it was taken, and the ask.
+    /// The request's number, what its point had when it was taken, and the `Ask`.
     pub fn into_parts(self) -> (u64, Arc<PointBook>, Ask)
         ensures number { result.0 ≡ self.number }
         ensures book { arc_value result.1 ≡ self.book }

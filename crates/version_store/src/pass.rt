@@ -8,8 +8,8 @@ use std::alloc::{AllocError, Global};
 use std::marker::Model;
 use std::sync::ledger::{Ledger, Share};
 
-/// What one session counts: the changes and the answers of its own calls, and the newest version of the store
-/// that it has seen. It fits only the book that it was made with.
+/// What one session counts: the changes and the answers of its own calls, and the newest version of
+/// the store that it has seen. It fits only the book that it was made with.
 #[derive(Drop)]
 pub struct Pass<C: Ledger, A: Ledger> {
     /// Its part of the book's changes, and of its answers.
@@ -71,7 +71,7 @@ impl<C: Ledger, A: Ledger> Pass<C, A> {
     }
 }
 
-/// Passes for so many sessions, which have all the parts.
+/// Passes for this many sessions, which have all the parts.
 pub(crate) fn passes_of<C: Ledger, A: Ledger>(
     alloc: Global,
     mut changed: Share<C>,

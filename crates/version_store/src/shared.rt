@@ -16,8 +16,8 @@ use std::marker::Model;
 use std::sync::ledger::{Blank, Ledger};
 use std::sync::{Condvar, Mutex, MutexGuard, Wait};
 
-/// The book of the central system, which one thread at a time has. Each of its calls is made by whoever has it, so
-/// all that is said of a book holds between any calls of any threads.
+/// The book of the central system, which one thread at a time has. Each of its calls is made by
+/// whoever has it, so all that is said of a book holds between any calls of any threads.
 #[derive(Drop)]
 pub struct Shared<C: Ledger, A: Ledger> {
     book: Mutex<Book<C, A>>,
@@ -41,7 +41,8 @@ impl<C: Ledger, A: Ledger> Model for Shared<C, A> {
 }
 
 impl<C: Ledger, A: Ledger> Shared<C, A> {
-    /// The book of a site where nothing was done yet, with a pass for each session, which counts nothing yet.
+    /// The book of a site where nothing was done yet, with a pass for each session, which counts
+    /// nothing yet.
     pub fn make(
         alloc: Global,
         changes: Blank,
@@ -74,8 +75,8 @@ impl<C: Ledger, A: Ledger> Shared<C, A> {
         self.sessions
     }
 
-    /// The book, once no other thread has it. Whatever was done to it meanwhile, all that is always so of a
-    /// book is so of this one.
+    /// The book, once no other thread has it. Whatever was done to it meanwhile, all that is always
+    /// so of a book is so of this one.
     pub fn lock<R: Wait>(&self, rt: &R) -> MutexGuard<'_, Book<C, A>>
         ensures { IsStore (mutex_guard_value result) }
     {
@@ -84,7 +85,8 @@ impl<C: Ledger, A: Ledger> Shared<C, A> {
         book
     }
 
-    /// The book. What a fold left behind is dropped while it is unlocked, so that nobody waits for that.
+    /// The book. What a fold left behind is dropped while it is unlocked, so that nobody waits for
+    /// that.
     fn lock_unfolded<R: Wait>(&self, rt: &R) -> MutexGuard<'_, Book<C, A>> {
         let mut book = self.book.lock(rt);
         let Some(folded) = book.take_folded() else {
@@ -104,7 +106,8 @@ impl<C: Ledger, A: Ledger> Shared<C, A> {
         }
     }
 
-    /// Wakes those who wait for the answer to the request of a number. Whoever has posted it calls it then.
+    /// Wakes those who wait for the answer to the request of a number. Whoever has posted it calls
+    /// it then.
     pub fn wake_for(&self, number: u64) {
         self.place_of(number).notify_all();
     }
@@ -126,8 +129,8 @@ impl<C: Ledger, A: Ledger> Shared<C, A> {
         book
     }
 
-    /// Ends the book. With all passes that were made, the numbers of changes that were made and of answers
-    /// that were handed out, which are what their passes count together.
+    /// Ends the book. With all passes that were made, the numbers of changes that were made and of
+    /// answers that were handed out, which are what their passes count together.
     pub fn settle(self, passes: Vec<Pass<C, A>>) -> Result<Totals, Missing>
         ensures together { IfOk result (λ totals. totals ≡ totals_together passes.items) }
         ensures whole { IfOk result (λ totals. self ≤ length passes.items) }

@@ -9,10 +9,11 @@ use site_core::{
     requests_are_answered_once,
 };
 
-/// The laws of a book over its whole history, that until its base and that since, which is the one from the
-/// opening of its site on, however often it was folded. It is legal, and the totals are those of its
-/// changes and its answers. The calls that were sent to a point are in sending order. No request is lost,
-/// and none is answered twice. And each answer that is collected is the headline's.
+/// The laws of a book over its whole history: that until its base, and that since. It is the
+/// history from the opening of its site on, however often it was folded. It is legal, and the
+/// totals are those of its changes and its answers. The calls that were sent to a point are in
+/// sending order. No request is lost, and none is answered twice. And each answer that is collected
+/// is the headline's.
 pub fn books_have_whole_histories()
     ensures reached { StoresAreReached }
     ensures counts { StoresCountAll }
@@ -25,9 +26,10 @@ pub fn books_have_whole_histories()
     histories_send_calls_in_order();
 }
 
-/// The law of the calls to a point since the base, for a base that is a machine's state, as `Book::base`
-/// says. Where `c` calls of the point were confirmed until then, the base keeps its calls from number `c` on,
-/// and the stored Sends begin with call `c` or the next one: no fold loses a call or sends an older one.
+/// The law of the calls to a point since the base, for a base that is a machine's state, as
+/// `Book::base` says. If `c` calls of the point were confirmed until then, the base keeps its calls
+/// from number `c` on. The stored Sends begin with call `c` or the next one: no fold loses a call
+/// or sends an older one.
 pub fn stored_calls_go_on()
     ensures { StoresSendOn }
 {

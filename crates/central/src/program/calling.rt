@@ -107,7 +107,8 @@ impl<R: Input + Print + Eprint + AllocGlobal + RandomSource + Wait + Drop> Calle
         self.send(name, text)
     }
 
-    /// Sends a text, which is reported by this name where it is no CALL, or would clear everything by mistake.
+    /// Sends a message, which is reported by this name where it is no CALL, or would clear
+    /// everything by mistake.
     fn send<N: Display + Copy + Drop>(&mut self, name: N, text: &str) -> Result<(), ProgramFault> {
         let checked = check_sent(self.rt.alloc(), text)?;
         self.say_of(name, &checked)?;
@@ -122,7 +123,7 @@ impl<R: Input + Print + Eprint + AllocGlobal + RandomSource + Wait + Drop> Calle
         }
     }
 
-    /// Says what is wrong with a text before it is sent.
+    /// Says what is wrong with a message before it is sent.
     fn say_of<N: Display + Copy + Drop>(
         &self,
         name: N,
@@ -142,7 +143,7 @@ impl<R: Input + Print + Eprint + AllocGlobal + RandomSource + Wait + Drop> Calle
         Ok(())
     }
 
-    /// Notes that a text was refused, and says what its answer means.
+    /// Notes that a message was refused, and says what its answer means.
     fn refused<N: Display + Drop>(&mut self, name: N, answer: &str) -> Result<(), ProgramFault> {
         self.all_accepted = false;
         if let Some(sentence) = answer_sentence(self.rt.alloc(), answer)? {
@@ -156,7 +157,7 @@ impl<R: Input + Print + Eprint + AllocGlobal + RandomSource + Wait + Drop> Calle
         let _ = self.rt.eprintln(&words);
     }
 
-    /// Prints what is wrong with a text.
+    /// Prints what is wrong with a message.
     fn report<N: Display + Drop>(&mut self, name: N, fault: &str) -> Result<(), ProgramFault> {
         self.all_accepted = false;
         match println!(self.rt; "! {name} {fault}") {

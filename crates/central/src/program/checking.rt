@@ -18,8 +18,8 @@ use std::alloc::{AllocError, AllocGlobal, Global};
 use std::fmt::Write;
 use std::rt::Files;
 
-/// Says everything that is wrong with the site of a file and with the script of standard input. Returns the exit
-/// status.
+/// Says everything that is wrong with the site of a file and with the script of standard input.
+/// Returns the exit status.
 pub fn check_file<R: Files + Input + Print + AllocGlobal>(
     rt: &R,
     checking: Checking<'_>,
@@ -27,7 +27,7 @@ pub fn check_file<R: Files + Input + Print + AllocGlobal>(
     let alloc = rt.alloc();
     let bytes = read_site_bytes(rt, checking.site)?;
     let mut findings = check_site(alloc, bytes.as_slice())?;
-    // What is wrong with the site file is told even where the script can't be read.
+    // What is wrong with the site file is printed even if the script can't be read.
     let page = site_page(alloc, checking.site, findings.as_slice())?;
     print_page(rt, page.as_str())?;
     let script = read_script(rt)?;
@@ -40,8 +40,8 @@ pub fn check_file<R: Files + Input + Print + AllocGlobal>(
     Ok(exit_status(findings.as_slice()))
 }
 
-/// What is found in a site file, line by line: faults first, which would be hard to find among the remarks on many
-/// points.
+/// What is found in a site file, line by line: faults first, which would be hard to find among the
+/// remarks on many points.
 fn site_page(alloc: Global, name: &str, findings: &[Finding]) -> Result<String, AllocError> {
     let mut page = String::new(alloc);
     for severity in [Severity::Fault, Severity::Warning, Severity::Remark] {
@@ -59,7 +59,8 @@ fn site_of(alloc: Global, bytes: &[u8]) -> Result<Option<Site>, AllocError> {
     }
 }
 
-/// Appends what is found in a script that is played on a site, and what it leaves undone. Returns what is found.
+/// Appends what is found in a script that is played on a site, and what it leaves undone. Returns
+/// what is found.
 fn push_played(
     page: &mut String,
     site: Site,
@@ -87,7 +88,8 @@ fn push_played(
     Ok(findings)
 }
 
-/// Plays a script line by line. Returns what is found in its lines, and what is found in what they print.
+/// Plays a script line by line. Returns what is found in its lines, and what is found in what they
+/// print.
 fn find_in_lines(
     alloc: Global,
     script: &[u8],

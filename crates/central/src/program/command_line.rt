@@ -36,7 +36,7 @@ pub struct Serving<'a> {
     pub listen: &'a str,
     /// How many workers compile schedules.
     pub workers: u64,
-    /// After so many connections the program ends.
+    /// After this many connections the program ends.
     pub sessions: u64,
     /// The file of the journal to write, which isn't there yet.
     pub journal: Option<&'a str>,
@@ -83,7 +83,7 @@ pub struct Explaining<'a> {
     pub connector: u64,
     /// The text of the instant from which on.
     pub start: &'a str,
-    /// For so many seconds.
+    /// For this many seconds.
     pub duration: u64,
     /// So many lines of the script are played, or all.
     pub last_line: Option<u64>,

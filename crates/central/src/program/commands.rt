@@ -105,7 +105,8 @@ fn point<'a>(alloc: Global) -> Result<Command<'a>, AllocError>
         .arg(needed(alloc, "id", "ID", ID_HELP))
 }
 
-/// `explain --site F --point ID --connector C --start INSTANT --duration D [--at N] [--picture FILE] [--json]`.
+/// `explain --site F --point ID --connector C --start INSTANT --duration D
+/// [--at N] [--picture FILE] [--json]`.
 fn explain<'a>(alloc: Global) -> Result<Command<'a>, AllocError>
     ensures { IfOk result (λ command. app_of command ≡ explain_command) }
 {

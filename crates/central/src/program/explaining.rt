@@ -21,8 +21,8 @@ use std::alloc::AllocGlobal;
 use std::rt::Files;
 use sweep_compiler::{Turns, explain};
 
-/// Says why the limits of a connector are what they are after a script. A picture's name, the instants, the site file
-/// and what isn't in it are told before the script is read.
+/// Says why the limits of a connector are what they are after a script. Faults of a picture's name,
+/// the instants and the site file, and what isn't in it, are reported before the script is read.
 pub fn explain_file<R: Files + Input + Print + Eprint + AllocGlobal>(
     rt: &R,
     screen: Screen,
@@ -38,18 +38,18 @@ pub fn explain_file<R: Files + Input + Print + Eprint + AllocGlobal>(
     let Some(book) = played.machine().book_of(explaining.point) else {
         return Err(ProgramFault::NoSuchPoint);
     };
-    // A book has the connectors of its point in the site: so much is known from the check above, though no clause
-    // says it.
+    // A book has the connectors of its point in the site: that is known from the check above,
+    // though no clause says it.
     if ask.connector > book.connectors() {
         return Err(ProgramFault::NoSuchConnector);
     }
     note_refused_lines(rt, &played);
-    let told = Told {
+    let presentation = Presentation {
         explaining: &explaining,
         unit,
         picture,
     };
-    print_explained(rt, screen, told, book, &ask)
+    print_explained(rt, screen, presentation, book, &ask)
 }
 
 /// A picture that is wanted.
@@ -59,9 +59,9 @@ struct Picture<'a> {
     form: PictureForm,
 }
 
-/// How an explanation is told.
+/// How an explanation is presented.
 #[derive(Clone, Copy)]
-struct Told<'a> {
+struct Presentation<'a> {
     explaining: &'a Explaining<'a>,
     unit: Unit,
     picture: Option<Picture<'a>>,
@@ -108,11 +108,11 @@ fn ask_of(explaining: &Explaining<'_>) -> Result<Ask, ProgramFault> {
     }
 }
 
-/// Prints the explanation of an ask, and writes its picture.
+/// Prints the explanation of a request, and writes its picture.
 fn print_explained<R: Files + Print + AllocGlobal>(
     rt: &R,
     screen: Screen,
-    told: Told<'_>,
+    presentation: Presentation<'_>,
     book: &PointBook,
     ask: &Ask,
 ) -> Result<(), ProgramFault>
@@ -123,21 +123,21 @@ fn print_explained<R: Files + Print + AllocGlobal>(
     let view = book.view();
     let rest = not_counted(alloc, &view, ask, explanation.intervals())?;
     let explained = ExplainedAsk {
-        point: told.explaining.point,
-        unit: told.unit,
+        point: presentation.explaining.point,
+        unit: presentation.unit,
         ask: *ask,
         view,
         intervals: explanation.intervals(),
         not_counted: rest.as_slice(),
     };
-    if let Some(picture) = told.picture {
+    if let Some(picture) = presentation.picture {
         let drawn = match picture.form {
             PictureForm::Svg => write_picture(alloc, &explained)?,
             PictureForm::Html => write_page(alloc, &explained)?,
         };
         write_file(rt, picture.path, drawn.as_str())?;
     }
-    let page = if told.explaining.json {
+    let page = if presentation.explaining.json {
         write_json(alloc, &explained)?
     } else {
         write_table(alloc, &explained, screen.columns())?

@@ -21,7 +21,7 @@ pub const STATUSES: &str = "Exit statuses:
   4  the command line isn't one of these";
 
 /// What `replay` does.
-pub const REPLAY_ABOUT: &str = "Plays a script of texts on a site, and prints the answers.";
+pub const REPLAY_ABOUT: &str = "Plays a script of messages on a site, and prints the answers.";
 
 /// What `--site` names.
 pub const SITE_HELP: &str = "The site, a JSON file";
@@ -37,16 +37,16 @@ pub const LISTEN_HELP: &str = "The address to listen at: an IP address or a name
 pub const WORKERS_HELP: &str = "How many workers compile schedules, from 1 to 8";
 
 /// What `--sessions` counts.
-pub const SESSIONS_HELP: &str = "After so many connections it ends, from 1 to 64";
+pub const SESSIONS_HELP: &str = "It ends after this number of connections, from 1 to 64";
 
 /// What `--journal` names.
 pub const JOURNAL_HELP: &str =
-    "Write each text that changes or asks something to FILE, a new one, as a script";
+    "Write each message that changes or requests something to FILE, a new one, as a script";
 
 /// Who connects to `serve`, and a call of it.
 pub const SERVE_NOTES: &str = "F is a site file; 'central replay --help' shows one. It prints
   listening A                    once clients may connect
-  done changes V answers W       in the end: so many changes were made, so many schedules handed out
+  done changes V answers W       in the end: the number of changes made and of schedules handed out
 and each client offers the subprotocol ocpp1.6 at one of these paths:
   /ID                            the charge point ID (/ocpp/ID and the like, too)
   /operator/ID                   an operator of the charge point ID
@@ -54,7 +54,7 @@ A client with neither is closed at once, and counts as a connection. There is no
 password: put it behind a proxy that has both, and let it listen at the loopback address.
 
 FILE is a script that 'central explain', 'show', 'check' and 'replay' read, while it is written too. It holds
-the texts in the order in which they were done. 'serve' doesn't read it: a restart begins empty.
+the messages in the order in which they took effect. 'serve' doesn't read it: a restart begins empty.
 
 Example:
   central serve --site site.json --listen 127.0.0.1:9000 --workers 2 --sessions 64
@@ -84,7 +84,7 @@ pub const ASK_HELP: &str = "Sends GetCompositeSchedule; connector 0 is the whole
 /// What `call` reads, and calls of it.
 pub const CALL_NOTES: &str =
     "It sends what the options say, in this order, or without any the lines of standard input, one
-OCPP-J frame a line. After each it waits for the answer, and prints every text that comes until
+OCPP-J frame a line. After each it waits for the answer, and prints every message that comes until
 then. A line that is no CALL isn't sent: '! LINE NotACall'.
 
 Examples:
@@ -119,10 +119,10 @@ pub const POINT_NOTES: &str =
   stop CONNECTOR                 sends the StopTransaction of the connector's transaction
   pause SECONDS                  waits, and answers what comes meanwhile
 and disconnects behind the last one. It answers the central system's calls from its own profiles and
-transactions. The central system sends the next one behind each text of the point, so that a step or two
+transactions. The central system sends the next one after each message of the point, so that a step or two
 may be needed until all have come. Standard output has a line
-  sent TEXT                      for each text that it sends
-  got TEXT                       for each that comes
+  sent FRAME                     for each message that it sends
+  got FRAME                      for each that comes
   ! LINE NAME                    for each line that says none of this (BadLine, BadText), or a step
                                  that makes no call (NoCall): a stop without a transaction, say
 
@@ -149,7 +149,7 @@ pub const START_HELP: &str = "From when on, such as 2025-01-03T12:00:00Z";
 pub const DURATION_HELP: &str = "For how many seconds, from 1 to 604800";
 
 /// What `--at` counts.
-pub const AT_HELP: &str = "After so many lines of the script, and not after all";
+pub const AT_HELP: &str = "After this number of lines of the script, not after all";
 
 /// What `--picture` names.
 pub const PICTURE_HELP: &str = "Write a picture too: FILE.svg, or a page with it: FILE.html";
@@ -168,7 +168,7 @@ Example:
   central explain --site site.json --point CP1 --connector 1 --start 2025-01-03T12:00:00Z --duration 86400 < script
 
 The exit statuses are those of 'central --help'; 4 also where the site has no such point, the point no such
-connector, or the text of INSTANT isn't one.";
+connector, or INSTANT isn't one.";
 
 /// What `check` does.
 pub const CHECK_ABOUT: &str = "Says everything that is wrong with a site file and a script.";
@@ -204,12 +204,12 @@ The exit statuses are those of 'central --help'.";
 pub const REPLAY_EXAMPLE: &str = "F is a JSON file that describes the site, for example
   {\"unit\":\"A\",\"points\":[{\"id\":\"CP1\",\"ceiling\":63.0,\"connectors\":[32.0,32.0]}]}
 
-The script is standard input, one text a line:
-  INSTANT operator ID FRAME    an operator's text for the point ID
-  INSTANT point ID FRAME       a text of the point ID
+The script is standard input, one message a line:
+  INSTANT operator ID FRAME    an operator's message for the point ID
+  INSTANT point ID FRAME       a message of the point ID
   INSTANT hold ID FRAME        an operator's request for a schedule, whose answer is held
   INSTANT release N            the answer to the held request N
-INSTANT is the moment of the text, FRAME an OCPP-J frame. Standard output has a line
+INSTANT is the moment of the message, FRAME an OCPP-J frame. Standard output has a line
   > FRAME                      for each answer
   * ID FRAME                   for each call that is sent to the point ID
   held N                       for each request that is held

@@ -11,8 +11,9 @@ use std::rt::Files;
 use std::sync::{Mutex, Wait};
 use std::{fs, mem};
 
-/// A file to which sessions write the texts that they serve, each as a line of a script (`replay`), or nothing where no
-/// file is named. Once it can't be written, or memory runs out for a line, nothing is written any more.
+/// A file to which sessions write the messages that they serve, each as a line of a script
+/// (`replay`), or nothing where no file is named. Once it can't be written, or memory runs out for
+/// a line, nothing is written any more.
 #[derive(Drop)]
 pub struct JournalFile<'a, R> {
     rt: &'a R,
@@ -59,7 +60,8 @@ pub fn refuse_existing<R: Files>(rt: &R, path: Option<&str>) -> Result<(), Progr
     }
 }
 
-/// Removes a journal in which nothing was written, so that the same command line may be tried again.
+/// Removes a journal in which nothing was written, so that the same command line may be tried
+/// again.
 pub fn remove_if_empty<R: Files>(rt: &R, path: Option<&str>) {
     let Some(path) = path else {
         return;
@@ -96,7 +98,8 @@ impl<R: Wait + Eprint> Journal for JournalFile<'_, R> {
         }
     }
 
-    /// Whoever writes has the file from before it takes the lines until they are written, so that these stay in order.
+    /// Whoever writes has the file from before it takes the lines until they are written, so that
+    /// these stay in order.
     fn write_out(&self) {
         let mut file = self.file.lock(self.rt);
         let Some(open) = &mut *file else {
@@ -120,11 +123,12 @@ impl<R: Wait + Eprint> Journal for JournalFile<'_, R> {
     }
 }
 
-/// A longer text has no room on a line of a script.
+/// A longer message has no room on a line of a script.
 const LONGEST_FRAME: usize = 1_048_576 - 128;
 
-/// A text as a line of a script. A line break in it is written as a tab, which is to JSON what a line break is: a
-/// blank, and nothing that a string may have. A text that is too long for a line is written as `[]`.
+/// A message as a line of a script. A line break in it is written as a tab, which is to JSON what a
+/// line break is: a blank, and nothing that a string may have. A message that is too long for a
+/// line is written as `[]`.
 fn line_of(alloc: Global, sent: &SentText<'_>) -> Result<String, AllocError> {
     let mut line = String::new(alloc);
     push_instant(&mut line, sent.moment())?;
@@ -146,7 +150,7 @@ fn line_of(alloc: Global, sent: &SentText<'_>) -> Result<String, AllocError> {
     Ok(line)
 }
 
-/// Who sends the text of a line.
+/// Who sends the message of a line.
 fn word_of(sender: Side) -> &'static str {
     match sender {
         Side::Operator => " operator ",

@@ -27,8 +27,8 @@ impl Screen {
     }
 }
 
-/// Says on standard error how many lines of a script have a fault or were refused, if any: what is printed of the
-/// script is without them. Where that can't be written nothing else is lost.
+/// Says on standard error how many lines of a script have a fault or were refused, if any: what is
+/// printed of the script is without them. Where that can't be written nothing else is lost.
 pub fn note_refused_lines<R: Eprint>(rt: &R, playing: &Playing<'_>) {
     let count = playing.refused_lines();
     if count > 0 {

@@ -7,7 +7,7 @@ use std::fs;
 use std::io::ErrorKind;
 use std::rt::Files;
 
-/// The most bytes of a payload's file: no text may have more.
+/// The most bytes of a payload's file: no message may have more.
 const MAX_PAYLOAD_BYTES: usize = 1_048_576;
 
 /// Reads the text of a file.

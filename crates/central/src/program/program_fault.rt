@@ -12,7 +12,7 @@ use std::alloc::AllocError;
 /// Why the program stops, in the words of its one line on standard error.
 #[derive(Debug, Drop, thiserror::Error)]
 pub enum ProgramFault {
-    /// A word of the command line isn't text.
+    /// A word of the command line isn't UTF-8.
     #[error("central: command line: not UTF-8")]
     Words,
     /// The site file says no site.
@@ -21,7 +21,7 @@ pub enum ProgramFault {
     /// The site file can't be read.
     #[error("central: device: read")]
     SiteFile,
-    /// Standard output can't be written, beside what a replay writes.
+    /// Standard output can't be written, by another command than a replay.
     #[error("central: device: write")]
     Write,
     /// The replay stopped.
@@ -39,7 +39,7 @@ pub enum ProgramFault {
     /// A client stopped.
     #[error("central: {0}")]
     Client(ClientFault),
-    /// The file of a payload can't be read, is no text, or is longer than a text may be.
+    /// The file of a payload can't be read, isn't UTF-8, or is longer than a message may be.
     #[error("central: device: read")]
     File,
     /// The site has no point of the identity that the command line names.

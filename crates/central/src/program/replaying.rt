@@ -20,7 +20,8 @@ pub fn replay_file<R: Files + Input + Print + AllocGlobal>(
     match replay(rt.alloc(), &mut rt.reader(), &mut writer, site) {
         Ok(summary) => Ok(summary),
         Err(fault) => {
-            // What was answered before the fault is worth having; where it can't be written, the fault stands.
+            // What was answered before the fault is worth having; where it can't be written, the
+            // fault stands.
             let _ = writer.flush();
             Err(ProgramFault::Replay(fault))
         }

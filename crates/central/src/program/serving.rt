@@ -18,8 +18,8 @@ use std::sync::Wait;
 use std::thread::Threads;
 use version_store::Totals;
 
-/// Serves the site of a file, and prints where it listens, and in the end how many changes were made and answers
-/// handed out.
+/// Serves the site of a file, and prints where it listens, and in the end how many changes were
+/// made and answers handed out.
 pub fn serve_file<
     R: Files<File = File>
         + Print

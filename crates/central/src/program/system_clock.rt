@@ -4,7 +4,8 @@ use ocpp_scalars::{Instant, LAST_SECOND, Moments};
 use std::rt::Clock;
 use std::time::{SystemTime, UNIX_EPOCH};
 
-/// The system's clock, in whole seconds. Before 1970 it tells the first instant, and past the last one that.
+/// The system's clock, in whole seconds. Before 1970 it tells the first instant, and past the last
+/// one that.
 #[derive(Clone, Copy, Debug)]
 pub struct SystemClock<'a, R> {
     pub rt: &'a R,

@@ -1,4 +1,4 @@
--- What a text asks for is no compile. Of private clauses.
+-- What a message asks for is no compile. Of private clauses.
 use Rattle.texts.specs.declared.asked.Asked.{Asked}
 use Rattle.texts.specs.declared.asked.Asked.TheVariants as asked
 use Rattle.replay.specs.ByCases.MachineSteps.{IsAsked}

@@ -23,7 +23,7 @@ word_at text =
     then Some (before_first is_space text, after_first is_space text)
     else None
 
--- the line with a text whose second word this is
+-- the line with a message whose second word this is
 abbrev pub word_named : List ℕ → Option LineWord
 word_named word =
     if bytes_eq word (codes "operator") then Some Operator

@@ -19,7 +19,7 @@ abbrev pub ComesOf : MachineState → Step → Result Reply Refusal → MachineS
 ComesOf old step (Ok reply) new = Steps old step reply new
 ComesOf old step (Err refusal) new = (first_refusal old step ≡ Some refusal) × (new ≡ old)
 
--- a step that a text asks for
+-- a step that a message asks for
 abbrev pub IsAsked : Step → Type 0
 IsAsked (steps.Compile number) = ⊥
 IsAsked step = Unit {0}
@@ -35,8 +35,8 @@ pub record LeadsTo
   pub after : step.after ≡ new
   pub change : change_of step.outcome ≡ change_of outcome
 
--- The answer to a Take makes no difference to what is known when it was handed out: there is an
--- ask, also of its first second, and no other request is kept.
+-- The answer to a Take makes no difference to what is known when it was handed out. There is an
+-- `Ask`, also of its first second, and no other request is kept.
 pub record MayBeSkimmed (old : MachineState) (take : Take) : Type 0 where
   pub alone : old.requests ≡ []
   pub ask : Ask

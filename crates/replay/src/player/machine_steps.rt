@@ -16,7 +16,7 @@ use std::alloc::{AllocError, Global};
 /// What comes of a step: its reply, or why it is refused.
 pub type StepOutcome = Result<Reply, Refusal>;
 
-/// Makes a step that a text asks for.
+/// Makes a step that a message asks for.
 pub fn step_exactly(machine: &mut Machine, step: Step) -> Result<StepOutcome, AllocError>
     requires { IsAsked step }
     ensures { IfOk result (λ outcome. stepped_exactly machine.old step
@@ -25,7 +25,7 @@ pub fn step_exactly(machine: &mut Machine, step: Step) -> Result<StepOutcome, Al
     make_step(machine, step)
 }
 
-/// Makes a step that a text asks for. A request that it takes is compiled and answered at once.
+/// Makes a step that a message asks for. A request that it takes is compiled and answered at once.
 pub fn step_at_once(machine: &mut Machine, step: Step) -> Result<StepOutcome, AllocError>
     requires { IsAsked step }
     ensures { IfOk result (λ outcome. stepped_at_once machine.old step
@@ -46,8 +46,8 @@ pub fn skim_take(
     ensures { IfOk result (λ outcome.
         LeadsTo (stepped_at_once machine.old (steps.Take take)) outcome machine.new) }
 {
-    // The request is gone again at once, so its answer makes no difference to the state: that to an ask of one
-    // second does as well.
+    // The request is gone again at once, so its answer makes no difference to the state: the answer
+    // to a request of one second does as well.
     if makes_no_difference(machine, &take, wanted) {
         let outcome = step_at_once(machine, Step::Take(first_second(take)))?;
         return Ok(outcome);
@@ -56,7 +56,8 @@ pub fn skim_take(
     Ok(outcome)
 }
 
-/// Whether no other request is kept, and nothing of the answer to an ask is wanted: then it makes no difference.
+/// Whether no other request is kept, and nothing of the answer to a request is wanted: then it
+/// makes no difference.
 fn makes_no_difference(machine: &Machine, take: &Take, wanted: Wanted) -> bool
     ensures { IsTrue result → MayBeSkimmed machine.now take.now }
 {
@@ -72,8 +73,8 @@ fn makes_no_difference(machine: &Machine, take: &Take, wanted: Wanted) -> bool
     is_unwanted(machine, take.point.as_str(), &ask, wanted)
 }
 
-/// Whether nothing of the answer to an ask is wanted: whether it is too long is known without it where it surely has no
-/// more periods than an answer may have.
+/// Whether nothing of the answer to a request is wanted. Whether it is too long is known without it
+/// if it surely has no more periods than an answer may have.
 fn is_unwanted(machine: &Machine, point: &str, ask: &Ask, wanted: Wanted) -> bool {
     match (wanted, machine.book_of(point)) {
         (Wanted::State, _) => true,
@@ -84,7 +85,7 @@ fn is_unwanted(machine: &Machine, point: &str, ask: &Ask, wanted: Wanted) -> boo
     }
 }
 
-/// The Take of the first second of what one asks.
+/// The Take of the first second of a Take's request.
 fn first_second(take: Take) -> Take
     ensures { result ≡ record take { duration = 1 } }
 {
@@ -160,7 +161,8 @@ fn call_sent(outcome: StepOutcome) -> Option<Call>
     }
 }
 
-/// Confirms the call of a number to a point over its link. Where that call isn't in flight, nothing changes.
+/// Confirms the call of a number to a point over its link. Where that call isn't in flight, nothing
+/// changes.
 pub fn confirm_call(
     machine: &mut Machine,
     point: PointId,

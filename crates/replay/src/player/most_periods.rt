@@ -1,11 +1,12 @@
-//! How many periods the schedule of an ask has at the most.
+//! How many periods the schedule of a request has at the most.
 
 use meaning::{Ask, View};
 use ocpp_scalars::Instant;
 use profile::{Kind, Profile, Purpose, Row, Schedule};
 
-/// How many periods the schedule of an ask has at the most. After its first second a limit changes only where a
-/// profile has a place (chapter 7, ChargingProfile): where its validity begins or ends, and where its schedule turns.
+/// How many periods the schedule of a request has at the most. After its first second a limit
+/// changes only where a profile has a place (chapter 7, ChargingProfile): where its validity begins
+/// or ends, and where its schedule turns.
 pub fn most_periods(view: &View<'_>, ask: &Ask) -> u64 {
     let mut most: u64 = 1;
     for row in view.rows {
@@ -14,7 +15,7 @@ pub fn most_periods(view: &View<'_>, ask: &Ask) -> u64 {
     most
 }
 
-/// How many places a row has at the most in an ask, for all connectors that are looked at.
+/// How many places a row has at the most in a request, for all connectors that are looked at.
 fn places_of_row(view: &View<'_>, ask: &Ask, row: &Row) -> u64 {
     if row.profile.purpose == Purpose::ChargePointMaxProfile {
         return places_within(&row.profile, row.base(None, ask.start), ask);
@@ -33,7 +34,7 @@ fn places_of_row(view: &View<'_>, ask: &Ask, row: &Row) -> u64 {
     most
 }
 
-/// How many places a profile has at the most behind the first second of an ask.
+/// How many places a profile has at the most behind the first second of a request.
 fn places_within(profile: &Profile, base: Instant, ask: &Ask) -> u64 {
     let schedule = &profile.schedule;
     let times = match profile.kind {
@@ -47,7 +48,8 @@ fn places_within(profile: &Profile, base: Instant, ask: &Ask) -> u64 {
     turns.saturating_sub(first).saturating_add(ends)
 }
 
-/// At how many offsets a schedule turns at the most: at its beginning, where a period starts, and at its end.
+/// At how many offsets a schedule turns at the most: at its beginning, where a period starts, and
+/// at its end.
 fn turn_count(schedule: &Schedule) -> u64 {
     let periods = schedule.periods.as_slice();
     let begins_before = periods.first().is_none_or(|first| first.start > 0);

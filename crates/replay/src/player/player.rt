@@ -1,5 +1,5 @@
-//! The player of a script: the central system's machine, the asks that are held, and the memory that
-//! texts are read into.
+//! The player of a script: the central system's machine, the requests that are held, and the memory
+//! that messages are read into.
 
 ghost use Rattle.std.specs.Prelude.{◌≡◌, ◌∷◌, [], ◌++◌, None, IfOk, OnOk};
 ghost use Rattle.site_core.specs.declared.step.Step.TheVariants as steps;
@@ -29,7 +29,7 @@ pub struct Player {
     machine: Machine,
     /// In the order of their lines.
     held: Vec<Held>,
-    /// What texts are read into.
+    /// What messages are read into.
     memory: ReadingMemory,
 }
 
@@ -86,7 +86,7 @@ impl Player {
         self.held.as_slice()
     }
 
-    /// What a text asks for.
+    /// What a message asks for.
     pub fn asked_of(&mut self, text: &SentText<'_>) -> Result<Asked, AllocError>
         ensures asked { IfOk result (λ asked. asked ≡ asked_of text.now) }
         ensures same { self.new ≡ self.old }
@@ -97,7 +97,8 @@ impl Player {
         }
     }
 
-    /// What a held text asks for, or `None` where the text is no CALL of GetCompositeSchedule.
+    /// What a held message asks for, or `None` where the message is no CALL of
+    /// GetCompositeSchedule.
     pub fn hold_of(&mut self, text: &SentText<'_>) -> Result<Option<Asked>, AllocError>
         ensures asked { IfOk result (λ asked. asked ≡ hold_of text.now) }
         ensures same { self.new ≡ self.old }
@@ -108,7 +109,7 @@ impl Player {
         }
     }
 
-    /// Makes a step that a text asks for.
+    /// Makes a step that a message asks for.
     pub fn step(&mut self, step: Step) -> Result<StepOutcome, AllocError>
         requires { IsAsked step }
         ensures { IfOk result
@@ -117,7 +118,7 @@ impl Player {
         step_exactly(&mut self.machine, step)
     }
 
-    /// Makes a step that a text asks for. A request that it takes is answered at once.
+    /// Makes a step that a message asks for. A request that it takes is answered at once.
     pub fn step_at_once(&mut self, step: Step) -> Result<StepOutcome, AllocError>
         requires { IsAsked step }
         ensures { IfOk result
@@ -126,8 +127,8 @@ impl Player {
         step_at_once(&mut self.machine, step)
     }
 
-    /// Makes a Take and answers its request at once, for what is wanted of it alone: where it can do without, no
-    /// schedule is made but of the first second.
+    /// Makes a Take and answers its request at once, for what is wanted of it alone. If it can do
+    /// without, no schedule is made but of the first second.
     pub fn skim_take(&mut self, take: Take, wanted: Wanted) -> Result<StepOutcome, AllocError>
         ensures { IfOk result (λ outcome. Skims self.old
             (stepped_at_once self.old.machine (steps.Take take)) outcome self.new) }
@@ -151,7 +152,8 @@ impl Player {
         attach_once(self.alloc, &mut self.machine, point)
     }
 
-    /// Sends the first call that waits for a point over its link. Returns that call, if one goes out.
+    /// Sends the first call that waits for a point over its link. Returns that call, if one goes
+    /// out.
     pub fn send_first(&mut self, point: &str) -> Result<Option<Call>, AllocError>
         ensures { IfOk result
             (λ call. Sends self.old (sent_first self.old.machine point.now) call self.new) }

@@ -1,9 +1,10 @@
-//! What is wanted of an ask that is skimmed.
+//! What is wanted of a request that is skimmed.
 
-/// What has to be known of an ask that is answered at once.
+/// What has to be known of a request that is answered at once.
 #[derive(Clone, Copy, Debug, PartialEq, Eq)]
 pub enum Wanted {
-    /// Whether it is refused, also where its schedule would be too long: that is made where it may be.
+    /// Whether it is refused, also where its schedule would be too long: that is made where it may
+    /// be.
     Refusal,
     /// What it leads to alone. No schedule makes a difference to that, so none is made.
     State,

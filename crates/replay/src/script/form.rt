@@ -5,14 +5,14 @@ ghost use Rattle.replay.specs.ByCases.Form.{word_at, word_named, words_view, for
 
 use texts::number_of;
 
-/// Which line that brings a text it is, by its second word.
+/// Which line that brings a message it is, by its second word.
 #[derive(Clone, Copy, Debug, PartialEq, Eq)]
 pub enum LineWord {
-    /// `operator`: an operator's text for a point.
+    /// `operator`: an operator's message for a point.
     Operator,
-    /// `point`: a point's own text.
+    /// `point`: a point's own message.
     Point,
-    /// `hold`: an operator's ask whose answer is held.
+    /// `hold`: an operator's request whose answer is held.
     Hold,
 }
 
@@ -54,7 +54,7 @@ pub fn split_words(text: &str) -> Option<Words<'_>>
     })
 }
 
-/// The line with a text whose second word this is.
+/// The line with a message whose second word this is.
 fn word_named(word: &str) -> Option<LineWord>
     ensures { result ≡ word_named word.now }
 {

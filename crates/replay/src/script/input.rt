@@ -58,7 +58,8 @@ fn read_onto<R: Read>(
     Ok(count)
 }
 
-/// All bytes that a reader has, `limit` at the most. One byte more is asked for, to see whether there is one.
+/// All bytes that a reader has, `limit` at the most. One byte more is asked for, to see whether
+/// there is one.
 pub fn read_all<R: Read>(alloc: Global, reader: &mut R, limit: usize) -> Result<Vec<u8>, InputFault>
     requires { limit < 2 ^ 32 }
     ensures whole { IfOk result

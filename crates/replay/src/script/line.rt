@@ -62,9 +62,10 @@ impl fmt::Display for LineFault {
 /// What a line of a script says, by its form.
 #[derive(Drop)]
 pub enum ScriptLine<'a> {
-    /// `INSTANT operator ID FRAME` or `INSTANT point ID FRAME`: a text that comes to the central system.
+    /// `INSTANT operator ID FRAME` or `INSTANT point ID FRAME`: a message that comes to the central
+    /// system.
     Text(SentText<'a>),
-    /// `INSTANT hold ID FRAME`: an operator's text, an ask that is answered later.
+    /// `INSTANT hold ID FRAME`: an operator's request for a schedule that is answered later.
     Hold(SentText<'a>),
     /// `INSTANT release N`: the held request of this number is answered.
     Release(u64),
@@ -132,7 +133,7 @@ fn read_words<'a>(
     }
 }
 
-/// Whether a point's own text names a point that the site lacks.
+/// Whether a point's own message names a point that the site lacks.
 fn is_stranger(site: &Site, word: LineWord, point: &str) -> bool
     ensures { result ≡ is_stranger site.now word point.now }
 {
@@ -142,7 +143,7 @@ fn is_stranger(site: &Site, word: LineWord, point: &str) -> bool
     }
 }
 
-/// The line with a text whose second word this is.
+/// The line with a message whose second word this is.
 fn text_line<'a>(moment: Instant, word: LineWord, point: &'a str, frame: &'a str) -> ScriptLine<'a>
     ensures { result ≡ text_of moment word point.entry.now frame.entry.now }
 {

@@ -10,10 +10,10 @@ use std::io::{ErrorKind, Write};
 #[derive(Clone, Copy, Debug, PartialEq, Eq)]
 pub struct WriteFault;
 
-/// Writes a whole text. Where a write fails, a prefix of it was written, and not the whole, so an empty
-/// text doesn't fail.
-// `Write::write_all` says nothing of what was written before it failed, so the writes stand here. They are
-// counted, since a writer may be interrupted for ever.
+/// Writes a whole text. Where a write fails, a prefix of it was written, and not the whole, so an
+/// empty text doesn't fail.
+// `Write::write_all` says nothing of what was written before it failed, so the writes stand here.
+// They are counted, since a writer may be interrupted for ever.
 pub fn write_text<W: Write>(writer: &mut W, text: &str) -> Result<(), WriteFault>
     ensures whole { OnOk result (Appends (W.contents writer.old) (W.contents writer.new) text.now) }
     ensures prefix { AppendsPrefix (W.contents writer.old) (W.contents writer.new) text.now }

@@ -162,7 +162,7 @@ fn fault_outcome(alloc: Global, number: u64, fault: LineFault) -> Result<LineOut
     })
 }
 
-/// What comes of a text: its answer, and the call that goes out to its sender.
+/// What comes of a message: its answer, and the call that goes out to its sender.
 pub fn text_outcome(player: &mut Player, text: &SentText<'_>) -> Result<LineOutcome, AllocError>
     ensures { IfOk result (λ outcome. IsHandled
         (text_handled player.old text.now.sender text.now) outcome player.new) }
@@ -173,7 +173,8 @@ pub fn text_outcome(player: &mut Player, text: &SentText<'_>) -> Result<LineOutc
     }
 }
 
-/// What comes of a point's text: its answer, and the call that goes out to the point, which has a link then.
+/// What comes of a point's message: its answer, and the call that goes out to the point, which has
+/// a link then.
 fn point_outcome(player: &mut Player, text: &SentText<'_>) -> Result<LineOutcome, AllocError>
     ensures { IfOk result
         (λ outcome. IsHandled (point_handled player.old text.now) outcome player.new) }
@@ -201,7 +202,7 @@ fn push_call_line(
     Ok(())
 }
 
-/// What comes of a text without a call that goes out: its answer, if it has one.
+/// What comes of a message without a call that goes out: its answer, if it has one.
 fn answer_outcome(player: &mut Player, text: &SentText<'_>) -> Result<LineOutcome, AllocError>
     ensures { IfOk result (λ outcome. IsHandled
         (asked_handled player.old (asked_of text.now)) outcome player.new) }
@@ -210,7 +211,7 @@ fn answer_outcome(player: &mut Player, text: &SentText<'_>) -> Result<LineOutcom
     asked_outcome(player, asked)
 }
 
-/// What comes of what a text asks for.
+/// What comes of what a message asks for.
 pub fn asked_outcome(player: &mut Player, asked: Asked) -> Result<LineOutcome, AllocError>
     requires { AsksNoCompile asked }
     ensures { IfOk result
@@ -234,7 +235,7 @@ pub fn asked_outcome(player: &mut Player, asked: Asked) -> Result<LineOutcome, A
     }
 }
 
-/// What comes of a held ask: the number of its request, or the answer where none is kept.
+/// What comes of a held request: the number of its request, or the answer where none is kept.
 fn hold_outcome(player: &mut Player, asked: Asked) -> Result<LineOutcome, AllocError>
     requires { AsksNoCompile asked }
     ensures { IfOk result

@@ -1,4 +1,4 @@
-//! A script that is played line after line without a writer, and what stands after so many of its lines.
+//! A script that is played line after line without a writer, and the state after N of its lines.
 
 ghost use Rattle.std.specs.Prelude.{◌≡◌, ◌+◌, ◌<◌, ◌≤◌, if◌then◌else◌, IfOk, length};
 ghost use Rattle.replay.specs.Limits.{max_script_bytes};
@@ -16,7 +16,8 @@ use site_rules::Site;
 use std::alloc::{AllocError, Global};
 use std::marker::Model;
 
-/// A script on a site, between two of its lines: what the lines so far led to, and those that are left.
+/// A script on a site, between two of its lines: what the lines so far led to, and those that are
+/// left.
 #[derive(Drop)]
 pub struct Playing<'a> {
     player: Player,
@@ -25,7 +26,8 @@ pub struct Playing<'a> {
     /// The number of the next line.
     number: u64,
     script_faults: u64,
-    /// The lines that have a fault, or a text that was refused; an ask whose schedule is too long isn't counted.
+    /// The lines that have a fault, or a message that was refused; a request whose schedule is too
+    /// long isn't counted.
     refused_lines: u64,
 }
 
@@ -79,8 +81,9 @@ impl<'a> Playing<'a> {
         Ok(Some(played))
     }
 
-    /// Plays the next line, if one is left, but for schedules: none is told of what it printed, and none is made where
-    /// that an ask isn't refused is known without. Out of memory the script can't go on.
+    /// Plays the next line, if one is left, without schedules. What it printed has none. None is
+    /// made if it is known without it that a request isn't refused. Out of memory the script can't
+    /// go on.
     pub fn skim_next(&mut self) -> Result<Option<PlayedLine<'a>>, AllocError>
         ensures { IfOk result (λ line. IsNext self.old line self.new) }
     {
@@ -93,9 +96,9 @@ impl<'a> Playing<'a> {
         Ok(Some(played))
     }
 
-    /// Plays the next line, if one is left, for what it leads to: no schedule is made for an ask that is answered at
-    /// once while no other is held, and none is told of what the line printed, nor that one is too long. Out of memory
-    /// the script can't go on.
+    /// Plays the next line, if one is left, for what it leads to. No schedule is made for a request
+    /// that is answered at once while no other is held. What the line printed has no schedule, nor
+    /// that one is too long. Out of memory the script can't go on.
     pub fn follow_next(&mut self) -> Result<Option<PlayedLine<'a>>, AllocError>
         ensures { IfOk result (λ line. IsNext self.old line self.new) }
     {
@@ -155,8 +158,9 @@ impl<'a> Playing<'a> {
         self.script_faults
     }
 
-    /// How many of the lines so far have a fault or a text that was refused, by what they printed. An ask whose
-    /// schedule is too long isn't among them, since that isn't known where none was made. No clause says this number.
+    /// How many of the lines so far have a fault or a message that was refused, by what they
+    /// printed. A request whose schedule is too long isn't among them, since that isn't known where
+    /// none was made. No clause says this number.
     pub fn refused_lines(&self) -> u64 {
         self.refused_lines
     }
@@ -169,9 +173,10 @@ impl<'a> Playing<'a> {
     }
 }
 
-/// Plays a script on a site up to the line of a number, or the whole of it, and prints nothing: so no schedule is made
-/// for an ask that is answered at once while no other is held. What stands then is what the definition of a script's
-/// play says of these lines. A script that is shorter is played whole.
+/// Plays a script on a site up to the line of a number, or the whole of it, and prints nothing. So
+/// no schedule is made for a request that is answered at once while no other is held. What stands
+/// then is what the definition of a script's play says of these lines. A script that is shorter is
+/// played whole.
 pub fn play_quietly(
     alloc: Global,
     script: &[u8],

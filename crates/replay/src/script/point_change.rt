@@ -6,8 +6,8 @@ ghost use Rattle.replay.specs.PointChange.{change_by, change_of};
 use crate::player::machine_steps::StepOutcome;
 use site_core::Reply;
 
-/// What a line of a script changes at its point, beside its link and the calls that go out, by the reply to the
-/// step that its text asks for.
+/// What a line of a script changes at its point, besides its link and the calls that go out, by the
+/// reply to the step that its message asks for.
 #[derive(Clone, Copy, Debug, PartialEq, Eq)]
 pub enum PointChange {
     /// Nothing, or a request for a schedule is kept or answered.

@@ -25,8 +25,9 @@ pub enum PrintedLine {
 }
 
 impl PrintedLine {
-    /// Whether it names a fault of its line, or is an answer that refuses a text. That a schedule is too long is none: it
-    /// changes nothing, as the schedule wouldn't, and isn't known where none is made.
+    /// Whether it names a fault of its line, or is an answer that refuses a message. That a
+    /// schedule is too long is none: it changes nothing, as the schedule wouldn't, and isn't known
+    /// where none is made.
     pub fn is_refusal(&self) -> bool {
         match self {
             PrintedLine::Fault { .. } => true,

@@ -17,8 +17,9 @@ use site_core::Step;
 use std::alloc::AllocError;
 use texts::{Asked, SentText};
 
-/// Plays the line of this number, but for schedules: none is told of what it printed, and none is made for an
-/// ask that is answered at once, where what is wanted is known without. After an error the script can't go on.
+/// Plays the line of this number without schedules. What it printed has none. None is made for a
+/// request that is answered at once, if what is wanted is known without it. After an error the
+/// script can't go on.
 pub fn skim_line<'a>(
     player: &mut Player,
     number: u64,
@@ -57,7 +58,7 @@ fn has_schedule(line: &PrintedLine) -> bool {
     )
 }
 
-/// What comes of a text, but for schedules. Only an operator asks for one.
+/// What comes of a message, but for schedules. Only an operator asks for one.
 fn skim_text(
     player: &mut Player,
     text: &SentText<'_>,
@@ -75,7 +76,7 @@ fn skim_text(
     }
 }
 
-/// What comes of what a text asks for, but for schedules.
+/// What comes of what a message asks for, but for schedules.
 fn skim_asked(player: &mut Player, asked: Asked, wanted: Wanted) -> Result<LineOutcome, AllocError>
     requires { AsksNoCompile asked }
     ensures { IfOk result (λ outcome. LeadsTo

@@ -18,7 +18,7 @@ use texts::SentText;
 use tungstenite::{MaskKeys, WebSocket};
 use version_store::Pass;
 
-/// Gives a point's session its link, before its first text. Without one it ends.
+/// Gives a point's session its link, before its first message. Without one it ends.
 pub(crate) fn attach<C: Ledger, A: Ledger, R: Wait, M: Moments, J: Journal>(
     context: &Context<'_, C, A, R, M, J>,
     core: &mut SessionCore,
@@ -45,8 +45,8 @@ pub(crate) fn attach<C: Ledger, A: Ledger, R: Wait, M: Moments, J: Journal>(
     }
 }
 
-/// Sends the call that waits for a point over its link, if one does and none is in flight. The text that it follows is
-/// noted, where it isn't yet.
+/// Sends the call that waits for a point over its link, if one does and none is in flight. The
+/// message that it follows is noted, where it isn't yet.
 pub(crate) fn send_call<
     S: Read + Write + Drop,
     K: MaskKeys + Drop,
@@ -107,8 +107,8 @@ fn text_of_call(alloc: Global, call: &Call) -> Result<String, AllocError> {
     Ok(text)
 }
 
-/// The link of a point's session is lost: a call that was in flight over it waits again. What the book refuses
-/// is dropped: the point has a later link.
+/// The link of a point's session is lost: a call that was in flight over it waits again. What the
+/// book refuses is dropped: the point has a later link.
 pub(crate) fn lose<C: Ledger, A: Ledger, R: Wait, M: Moments, J: Journal>(
     context: &Context<'_, C, A, R, M, J>,
     core: SessionCore,

@@ -7,10 +7,10 @@ use tungstenite::Error;
 pub enum Ended {
     /// The socket was closed, by a close frame and its answer.
     Closed,
-    /// The socket failed or ended without a close frame, its peer broke the protocol, no clock could be read, or the
-    /// answer of another request came for one of the session.
+    /// The socket failed or ended without a close frame, its peer broke the protocol, or no clock
+    /// could be read. Or the answer to another request came for one of the session.
     Broken,
-    /// Memory ran out where nobody could be told.
+    /// Memory ran out where no answer could say so.
     OutOfMemory,
 }
 

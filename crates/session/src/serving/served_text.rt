@@ -1,4 +1,4 @@
-//! One text of a session: its step, its answer, and the call that follows a point's text.
+//! One message of a session: its step, its answer, and the call that follows a point's message.
 
 ghost use Rattle.std.specs.Prelude.{◌≡◌, ◌↔◌, IsTrue, IfOk, IfSome, option_map, string_bytes};
 ghost use Rattle.session.specs.Perform.{IsOfText};
@@ -25,7 +25,7 @@ use texts::SentText;
 use tungstenite::{MaskKeys, WebSocket};
 use version_store::{Job, Pass};
 
-/// Serves the next message, if it is a text. An error ends the session.
+/// Serves the next WebSocket message, if it is a text message. An error ends the session.
 pub(crate) fn serve_text<
     S: Read + Write + Drop,
     K: MaskKeys + Drop,
@@ -57,18 +57,18 @@ pub(crate) fn serve_text<
     send_call(context, socket, core, &sent, is_noted)
 }
 
-/// What came of a text.
+/// What came of a message.
 #[derive(Drop)]
 pub struct Served {
-    /// The text that answers it, if one does.
+    /// The message that answers it, if one does.
     pub answer: Option<String>,
     /// Whether it had a step, and so is noted.
     pub is_noted: bool,
 }
 
-/// Makes the step of a text, if it has one, and gives the text that answers it. A request for a schedule is answered
-/// by what is right for what its point had, and for what was asked, when this very request was taken; another's answer
-/// is never handed on, but ends the session.
+/// Makes the step of a message, if it has one, and gives the message that answers it. A request for
+/// a schedule is answered by what is right for what its point had when this very request was taken,
+/// and for what was asked. The answer to another request is never handed on: it ends the session.
 pub fn serve_sent_text<C: Ledger, A: Ledger, R: Wait, M: Moments, J: Journal>(
     context: &Context<'_, C, A, R, M, J>,
     core: &SessionCore,
@@ -94,7 +94,7 @@ pub fn serve_sent_text<C: Ledger, A: Ledger, R: Wait, M: Moments, J: Journal>(
     }
 }
 
-/// The outcome of the step of a text, if it has one.
+/// The outcome of the step of a message, if it has one.
 fn outcome_of<C: Ledger, A: Ledger, R: Wait, M: Moments, J: Journal>(
     context: &Context<'_, C, A, R, M, J>,
     pass: &mut Pass<C, A>,
@@ -111,7 +111,7 @@ fn outcome_of<C: Ledger, A: Ledger, R: Wait, M: Moments, J: Journal>(
     }
 }
 
-/// Makes the step of a text. A request for a schedule is compiled, and its answer collected.
+/// Makes the step of a message. A request for a schedule is compiled, and its answer collected.
 fn outcome_of_step<C: Ledger, A: Ledger, R: Wait, M: Moments, J: Journal>(
     context: &Context<'_, C, A, R, M, J>,
     pass: &mut Pass<C, A>,
@@ -128,7 +128,8 @@ fn outcome_of_step<C: Ledger, A: Ledger, R: Wait, M: Moments, J: Journal>(
     }
 }
 
-/// Makes the one call on the shared book that the step of a text stands for, and notes the text.
+/// Makes the one call on the shared book that the step of a message stands for, and notes the
+/// message.
 fn perform_noted<C: Ledger, A: Ledger, R: Wait, M: Moments, J: Journal>(
     context: &Context<'_, C, A, R, M, J>,
     pass: &mut Pass<C, A>,
@@ -147,8 +148,9 @@ fn perform_noted<C: Ledger, A: Ledger, R: Wait, M: Moments, J: Journal>(
     performed
 }
 
-/// The answer to a request that is kept: compiled by a worker, or here where none takes it. No lock tells that what is
-/// handed out in the end is for the book and the ask of this request, so they are compared.
+/// The answer to a request that is kept: compiled by a worker, or here where none takes it. No lock
+/// tells that what is handed out in the end is for the book and the `Ask` of this request, so they
+/// are compared.
 fn answer_of<C: Ledger, A: Ledger, R: Wait, M: Moments, J: Journal>(
     context: &Context<'_, C, A, R, M, J>,
     pass: &mut Pass<C, A>,

@@ -1,11 +1,12 @@
-//! Texts from a socket and to it.
+//! Messages from a socket and to it.
 
 use crate::serving::ended::{Ended, ended_by};
 use std::alloc::{AllocError, Global};
 use std::io::{Read, Write};
 use tungstenite::{MaskKeys, Message, Utf8Bytes, WebSocket};
 
-/// The next text, or `None` for a message of another kind: pings and closes are answered by the socket itself.
+/// The next text message, or `None` for one of another kind. The socket itself answers pings and
+/// closes.
 pub(crate) fn read_text<S: Read + Write + Drop, K: MaskKeys + Drop>(
     socket: &mut WebSocket<S, K>,
 ) -> Result<Option<Utf8Bytes>, Ended> {
@@ -16,7 +17,7 @@ pub(crate) fn read_text<S: Read + Write + Drop, K: MaskKeys + Drop>(
     }
 }
 
-/// Sends a text.
+/// Sends a message.
 pub(crate) fn send_text<S: Read + Write + Drop, K: MaskKeys + Drop>(
     alloc: Global,
     socket: &mut WebSocket<S, K>,

@@ -51,8 +51,8 @@ handed_kept (Some kept) requests = Ok (handed_with kept kept.answer requests)
 abbrev pub handed_out : ℕ → List Kept → Result (Reply × List Kept) Refusal
 handed_out number requests = handed_kept (request_of number requests) requests
 
--- what would come of compiling a request, and of handing out its answer: whether that is an event, or
--- why it is refused
+-- what would come of compiling a request, and of handing out its answer: whether that is an event,
+-- or why it is refused
 abbrev pub compile_outlook : Option Kept → Result Bool Refusal
 compile_outlook None = Err UnknownRequest
 compile_outlook (Some kept) = if is_some kept.answer then Err AlreadyAnswered else Ok true

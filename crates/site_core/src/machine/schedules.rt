@@ -35,9 +35,9 @@ impl Machine {
         let (place, ask) = self.asked(take)?;
         let point = point_at(&self.points, place);
         let kept = point.share_book()?;
-        let told = point.share_book()?;
+        let replied = point.share_book()?;
         let number = self.numbers.request + 1;
-        let reply = taken(number, told, &ask);
+        let reply = taken(number, replied, &ask);
         self.requests.push(Request {
             number,
             place,
@@ -57,8 +57,8 @@ impl Machine {
         Ok(true)
     }
 
-    /// The place of the point that a request names and what is asked there, or why the request isn't kept,
-    /// if memory lasts.
+    /// The place of the point that a request names and what is asked there, or why the request
+    /// isn't kept, if memory lasts.
     fn asked(&self, take: &Take) -> Result<(usize, Ask), Refusal>
         ensures taking { IfOk result (λ found.
             takes self.now take.now ≡ Ok (taking self.now found.0 found.1)) }
@@ -76,7 +76,7 @@ impl Machine {
         }
     }
 
-    /// Why a request isn't kept, if memory lasts, though there is an ask.
+    /// Why a request isn't kept, if memory lasts, though there is an `Ask`.
     fn refusal_to_take(&self, take: &Take) -> Option<Refusal>
         ensures { result ≡ refusal_to_take self.now take.now }
     {
@@ -108,10 +108,11 @@ impl Machine {
         Ok(Reply::Compiled)
     }
 
-    /// Compiles the request of a number with an answer that is brought (chapter 5.7), by who compiled it
-    /// elsewhere. The answer comes back a second time. The refusals are `UnknownRequest`,
-    /// `AlreadyAnswered`, and `StrangerInput`, where the answer is for another book or another ask; then
-    /// nothing has changed, and what was brought comes back. Allocates nothing.
+    /// Compiles the request of a number with an answer that is brought (chapter 5.7), by who
+    /// compiled it elsewhere. The answer comes back a second time. The refusals are
+    /// `UnknownRequest`, `AlreadyAnswered`, and `StrangerInput`, where the answer is for another
+    /// book or another `Ask`; then nothing has changed, and what was brought comes back. Allocates
+    /// nothing.
     pub fn post(
         &mut self,
         number: u64,

@@ -41,7 +41,7 @@ held requests
 ";
 
 const TRACE: &str =
-    r#"line  point  text                                                                     answer
+    r#"line  point  message                                                                  answer
 1     CP1    operator [2,"n","SetChargingProfile",{"connectorId":1,"csChargingProf..  > [3,"n",{"status":"Accepted"}]
 2     CP1    point [2,"b","Heartbeat",{}]                                             > [3,"b",{"currentTime":"2025-01-01T00:00:01Z"}]
                                                                                       * CP1 [2,"0","ClearChargingProfile",{}]
@@ -53,7 +53,7 @@ const TRACE: &str =
 
 const ENDING: &str = "CP1: request 1 was held at line 5 and never released
 CP1: call 1 (SetChargingProfile, TxDefaultProfile 1 at connector 1), which went out after line 3, was answered Rejected at line 4
-CP1: 1 call never went out, waiting since line 6: a call goes out after a text of the point
+CP1: 1 call never went out, waiting since line 6: a call goes out after a message of the point
 ";
 
 const JSON: &str =

@@ -76,7 +76,7 @@ garage: 5 calls never went out, waiting since line 1: a call goes out once the o
 street: call 0 (ClearChargingProfile, every profile) went out after line 18 and was never answered
 ";
 
-/// What the trace says of the garage's first text.
+/// What the trace says of the garage's first message.
 const CAR: &str = r#"
 5     garage  point [2,"car-1","StartTransaction",{"connectorId":1,"idTag":"ann"..     > [3,"car-1",{"idTagInfo":{"status":"Accepted"},"transactionId":1}]
                                                                                        * garage [2,"0","ClearChargingProfile",{}]

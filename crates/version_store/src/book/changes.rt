@@ -15,8 +15,8 @@ use std::sync::ledger::Ledger;
 use transactions::Begin;
 
 impl<C: Ledger, A: Ledger> Book<C, A> {
-    /// Installs a profile at a connector of a point (chapter 5.16) at a moment. On a refusal the profile
-    /// comes back.
+    /// Installs a profile at a connector of a point (chapter 5.16) at a moment. On a refusal the
+    /// profile comes back.
     pub fn install(
         &mut self,
         pass: &mut Pass<C, A>,
@@ -73,8 +73,8 @@ impl<C: Ledger, A: Ledger> Book<C, A> {
         }
     }
 
-    /// Begins a transaction at a connector of a point (chapter 4.8), or gives the number again of a start
-    /// that is retransmitted. On a refusal what began comes back.
+    /// Begins a transaction at a connector of a point (chapter 4.8), or gives the number again of a
+    /// start that is retransmitted. On a refusal what began comes back.
     pub fn start(
         &mut self,
         pass: &mut Pass<C, A>,
@@ -108,8 +108,8 @@ impl<C: Ledger, A: Ledger> Book<C, A> {
         }
     }
 
-    /// Ends the transaction of this number at a point (chapter 4.10). False where it isn't active there:
-    /// nothing was changed.
+    /// Ends the transaction of this number at a point (chapter 4.10). False where it isn't active
+    /// there: nothing was changed.
     pub fn stop(
         &mut self,
         pass: &mut Pass<C, A>,

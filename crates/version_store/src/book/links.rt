@@ -1,4 +1,5 @@
-//! The calls of links to points, and of the calls that are sent over them. They are no session's changes.
+//! The calls of links to points, and of the calls that are sent over them. They are no session's
+//! changes.
 
 ghost use Rattle.std.specs.Prelude.{◌≡◌, IfOk, IfErr};
 ghost use Rattle.site_core.specs.declared.step.Step.TheVariants as steps;
@@ -28,8 +29,8 @@ impl<C: Ledger, A: Ledger> Book<C, A> {
         }
     }
 
-    /// The first call that waits for a point, to be sent over its link, or none where none waits or one is
-    /// in flight.
+    /// The first call that waits for a point, to be sent over its link, or none where none waits or
+    /// one is in flight.
     pub fn send(&mut self, point: PointId, link: u64) -> Result<Option<Call>, Refusal>
         ensures makes { IfOk result (λ call. Makes self.old (steps.Send point link) (sending call)
             self.new) }

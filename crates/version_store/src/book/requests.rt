@@ -21,9 +21,9 @@ use std::sync::ledger::Ledger;
 use sweep_compiler::Compiled;
 
 impl<C: Ledger, A: Ledger> Book<C, A> {
-    /// Keeps a request for the composite schedule (chapter 5.7) of a connector of a point, 0 being the
-    /// whole point, from a start on for so many seconds, in a unit where one is given. The job is what is
-    /// to be compiled and posted.
+    /// Keeps a request for the composite schedule (chapter 5.7) of a connector of a point.
+    /// Connector 0 is the whole point. The schedule is from a start on for this many seconds, in a
+    /// unit where one is given. The job is what is to be compiled and posted.
     pub fn take(
         &mut self,
         pass: &mut Pass<C, A>,
@@ -60,8 +60,8 @@ impl<C: Ledger, A: Ledger> Book<C, A> {
         }
     }
 
-    /// The request of a number has this answer now, where it is for what the request keeps. On a refusal
-    /// what was compiled comes back. Takes no memory.
+    /// The request of a number has this answer now, where it is for what the request keeps. On a
+    /// refusal what was compiled comes back. Takes no memory.
     pub fn post(&mut self, number: u64, compiled: Compiled) -> Result<(), (Refusal, Compiled)>
         ensures posts { IfOk result (λ _. PostsTo self.old number compiled self.new) }
         ensures refusal { IfErr result (λ refused. IsRefusedPost
@@ -73,8 +73,8 @@ impl<C: Ledger, A: Ledger> Book<C, A> {
         Ok(())
     }
 
-    /// Hands out the answer to the request of a number, which is no longer kept then. None where it has
-    /// no answer yet. Takes no memory.
+    /// Hands out the answer to the request of a number, which is no longer kept then. None where it
+    /// has no answer yet. Takes no memory.
     pub fn collect(&mut self, pass: &mut Pass<C, A>, number: u64) -> Result<Option<Answer>, Refusal>
         ensures calls { IfOk result (λ answer. Calls self.old pass.old (steps.Answer number)
             (reply_of answer) self.new pass.new) }
@@ -103,8 +103,8 @@ impl<C: Ledger, A: Ledger> Book<C, A> {
         matches!(self.present().outlook(&Step::Answer(number)), Ok(false))
     }
 
-    /// Stops the central system: each request without an answer is answered `Stopped`, and only collecting
-    /// goes on. Takes no memory.
+    /// Stops the central system: each request without an answer is answered `Stopped`, and only
+    /// collecting goes on. Takes no memory.
     pub fn finish(&mut self)
         ensures { Makes self.old steps.Finish Reply.Finished self.new }
     {

@@ -1,4 +1,4 @@
--- What the session counts so far is no less than what it counted before its first text.
+-- What the session counts so far is no less than what it counted before its first message.
 use Rattle.session.specs.Serving.{KeepsPass}
 use Rattle.session.proofs.serving.serve_texts.Given as goal
 

@@ -1,4 +1,5 @@
--- A decimal text of a number is parsed, and what is parsed begins above 0 and is at most the highest.
+-- A decimal text of a number is parsed, and what is parsed begins above 0 and is at most the
+-- highest.
 use Rattle.std.proofs.Common.{◌≡◌, sym, ◌∙◌, arith}
 use Rattle.std.proofs.lemmas.Fmt.{parse-decimal}
 use Rattle.texts.specs.Theory.Number.{number_law, no_number, above_zero, parsed}

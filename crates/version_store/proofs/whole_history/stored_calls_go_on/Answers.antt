@@ -1,4 +1,5 @@
--- By the machine's laws from any state on: first from the opening to the base, then from the base on.
+-- By the machine's laws from any state on: first from the opening to the base, then from the base
+-- on.
 use Rattle.std.proofs.Common.{◌≡◌, ℕ, ◌+◌, List, [], ◌∷◌, map, refl, ap, subst, arith}
 use Rattle.site_rules.specs.Site.{PointEntry, SiteState}
 use Rattle.site_core.specs.ChargePoint.{opening_point}

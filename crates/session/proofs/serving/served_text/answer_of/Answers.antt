@@ -1,4 +1,4 @@
--- The answer is for the book and the ask of the job, which were compared.
+-- The answer is for the book and the `Ask` of the job, which were compared.
 use Rattle.session.proofs.ServedLemmas.{answered}
 use Rattle.session.proofs.serving.served_text.answer_of.Goals as goal
 

@@ -13,9 +13,9 @@ use Rattle.version_store.proofs.history.History.make_in_room.Goals as goal
 pub returns-in-Err-clause-refusal : goal.returns-in-Err-clause-refusal
 returns-in-Err-clause-refusal c =
     let was = the_view c.self.inside in
-    let told = refusal_of_store was c.args.step
+    let cause = refusal_of_store was c.args.step
     (stepped no_answer was.present c.args.step) c.in-Err.refusal c.in-Err.ensures.refused.0 in
-    subst (λ (s : StoreState). IsRefusalOf s c.args.step c.in-Err.refusal) c.self.view_is told
+    subst (λ (s : StoreState). IsRefusalOf s c.args.step c.in-Err.refusal) c.self.view_is cause
 
 pub after-self-inside-requires-clause-changes : goal.after-self-inside-requires-clause-changes
 after-self-inside-requires-clause-changes c =

@@ -12,18 +12,18 @@ use Rattle.version_store.proofs.history.History.reply_alone.Goals as goal
 
 pub unreachable-requires : goal.unreachable-requires
 unreachable-requires c =
-    let told = outlook_of_same c.args.self.now _ c.args.step false c.self.view_is c.requires.told
-    in
+    let no_event = outlook_of_same c.args.self.now _ c.args.step false c.self.view_is
+    c.requires.no_event in
     never_refused c.machine_laws.ensures c.self.inside.present
-    (stepped no_answer c.self.inside.present c.args.step) c.in-Err.field-0.refusal told
+    (stepped no_answer c.self.inside.present c.args.step) c.in-Err.field-0.refusal no_event
     c.in-Err.ensures.made.cause
 
 left : (c : goal.In-Ok) → c.step.new.self ≡ c.self.inside.present
 left c =
-    let told = outlook_of_same c.args.self.now _ c.args.step false c.self.view_is c.requires.told
-    in
+    let no_event = outlook_of_same c.args.self.now _ c.args.step false c.self.view_is
+    c.requires.no_event in
     left_alone c.machine_laws.ensures c.self.inside.present c.args.step c.in-Ok.reply
-    c.step.new.self c.requires.can_fold told c.in-Ok.ensures.made
+    c.step.new.self c.requires.can_fold no_event c.in-Ok.ensures.made
 
 abbrev with_present : (c : goal.In-Ok) → MachineState → StoreState
 with_present c present = the_view (record c.self.inside { present = present })
@@ -40,10 +40,10 @@ steps_of c = subst (λ (p : MachineState). Steps c.self.inside.present c.args.st
 
 pub returns-clause-replies : goal.returns-clause-replies
 returns-clause-replies c =
-    let told = outlook_of_same c.args.self.now _ c.args.step false c.self.view_is c.requires.told
-    in
+    let no_event = outlook_of_same c.args.self.now _ c.args.step false c.self.view_is
+    c.requires.no_event in
     let tells = replies_alone c.machine_laws.ensures (the_view c.self.inside) c.args.step
-    c.in-Ok.reply c.requires.can_fold told (steps_of c) in
+    c.in-Ok.reply c.requires.can_fold no_event (steps_of c) in
     subst (λ (s : StoreState). RepliesAlone s c.args.step c.in-Ok.reply (with_present c c.step.new.self))
     c.self.view_is
     (subst (λ (p : MachineState).
