@@ -230,7 +230,7 @@ def limit_problems(top, files):
 
 def repeated_limit_problems(top, files):
     large = {written(limit, value): limit for limit, value in limits_of(top, files).items()
-             if value >= 100_000 and limit not in NO_LIMITS and not limit.endswith(("max_duration", "last_second"))}
+             if value >= 100_000 and limit not in NO_LIMITS and not limit.endswith("last_second")}
     for page in PAGES_WITHOUT_LIMITS:
         for number, line in enumerate(without_blocks(text_of(top, page)), 1):
             for value in large:

@@ -484,7 +484,7 @@ def refused_line_problems(program, site):
         '"stackLevel":0,"chargingProfilePurpose":"TxDefaultProfile","chargingProfileKind":"Recurring","recurrencyKind":"Daily",'
         f'"chargingSchedule":{{"startSchedule":"2025-01-01T00:00:00Z","chargingRateUnit":"A","chargingSchedulePeriod":[{periods}]}}}}}}]\n'
     ).encode()
-    too_long = b'2025-01-01T00:00:00Z operator CP1 [2,"l","GetCompositeSchedule",{"connectorId":1,"duration":604800}]\n'
+    too_long = b'2025-01-01T00:00:00Z operator CP1 [2,"l","GetCompositeSchedule",{"connectorId":1,"duration":2678400}]\n'
     played = run(program, ["replay", "--site", site], install + too_long).stdout
     yield "an ask whose schedule is too long", [] if b"ResultTooLong" in played else [repr(played)]
     checked = run(program, ["check", "--site", site], install + too_long).stdout

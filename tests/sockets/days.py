@@ -119,7 +119,7 @@ async def charging(day, number):
     for connector in (0, 1, 2):
         await day.by_operator(ask(f"charging-{connector}", connector, 7_200 + number))
     second = await day.by_point(start("second", 2, "B", "2025-01-02T03:04:05Z"))
-    await day.by_operator(ask("both", 0, 604_800))
+    await day.by_operator(ask("both", 0, 2_678_400))
     sample = {"timestamp": MIDNIGHT, "sampledValue": [{"value": "1"}]}
     await day.by_point(call("meter", "MeterValues", {"connectorId": 1, "meterValue": [sample]}))
     await day.by_point(heartbeat("größer \"€\""))
@@ -140,7 +140,7 @@ async def evening(day, number):
     await day.by_operator(clear("level", stackLevel=1, connectorId=1))
     await day.by_operator(ask("level", 1, 90_000))
     await day.by_operator(install("again", profile(1, [13.5 + number])))
-    await day.by_operator(ask("again", 1, 604_800))
+    await day.by_operator(ask("again", 1, 2_678_400))
     await day.by_operator(clear("all"))
     await day.by_operator(ask("nothing", 2))
     await day.by_point(call("data", "DataTransfer", {"vendorId": "v"}))
@@ -238,7 +238,7 @@ async def three_operators_at_one_point(program):
         for text, brought in sent:
             expect(f"the answer to {text}", brought, [accepted(json.loads(text)[1])])
         calls = await asyncio.to_thread(calls_of_point, serving, len(sent) + 1)
-        last = Told("operator", "P1", ask("last", 1, 604_800), await operators[0].texts_of(ask("last", 1, 604_800)), 0)
+        last = Told("operator", "P1", ask("last", 1, 2_678_400), await operators[0].texts_of(ask("last", 1, 2_678_400)), 0)
         for client in operators:
             await client.close()
         expect("the totals", serving.totals(), (len(sent), 1))

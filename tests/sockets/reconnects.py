@@ -206,7 +206,7 @@ def ends_while_an_answer_waits(program):
         for _ in range(9):
             with RawClient.connected(serving, OPERATOR) as client:
                 for number in range(100):
-                    client.send_text(f'[2,"{number}","GetCompositeSchedule",{{"connectorId":1,"duration":604800}}]')
+                    client.send_text(f'[2,"{number}","GetCompositeSchedule",{{"connectorId":1,"duration":2678400}}]')
                 by_reset(client)
         with RawClient.connected(serving, OPERATOR) as client:
             answers = client.texts_of('[2,"last","GetCompositeSchedule",{"connectorId":1,"duration":60}]')

@@ -58,7 +58,7 @@ fn install(at: Option<&mut Point>, now: Instant, fields: &Object) -> Result<Answ
         let has_key = row.connector == connector && row.profile.purpose == profile.purpose && row.profile.level == profile.level;
         has_key || row.profile.id == profile.id
     };
-    if point.rows.iter().filter(|row| !is_replaced(row)).count() >= 100 {
+    if point.rows.iter().filter(|row| !is_replaced(row)).count() >= 200 {
         return Ok(rejected("TooManyProfiles"));
     }
     if point.outbox.is_full() {
@@ -145,7 +145,7 @@ fn ask(at: Option<&mut Point>, now: Instant, fields: &Object) -> Result<Answer, 
     if unit.is_some_and(|unit| unit != "A") {
         return Ok(rejected("WrongUnit"));
     }
-    if duration == 0 || duration > 604_800 {
+    if duration == 0 || duration > 2_678_400 {
         return Ok(rejected("BadDuration"));
     }
     if now.seconds() + i64::from(duration) > 253_402_300_800 {

@@ -5,7 +5,7 @@ use crate::entries::{Entry, Line};
 use crate::explained_ask::ExplainedAsk;
 use crate::scale::{BOTTOM, LEFT, RIGHT, Scale, TOP};
 use crate::steps::Steps;
-use crate::ticks::{MOST_LIMITS, MOST_TIMES, time_step};
+use crate::ticks::{MOST_DATES, MOST_LIMITS, MOST_TIMES, date_step, time_step};
 use meaning::Cause;
 use messages::unit_name;
 use ocpp_scalars::{push_integer, push_tenths};
@@ -184,7 +184,8 @@ fn push_time_tick(out: &mut String, x: u64, moment: u64, step: u64) -> Result<()
     out.push_str("</text>\n")
 }
 
-/// Appends the date where the request begins, and where each day begins in it.
+/// Appends the date where the request begins, and where each day begins in it. Of more than 8 days
+/// it is where each second or fourth one begins.
 fn push_dates(
     alloc: Global,
     out: &mut String,
@@ -192,13 +193,14 @@ fn push_dates(
     scale: Scale,
 ) -> Result<(), AllocError> {
     let (start, end) = (explained.moment(0), explained.end());
-    let first_midnight = (start / DAY + 1) * DAY;
+    let step = u64::from(date_step(explained.ask.duration).max(1));
+    let first_midnight = (start / step).saturating_add(1).saturating_mul(step);
     let room = scale.x(second_at(explained, first_midnight)) - LEFT;
-    if start % DAY == 0 || end <= first_midnight || room >= 100 {
+    if start % step == 0 || end <= first_midnight || room >= 100 {
         push_day(alloc, out, start / DAY, LEFT)?;
     }
-    for count in 0..8 {
-        let midnight = first_midnight + count * DAY;
+    for count in 0..u64::from(MOST_DATES) {
+        let midnight = first_midnight.saturating_add(step.saturating_mul(count));
         let x = scale.x(second_at(explained, midnight));
         if midnight < end && x + 90 <= RIGHT {
             push_day(alloc, out, midnight / DAY, x)?;

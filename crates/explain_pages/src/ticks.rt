@@ -1,11 +1,16 @@
 //! How far apart the ticks of an axis are.
 
 ghost use Rattle.std.specs.Prelude.{◌*◌, ◌≤◌, IfSome};
+ghost use Rattle.meaning.specs.Limits.{max_duration};
 
 /// Seconds from one tick of the time axis to the next.
-const TIME_STEPS: [u32; 18] = [
+const TIME_STEPS: [u32; 20] = [
     1, 2, 5, 10, 15, 30, 60, 120, 300, 600, 900, 1800, 3600, 7200, 10_800, 14_400, 21_600, 43_200,
+    86_400, 172_800,
 ];
+
+/// Seconds from one date to the next.
+const DATE_STEPS: [u32; 2] = [86_400, 172_800];
 
 /// Tenths from one tick of the limit axis to the next.
 const LIMIT_STEPS: [u32; 29] = [
@@ -40,17 +45,28 @@ const LIMIT_STEPS: [u32; 29] = [
     2_000_000_000,
 ];
 
-/// The most spaces between the ticks of the time axis, and of the limit axis.
+/// The most spaces between the ticks of the time axis, between its dates, and between the ticks of the
+/// limit axis.
 pub(crate) const MOST_TIMES: u32 = 12;
+
+pub(crate) const MOST_DATES: u32 = 8;
 
 pub(crate) const MOST_LIMITS: u32 = 6;
 
-/// The seconds between the ticks of a time: the fewest that make at most 12 spaces, or a day.
+/// The seconds between the ticks of a time: the fewest that make at most 12 spaces, or four days.
 pub(crate) fn time_step(duration: u32) -> u32
-    requires week { duration ≤ 604800 }
+    requires asked { duration ≤ max_duration }
     ensures spans { duration ≤ result * 12 }
 {
-    first_that_spans(&TIME_STEPS, duration, MOST_TIMES).unwrap_or(86_400)
+    first_that_spans(&TIME_STEPS, duration, MOST_TIMES).unwrap_or(345_600)
+}
+
+/// The seconds between the dates of a time: the fewest that make at most 8 spaces, or four days.
+pub(crate) fn date_step(duration: u32) -> u32
+    requires asked { duration ≤ max_duration }
+    ensures spans { duration ≤ result * 8 }
+{
+    first_that_spans(&DATE_STEPS, duration, MOST_DATES).unwrap_or(345_600)
 }
 
 /// The tenths between the ticks of limits up to the largest: the fewest that make at most 6 spaces.

@@ -27,13 +27,13 @@ pub fn sentence(refusal: Refusal) -> &'static str {
             "a TxProfile needs an active transaction at its connector, and none is",
         Refusal::OtherTransaction =>
             "the transactionId isn't that of the connector's active transaction",
-        Refusal::TooManyProfiles => "the point would have more than 100 profiles; clear some first",
+        Refusal::TooManyProfiles => "the point would have more than 200 profiles; clear some first",
         Refusal::OutboxFull => "256 calls wait for the point, which has confirmed none of them",
-        Refusal::BadDuration => "the duration is 0 or above 604800 seconds, a week",
+        Refusal::BadDuration => "the duration is 0 or above 2678400 seconds, thirty-one days",
         Refusal::PastCalendar => "the schedule would run past 9999-12-31T23:59:59Z",
         Refusal::TooManyOpen => "64 requests for schedules are kept, and no more",
         Refusal::ResultTooLong =>
-            "the schedule has more than 1000 periods; ask for a shorter duration",
+            "the schedule has more than 4096 periods; ask for a shorter duration",
         Refusal::VersionsExhausted =>
             "the numbers of versions, requests, links or calls, 1000000000000, are used up",
         Refusal::TransactionsExhausted => "all transaction numbers, 2147483647, were given away",

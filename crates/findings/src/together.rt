@@ -2,13 +2,16 @@
 
 ghost use Rattle.std.specs.Prelude.{◌<◌, ◌≤◌, length};
 
-use meaning::{Ask, MAX_DURATION, View, why_not};
+use meaning::{Ask, View, why_not};
 use ocpp_scalars::{Instant, LAST_SECOND};
 use point_book::PointBook;
 use profile::{Purpose, Row};
 use recurrence::{next_change, rate_at, sooner};
 use std::alloc::{AllocError, Global};
 use sweep_compiler::{Turns, explain};
+
+/// How long is looked at, in seconds.
+const WEEK: u32 = 604_800;
 
 /// Where the connectors may draw more together than their point.
 #[derive(Clone, Copy)]
@@ -98,11 +101,11 @@ fn week_of(book: &PointBook) -> Option<Week<'_>> {
     }
     let asked = last?;
     let left = (LAST_SECOND + 1).saturating_sub(asked.seconds());
-    let duration = u32::try_from(left).unwrap_or(MAX_DURATION);
+    let duration = u32::try_from(left).unwrap_or(WEEK);
     Some(Week {
         book,
         asked,
-        duration: duration.min(MAX_DURATION),
+        duration: duration.min(WEEK),
     })
 }
 

@@ -6,8 +6,8 @@ ghost use Rattle.meaning.specs.Limits.{max_duration};
 
 use ocpp_scalars::{Instant, LAST_SECOND, Refusal};
 
-/// The longest duration that may be asked: a week, in seconds.
-pub const MAX_DURATION: u32 = 604_800;
+/// The longest duration that may be asked: 31 days, in seconds.
+pub const MAX_DURATION: u32 = 2_678_400;
 
 /// What GetCompositeSchedule asks (chapter 5.7): the limits of a connector, 0 being the whole
 /// point, from a start on for a number of seconds, none of them past the last instant.

@@ -6,7 +6,7 @@ use std::alloc::AllocError;
 use std::marker::Model;
 
 /// The most periods of a schedule that is an answer. A [`Composite`] by itself may have more.
-pub const MAX_COMPOSITE_PERIODS: usize = 1_000;
+pub const MAX_COMPOSITE_PERIODS: usize = 4_096;
 
 /// One step of a composite schedule (chapter 7, ChargingSchedulePeriod).
 #[derive(Clone, Copy, Debug, PartialEq, Eq, Hash)]

@@ -17,7 +17,7 @@ use std::alloc::{AllocError, Global};
 use std::marker::Model;
 
 /// The most rows of a charge point.
-pub const MAX_ROWS: usize = 100;
+pub const MAX_ROWS: usize = 200;
 
 /// The profiles that a charge point has installed, in the order of their installs: no two of one
 /// chargingProfileId, no two of one connector, purpose and stack level, and at most `MAX_ROWS`.

@@ -19,7 +19,8 @@ const NIGHT: &str = "\
 row id=1 level=1 kind=Recurring recurrency=Daily start=79200 duration=28800 periods=0:60
 row id=2 start=0 periods=0:200
 explain 1 194398 86400 = 0-2:60:id=1 2-57602:200:id=2 57602-86400:60:id=1
-reasons 1 194398 604800 = 15 15";
+reasons 1 194398 604800 = 15 15
+reasons 1 194398 2678400 = 63 63";
 
 #[test]
 fn names_the_higher_of_two_levels(rt: HostRuntime) {

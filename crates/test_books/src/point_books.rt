@@ -25,37 +25,47 @@ fn refuses_by_the_transaction(rt: HostRuntime) {
     play(&rt, rt.alloc(), BY_THE_TRANSACTION);
 }
 
-/// Installs a row of 200 periods of a level, and of the id that is one more.
-fn install_level(rt: &impl Abort, alloc: Global, book: &mut PointBook, level: u32) {
-    let id = level.saturating_add(1);
-    let line = format!(in alloc; "row id={id} level={level} turns=60").expect(rt, "error");
+/// Installs a row of 200 periods at a connector, of a level. Its id is from 1 at connector 0, and from 101 at
+/// the next.
+fn install_level(rt: &impl Abort, alloc: Global, book: &mut PointBook, at: (u32, u32)) {
+    let (connector, level) = at;
+    let id = connector
+        .saturating_mul(100)
+        .saturating_add(level)
+        .saturating_add(1);
+    let line = format!(in alloc; "row id={id} connector={connector} level={level} turns=60").expect(
+        rt, "error",
+    );
     play_on(rt, alloc, book, line.as_str());
 }
 
-/// A point of 64 connectors, of which the last has no transaction, with 100 rows of 200 periods: ids from
-/// 1 and levels from 0.
+/// A point of 64 connectors, of which the last has no transaction, with 200 rows of 200 periods: ids from
+/// 1, and levels from 0 at connector 0, and again at connector 1.
 fn full(rt: &impl Abort, alloc: Global) -> PointBook {
     let mut book = point(rt, alloc, 320, (64, 160));
     for connector in 1..64u32 {
         begin(rt, alloc, &mut book, (connector, LONGEST_TAG, 0), 1);
     }
     for level in 0..100u32 {
-        install_level(rt, alloc, &mut book, level);
+        install_level(rt, alloc, &mut book, (0, level));
+    }
+    for level in 0..100u32 {
+        install_level(rt, alloc, &mut book, (1, level));
     }
     book
 }
 
 const PAST_THE_LAST: &str = "\
-row id=101 connector=1 = TooManyProfiles
-row id=101 connector=64 purpose=TxProfile = NoTransaction
-row id=101 connector=1 purpose=TxProfile transaction=2 = OtherTransaction
-row id=101 level=5";
+row id=201 connector=2 = TooManyProfiles
+row id=201 connector=64 purpose=TxProfile = NoTransaction
+row id=201 connector=1 purpose=TxProfile transaction=2 = OtherTransaction
+row id=201 level=5";
 
 #[test]
 fn has_room_for_its_connectors_and_rows(rt: HostRuntime) {
     let mut book = full(&rt, rt.alloc());
     play_on(&rt, rt.alloc(), &mut book, PAST_THE_LAST);
-    same(&rt, book.view().rows.len() as u64, 100, "rows");
+    same(&rt, book.view().rows.len() as u64, 200, "rows");
     let copy = book.copy().expect(&rt, "error");
     holds(&rt, copy.same(&book), "a copy");
 }

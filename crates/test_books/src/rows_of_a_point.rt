@@ -34,13 +34,13 @@ fn rows_of(rt: &impl Abort, alloc: Global, lines: &str) -> Rows {
     rows
 }
 
-/// 100 rows at connector 0, ids from 1 and levels from 0.
+/// 200 rows, ids from 1: levels from 0 at connector 0, and again at connector 1.
 fn full(rt: &impl Abort, alloc: Global) -> Rows {
     let mut rows = Rows::new(alloc);
-    for level in 0..100u32 {
-        let id = level.saturating_add(1);
-        let words = format!(in alloc; "id={id} level={level}").expect(rt, "error");
-        install(rt, alloc, &mut rows, words.as_str());
+    for place in 0..200u32 {
+        let (id, connector, level) = (place.saturating_add(1), place / 100, place % 100);
+        let words = format!(in alloc; "id={id} connector={connector} level={level}");
+        install(rt, alloc, &mut rows, words.expect(rt, "error").as_str());
     }
     rows
 }
@@ -134,19 +134,19 @@ fn keeps_its_limit(rt: HostRuntime) {
     let mut rows = full(&rt, alloc);
     let before = rows.copy().expect(&rt, "error");
     holds(&rt, before.same(&rows), "a copy");
-    let refusal = refusal_of(&rt, alloc, &mut rows, "id=101 connector=1");
-    holds(&rt, refusal == Some(Refusal::TooManyProfiles), "101 rows");
+    let refusal = refusal_of(&rt, alloc, &mut rows, "id=201 connector=2");
+    holds(&rt, refusal == Some(Refusal::TooManyProfiles), "201 rows");
     holds(&rt, before.same(&rows), "what a refusal leaves");
-    install(&rt, alloc, &mut rows, "id=101 level=5");
-    same(&rt, rows.as_slice().len() as u64, 100, "rows");
+    install(&rt, alloc, &mut rows, "id=201 level=5");
+    same(&rt, rows.as_slice().len() as u64, 200, "rows");
     let last = rows.as_slice().last().map(|row| row.profile.id);
-    holds(&rt, last == Some(101), "the last row");
+    holds(&rt, last == Some(201), "the last row");
     holds(&rt, !before.same(&rows), "a copy of before");
     // The row of one id and that of one key go at once, and so there is room for one more.
     install(&rt, alloc, &mut rows, "id=3 level=10");
-    same(&rt, rows.as_slice().len() as u64, 99, "rows");
-    install(&rt, alloc, &mut rows, "id=102 connector=1");
-    same(&rt, rows.as_slice().len() as u64, 100, "rows");
+    same(&rt, rows.as_slice().len() as u64, 199, "rows");
+    install(&rt, alloc, &mut rows, "id=202 connector=2");
+    same(&rt, rows.as_slice().len() as u64, 200, "rows");
 }
 
 const FOUR_ROWS: &str = "\

@@ -93,9 +93,9 @@ const BY_TURNS: &str = "kind=Recurring recurrency=Daily start=0 turns=432";
 
 #[test]
 fn answers_up_to_the_most_periods(rt: HostRuntime) {
-    let most = count(&rt, rt.alloc(), BY_TURNS, "1 0 432000");
-    holds(&rt, most == Ok(1_000), "the most periods");
-    let more = count(&rt, rt.alloc(), BY_TURNS, "1 0 432001");
+    let most = count(&rt, rt.alloc(), BY_TURNS, "1 0 1769472");
+    holds(&rt, most == Ok(4_096), "the most periods");
+    let more = count(&rt, rt.alloc(), BY_TURNS, "1 0 1769473");
     holds(&rt, more == Err(Refusal::ResultTooLong), "one more");
 }
 

@@ -12,7 +12,8 @@ row id=1 level=1 kind=Recurring recurrency=Daily start=79200 duration=28800 peri
 row id=2 start=0 periods=0:200
 schedule 1 194398 86400 = 0:60 2:200 57602:60
 counts 1 194398 86400 = 3 3
-counts 1 194398 604800 = 15 15";
+counts 1 194398 604800 = 15 15
+counts 1 194398 2678400 = 63 63";
 
 #[test]
 fn turns_at_places_alone(rt: HostRuntime) {
@@ -21,9 +22,11 @@ fn turns_at_places_alone(rt: HostRuntime) {
 
 const MOST_PERIODS: &str = "\
 row kind=Recurring recurrency=Daily start=0 turns=432
-counts 1 0 432000 = 1000 1000
-counts 1 0 604800 = ResultTooLong 1001
-twice 1 0 604800 = ResultTooLong";
+counts 1 0 604800 = 1400 1400
+counts 1 0 1769472 = 4096 4096
+counts 1 0 1769473 = ResultTooLong 4097
+counts 1 0 2678400 = ResultTooLong 4097
+twice 1 0 2678400 = ResultTooLong";
 
 #[test]
 fn answers_up_to_the_most_periods(rt: HostRuntime) {

@@ -141,12 +141,12 @@ fn written(rt: &impl Abort, alloc: Global, schedule: Composite) -> String {
 }
 
 const BEFORE_THE_PERIODS: &str =
-    r#"[3,"1",{"status":"Accepted","connectorId":1,"scheduleStart":"2025-01-01T00:00:00Z","chargingSchedule":{"duration":432000,"chargingRateUnit":"A","chargingSchedulePeriod":["#;
+    r#"[3,"1",{"status":"Accepted","connectorId":1,"scheduleStart":"2025-01-01T00:00:00Z","chargingSchedule":{"duration":1769472,"chargingRateUnit":"A","chargingSchedulePeriod":["#;
 
-/// The same by hand: 1,000 periods of 432 seconds, of 6 A and 10 A by turns.
+/// The same by hand: 4,096 periods of 432 seconds, of 6 A and 10 A by turns.
 fn written_by_hand(rt: &impl Abort, alloc: Global) -> String {
     let mut text = String::from_str(alloc, BEFORE_THE_PERIODS).expect(rt, "error");
-    for index in 0..1_000u32 {
+    for index in 0..4_096u32 {
         let comma = if index > 0 { "," } else { "" };
         let limit = if index % 2 == 0 { "6.0" } else { "10.0" };
         let start = index.saturating_mul(432);
@@ -162,17 +162,17 @@ fn written_by_hand(rt: &impl Abort, alloc: Global) -> String {
 
 const BY_TURNS: &str = "kind=Recurring recurrency=Daily start=0 turns=432";
 
-/// A limit changes 200 times a day: for five days that may be answered, and for no second more.
+/// A limit changes every 432 seconds: for 4,096 times that a schedule is answered, and for no second more.
 #[test]
-fn an_answer_has_1000_periods(rt: HostRuntime) {
+fn an_answer_has_4096_periods(rt: HostRuntime) {
     let mut machine = machine(&rt, rt.alloc(), SITE);
     let refusal = install(&rt, rt.alloc(), &mut machine, "CP1", BY_TURNS);
     holds(&rt, refusal.is_none(), "installed");
-    let answered = answer(&rt, rt.alloc(), &mut machine, "CP1", (1, 432_000));
+    let answered = answer(&rt, rt.alloc(), &mut machine, "CP1", (1, 1_769_472));
     let found = written(&rt, rt.alloc(), answered.expect(&rt, "error"));
     let wanted = written_by_hand(&rt, rt.alloc());
-    same_text(&rt, found.as_str(), wanted.as_str(), "five days");
-    for duration in [432_001, 604_800] {
+    same_text(&rt, found.as_str(), wanted.as_str(), "the longest");
+    for duration in [1_769_473, 2_678_400] {
         let refusal = answer(&rt, rt.alloc(), &mut machine, "CP1", (1, duration)).err();
         holds(&rt, refusal == Some(Refusal::ResultTooLong), "too long");
     }
@@ -191,22 +191,25 @@ fn start(rt: &impl Abort, alloc: Global, machine: &mut Machine, connector: u32) 
     holds(rt, started, "a start");
 }
 
-fn install_level(rt: &impl Abort, alloc: Global, machine: &mut Machine, level: u32) {
-    let words = format!(in alloc; "id={level} level={level} turns=60").expect(rt, "error");
+fn install_level(rt: &impl Abort, alloc: Global, machine: &mut Machine, id: u32) {
+    let (connector, level) = (id / 100, id % 100);
+    let words = format!(in alloc; "id={id} connector={connector} level={level} turns=60").expect(
+        rt, "error",
+    );
     let refusal = install(rt, alloc, machine, LAST_POINT, words.as_str());
     holds(rt, refusal.is_none(), "installed");
 }
 
-/// A day's answer of a connector of the last point has 200 periods, of which the first three have
-/// these limits.
-fn expect_day(
+/// The answer of a connector of the last point for 200 minutes has 200 periods, of which the first
+/// three have these limits.
+fn expect_minutes(
     rt: &impl Abort,
     alloc: Global,
     machine: &mut Machine,
     connector: u32,
     limits: [u32; 3],
 ) {
-    let answered = answer(rt, alloc, machine, LAST_POINT, (connector, 86_400));
+    let answered = answer(rt, alloc, machine, LAST_POINT, (connector, 12_000));
     let schedule = answered.expect(rt, "error");
     same(rt, schedule.periods().len() as u64, 200, "periods");
     for (period, limit) in schedule.periods().iter().zip(limits) {
@@ -214,9 +217,9 @@ fn expect_day(
     }
 }
 
-/// 1,000 points with 64 connectors each. The last point has a transaction at each of them and 100
-/// profiles of 200 periods, of which the highest counts: 6 A and 10 A by turns, a minute each, at
-/// each connector.
+/// 1,000 points with 64 connectors each. The last point has a transaction at each of them and 200
+/// profiles of 200 periods, half of them at connector 1. The highest counts: 6 A and 10 A by turns,
+/// a minute each, at each connector.
 #[test]
 fn a_point_has_the_most_of_all(rt: HostRuntime) {
     let text = site_text(rt.alloc(), 1_000, 64, 48).expect(&rt, "error");
@@ -224,12 +227,12 @@ fn a_point_has_the_most_of_all(rt: HostRuntime) {
     for connector in 1..65u32 {
         start(&rt, rt.alloc(), &mut machine, connector);
     }
-    for level in 0..100u32 {
-        install_level(&rt, rt.alloc(), &mut machine, level);
+    for id in 0..200u32 {
+        install_level(&rt, rt.alloc(), &mut machine, id);
     }
-    let one_more = "id=100 connector=64";
+    let one_more = "id=200 connector=64";
     let refusal = install(&rt, rt.alloc(), &mut machine, LAST_POINT, one_more);
     holds(&rt, refusal == Some(Refusal::TooManyProfiles), "one more");
-    expect_day(&rt, rt.alloc(), &mut machine, 0, [3_840, 6_400, 3_840]);
-    expect_day(&rt, rt.alloc(), &mut machine, 64, [60, 100, 60]);
+    expect_minutes(&rt, rt.alloc(), &mut machine, 0, [3_840, 6_400, 3_840]);
+    expect_minutes(&rt, rt.alloc(), &mut machine, 64, [60, 100, 60]);
 }

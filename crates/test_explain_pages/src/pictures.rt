@@ -108,6 +108,32 @@ fn a_hundred_profiles(rt: HostRuntime) -> Result<(), Fail> {
     Ok(())
 }
 
+/// Dates every fourth day, the last one on 28 January: 27 of 31 days from the left edge, on a breadth of 852. A line
+/// of 200 steps a day is cut after ten days.
+const A_MONTH: &str =
+    r#"<path class="day" d="M166 403V418"/><text class="soft" x="171" y="418">Sat 2025-01-04</text>
+<path class="day" d="M826 403V418"/><text class="soft" x="831" y="418">Tue 2025-01-28</text>
+drawn up to 2025-01-11 00:00 alone: it has too many steps"#;
+
+#[test]
+fn a_month(rt: HostRuntime) -> Result<(), Fail> {
+    let alloc = rt.alloc();
+    let point = Point::with_rows(alloc, "kind=Recurring recurrency=Daily start=0 turns=432")?;
+    let cause = by(1, Purpose::TxDefaultProfile, 0);
+    let explained = ExplainedAsk {
+        point: "CP1",
+        unit: Unit::A,
+        ask: ask(1, 0, 2_678_400)?,
+        view: point.view(),
+        intervals: &[interval(alloc, 0, 2_678_400, 60, cause)],
+        not_counted: &[],
+    };
+    let picture = write_picture(alloc, &explained)?;
+    expect(&rt, picture.as_str(), A_MONTH);
+    assert!(rt; !picture.as_str().contains("2025-01-05"));
+    Ok(())
+}
+
 /// A request whose every second is an interval: pictures and pages say where they end.
 #[test]
 fn too_many_intervals(rt: HostRuntime) -> Result<(), Fail> {

@@ -41,7 +41,7 @@ const OPERATOR_TEXTS: &str = r#"[2,"a","ClearChargingProfile",{"id":9}] => -
 [2,"a","GetCompositeSchedule",{"connectorId":1,"duration":60,"connectorId":2}] => "connectorId" is a duplicate field
 [2,"a","Heartbeat",{}] => an action of the other side
 [2,"a","GetCompositeSchedule",{"connectorId":7,"duration":60}] => UnknownConnector
-[2,"a","GetCompositeSchedule",{"connectorId":1,"duration":604801}] => BadDuration
+[2,"a","GetCompositeSchedule",{"connectorId":1,"duration":2678401}] => BadDuration
 [2,"a","GetCompositeSchedule",{"connectorId":1,"duration":0}] => BadDuration
 [2,"a","GetCompositeSchedule",{"connectorId":1,"duration":60,"chargingRateUnit":"W"}] => WrongUnit
 [2,"a","GetCompositeSchedule",{"connector":1,"duration":60}] => OccurenceConstraintViolation: connectorId: it is absent + "connector" is no field of OCPP there

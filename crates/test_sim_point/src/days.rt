@@ -193,7 +193,7 @@ const CALLS: &str =
 < [2,"g","GetCompositeSchedule",{"connectorId":2,"duration":9,"chargingRateUnit":"A"}] | [3,"g",{"status":"Accepted","connectorId":2,"scheduleStart":"2025-01-01T00:00:00Z","chargingSchedule":{"duration":9,"chargingRateUnit":"A","chargingSchedulePeriod":[{"startPeriod":0,"limit":10.0}]}}]
 < [2,"h","GetCompositeSchedule",{"connectorId":3,"duration":0,"chargingRateUnit":"W"}] | [3,"h",{"status":"Rejected","reason":"UnknownConnector"}]
 < [2,"i","GetCompositeSchedule",{"connectorId":2,"duration":0,"chargingRateUnit":"W"}] | [3,"i",{"status":"Rejected","reason":"WrongUnit"}]
-< [2,"j","GetCompositeSchedule",{"connectorId":2,"duration":604801}] | [3,"j",{"status":"Rejected","reason":"BadDuration"}]
+< [2,"j","GetCompositeSchedule",{"connectorId":2,"duration":2678401}] | [3,"j",{"status":"Rejected","reason":"BadDuration"}]
 at 251666611199 | -
 < [2,"k","GetCompositeSchedule",{"connectorId":2,"duration":2}] | [3,"k",{"status":"Rejected","reason":"PastCalendar"}]
 at 0 | -
@@ -235,8 +235,9 @@ fn default_text(
     level: u32,
     periods: u32,
 ) -> String {
+    let id = connector.saturating_mul(100).saturating_add(level);
     let text = format!(in alloc;
-        r#"[2,"x","SetChargingProfile",{{"connectorId":{connector},"csChargingProfiles":{{"chargingProfileId":{connector}{level},"stackLevel":{level},"chargingProfilePurpose":"TxDefaultProfile","chargingProfileKind":"Relative","chargingSchedule":{{"chargingRateUnit":"A","chargingSchedulePeriod":["#
+        r#"[2,"x","SetChargingProfile",{{"connectorId":{connector},"csChargingProfiles":{{"chargingProfileId":{id},"stackLevel":{level},"chargingProfilePurpose":"TxDefaultProfile","chargingProfileKind":"Relative","chargingSchedule":{{"chargingRateUnit":"A","chargingSchedulePeriod":["#
     );
     let mut text = text.expect(rt, "error");
     push_periods(rt, alloc, &mut text, level.saturating_mul(200), periods);
@@ -266,37 +267,38 @@ fn set_default(
 const ACCEPTED: &str = r#"[3,"x",{"status":"Accepted"}]"#;
 
 #[test]
-fn a_point_has_at_most_100_profiles(rt: HostRuntime) {
+fn a_point_has_at_most_200_profiles(rt: HostRuntime) {
     let alloc = rt.alloc();
     let mut point = point_with(&rt, alloc, "");
     for level in 0..100 {
         set_default(&rt, alloc, &mut point, (1, level, 1), ACCEPTED);
+        set_default(&rt, alloc, &mut point, (2, level, 1), ACCEPTED);
     }
     let full = r#"[3,"x",{"status":"Rejected","reason":"TooManyProfiles"}]"#;
-    set_default(&rt, alloc, &mut point, (2, 0, 1), full);
+    set_default(&rt, alloc, &mut point, (0, 0, 1), full);
     // It takes the place of another.
     set_default(&rt, alloc, &mut point, (1, 0, 1), ACCEPTED);
 }
 
 #[test]
-fn a_schedule_has_at_most_1000_periods(rt: HostRuntime) {
+fn a_schedule_has_at_most_4096_periods(rt: HostRuntime) {
     let alloc = rt.alloc();
     let mut point = point_with(&rt, alloc, "");
-    for level in 0..6 {
+    for level in 0..21 {
         set_default(&rt, alloc, &mut point, (1, level, 200), ACCEPTED);
     }
     let long = answer_of(
         &rt,
         &mut point,
-        r#"[2,"x","GetCompositeSchedule",{"connectorId":1,"duration":1001}]"#,
+        r#"[2,"x","GetCompositeSchedule",{"connectorId":1,"duration":4097}]"#,
     );
     let wanted = r#"[3,"x",{"status":"Rejected","reason":"ResultTooLong"}]"#;
-    same_text(&rt, long.as_str(), wanted, "1,001 periods");
+    same_text(&rt, long.as_str(), wanted, "4,097 periods");
     let most = answer_of(
         &rt,
         &mut point,
-        r#"[2,"x","GetCompositeSchedule",{"connectorId":1,"duration":1000}]"#,
+        r#"[2,"x","GetCompositeSchedule",{"connectorId":1,"duration":4096}]"#,
     );
-    let end = r#"{"startPeriod":998,"limit":1.0},{"startPeriod":999,"limit":2.0}]}}]"#;
-    holds(&rt, most.ends_with(end), "1,000 periods");
+    let end = r#"{"startPeriod":4094,"limit":1.0},{"startPeriod":4095,"limit":2.0}]}}]"#;
+    holds(&rt, most.ends_with(end), "4,096 periods");
 }

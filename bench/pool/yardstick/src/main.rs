@@ -1,10 +1,10 @@
 //! Workers that compile asks over one shared store beside a session that changes what a point has, in ordinary
 //! Rust: std's Mutex, Condvar, Arc and channel, without a history and without proofs.
-#[path = "../../../plain/src/instant.rs"]
+#[path = "../../../yardstick/src/instant.rs"]
 #[allow(dead_code)]
 mod instant;
 mod profile;
-#[path = "../../../plain/src/schedule.rs"]
+#[path = "../../../yardstick/src/schedule.rs"]
 mod schedule;
 mod store;
 

@@ -5,9 +5,9 @@ use std::collections::{HashMap, VecDeque};
 use std::sync::Arc;
 
 const MOST_REQUESTS: usize = 64;
-const MOST_PROFILES: usize = 100;
+const MOST_PROFILES: usize = 200;
 const MOST_CALLS: usize = 256;
-const LONGEST_ASK: i64 = 604_800;
+const LONGEST_ASK: i64 = 2_678_400;
 
 pub type Refusal = &'static str;
 pub type Answer = Result<Vec<(i64, u64)>, Refusal>;

@@ -146,7 +146,7 @@ pub const CONNECTOR_HELP: &str = "The connector, from 1 on, or 0 for the whole p
 pub const START_HELP: &str = "From when on, such as 2025-01-03T12:00:00Z";
 
 /// What `--duration` counts.
-pub const DURATION_HELP: &str = "For how many seconds, from 1 to 604800";
+pub const DURATION_HELP: &str = "For how many seconds, from 1 to 2678400";
 
 /// What `--at` counts.
 pub const AT_HELP: &str = "After this number of lines of the script, not after all";
