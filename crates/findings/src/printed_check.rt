@@ -15,6 +15,7 @@ pub(crate) fn depends_on_state(refusal: Refusal) -> bool {
             | Refusal::OtherTransaction
             | Refusal::TooManyProfiles
             | Refusal::OutboxFull
+            | Refusal::AuditOpen
             | Refusal::ResultTooLong
             | Refusal::VersionsExhausted
             | Refusal::TransactionsExhausted

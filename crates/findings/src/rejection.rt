@@ -19,7 +19,7 @@ pub(crate) enum Rejection<'text> {
 }
 
 /// The refusals that an answer may name.
-const REFUSALS: [Refusal; 22] = [
+const REFUSALS: [Refusal; 23] = [
     Refusal::UnknownPoint,
     Refusal::UnknownConnector,
     Refusal::MaxNotAtZero,
@@ -34,6 +34,7 @@ const REFUSALS: [Refusal; 22] = [
     Refusal::TooManyProfiles,
     Refusal::OutboxFull,
     Refusal::BadDuration,
+    Refusal::AuditOpen,
     Refusal::PastCalendar,
     Refusal::TooManyOpen,
     Refusal::ResultTooLong,

@@ -30,6 +30,7 @@ pub fn sentence(refusal: Refusal) -> &'static str {
         Refusal::TooManyProfiles => "the point would have more than 200 profiles; clear some first",
         Refusal::OutboxFull => "256 calls wait for the point, which has confirmed none of them",
         Refusal::BadDuration => "the duration is 0 or above 2678400 seconds, thirty-one days",
+        Refusal::AuditOpen => "the call of the point's last audit isn't confirmed yet",
         Refusal::PastCalendar => "the schedule would run past 9999-12-31T23:59:59Z",
         Refusal::TooManyOpen => "64 requests for schedules are kept, and no more",
         Refusal::ResultTooLong =>

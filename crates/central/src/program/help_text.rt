@@ -160,7 +160,7 @@ pub const JSON_HELP: &str = "Print it for programs, as JSON";
 /// What `explain` reads and prints.
 pub const EXPLAIN_NOTES: &str =
     "The script is standard input, as of 'central replay'; its lines are played and not printed. Then the
-limits of the connector are printed, one line for each stretch of time in which the limit and its cause
+limits of the connector are printed, one line for each interval in which the limit and its cause
 stay the same: from, to, how long, the limit, and what sets it. Below stand the profiles of the point that
 never set it in this time, each with the reason.
 
