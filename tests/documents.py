@@ -272,7 +272,7 @@ def action_problems(top, files):
     if any(kind != name for kind, sender, name in rows) or len(rows) != definition.count("\nrow_of "):
         yield "ActionKind.antt: a row isn't read, or has another name than its action"
     protocol = text_of(top, "docs/PROTOCOL.md")
-    headings = re.findall(r"^### (\w+) \((?:OCPP 1\.6, )?\d", section_of(protocol, "An operator's actions"), re.MULTILINE)
+    headings = re.findall(r"^### (\w+) \((?:our own|(?:OCPP 1\.6, )?\d)", section_of(protocol, "An operator's actions"), re.MULTILINE)
     cells = [row[0] for row in rows_of(section_of(protocol, "A point's actions").split("\nNOW is")[0])]
     pages = {
         "Operator": set(headings),

@@ -2,8 +2,8 @@
 """pages.py PROGRAM [write]: runs the commands of the pages on the built program, and prints 'N passed, M failed'.
 
 A command is a code block that calls `packaging/out/central`, or `curl` on what it serves. A block of `text` that follows it is
-what it has to print, but for moments, which are those of the clock. `serve` and `point` run beside the commands behind them, up to
-the end of the page: `serve` has to print where it listens, and `point` a line. With `write` the blocks of text are written anew,
+what it has to print, but for moments, which are those of the clock. `serve` and `point`, in the last line of a block, run beside the
+commands behind them, up to the end of the page: `serve` has to print where it listens, and `point` a line. With `write` the blocks of text are written anew,
 to be read before they are kept.
 """
 import os
@@ -91,7 +91,7 @@ def run_page(page, program, is_written):
             name = f"{page}:{first + 1}"
             command = PORT.sub(lambda found: f":{ports.setdefault(found[0], free_port())}", command)
             run = start(PROGRAM.sub(lambda _: shlex.quote(program) + " ", command))
-            if found := BESIDE.search(command):
+            if found := BESIDE.search(command.rstrip().rsplit("\n", 1)[-1]):
                 beside.append(run)
                 line = select.select([run.stdout], [], [], PATIENCE)[0] and run.stdout.readline()
                 is_right = line and (found[1] != "serve" or line.startswith("listening "))

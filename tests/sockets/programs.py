@@ -148,13 +148,16 @@ def command_lines(program):
         ["call", "--url", "ws://x/", "--ask", "1"],
         ["call", "--url", "ws://x/", "--ask", "1", "x"],
         ["call", "--url", "ws://x/", "--ask", "-1", "60"],
+        ["call", "--url", "ws://x/", "--audit", "1"],
+        ["call", "--url", "ws://x/", "--audit", "1", "60", "9"],
+        ["call", "--url", "ws://x/", "--status", "1"],
         ["call", "--url", "ws://x/", "--clear"],
         ["point", "--url", "ws://x", "--site", "s"],
         ["point", "--url", "ws://x", "--site", "s", "--id", "a", "--id", "b"],
     ):
         status, out, error = run(program, line)
         expect(f"the end of {line}", (status, out, error != b""), (4, b"", True))
-    for command, words in (("call", (b"--set-profile", b"NotACall", b"--ask")), ("point", (b"heartbeat", b"pause SECONDS", b"--id"))):
+    for command, words in (("call", (b"--set-profile", b"NotACall", b"--ask", b"--audit", b"--status")), ("point", (b"heartbeat", b"pause SECONDS", b"--id"))):
         status, out, error = run(program, [command, "--help"])
         expect(f"the help of {command}", (status, error, [word for word in words if word not in out]), (0, b"", []))
 

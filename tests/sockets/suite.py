@@ -8,6 +8,7 @@ import os
 import sys
 import time
 
+import audits
 import crowds
 import days
 import endings
@@ -31,6 +32,7 @@ SUBJECTS = {
     "endings": endings,
     "programs": programs,
     "journals": journals,
+    "audits": audits,
 }
 
 # What takes a program that is proved: others are too slow, or have no thread to spare.

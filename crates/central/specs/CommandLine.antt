@@ -68,14 +68,17 @@ optional_numbers name most = record (option name) {
   parser = Some (Unsigned 0 most);
 }
 
--- `call --url U [--set-profile FILE] [--clear CRITERIA] [--ask CONNECTOR SECONDS]`
+-- `call --url U [--set-profile FILE] [--clear CRITERIA] [--ask CONNECTOR SECONDS]
+-- [--audit CONNECTOR SECONDS] [--status]`
 abbrev pub call_command : App
 call_command =
-    with_rule (with_rule (with_rule (with_rule (new_app (codes "call"))
+    with_rule (with_rule (with_rule (with_rule (with_rule (with_rule (new_app (codes "call"))
     (needed (codes "url")))
     (optional (codes "set-profile")))
     (optional (codes "clear")))
-    (optional_numbers (codes "ask") 2147483647)
+    (optional_numbers (codes "ask") 2147483647))
+    (optional_numbers (codes "audit") 2147483647))
+    (flag (codes "status"))
 
 -- `point --url U --site F --id ID`
 abbrev pub point_command : App
@@ -186,6 +189,8 @@ pub record IsCalling (rows : List Row) (calling : Calling) : Type 0 where
       first_of (codes "set-profile") rows ≡ option_map (λ text. text.now) calling.set_profile
   pub clear : first_of (codes "clear") rows ≡ option_map (λ text. text.now) calling.clear
   pub ask : IsAsking (all_of (codes "ask") rows) calling.ask
+  pub audit : IsAsking (all_of (codes "audit") rows) calling.audit
+  pub status : IsFlag (codes "status") rows calling.status
 
 -- which point is simulated, and where it connects
 pub record IsPointing (rows : List Row) (pointing : Pointing) : Type 0 where

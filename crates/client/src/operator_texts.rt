@@ -16,6 +16,22 @@ pub fn clear_call(alloc: Global, payload: &str) -> Result<String, AllocError> {
 /// GetCompositeSchedule (chapter 5.7) of a connector, and for this many seconds, each given as its
 /// text.
 pub fn ask_call(alloc: Global, connector: &str, seconds: &str) -> Result<String, AllocError> {
-    let payload = format!(in alloc; "{{\"connectorId\":{connector},\"duration\":{seconds}}}")?;
+    let payload = payload_of(alloc, connector, seconds)?;
     write_call(alloc, "ask", "GetCompositeSchedule", payload.as_str())
+}
+
+/// AuditPoint, the central system's own, of a connector, and for this many seconds, each given as
+/// its text.
+pub fn audit_call(alloc: Global, connector: &str, seconds: &str) -> Result<String, AllocError> {
+    let payload = payload_of(alloc, connector, seconds)?;
+    write_call(alloc, "audit", "AuditPoint", payload.as_str())
+}
+
+/// PointStatus, the central system's own.
+pub fn status_call(alloc: Global) -> Result<String, AllocError> {
+    write_call(alloc, "status", "PointStatus", "{}")
+}
+
+fn payload_of(alloc: Global, connector: &str, seconds: &str) -> Result<String, AllocError> {
+    format!(in alloc; "{{\"connectorId\":{connector},\"duration\":{seconds}}}")
 }

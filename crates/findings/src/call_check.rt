@@ -131,6 +131,18 @@ fn check_asked(
         }
         Action::ClearChargingProfile(criteria) => check_clear(report, call, &criteria),
         Action::GetCompositeSchedule(request) => check_ask(report, call.text, &request),
+        // The point is asked for a schedule, in the site's unit.
+        Action::AuditPoint {
+            connector,
+            duration,
+        } => {
+            let request = ScheduleRequest {
+                connector,
+                duration,
+                unit: None,
+            };
+            check_ask(report, call.text, &request)
+        }
         Action::StartTransaction(start) => check_start(report, call.text, start.connector),
         _ => check_refused(report, call.text),
     }
@@ -140,6 +152,10 @@ fn check_asked(
 /// in it.
 fn check_refused(report: &mut Report, text: &LineText<'_>) -> Result<(), AllocError> {
     match text.refusal() {
+        Some((Refusal::UnknownPoint, name)) => {
+            let message = unknown_point_message(report, text.site, text.point)?;
+            report.fault(name, message)
+        }
         Some((refusal, name)) if !depends_on_state(refusal) => {
             let why = sentence(refusal);
             let message = format!(in report.alloc; "{refusal}: {why}")?;
@@ -183,16 +199,21 @@ pub(crate) fn warn_unknown(
     kind: ActionKind,
 ) -> Result<(), AllocError> {
     let alloc = report.alloc;
+    // Two actions are this system's own.
+    let whose = match kind {
+        ActionKind::AuditPoint | ActionKind::PointStatus => "",
+        _ => " of OCPP",
+    };
     for field in &unknown_fields(alloc, frame, kind)? {
         let name = excerpt(alloc, field.name)?;
         let known = names_of(alloc, field.fields)?;
         let message = match similar_name(alloc, field.name, known.as_slice())? {
             Some(meant) => {
                 format!(in alloc;
-                    "\"{name}\" is no field of OCPP there and has no effect (\"{meant}\" is one)"
+                    "\"{name}\" is no field{whose} there and has no effect (\"{meant}\" is one)"
                 )?
             }
-            None => format!(in alloc; "\"{name}\" is no field of OCPP there and has no effect")?,
+            None => format!(in alloc; "\"{name}\" is no field{whose} there and has no effect")?,
         };
         report.warn(message)?;
     }
@@ -324,7 +345,8 @@ pub(crate) fn point_of<'a>(site: &'a Site, text: &LineText<'_>) -> Option<SitePo
     site.point(site.place_of(text.point)?)
 }
 
-/// A GetCompositeSchedule, by its answer, as far as the point's book has no part in it.
+/// A GetCompositeSchedule or an AuditPoint, by its answer, as far as what the point has by then has
+/// no part in it.
 fn check_ask(
     report: &mut Report,
     text: &LineText<'_>,

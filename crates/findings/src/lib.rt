@@ -1,6 +1,7 @@
 //! What is wrong with a site file and with a script, said for people before they are used.
 #![tactic(auto)]
 
+mod audit_check;
 mod broken_json;
 mod call_check;
 mod change_check;

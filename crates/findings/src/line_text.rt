@@ -1,5 +1,6 @@
 //! The message that a line of a script brings, as it is checked.
 
+use crate::audit_check::JudgedAudit;
 use crate::finding::FaultName;
 use messages::{CallFault, Response, Side};
 use ocpp_scalars::{Instant, Refusal};
@@ -41,6 +42,8 @@ pub(crate) struct LineText<'a> {
     pub line: &'a str,
     /// What the line prints.
     pub printed: &'a [PrintedLine],
+    /// The point's audit, where the message confirmed a call.
+    pub audit: Option<JudgedAudit>,
 }
 
 impl<'a> LineText<'a> {
@@ -74,6 +77,7 @@ impl<'a> LineText<'a> {
             frame: sent.frame(),
             line: utf8_of(played.line).0,
             printed: played.outcome.printed.as_slice(),
+            audit: None,
         }
     }
 

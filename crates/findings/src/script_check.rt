@@ -1,5 +1,6 @@
 //! What is wrong with a script, as far as each of its messages says it.
 
+use crate::audit_check::judged_audit;
 use crate::finding::{FaultName, Finding, Location};
 use crate::line_hints::mistake_message;
 use crate::line_text::LineText;
@@ -14,7 +15,7 @@ use std::alloc::{AllocError, Global};
 /// What is wrong with a script on a site, line by line: faults of lines, messages that are refused,
 /// and warnings. A message gets a warning if it does something else than it says. A refusal that
 /// depends on what the point has by then (`NoTransaction`, `OtherTransaction`, `TooManyProfiles`,
-/// `OutboxFull`, `ResultTooLong`) isn't found.
+/// `OutboxFull`, `AuditOpen`, `ResultTooLong`) isn't found.
 pub fn check_script(alloc: Global, site: Site, script: &[u8]) -> Result<Vec<Finding>, AllocError> {
     if script.len() > MAX_SCRIPT_BYTES {
         return too_long(alloc, script.len());
@@ -24,7 +25,7 @@ pub fn check_script(alloc: Global, site: Site, script: &[u8]) -> Result<Vec<Find
     // Each line has a byte at least.
     for _ in 0..script.len() {
         match playing.skim_next()? {
-            Some(played) => check.take_in(playing.machine().site(), &played)?,
+            Some(played) => check.take_in(&playing, &played)?,
             None => break,
         }
     }
@@ -57,8 +58,12 @@ impl ScriptCheck {
         }
     }
 
-    /// Checks a line that was played on a site.
-    pub fn take_in(&mut self, site: &Site, played: &PlayedLine<'_>) -> Result<(), AllocError> {
+    /// Checks a line that was played just now.
+    pub fn take_in(
+        &mut self,
+        playing: &Playing<'_>,
+        played: &PlayedLine<'_>,
+    ) -> Result<(), AllocError> {
         self.report.go_to(played.number);
         for line in &played.outcome.printed {
             if let PrintedLine::Held(request) = line {
@@ -68,15 +73,25 @@ impl ScriptCheck {
                 })?;
             }
         }
-        self.check_line(site, played)
+        self.check_line(playing, played)
     }
 
-    fn check_line(&mut self, site: &Site, played: &PlayedLine<'_>) -> Result<(), AllocError> {
+    fn check_line(
+        &mut self,
+        playing: &Playing<'_>,
+        played: &PlayedLine<'_>,
+    ) -> Result<(), AllocError> {
         let report = &mut self.report;
+        let site = playing.machine().site();
         match &played.said {
             None => Ok(()),
             Some(Ok(ScriptLine::Text(sent))) => {
-                check_text(report, &mut self.memory, &LineText::new(site, played, sent))
+                let audit = judged_audit(playing, played, sent.point());
+                let text = LineText {
+                    audit,
+                    ..LineText::new(site, played, sent)
+                };
+                check_text(report, &mut self.memory, &text)
             }
             Some(Ok(ScriptLine::Hold(sent))) => {
                 check_text(

@@ -1,5 +1,6 @@
 //! What is wrong with a message that a line of a script brings, as a frame (OCPP-J 1.6, chapter 4).
 
+use crate::audit_check::check_verdict;
 use crate::broken_json::first_break;
 use crate::call_check::{Call, check_call};
 use crate::finding::FaultName;
@@ -92,7 +93,7 @@ fn reply_status<'memory>(payload: Node<'_, 'memory>) -> Option<&'memory str> {
     }
 }
 
-/// A point that doesn't accept a call, and an operator that replies.
+/// A point that doesn't accept a call or isn't in step, and an operator that replies.
 fn check_reply(
     report: &mut Report,
     text: &LineText<'_>,
@@ -104,10 +105,15 @@ fn check_reply(
             "an operator's CALLRESULT and CALLERROR are ignored: an operator sends CALLs, which begin with [2,",
         );
     }
+    let alloc = report.alloc;
+    if let Some(audit) = &text.audit {
+        if audit.call.to_string(alloc)?.as_str() == id {
+            return check_verdict(report, audit);
+        }
+    }
     let Some(status) = status else {
         return Ok(());
     };
-    let alloc = report.alloc;
     let id = excerpt(alloc, id)?;
     let status = excerpt(alloc, status)?;
     let message = format!(in alloc;

@@ -1,4 +1,5 @@
 pub mod Exact
 pub mod Ask
+pub mod Said
 pub mod PlainCompiler
 pub mod Cause

@@ -5,6 +5,7 @@ pub mod Limit
 pub mod Cause
 pub mod WhyNot
 pub mod Composite
+pub mod Said
 pub mod Exact
 pub mod Compiled
 pub mod Ask

@@ -3,5 +3,6 @@ pub mod Ranges
 pub mod Greatest
 pub mod ExactPeriods
 pub mod ExactAnswers
+pub mod SaidSchedules
 pub mod PlainCompiler
 pub mod Reasons

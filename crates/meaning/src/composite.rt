@@ -1,7 +1,9 @@
 //! Composite schedules.
 
-ghost use Rattle.std.specs.Prelude.{◌≡◌, IfOk};
+ghost use Rattle.std.specs.Prelude.{◌≡◌, IfOk, IfErr, OnErr, OnOk};
+ghost use Rattle.meaning.specs.ByCases.Said.{is_next, is_some_schedule, is_said_schedule};
 
+use crate::said::SaidPeriods;
 use std::alloc::AllocError;
 use std::marker::Model;
 
@@ -38,6 +40,7 @@ impl Model for Composite {
 
 impl Composite {
     ghost use Rattle.meaning.specs.Composite.{IsSchedule};
+    ghost use Rattle.meaning.specs.Said.{IsSaidSchedule};
 
     /// The schedule of these periods over a number of seconds.
     pub fn new(duration: u32, periods: Vec<CompositePeriod>) -> Composite
@@ -46,6 +49,23 @@ impl Composite {
         ensures same { result.periods ≡ periods.items }
     {
         Composite { duration, periods }
+    }
+
+    /// The schedule over a number of seconds that periods from a point make. It succeeds exactly where
+    /// they begin at 0, each starts later than the one before it, all within the duration, and they are
+    /// at most `MAX_COMPOSITE_PERIODS`. Else it returns them. Allocates nothing.
+    pub fn from_said(duration: u32, periods: SaidPeriods) -> Result<Composite, SaidPeriods>
+        ensures valid { OnOk result (IsSaidSchedule duration periods) }
+        ensures lasts { IfOk result (λ schedule. schedule.duration ≡ duration) }
+        ensures same { IfOk result (λ schedule. schedule.periods ≡ periods) }
+        ensures invalid { OnErr result (¬ (IsSaidSchedule duration periods)) }
+        ensures back { IfErr result (λ back. back ≡ periods) }
+    {
+        if is_said_schedule(duration, periods.as_slice()) {
+            Ok(Composite::new(duration, periods.into_vec()))
+        } else {
+            Err(periods)
+        }
     }
 
     /// How many seconds it covers.
@@ -73,5 +93,36 @@ impl Composite {
             duration: self.duration(),
             periods,
         })
+    }
+}
+
+/// Whether periods from a point make a schedule over a number of seconds.
+fn is_said_schedule(duration: u32, periods: &[CompositePeriod]) -> bool
+    ensures { result ≡ is_said_schedule duration periods.now }
+{
+    periods.len() <= MAX_COMPOSITE_PERIODS && is_some_schedule(duration, periods)
+}
+
+/// The same of any number of periods.
+fn is_some_schedule(duration: u32, periods: &[CompositePeriod]) -> bool
+    ensures { result ≡ is_some_schedule duration periods.now }
+{
+    let mut before = None;
+    for period in periods {
+        if !is_next(before, period.start) || period.start >= duration {
+            return false;
+        }
+        before = Some(period.start);
+    }
+    before.is_some()
+}
+
+/// Whether a period begins later than the one before it, and the first one at 0.
+fn is_next(before: Option<u32>, start: u32) -> bool
+    ensures { result ≡ is_next before start }
+{
+    match before {
+        Some(before) => before < start,
+        None => start == 0,
     }
 }

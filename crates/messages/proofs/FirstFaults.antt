@@ -10,7 +10,7 @@ use Rattle.ocppj_frame.specs.Tree.{Tree, is_object}
 use Rattle.profile.specs.Names.{purpose_named, kind_named, recurrency_named, unit_named}
 use Rattle.profile.specs.declared.period.Period.{Period}
 use Rattle.messages.specs.declared.action_kind.ActionKind.{ActionKind}
-use Rattle.messages.specs.declared.action_kind.ActionKind.TheVariants.{SetChargingProfile, ClearChargingProfile, GetCompositeSchedule, BootNotification, Heartbeat, Authorize, StartTransaction, StopTransaction, StatusNotification, MeterValues, FirmwareStatusNotification, DiagnosticsStatusNotification, DataTransfer}
+use Rattle.messages.specs.declared.action_kind.ActionKind.TheVariants.{SetChargingProfile, ClearChargingProfile, GetCompositeSchedule, AuditPoint, PointStatus, BootNotification, Heartbeat, Authorize, StartTransaction, StopTransaction, StatusNotification, MeterValues, FirmwareStatusNotification, DiagnosticsStatusNotification, DataTransfer}
 use Rattle.messages.specs.declared.call_fault.CallFault.{CallFault}
 use Rattle.messages.specs.declared.field_name.FieldName.{FieldName}
 use Rattle.messages.specs.declared.field_name.FieldName.TheVariants.{ChargingProfileId, ChargingProfileKind, ChargingProfilePurpose, ChargingRateUnit, ChargingSchedule, ChargingSchedulePeriod, ConnectorId, CsChargingProfiles, Duration, Id, IdTag, Limit, MeterStart, MinChargingRate, NumberPhases, RecurrencyKind, StackLevel, StartPeriod, StartSchedule, Timestamp, TransactionId, ValidFrom, ValidTo}
@@ -20,7 +20,7 @@ use Rattle.messages.specs.declared.fields.NamedField.{NamedField}
 use Rattle.messages.specs.FieldRow.{fields_in}
 use Rattle.messages.specs.Fields.{required, required_value, optional, whole, whole_from_zero, tenths, instant, one_name_of, list, object, text, as_object, as_id_tag}
 use Rattle.messages.specs.ProfileFields.{period_of, each_period_of, unless_empty, periods_of, schedule_of, profile_of}
-use Rattle.messages.specs.Action.{set_charging_profile_of, clear_charging_profile_of, get_composite_schedule_of, id_tag_of, start_transaction_of, stop_transaction_of, action_of_kind}
+use Rattle.messages.specs.Action.{set_charging_profile_of, clear_charging_profile_of, get_composite_schedule_of, audit_point_of, id_tag_of, start_transaction_of, stop_transaction_of, action_of_kind}
 use Rattle.messages.specs.FieldFaults.{Checked, faults_of_value, entry_faults, empty_fault, entries_faults, id_tag_faults, faults_down, field_faults, HaveNoFault, IsFirstFault}
 
 -- ---- the first fault, computed
@@ -222,6 +222,12 @@ get_first payload =
     step (required (whole_from_zero payload Duration)) _ _ (λ _ _.
     step (optional (one_name_of unit_named payload ChargingRateUnit)) _ _ (λ _ _. refl)))
 
+audit_first : (payload : Tree) → result_err (audit_point_of payload) ≡ first_fault (field_faults AuditPoint payload)
+unfolding audit_point_of
+audit_first payload =
+    step (required (whole_from_zero payload ConnectorId)) _ _ (λ _ _.
+    step (required (whole_from_zero payload Duration)) _ _ (λ _ _. refl))
+
 -- an idTag with its length, and then the rest
 id_tag_first : {A : Type 0} → (payload : Tree) (next : List ℕ → Result A CallFault) (rest : Checked) → ((tag : List ℕ) → result_err (next tag) ≡ first_fault rest)
     → result_err (id_tag_of payload >>= next) ≡ first_fault (result_err (required (text payload IdTag)) ∷ (faults_of_value (id_tag_faults IdTag) (text payload IdTag).field ++ rest))
@@ -246,6 +252,8 @@ pub action_first : (kind : ActionKind) (payload : Tree) → result_err (action_o
 action_first SetChargingProfile payload = set_first payload
 action_first ClearChargingProfile payload = clear_first payload
 action_first GetCompositeSchedule payload = get_first payload
+action_first AuditPoint payload = audit_first payload
+action_first PointStatus payload = refl
 action_first BootNotification payload = refl
 action_first Heartbeat payload = refl
 action_first Authorize payload = refl

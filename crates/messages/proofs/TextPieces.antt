@@ -25,3 +25,9 @@ pub three_values : (old a u b v q c w e o r s t x y z : List ℕ) → o ≡ old 
     → s ≡ r ++ b → t ≡ s ++ v → x ≡ t ++ (q ++ c) → y ≡ x ++ w → z ≡ y ++ e
     → z ≡ old ++ ((a ++ (u ++ (b ++ ((v ++ q) ++ (c ++ (w ++ [])))))) ++ e)
 three_values old a u b v q c w e o r s t x y z f g h i j k l = simp (l, k, j, i, h, g, f, append_assoc, append-nil)
+
+-- The last one of three values is a string.
+pub two_values_and_string : (old a u b v c w q e o r s t x y z : List ℕ) → o ≡ old ++ a → r ≡ o ++ u
+    → s ≡ r ++ b → t ≡ s ++ v → x ≡ t ++ c → y ≡ x ++ w → z ≡ y ++ (q ++ e)
+    → z ≡ old ++ ((a ++ (u ++ (b ++ (v ++ (c ++ ((w ++ q) ++ [])))))) ++ e)
+two_values_and_string old a u b v c w q e o r s t x y z f g h i j k l = simp (l, k, j, i, h, g, f, append_assoc, append-nil)

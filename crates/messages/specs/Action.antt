@@ -9,7 +9,7 @@ use Rattle.profile.specs.Names.{purpose_named, unit_named}
 use Rattle.messages.specs.declared.action.Action.{Action}
 use Rattle.messages.specs.declared.action.Action.TheVariants as actions
 use Rattle.messages.specs.declared.action_kind.ActionKind.{ActionKind}
-use Rattle.messages.specs.declared.action_kind.ActionKind.TheVariants.{SetChargingProfile, ClearChargingProfile, GetCompositeSchedule, StartTransaction, StopTransaction}
+use Rattle.messages.specs.declared.action_kind.ActionKind.TheVariants.{SetChargingProfile, ClearChargingProfile, GetCompositeSchedule, AuditPoint, PointStatus, StartTransaction, StopTransaction}
 use Rattle.messages.specs.declared.call_fault.CallFault.{CallFault}
 use Rattle.messages.specs.declared.call_fault.CallFault.TheVariants.{NotImplemented}
 use Rattle.messages.specs.declared.field_name.FieldName.TheVariants.{ChargingProfilePurpose, ChargingRateUnit, ConnectorId, CsChargingProfiles, Duration, Id, IdTag, MeterStart, StackLevel, Timestamp, TransactionId}
@@ -50,6 +50,13 @@ get_composite_schedule_of payload = do
   Ok (actions.GetCompositeSchedule (record
       { connector = connector; duration = duration; unit = unit }))
 
+-- AuditPoint, this system's own
+unfoldable pub audit_point_of : Tree → Result Action CallFault
+audit_point_of payload = do
+  connector ← required (whole_from_zero payload ConnectorId)
+  duration ← required (whole_from_zero payload Duration)
+  Ok (actions.AuditPoint connector duration)
+
 -- ---- the fields of points' actions that this system uses
 
 unfoldable pub id_tag_of : Tree → Result (List ℕ) CallFault
@@ -85,6 +92,8 @@ abbrev pub action_of_kind : ActionKind → Tree → Result Action CallFault
 action_of_kind SetChargingProfile payload = set_charging_profile_of payload
 action_of_kind ClearChargingProfile payload = clear_charging_profile_of payload
 action_of_kind GetCompositeSchedule payload = get_composite_schedule_of payload
+action_of_kind AuditPoint payload = audit_point_of payload
+action_of_kind PointStatus payload = Ok actions.PointStatus
 action_of_kind StartTransaction payload = start_transaction_of payload
 action_of_kind StopTransaction payload = stop_transaction_of payload
 action_of_kind kind payload = action_answered (answer_of_kind kind)

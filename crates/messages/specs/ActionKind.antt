@@ -1,10 +1,10 @@
 -- The table of actions: of each its name, who sends it, what it is answered where its fields aren't
 -- looked at, and else its fields in the order in which they are checked (OCPP 1.6, chapters 4 to
--- 6).
+-- 6). AuditPoint and PointStatus are this system's own.
 use Rattle.std.specs.Prelude.{ℕ, List, [], ◌∷◌, Bool, true, false, Option, Some, None, codes, option_map, if◌then◌else◌}
 use Rattle.std.specs.Str.{bytes_eq}
 use Rattle.messages.specs.declared.action_kind.ActionKind.{ActionKind}
-use Rattle.messages.specs.declared.action_kind.ActionKind.TheVariants.{SetChargingProfile, ClearChargingProfile, GetCompositeSchedule, BootNotification, Heartbeat, Authorize, StartTransaction, StopTransaction, StatusNotification, MeterValues, FirmwareStatusNotification, DiagnosticsStatusNotification, DataTransfer}
+use Rattle.messages.specs.declared.action_kind.ActionKind.TheVariants.{SetChargingProfile, ClearChargingProfile, GetCompositeSchedule, AuditPoint, PointStatus, BootNotification, Heartbeat, Authorize, StartTransaction, StopTransaction, StatusNotification, MeterValues, FirmwareStatusNotification, DiagnosticsStatusNotification, DataTransfer}
 use Rattle.messages.specs.declared.fixed_answer.FixedAnswer.{FixedAnswer}
 use Rattle.messages.specs.declared.fixed_answer.FixedAnswer.TheVariants as answers
 use Rattle.messages.specs.declared.side.Side.{Side}
@@ -47,6 +47,11 @@ row_of GetCompositeSchedule = with_fields Operator (codes "GetCompositeSchedule"
     ∷ Required Duration WholeFromZero
     ∷ Optional ChargingRateUnit UnitName
     ∷ [])
+row_of AuditPoint = with_fields Operator (codes "AuditPoint")
+    (Required ConnectorId WholeFromZero
+    ∷ Required Duration WholeFromZero
+    ∷ [])
+row_of PointStatus = with_fields Operator (codes "PointStatus") []
 row_of BootNotification = answered Point (codes "BootNotification") answers.BootNotification
 row_of Heartbeat = answered Point (codes "Heartbeat") answers.Heartbeat
 row_of Authorize = answered Point (codes "Authorize") answers.Authorize
@@ -87,6 +92,8 @@ action_kinds =
     SetChargingProfile
     ∷ ClearChargingProfile
     ∷ GetCompositeSchedule
+    ∷ AuditPoint
+    ∷ PointStatus
     ∷ BootNotification
     ∷ Heartbeat
     ∷ Authorize

@@ -10,11 +10,12 @@ use Rattle.profile.specs.declared.criteria.Criteria.{Criteria}
 use Rattle.profile.specs.declared.period.Period.{Period}
 use Rattle.profile.specs.declared.purpose.Purpose.{Purpose}
 use Rattle.profile.specs.declared.schedule.Schedule.{Schedule}
+use Rattle.profile.specs.declared.unit.Unit.{Unit}
 use Rattle.messages.specs.ObjectText.{list_text, object_text, string_text, time_text}
 use Rattle.messages.specs.Names.{kind_name, purpose_name, recurrency_name, recurrency_of, unit_text}
 use Rattle.messages.specs.declared.call.Call.{Call}
 use Rattle.messages.specs.declared.call.CallBody.{CallBody}
-use Rattle.messages.specs.declared.call.CallBody.TheVariants.{Clear, Set}
+use Rattle.messages.specs.declared.call.CallBody.TheVariants.{Clear, Set, Audit}
 use Rattle.messages.specs.declared.call_text.Criterion.{Criterion}
 use Rattle.messages.specs.declared.call_text.Criterion.TheVariants as criterion
 
@@ -70,14 +71,24 @@ set_fields connector profile =
     ∷ (codes "csChargingProfiles", Some (profile_text profile))
     ∷ []
 
+-- OCPP 1.6, chapter 6, GetCompositeSchedule.req
+abbrev pub audit_fields : ℕ → ℕ → Unit → List (List ℕ × Option (List ℕ))
+audit_fields connector duration unit =
+    (codes "connectorId", Some (decimal connector))
+    ∷ (codes "duration", Some (decimal duration))
+    ∷ (codes "chargingRateUnit", Some (string_text (unit_text unit)))
+    ∷ []
+
 abbrev pub action_name : CallBody → List ℕ
 action_name (Clear criteria) = codes "ClearChargingProfile"
 action_name (Set connector profile) = codes "SetChargingProfile"
+action_name (Audit connector duration unit) = codes "GetCompositeSchedule"
 
 -- the fields of a call's payload
 abbrev pub payload_fields : CallBody → List (List ℕ × Option (List ℕ))
 payload_fields (Clear criteria) = clear_fields criteria
 payload_fields (Set connector profile) = set_fields connector profile
+payload_fields (Audit connector duration unit) = audit_fields connector duration unit
 
 abbrev pub payload_text : CallBody → List ℕ
 payload_text body = object_text (payload_fields body)
@@ -125,8 +136,14 @@ criteria_text criteria = words_of (filter_map (λ given. given) criteria)
 abbrev pub profile_words : Purpose → ℤ → List ℕ
 profile_words purpose id = purpose_name purpose ++ (codes " " ++ signed_decimal id)
 
--- which profiles a call is about
+-- an audit by its connector and its duration, in seconds
+abbrev pub audit_words : ℕ → ℕ → List ℕ
+audit_words connector duration =
+    codes "connector " ++ decimal connector ++ (codes " for " ++ decimal duration ++ codes " s")
+
+-- what a call is about: its profiles, or the schedule that it asks for
 abbrev pub subject_text : CallBody → List ℕ
 subject_text (Clear criteria) = criteria_text (criteria_given criteria)
 subject_text (Set connector profile) =
     profile_words profile.purpose profile.id ++ (codes " at connector " ++ decimal connector)
+subject_text (Audit connector duration unit) = audit_words connector duration

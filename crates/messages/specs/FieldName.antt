@@ -3,7 +3,7 @@
 -- definition.
 use Rattle.std.specs.Prelude.{ℕ, List, codes}
 use Rattle.messages.specs.declared.field_name.FieldName.{FieldName}
-use Rattle.messages.specs.declared.field_name.FieldName.TheVariants.{ChargingProfileId, ChargingProfileKind, ChargingProfilePurpose, ChargingRateUnit, ChargingSchedule, ChargingSchedulePeriod, ConnectorId, CsChargingProfiles, Duration, Id, IdTag, Limit, MeterStart, MinChargingRate, NumberPhases, RecurrencyKind, StackLevel, StartPeriod, StartSchedule, Timestamp, TransactionId, ValidFrom, ValidTo}
+use Rattle.messages.specs.declared.field_name.FieldName.TheVariants.{ChargingProfileId, ChargingProfileKind, ChargingProfilePurpose, ChargingRateUnit, ChargingSchedule, ChargingSchedulePeriod, ConnectorId, CsChargingProfiles, Duration, Id, IdTag, Limit, MeterStart, MinChargingRate, NumberPhases, RecurrencyKind, ScheduleStart, StackLevel, StartPeriod, StartSchedule, Status, Timestamp, TransactionId, ValidFrom, ValidTo}
 
 -- The name under which a field is read from a payload.
 abbrev pub field_name : FieldName → List ℕ
@@ -23,9 +23,11 @@ field_name MeterStart = codes "meterStart"
 field_name MinChargingRate = codes "minChargingRate"
 field_name NumberPhases = codes "numberPhases"
 field_name RecurrencyKind = codes "recurrencyKind"
+field_name ScheduleStart = codes "scheduleStart"
 field_name StackLevel = codes "stackLevel"
 field_name StartPeriod = codes "startPeriod"
 field_name StartSchedule = codes "startSchedule"
+field_name Status = codes "status"
 field_name Timestamp = codes "timestamp"
 field_name TransactionId = codes "transactionId"
 field_name ValidFrom = codes "validFrom"
@@ -49,9 +51,11 @@ fault_field_text MeterStart = codes "meterStart"
 fault_field_text MinChargingRate = codes "minChargingRate"
 fault_field_text NumberPhases = codes "numberPhases"
 fault_field_text RecurrencyKind = codes "recurrencyKind"
+fault_field_text ScheduleStart = codes "scheduleStart"
 fault_field_text StackLevel = codes "stackLevel"
 fault_field_text StartPeriod = codes "startPeriod"
 fault_field_text StartSchedule = codes "startSchedule"
+fault_field_text Status = codes "status"
 fault_field_text Timestamp = codes "timestamp"
 fault_field_text TransactionId = codes "transactionId"
 fault_field_text ValidFrom = codes "validFrom"

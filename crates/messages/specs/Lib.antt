@@ -5,6 +5,7 @@ pub mod FieldRow
 pub mod ActionKind
 pub mod Fields
 pub mod ProfileFields
+pub mod Said
 pub mod Action
 pub mod FieldFaults
 pub mod Names

@@ -13,6 +13,9 @@ use Rattle.messages.specs.declared.response.Response.{Response}
 use Rattle.messages.specs.declared.response.Response.TheVariants.{Accepted, Rejected, Unknown, BootNotification, Heartbeat, Authorize, StartTransaction, Empty, UnknownVendorId, Error}
 use Rattle.messages.specs.declared.response.Response.TheVariants as responses
 use Rattle.messages.specs.declared.response.ScheduleResponse.{ScheduleResponse}
+use Rattle.messages.specs.declared.response.PointStatus.{PointStatus}
+use Rattle.messages.specs.declared.response.AuditOutcome.{AuditOutcome}
+use Rattle.messages.specs.declared.response.AuditOutcome.TheVariants as outcomes
 use Rattle.messages.specs.ObjectText.{list_text, object_text, string_text, time_text}
 use Rattle.messages.specs.Names.{unit_text}
 use Rattle.messages.specs.CallFault.{fault_code, fault_description}
@@ -82,6 +85,24 @@ composite_text response = object_text (
     ∷ (codes "chargingSchedule", Some (composite_schedule_text response.unit response.schedule))
     ∷ [])
 
+-- how an audit came out; this system's own names
+abbrev pub audit_name : AuditOutcome → List ℕ
+audit_name outcomes.NoAudit = codes "None"
+audit_name outcomes.Waiting = codes "Waiting"
+audit_name outcomes.Agrees = codes "Agrees"
+audit_name outcomes.Differs = codes "Differs"
+audit_name outcomes.Rejected = codes "Rejected"
+audit_name outcomes.Unsettled = codes "Unsettled"
+
+-- the answer to PointStatus, this system's own
+unfoldable pub point_status_text : PointStatus → List ℕ
+point_status_text status = object_text (
+    (codes "status", Some (string_text (codes "Accepted")))
+    ∷ (codes "version", Some (decimal status.version))
+    ∷ (codes "outbox", Some (decimal status.outbox))
+    ∷ (codes "audit", Some (string_text (audit_name status.audit)))
+    ∷ [])
+
 abbrev pub is_out_of_memory : Refusal → Bool
 is_out_of_memory OutOfMemory = true
 is_out_of_memory _ = false
@@ -99,6 +120,7 @@ response_text id Accepted = call_result_text id (status_text (codes "Accepted"))
 response_text id (Rejected refusal) = refusal_text id refusal
 response_text id Unknown = call_result_text id (status_text (codes "Unknown"))
 response_text id (responses.Schedule response) = call_result_text id (composite_text response)
+response_text id (responses.PointStatus status) = call_result_text id (point_status_text status)
 response_text id (BootNotification now) = call_result_text id (boot_notification_text now)
 response_text id (Heartbeat now) = call_result_text id (heartbeat_text now)
 response_text id Authorize = call_result_text id authorize_text

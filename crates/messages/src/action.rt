@@ -4,7 +4,7 @@ ghost use Rattle.std.specs.Prelude.{◌≡◌, Some};
 ghost use Rattle.ocppj_frame.specs.Frame.{message_in};
 ghost use Rattle.ocppj_frame.specs.Payload.{tree_at};
 ghost use Rattle.messages.specs.Action.{action_answered, action_in, action_of_kind, kind_asked, NeedsNoMemory};
-ghost use Rattle.messages.specs.Action.{set_charging_profile_of, clear_charging_profile_of, get_composite_schedule_of, start_transaction_of, stop_transaction_of, id_tag_of};
+ghost use Rattle.messages.specs.Action.{set_charging_profile_of, clear_charging_profile_of, get_composite_schedule_of, audit_point_of, start_transaction_of, stop_transaction_of, id_tag_of};
 ghost use Rattle.ocpp_scalars.specs.Reading.{ReadsUnless};
 ghost use Rattle.messages.specs.CallFault.{is_memory};
 
@@ -31,6 +31,12 @@ pub enum Action {
     },
     ClearChargingProfile(Criteria),
     GetCompositeSchedule(ScheduleRequest),
+    /// An audit of a connector over a duration, in seconds.
+    AuditPoint {
+        connector: u32,
+        duration: u32,
+    },
+    PointStatus,
     StartTransaction(StartTransaction),
     /// The transaction's number.
     StopTransaction(i32),
@@ -100,6 +106,8 @@ pub fn read_fields(
         ActionKind::SetChargingProfile => read_set_charging_profile(alloc, payload),
         ActionKind::ClearChargingProfile => read_clear_charging_profile(payload),
         ActionKind::GetCompositeSchedule => read_get_composite_schedule(payload),
+        ActionKind::AuditPoint => read_audit_point(payload),
+        ActionKind::PointStatus => Ok(Action::PointStatus),
         ActionKind::StartTransaction => read_start_transaction(alloc, payload),
         ActionKind::StopTransaction => read_stop_transaction(payload),
         _ => answered(kind.fixed_answer()),
@@ -159,6 +167,19 @@ fn read_get_composite_schedule(payload: Node<'_, '_>) -> Result<Action, CallFaul
         duration,
         unit,
     }))
+}
+
+/// AuditPoint, this system's own.
+#[tactic(auto, unfolding(crate::specs::Action::audit_point_of))]
+fn read_audit_point(payload: Node<'_, '_>) -> Result<Action, CallFault>
+    ensures { result ≡ audit_point_of (tree_at payload.entry) }
+{
+    let connector = whole_from_zero(payload, ConnectorId).required()?;
+    let duration = whole_from_zero(payload, Duration).required()?;
+    Ok(Action::AuditPoint {
+        connector,
+        duration,
+    })
 }
 
 // ---- the fields of points' actions

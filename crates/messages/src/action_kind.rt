@@ -16,12 +16,17 @@ use crate::field_row::ObjectKind;
 use crate::fixed_answer::FixedAnswer;
 use crate::side::Side::{self, Operator, Point};
 
-/// The actions that are known (chapters 4.1 to 4.10 and 5), without their fields.
+/// The actions that are known (chapters 4.1 to 4.10 and 5, and two of this system's own), without
+/// their fields.
 #[derive(Clone, Copy, Debug, PartialEq, Eq)]
 pub enum ActionKind {
     SetChargingProfile,
     ClearChargingProfile,
     GetCompositeSchedule,
+    /// This system's own: the point is asked for the composite schedule that it follows, to compare it.
+    AuditPoint,
+    /// This system's own: the version, the calls that are left, and the last audit.
+    PointStatus,
     BootNotification,
     Heartbeat,
     Authorize,
@@ -54,6 +59,12 @@ const GET_FIELDS: &[FieldRow] = &[
     Required(ConnectorId, WholeFromZero),
     Required(Duration, WholeFromZero),
     Optional(ChargingRateUnit, UnitName),
+];
+
+/// AuditPoint, of this system's own.
+const AUDIT_FIELDS: &[FieldRow] = &[
+    Required(ConnectorId, WholeFromZero),
+    Required(Duration, WholeFromZero),
 ];
 
 /// StartTransaction.req.
@@ -115,6 +126,8 @@ impl ActionKind {
             ActionKind::SetChargingProfile,
             ActionKind::ClearChargingProfile,
             ActionKind::GetCompositeSchedule,
+            ActionKind::AuditPoint,
+            ActionKind::PointStatus,
             ActionKind::BootNotification,
             ActionKind::Heartbeat,
             ActionKind::Authorize,
@@ -143,6 +156,8 @@ impl ActionKind {
                 CLEAR_FIELDS,
             ),
             Self::GetCompositeSchedule => with_fields(Operator, "GetCompositeSchedule", GET_FIELDS),
+            Self::AuditPoint => with_fields(Operator, "AuditPoint", AUDIT_FIELDS),
+            Self::PointStatus => with_fields(Operator, "PointStatus", &[]),
             Self::BootNotification => answered(
                 Point,
                 "BootNotification",

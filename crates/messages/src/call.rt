@@ -3,7 +3,7 @@
 ghost use Rattle.std.specs.Prelude.{◌≡◌, IfOk};
 ghost use Rattle.messages.specs.CallText.{action_name};
 
-use profile::{Criteria, Profile};
+use profile::{Criteria, Profile, Unit};
 use std::alloc::AllocError;
 
 /// A call to a charge point (OCPP-J 1.6, 4.2.1).
@@ -14,13 +14,22 @@ pub struct Call {
     pub body: CallBody,
 }
 
-/// What a call asks a charge point to do (chapters 5.5 and 5.16).
+/// What a call asks a charge point to do (chapters 5.5, 5.7 and 5.16).
 #[derive(Debug, Drop)]
 pub enum CallBody {
     /// ClearChargingProfile, of the profiles that match these criteria.
     Clear(Criteria),
     /// SetChargingProfile, at this connector.
-    Set { connector: u32, profile: Profile },
+    Set {
+        connector: u32,
+        profile: Profile,
+    },
+    /// GetCompositeSchedule, of this connector over a duration in seconds, in this unit.
+    Audit {
+        connector: u32,
+        duration: u32,
+        unit: Unit,
+    },
 }
 
 impl Call {
@@ -43,6 +52,7 @@ impl CallBody {
         match self {
             CallBody::Clear(_) => "ClearChargingProfile",
             CallBody::Set { .. } => "SetChargingProfile",
+            CallBody::Audit { .. } => "GetCompositeSchedule",
         }
     }
 
@@ -55,6 +65,15 @@ impl CallBody {
             CallBody::Set { connector, profile } => Ok(CallBody::Set {
                 connector: *connector,
                 profile: profile.copy()?,
+            }),
+            CallBody::Audit {
+                connector,
+                duration,
+                unit,
+            } => Ok(CallBody::Audit {
+                connector: *connector,
+                duration: *duration,
+                unit: *unit,
             }),
         }
     }

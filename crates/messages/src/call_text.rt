@@ -2,7 +2,7 @@
 ghost use Rattle.std.specs.Prelude.{◌≡◌, ◌++◌, Some, codes, option_map, string_bytes};
 ghost use Rattle.std.specs.Fmt.{decimal, signed_decimal};
 ghost use Rattle.ocpp_scalars.specs.Appending.{Appends};
-ghost use Rattle.messages.specs.CallText.{call_text, clear_fields, criteria_given, criteria_text, criterion_words, own_fields, payload_fields, payload_text, period_text, profile_text, profile_words, schedule_text, set_fields, subject_text};
+ghost use Rattle.messages.specs.CallText.{audit_fields, audit_words, call_text, clear_fields, criteria_given, criteria_text, criterion_words, own_fields, payload_fields, payload_text, period_text, profile_text, profile_words, schedule_text, set_fields, subject_text};
 ghost use Rattle.messages.specs.ObjectText.{fields_text};
 ghost use Rattle.messages.specs.ByCases.FieldValue.{value_text};
 
@@ -14,7 +14,7 @@ use crate::list_text::{ListItem, push_list};
 use crate::names::purpose_name;
 use crate::object_text::{push_fields, push_later_fields, push_object};
 use ocppj_frame::{push_call_head, push_frame_end};
-use profile::{Criteria, Period, Profile, Purpose, Schedule};
+use profile::{Criteria, Period, Profile, Purpose, Schedule, Unit};
 use std::alloc::AllocError;
 
 /// Appends the text of a call, a CALL whose message id is the call's number in decimal. Its keys
@@ -48,6 +48,11 @@ pub fn push_payload_fields(out: &mut String, body: &CallBody) -> Result<(), Allo
     match body {
         CallBody::Clear(criteria) => push_clear(out, criteria),
         CallBody::Set { connector, profile } => push_set(out, *connector, profile),
+        CallBody::Audit {
+            connector,
+            duration,
+            unit,
+        } => push_audit(out, *connector, *duration, *unit),
     }
 }
 
@@ -76,6 +81,21 @@ fn push_set(out: &mut String, connector: u32, profile: &Profile) -> Result<(), A
     out.push_str(r#","csChargingProfiles":"#)?;
     push_profile(out, profile)?;
     Ok(())
+}
+
+/// Appends the fields of GetCompositeSchedule.req (chapter 6), the duration in seconds.
+fn push_audit(out: &mut String, connector: u32, duration: u32, unit: Unit) -> Result<(), AllocError>
+    ensures { Appends result (string_bytes out.old) (string_bytes out.new)
+        (fields_text (audit_fields connector duration unit)) }
+{
+    push_fields(
+        out,
+        &[
+            ("connectorId", Some(FieldValue::Whole(connector))),
+            ("duration", Some(FieldValue::Whole(duration))),
+            ("chargingRateUnit", Some(FieldValue::UnitName(unit))),
+        ],
+    )
 }
 
 /// Appends a profile (chapter 7, ChargingProfile).
@@ -177,14 +197,19 @@ fn push_period(out: &mut String, period: &Period) -> Result<(), AllocError>
 
 // ---- what a call is about
 
-/// Appends which profiles a call is about, in words: `TxProfile 7 at connector 1`, or the criteria
-/// of a clear.
+/// Appends what a call is about, in words: `TxProfile 7 at connector 1`, the criteria of a clear, or
+/// `connector 1 for 60 s` of an audit.
 pub fn push_subject(out: &mut String, body: &CallBody) -> Result<(), AllocError>
     ensures { Appends result (string_bytes out.old) (string_bytes out.new) (subject_text body.now) }
 {
     match body {
         CallBody::Clear(criteria) => push_criteria(out, criteria),
         CallBody::Set { connector, profile } => push_profile_at(out, *connector, profile),
+        CallBody::Audit {
+            connector,
+            duration,
+            ..
+        } => push_audit_words(out, *connector, *duration),
     }
 }
 
@@ -272,4 +297,14 @@ fn push_profile_words(out: &mut String, profile: &Profile) -> Result<(), AllocEr
 {
     out.push_str(purpose_name(profile.purpose))?;
     push_words(out, " ", FieldValue::Signed(profile.id))
+}
+
+/// Appends an audit by its connector and its duration, in seconds.
+fn push_audit_words(out: &mut String, connector: u32, duration: u32) -> Result<(), AllocError>
+    ensures { Appends result (string_bytes out.old) (string_bytes out.new)
+        (audit_words connector duration) }
+{
+    push_words(out, "connector ", FieldValue::Whole(connector))?;
+    push_words(out, " for ", FieldValue::Whole(duration))?;
+    out.push_str(" s")
 }

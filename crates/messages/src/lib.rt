@@ -19,6 +19,7 @@ mod object_text;
 mod profile_fields;
 mod response;
 mod response_text;
+mod said;
 mod side;
 
 pub use action::{Action, ScheduleRequest, StartTransaction, read_action, read_fields};
@@ -31,6 +32,7 @@ pub use field_row::{FieldKind, FieldRow, ObjectKind, fields_in};
 pub use fixed_answer::FixedAnswer;
 pub use laws::{action_names, first_faults};
 pub use names::{kind_name, purpose_name, recurrency_name, unit_name};
-pub use response::{Response, ScheduleResponse};
+pub use response::{AuditOutcome, PointStatus, Response, ScheduleResponse};
 pub use response_text::{push_response, write_response};
+pub use said::read_said;
 pub use side::{Side, side_of};

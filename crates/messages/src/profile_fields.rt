@@ -49,7 +49,7 @@ pub fn read_profile(alloc: Global, fields: Node<'_, '_>) -> Result<ProfileParts,
 
 /// Reads the fields of a schedule (chapter 7, ChargingSchedule), or names the first fault.
 #[tactic(auto, unfolding(crate::specs::ProfileFields::schedule_of))]
-fn read_schedule(alloc: Global, fields: Node<'_, '_>) -> Result<ScheduleParts, CallFault>
+pub fn read_schedule(alloc: Global, fields: Node<'_, '_>) -> Result<ScheduleParts, CallFault>
     ensures { ReadsUnless is_memory (λ parts. parts) result
         (schedule_of (tree_at fields.entry)) }
 {

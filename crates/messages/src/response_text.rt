@@ -4,11 +4,11 @@ ghost use Rattle.ocpp_scalars.specs.Appending.{Appends};
 ghost use Rattle.ocppj_frame.specs.Write.{call_result_text};
 ghost use Rattle.messages.specs.ByCases.ObjectText.{first_field_text};
 ghost use Rattle.messages.specs.ObjectText.{time_text};
-ghost use Rattle.messages.specs.ResponseText.{boot_notification_text, composite_period_text, composite_schedule_text, composite_text, heartbeat_text, is_out_of_memory, refusal_text, rejected_text, response_text, start_transaction_text};
+ghost use Rattle.messages.specs.ResponseText.{boot_notification_text, composite_period_text, composite_schedule_text, composite_text, heartbeat_text, is_out_of_memory, point_status_text, refusal_text, rejected_text, response_text, start_transaction_text};
 
 use crate::list_text::{ListItem, push_list};
 use crate::names::unit_name;
-use crate::response::{Response, ScheduleResponse};
+use crate::response::{PointStatus, Response, ScheduleResponse};
 use meaning::{Composite, CompositePeriod};
 use ocpp_scalars::{Instant, Refusal, push_instant, push_integer, push_tenths};
 use ocppj_frame::{push_error, push_frame_end, push_result_head};
@@ -52,6 +52,7 @@ pub fn push_response(out: &mut String, id: &str, response: &Response) -> Result<
         Response::Rejected(refusal) => push_rejected(out, id, *refusal),
         Response::Unknown => push_result(out, id, r#"{"status":"Unknown"}"#),
         Response::Schedule(response) => push_schedule_result(out, id, response),
+        Response::PointStatus(status) => push_point_status_result(out, id, *status),
         Response::BootNotification { current_time } => {
             push_boot_notification(out, id, *current_time)
         }
@@ -231,5 +232,34 @@ fn push_composite_period(out: &mut String, period: &CompositePeriod) -> Result<(
     out.push_str(r#","limit":"#)?;
     push_tenths(out, period.limit)?;
     out.push_str("}")?;
+    Ok(())
+}
+
+/// Appends PointStatus's answer.
+fn push_point_status_result(
+    out: &mut String,
+    id: &str,
+    status: PointStatus,
+) -> Result<(), AllocError>
+    ensures { Appends result (string_bytes out.old) (string_bytes out.new)
+        (call_result_text id.now (point_status_text status)) }
+{
+    push_result_head(out, id)?;
+    push_point_status(out, status)?;
+    push_frame_end(out)
+}
+
+/// Appends the payload that says what the central system has of a point.
+fn push_point_status(out: &mut String, status: PointStatus) -> Result<(), AllocError>
+    ensures { Appends result (string_bytes out.old) (string_bytes out.new)
+        (point_status_text status) }
+{
+    out.push_str(r#"{"status":"Accepted","version":"#)?;
+    push_integer(out, status.version)?;
+    out.push_str(r#","outbox":"#)?;
+    push_integer(out, status.outbox)?;
+    out.push_str(r#","audit":""#)?;
+    out.push_str(status.audit.name())?;
+    out.push_str(r#""}"#)?;
     Ok(())
 }

@@ -216,6 +216,14 @@ impl PointBook {
             && self.transactions.same(&other.transactions)
     }
 
+    /// Whether two books have equal transactions at their connectors: in their numbers, idTags with
+    /// their letters' case, meterStarts and starts.
+    pub fn same_transactions(&self, other: &PointBook) -> bool
+        ensures { IsTrue result ↔ (self.now.transactions ≡ other.now.transactions) }
+    {
+        self.transactions.same(&other.transactions)
+    }
+
     /// A copy.
     pub fn copy(&self) -> Result<PointBook, AllocError>
         ensures { IfOk result (λ copy. copy ≡ self.now) }

@@ -23,7 +23,7 @@ pub point_made : (old linked answered new : PlayerState) (text : Sent)
     (first second third : List ℕ) (outcome whole : LineOutcome) (call : Option Call)
     → first ≡ text.point → second ≡ text.point → third ≡ text.point
     → linked ≡ with_machine old (attached_once old.machine first)
-    → IsHandled (asked_handled linked (asked_of text)) outcome answered
+    → IsHandled (asked_handled linked text (asked_of text)) outcome answered
     → Sends answered (sent_first answered.machine second) call new
     → whole.printed.items ≡ outcome.printed.items ++ call_lines third call
     → whole.is_fault ≡ outcome.is_fault → whole.change ≡ outcome.change
@@ -32,13 +32,13 @@ point_made old linked answered new text first second third outcome whole call on
     answer send push fault change =
     let start : linked ≡ with_machine old (attached_once old.machine text.point) =
     attach ∙ ap (λ p. with_machine old (attached_once old.machine p)) one in
-    let handled : Handled = asked_handled linked (asked_of text) in
+    let handled : Handled = asked_handled linked text (asked_of text) in
     let sending : Sending = record { call = call; after = new.machine } in
     let step : sent_first handled.after.machine text.point ≡ sending =
     ap (λ (p : PlayerState). sent_first p.machine text.point) answer.led.after
     ∙ (ap (sent_first answered.machine) (sym two) ∙ send.0) in
     let same : point_handled old text ≡ call_handled handled text.point sending =
-    ap (λ (p : PlayerState). with_call text.point (asked_handled p (asked_of text))) (sym start)
+    ap (λ (p : PlayerState). with_call text.point (asked_handled p text (asked_of text))) (sym start)
     ∙ ap (call_handled handled text.point) step in
     let lines : handled.printed ++ call_lines text.point call ≡ whole.printed.items =
     ap (λ (l : List PrintedLine). l ++ call_lines text.point call) answer.printed

@@ -12,14 +12,17 @@ use Rattle.messages.specs.declared.response.Response.{Response}
 use Rattle.messages.specs.declared.side.Side.{Side}
 use Rattle.messages.specs.declared.side.Side.TheVariants as sides
 use Rattle.ocppj_frame.specs.ByCases.Message.{message_of_text}
+use Rattle.meaning.specs.declared.said.Said.{Said}
 use Rattle.site_rules.specs.Site.{SiteState}
+use Rattle.sweep_compiler.specs.Judged.{Judgement}
+use Rattle.sweep_compiler.specs.Verdict.{AuditRequest}
 use Rattle.site_core.specs.declared.step.Step.{Step}
 use Rattle.site_core.specs.declared.step.Step.TheVariants as acts
 use Rattle.site_core.specs.declared.reply.Reply.{Reply}
 use Rattle.site_core.specs.declared.reply.Reply.TheVariants.{Taken, Answered, Sent}
 use Rattle.site_core.specs.declared.outcome.Outcome.{Outcome}
 use Rattle.site_core.specs.declared.outcome.Outcome.TheVariants.{Done, Refused}
-use Rattle.site_core.specs.State.{MachineState, opening, link_of}
+use Rattle.site_core.specs.State.{MachineState, opening, audit_job, link_of}
 use Rattle.site_core.specs.Run.{Runs}
 use Rattle.site_core.specs.Step.{RepliesAreTheirSteps}
 use Rattle.site_core.specs.History.{Event, history_of}
@@ -33,9 +36,11 @@ use Rattle.replay.specs.Held.{id_held}
 use Rattle.replay.specs.Player.{PlayerState, with_machine}
 use Rattle.replay.specs.MachineSteps.{stepped_exactly, handed_out, at_once, stepped_at_once}
 use Rattle.replay.specs.MachineSteps.{attached_unless, attached_once, call_sent, sent_over}
-use Rattle.replay.specs.MachineSteps.{sent_first, confirmed_over, confirmed_by}
+use Rattle.replay.specs.MachineSteps.{sent_first, confirmed_over, confirmed_by, replied_by}
+use Rattle.replay.specs.MachineSteps.{judged_exactly, verdict_kept, if_made, reply_judged}
 use Rattle.texts.specs.Asked.{asked_of, asks_schedule}
 use Rattle.texts.specs.Response.{refused_response}
+use Rattle.texts.specs.Said.{said_of}
 use Rattle.replay.specs.Lines.{script_lines}
 use Rattle.replay.specs.PrintedLine.{PrintedLine}
 use Rattle.replay.specs.declared.script.printed_line.PrintedLine.TheVariants as lines
@@ -276,6 +281,35 @@ confirmed_part laws old point number = over (link_of old point)
     over (Some link) = quiet_step laws old (acts.Confirm point link number) [] tt tt refl refl
     over None = nothing old
 
+kept_part : Laws → (old : MachineState) (point : List ℕ) (number : ℕ) (judged : Judgement)
+    → Part old (verdict_kept old point number judged) []
+kept_part laws old point number judged =
+    quiet_step laws old (acts.Judge point number judged) [] tt tt refl refl
+
+-- a reply to an audit is judged, once its call is confirmed
+judged_part : Laws → (old : MachineState) (point : List ℕ) (number : ℕ)
+    (audit : Option AuditRequest) (said : Said)
+    → Part old (reply_judged point number audit said (confirmed_by old point number)) []
+judged_part laws old point number None said = confirmed_part laws old point number
+judged_part laws old point number (Some asked) said = go (confirmed_by old point number).outcome
+  where
+    confirmed : MachineState
+    confirmed = (confirmed_by old point number).after
+
+    kept : MachineState
+    kept = verdict_kept confirmed point number (judged_exactly asked said)
+
+    go : (outcome : Result Reply Refusal) → Part old (if_made outcome kept confirmed) []
+    go (Ok reply) =
+        join laws old confirmed kept [] [] (confirmed_part laws old point number)
+        (kept_part laws confirmed point number (judged_exactly asked said))
+    go (Err refusal) = confirmed_part laws old point number
+
+replied_part : Laws → (old : MachineState) (text : texts.Sent) (point : List ℕ) (number : ℕ)
+    → Part old (replied_by old text point number).after []
+replied_part laws old text point number =
+    judged_part laws old point number (audit_job old point number) (said_of text)
+
 no_schedules_sent : (point : List ℕ) (call : Option Call)
     → schedules_printed (call_lines point call) ≡ []
 no_schedules_sent point None = refl
@@ -308,23 +342,25 @@ sent_part laws old point = over (link_of old point)
 abbrev HandledPart : PlayerState → Handled → Type 0
 HandledPart old text = Part old.machine text.after.machine text.printed
 
-asked_part : Laws → (old : PlayerState) (asked : Asked) → AsksByCall asked
-    → HandledPart old (asked_handled old asked)
-asked_part laws old asked.Nothing is = nothing old.machine
-asked_part laws old (asked.Respond id response) is =
+asked_part : Laws → (old : PlayerState) (text : texts.Sent) (asked : Asked) → AsksByCall asked
+    → HandledPart old (asked_handled old text asked)
+asked_part laws old text asked.Nothing is = nothing old.machine
+asked_part laws old text (asked.Respond id response) is =
     no_step old.machine (lines.Answer id response ∷ []) (ap (λ l. l ++ []) (no_schedule id response is)) refl
-asked_part laws old (asked.Step id kind step) is = at_once_part laws old.machine id kind step is
-asked_part laws old (asked.Confirm point number) is = confirmed_part laws old.machine point number
+asked_part laws old text (asked.Step id kind step) is =
+    at_once_part laws old.machine id kind step is
+asked_part laws old text (asked.Confirm point number) is =
+    replied_part laws old.machine text point number
 
 point_part : Laws → (old : PlayerState) (text : texts.Sent)
     → HandledPart old (point_handled old text)
 point_part laws old text =
     let linked = attached_once old.machine text.point in
-    let handled = asked_handled (with_machine old linked) (asked_of text) in
+    let handled = asked_handled (with_machine old linked) text (asked_of text) in
     let sending = sent_first handled.after.machine text.point in
     let attach : Part old.machine linked [] = attached_part laws old.machine text.point in
     let answer : Part linked handled.after.machine handled.printed =
-    asked_part laws (with_machine old linked) (asked_of text) (asks_by_call text) in
+    asked_part laws (with_machine old linked) text (asked_of text) (asks_by_call text) in
     let send : Part handled.after.machine sending.after (call_lines text.point sending.call) =
     sent_part laws handled.after.machine text.point in
     join laws old.machine handled.after.machine sending.after
@@ -333,7 +369,8 @@ point_part laws old text =
 
 text_part : Laws → (old : PlayerState) (sender : Side) (text : texts.Sent)
     → HandledPart old (text_handled old sender text)
-text_part laws old sides.Operator text = asked_part laws old (asked_of text) (asks_by_call text)
+text_part laws old sides.Operator text =
+    asked_part laws old text (asked_of text) (asks_by_call text)
 text_part laws old sides.Point text = point_part laws old text
 
 hold_step_part : Laws → (old : PlayerState) (id : List ℕ) (kind : ActionKind) (step : Step)
@@ -351,14 +388,14 @@ hold_step_part laws old id kind step of_call = go (stepped_exactly old.machine s
     go (Ok reply) is = answered_part laws old.machine id kind step of_call (Ok reply) is
     go (Err refusal) is = answered_part laws old.machine id kind step of_call (Err refusal) is
 
-hold_part : Laws → (old : PlayerState) (asked : Asked) → AsksByCall asked
-    → HandledPart old (hold_handled old asked)
-hold_part laws old (asked.Step id kind step) is = hold_step_part laws old id kind step is
-hold_part laws old asked.Nothing is = asked_part laws old asked.Nothing is
-hold_part laws old (asked.Respond id response) is =
-    asked_part laws old (asked.Respond id response) is
-hold_part laws old (asked.Confirm point number) is =
-    asked_part laws old (asked.Confirm point number) is
+hold_part : Laws → (old : PlayerState) (text : texts.Sent) (asked : Asked) → AsksByCall asked
+    → HandledPart old (hold_handled old text asked)
+hold_part laws old text (asked.Step id kind step) is = hold_step_part laws old id kind step is
+hold_part laws old text asked.Nothing is = asked_part laws old text asked.Nothing is
+hold_part laws old text (asked.Respond id response) is =
+    asked_part laws old text (asked.Respond id response) is
+hold_part laws old text (asked.Confirm point number) is =
+    asked_part laws old text (asked.Confirm point number) is
 
 -- ---- lines
 
@@ -370,8 +407,9 @@ fault_part : (old : PlayerState) (line : ℕ) (fault : LineFault)
 fault_part old line fault = no_step old.machine (lines.Fault line fault ∷ []) refl refl
 
 hold_line_part : Laws → (old : PlayerState) (line : ℕ) (text : texts.Sent) (asks : Bool)
-    → PlayedPart old (hold_played old line (cond asks (Some (asked_of text)) None))
-hold_line_part laws old line text true = hold_part laws old (asked_of text) (asks_by_call text)
+    → PlayedPart old (hold_played old line text (cond asks (Some (asked_of text)) None))
+hold_line_part laws old line text true =
+    hold_part laws old text (asked_of text) (asks_by_call text)
 hold_line_part laws old line text false = fault_part old line _
 
 release_part : Laws → (old : PlayerState) (line number : ℕ) (id : Option (List ℕ))

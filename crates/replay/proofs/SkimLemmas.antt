@@ -1,19 +1,18 @@
 -- The answer to a request that is handed out at once makes no difference to what is known then.
-use Rattle.std.proofs.Common.{◌≡◌, ℕ, ◌==◌, Bool, true, false, cond, nat_lt, List, [], ◌∷◌, ◌++◌, ◌+◌, length, Option, Some, None, Result, Err, refl, sym, ap, ◌∙◌, arith}
+use Rattle.std.proofs.Common.{◌≡◌, ℕ, ◌==◌, Bool, true, false, cond, nat_lt, List, [], ◌∷◌, ◌++◌, ◌+◌, length, Option, Some, None, Result, Ok, Err, refl, sym, ap, ◌∙◌, arith}
 use Rattle.std.proofs.lemmas.Bool.Decides.{nat_tests}
 use Rattle.ocpp_scalars.specs.ResultSteps.{◌>>=◌}
 use Rattle.ocpp_scalars.specs.declared.refusal.Refusal.{Refusal}
 use Rattle.ocpp_scalars.specs.declared.refusal.Refusal.TheVariants as refusals
 use Rattle.meaning.specs.declared.ask.Ask.{Ask}
 use Rattle.meaning.specs.Ask.{ask_of}
-use Rattle.site_rules.specs.Site.{place_of}
 use Rattle.point_book.specs.Book.{BookState}
 use Rattle.site_core.specs.declared.step.Step.TheVariants as steps
 use Rattle.site_core.specs.declared.step.Take.{Take}
 use Rattle.site_core.specs.State.{MachineState, Kept, book_at}
 use Rattle.site_core.specs.Requests.{request_of, answered, with_answer, without}
 use Rattle.site_core.specs.Ask.{ask_at, is_other_unit}
-use Rattle.site_core.specs.Step.{Made, unless, found_place, refusal_to_take, taking, with_request}
+use Rattle.site_core.specs.Step.{Made, unless, refusal_to_take, taking, with_request}
 use Rattle.site_core.specs.Step.{compiles_kept, answers_kept}
 use Rattle.replay.specs.PointChange.{change_of}
 use Rattle.replay.specs.MachineSteps.{Stepped, made_or_refused, exact_answer, stepped_exactly, handed_out, at_once, stepped_at_once}
@@ -133,11 +132,12 @@ abbrev takes_at : MachineState → Take → ℕ → Result Made Refusal
 takes_at old take place =
     taking_asked old take place (ask_at old.site.unit (book_at old place) take)
 
-by_place : (old : MachineState) (take : Take) → MayBeSkimmed old take → (place : Option ℕ)
-    → SameEnd (at_end old (found_place old None place >>= takes_at old take))
-    (at_end old (found_place old None place >>= takes_at old (first_second take)))
-by_place old take may None = record { after = refl; change = refl }
-by_place old take may (Some place) =
+by_place : (old : MachineState) (take : Take) → MayBeSkimmed old take
+    → (place : Result ℕ Refusal)
+    → SameEnd (at_end old (place >>= takes_at old take))
+    (at_end old (place >>= takes_at old (first_second take)))
+by_place old take may (Err refusal) = record { after = refl; change = refl }
+by_place old take may (Ok place) =
     by_connector (nat_lt (length (book_at old place).ceilings) take.connector)
     (is_other_unit take.unit old.site.unit)
   where
@@ -160,15 +160,4 @@ pub skimmed : (old : MachineState) (take : Take) → MayBeSkimmed old take
     → SameEnd (stepped_at_once old (steps.Take take))
     (stepped_at_once old (steps.Take (first_second take)))
 unfolding stepped_exactly
-skimmed old take may = by_stopped old.is_stopped
-  where
-    place : Option ℕ
-    place = place_of old.site take.point
-
-    by_stopped : (stopped : Bool)
-        → SameEnd (at_end old (cond stopped (Err refusals.Stopped) (found_place old None place)
-        >>= takes_at old take))
-        (at_end old (cond stopped (Err refusals.Stopped) (found_place old None place)
-        >>= takes_at old (first_second take)))
-    by_stopped true = record { after = refl; change = refl }
-    by_stopped false = by_place old take may place
+skimmed old take may = by_place old take may _

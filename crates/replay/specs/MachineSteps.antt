@@ -1,19 +1,25 @@
 -- What comes of the steps that a message asks for, where each compile gives the exact schedule or
 -- ResultTooLong, and of those that its point's link and calls are for.
-use Rattle.std.specs.Prelude.{ℕ, List, Option, Some, None, Result, Ok, Err}
+use Rattle.std.specs.Prelude.{ℕ, List, false, Option, Some, None, Result, Ok, Err}
 use Rattle.ocpp_scalars.specs.declared.refusal.Refusal.{Refusal}
 use Rattle.ocpp_scalars.specs.declared.refusal.Refusal.TheVariants.{NothingInFlight}
 use Rattle.messages.specs.declared.call.Call.{Call}
+use Rattle.meaning.specs.declared.said.Said.{Said}
 use Rattle.meaning.specs.Limit.{limit_asked}
 use Rattle.meaning.specs.ByCases.Exact.{exact_schedule}
 use Rattle.point_book.specs.Book.{state_of}
+use Rattle.sweep_compiler.specs.Judged.{Judgement}
+use Rattle.sweep_compiler.specs.Verdict.{AuditRequest}
+use Rattle.sweep_compiler.specs.ByCases.Verdict.{verdict_of}
 use Rattle.site_core.specs.declared.step.Step.{Step}
 use Rattle.site_core.specs.declared.step.Step.TheVariants as steps
 use Rattle.site_core.specs.declared.reply.Reply.{Reply}
 use Rattle.site_core.specs.declared.reply.Reply.TheVariants.{Taken, Sent}
-use Rattle.site_core.specs.State.{MachineState, Kept, ScheduleAnswer, link_of}
+use Rattle.site_core.specs.State.{MachineState, Kept, ScheduleAnswer, audit_job, link_of}
 use Rattle.site_core.specs.Requests.{request_of}
 use Rattle.site_core.specs.Step.{Made, stepped, no_answer}
+use Rattle.texts.specs.Said.{said_of}
+use Rattle.texts.specs.SentText as texts
 
 -- what comes of a step: what it replies and the state after it, or why it is refused and the state
 -- as it was
@@ -93,3 +99,35 @@ confirmed_over (Some link) old point number =
 
 abbrev pub confirmed_by : MachineState → List ℕ → ℕ → Stepped
 confirmed_by old point number = confirmed_over (link_of old point) old point number
+
+-- ---- replies to audits (OCPP 1.6, 5.7)
+
+-- an audit is judged by what the point said, where memory lasts
+abbrev pub judged_exactly : AuditRequest → Said → Judgement
+judged_exactly asked said =
+    record { audit = asked; verdict = verdict_of asked said; short = false }
+
+-- the verdict is kept on the audit of this number
+abbrev pub verdict_kept : MachineState → List ℕ → ℕ → Judgement → MachineState
+verdict_kept old point number judged =
+    (stepped_exactly old (steps.Judge point number judged)).after
+
+-- one state where a step was made, and another where it was refused
+abbrev pub if_made : Result Reply Refusal → MachineState → MachineState → MachineState
+if_made (Ok reply) made refused = made
+if_made (Err refusal) made refused = refused
+
+-- what a point said is judged once the call is confirmed, if that is its audit's
+abbrev pub reply_judged : List ℕ → ℕ → Option AuditRequest → Said → Stepped → MachineState
+reply_judged point number None said confirmed = confirmed.after
+reply_judged point number (Some asked) said confirmed =
+    if_made confirmed.outcome
+    (verdict_kept confirmed.after point number (judged_exactly asked said)) confirmed.after
+
+-- a point has replied to the call of a number: that is confirmed, and the reply to an audit judged
+abbrev pub replied_by : MachineState → texts.Sent → List ℕ → ℕ → Stepped
+replied_by old text point number = record {
+  outcome = (confirmed_by old point number).outcome;
+  after = reply_judged point number (audit_job old point number) (said_of text)
+      (confirmed_by old point number);
+}

@@ -24,7 +24,7 @@ use Rattle.texts.specs.declared.asked.Asked.TheVariants as asked
 use Rattle.replay.specs.Held.{id_held, let_go}
 use Rattle.replay.specs.Player.{PlayerState, with_machine}
 use Rattle.texts.specs.SentText as texts
-use Rattle.replay.specs.MachineSteps.{Stepped, Sending, stepped_exactly, handed_out, stepped_at_once, attached_once, sent_first, confirmed_by}
+use Rattle.replay.specs.MachineSteps.{Stepped, Sending, stepped_exactly, handed_out, stepped_at_once, attached_once, sent_first, replied_by}
 use Rattle.texts.specs.Asked.{asked_of, hold_of}
 use Rattle.texts.specs.Response.{response_of}
 use Rattle.replay.specs.Line.{line_of}
@@ -64,22 +64,22 @@ answered old id kind step = record {
 }
 
 -- a reply to a call isn't answered
-abbrev pub confirmed : PlayerState → Stepped → Handled
-confirmed old step = record {
+abbrev pub replied : PlayerState → Stepped → Handled
+replied old step = record {
   printed = [];
   change = change_of step.outcome;
   after = with_machine old step.after;
 }
 
--- a message is answered at once
-abbrev pub asked_handled : PlayerState → Asked → Handled
-asked_handled old asked.Nothing = record { printed = []; change = Nothing; after = old }
-asked_handled old (asked.Respond id response) =
+-- a message is answered at once, for what it asks
+abbrev pub asked_handled : PlayerState → texts.Sent → Asked → Handled
+asked_handled old text asked.Nothing = record { printed = []; change = Nothing; after = old }
+asked_handled old text (asked.Respond id response) =
     record { printed = lines.Answer id response ∷ []; change = Nothing; after = old }
-asked_handled old (asked.Step id kind step) =
+asked_handled old text (asked.Step id kind step) =
     answered old id kind (stepped_at_once old.machine step)
-asked_handled old (asked.Confirm point number) =
-    confirmed old (confirmed_by old.machine point number)
+asked_handled old text (asked.Confirm point number) =
+    replied old (replied_by old.machine text point number)
 
 -- ---- messages of points
 
@@ -98,11 +98,11 @@ with_call point text = call_handled text point (sent_first text.after.machine po
 abbrev pub point_handled : PlayerState → texts.Sent → Handled
 point_handled old text =
     with_call text.point
-    (asked_handled (with_machine old (attached_once old.machine text.point)) (asked_of text))
+    (asked_handled (with_machine old (attached_once old.machine text.point)) text (asked_of text))
 
 -- a message by its sender
 abbrev pub text_handled : PlayerState → Side → texts.Sent → Handled
-text_handled old sides.Operator text = asked_handled old (asked_of text)
+text_handled old sides.Operator text = asked_handled old text (asked_of text)
 text_handled old sides.Point text = point_handled old text
 
 -- ---- held requests
@@ -127,10 +127,10 @@ hold_answered old id kind outcome after =
 abbrev pub hold_stepped : PlayerState → List ℕ → ActionKind → Stepped → Handled
 hold_stepped old id kind step = hold_answered old id kind step.outcome step.after
 
-abbrev pub hold_handled : PlayerState → Asked → Handled
-hold_handled old (asked.Step id kind step) =
+abbrev pub hold_handled : PlayerState → texts.Sent → Asked → Handled
+hold_handled old text (asked.Step id kind step) =
     hold_stepped old id kind (stepped_exactly old.machine step)
-hold_handled old other = asked_handled old other
+hold_handled old text other = asked_handled old text other
 
 -- the request of this number is answered, and no longer held
 abbrev pub release_handled : PlayerState → ℕ → List ℕ → Handled
@@ -163,9 +163,9 @@ fault_played old line fault = record {
   after = old;
 }
 
-abbrev pub hold_played : PlayerState → ℕ → Option Asked → LineStep
-hold_played old line None = fault_played old line NotComposite
-hold_played old line (Some asked) = text_played (hold_handled old asked)
+abbrev pub hold_played : PlayerState → ℕ → texts.Sent → Option Asked → LineStep
+hold_played old line text None = fault_played old line NotComposite
+hold_played old line text (Some asked) = text_played (hold_handled old text asked)
 
 abbrev pub release_played : PlayerState → ℕ → ℕ → Option (List ℕ) → LineStep
 release_played old line number None = fault_played old line UnknownRequest
@@ -174,7 +174,7 @@ release_played old line number (Some id) = text_played (release_handled old numb
 -- the line of this number in its script
 abbrev pub said_played : PlayerState → ℕ → ScriptLine → LineStep
 said_played old line (Text text) = text_played (text_handled old text.sender text)
-said_played old line (Hold text) = hold_played old line (hold_of text)
+said_played old line (Hold text) = hold_played old line text (hold_of text)
 said_played old line (Release number) = release_played old line number (id_held number old.held)
 
 abbrev pub read_played : PlayerState → ℕ → Result ScriptLine LineFault → LineStep

@@ -3,4 +3,5 @@ pub mod Session
 pub mod Todo
 pub mod Perform
 pub mod Serving
+pub mod Audit
 pub mod Served

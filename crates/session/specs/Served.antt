@@ -12,6 +12,7 @@ use Rattle.session.specs.declared.outcome.Outcome.{Outcome}
 use Rattle.session.specs.declared.outcome.Outcome.TheVariants.{Made, Answered, Refused}
 use Rattle.session.specs.declared.outcome.Performed.{Performed}
 use Rattle.session.specs.declared.outcome.Performed.TheVariants as performs
+use Rattle.session.specs.Audit.{OpenAudit, audit_confirmed, JudgesReply}
 use Rattle.session.specs.Perform.{Performs}
 use Rattle.session.specs.Session.{SessionState}
 use Rattle.session.specs.Todo.{TodoState, IsTodo, answer_text}
@@ -35,26 +36,32 @@ abbrev pub ComesTo : Performed → Outcome → Type 0
 ComesTo (performs.Job job) outcome = IsOutcomeOfJob job outcome
 ComesTo (performs.Outcome made) outcome = outcome ≡ made
 
--- The one call that a step stands for was made on the book while the session had it.
-pub record IsPerformed (was : PassState) (step : Step) (performed : Performed) : Type 0 where
+-- The one call that a step stands for was made on the book while the session had it. The audit that
+-- it replies to, if it does, was read just before.
+pub record IsPerformed (was : PassState) (step : Step) (performed : Performed)
+    (audit : Option OpenAudit) : Type 0 where
   pub old : StoreState
   pub new : StoreState
   pub pass : PassState
   pub store : IsStore old
   pub performs : Performs old was step performed new pass
+  pub audit_is : audit ≡ audit_confirmed old.present step
 
 -- The outcome of a session's own step: for a request of a schedule, the answer that is right for
--- what its point had at this very Take.
-pub record IsOutcomeOf (was : PassState) (step : Step) (outcome : Outcome) : Type 0 where
+-- what its point had at this very Take. A point's reply to its audit is judged.
+pub record IsOutcomeOf (was : PassState) (text : Sent) (step : Step) (outcome : Outcome)
+    : Type 0 where
   pub performed : Performed
-  pub is_performed : IsPerformed was step performed
+  pub audit : Option OpenAudit
+  pub is_performed : IsPerformed was step performed audit
   pub comes : ComesTo performed outcome
+  pub judges : JudgesReply text performed audit
 
 -- a message without a step has no outcome
-abbrev pub HasOutcome : PassState → Option Step → Option Outcome → Type 0
-HasOutcome was None None = Unit {0}
-HasOutcome was (Some step) (Some outcome) = IsOutcomeOf was step outcome
-HasOutcome was _ _ = ⊥
+abbrev pub HasOutcome : PassState → Sent → Option Step → Option Outcome → Type 0
+HasOutcome was text None None = Unit {0}
+HasOutcome was text (Some step) (Some outcome) = IsOutcomeOf was text step outcome
+HasOutcome was text _ _ = ⊥
 
 -- what answers a message of a session with this pass: the message that is owed for what was asked,
 -- with the outcome of the step that was asked for
@@ -63,5 +70,5 @@ pub record IsServed (session : SessionState) (was : PassState) (text : Sent)
   pub todo : TodoState
   pub outcome : Option Outcome
   pub asked : IsTodo session text.moment text.frame todo
-  pub made : HasOutcome was todo.step outcome
+  pub made : HasOutcome was text todo.step outcome
   pub answer_is : answer ≡ answer_text session todo outcome

@@ -2,6 +2,7 @@
 
 ghost use Rattle.session.specs.Serving.{KeepsPass};
 
+mod audits;
 mod calls;
 mod ended;
 mod served_text;

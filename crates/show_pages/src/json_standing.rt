@@ -11,7 +11,7 @@ use ocpp_scalars::Instant;
 use point_book::PointBook;
 use profile::Row;
 use replay::{Held, Playing};
-use site_core::{Machine, Outbox};
+use site_core::{Machine, Outbox, PointAudit};
 use std::alloc::{AllocError, Global};
 use transactions::Transaction;
 
@@ -72,6 +72,7 @@ impl Page {
         self.json.string(id)?;
         self.write_profiles(book)?;
         self.write_transactions(book)?;
+        self.write_audit(machine.audit_of(id))?;
         self.write_calls(outbox)?;
         self.write_rejected(rejected)?;
         self.json.end_object()
@@ -129,6 +130,24 @@ impl Page {
         self.json.i64(i64::from(active.begin.meter_start))?;
         self.json.key("timestamp")?;
         self.write_instant(active.begin.timestamp)?;
+        self.json.end_object()
+    }
+
+    /// What a point was asked in its audit, and what came of that; null where it wasn't audited.
+    fn write_audit(&mut self, audit: Option<&PointAudit>) -> Result<(), AllocError> {
+        self.json.key("audit")?;
+        let Some(audit) = audit else {
+            return self.json.null();
+        };
+        self.json.begin_object()?;
+        self.json.key("outcome")?;
+        self.json.string(audit.outcome().name())?;
+        self.json.key("call")?;
+        self.json.u64(audit.number())?;
+        self.json.key("connectorId")?;
+        self.json.u64(u64::from(audit.asked().connector()))?;
+        self.json.key("duration")?;
+        self.json.u64(u64::from(audit.asked().duration()))?;
         self.json.end_object()
     }
 

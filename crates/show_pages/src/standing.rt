@@ -9,12 +9,12 @@ use crate::words::{instant_text, text};
 use messages::{CallBody, purpose_name, push_subject};
 use point_book::PointBook;
 use replay::Playing;
-use site_core::{Machine, Outbox};
+use site_core::{Machine, Outbox, PointAudit};
 use std::alloc::{AllocError, Global};
 
 /// What each point has after a script, in the order of the site file, and which requests are held.
-/// A point has profiles, transactions, the calls that wait and those that it rejected. A point with
-/// nothing has one line.
+/// A point has profiles, transactions, its audit, the calls that wait and those that it rejected. A
+/// point with nothing has one line.
 pub fn standing_text(alloc: Global, trace: &Trace<'_>) -> Result<String, AllocError> {
     let playing = trace.playing();
     let machine = playing.machine();
@@ -41,7 +41,8 @@ fn push_point(
     };
     let calls = waiting_calls(alloc, outbox)?;
     let transactions = transaction_table(alloc, book)?;
-    let has_nothing = book.view().rows.is_empty() && transactions.is_none();
+    let audit = machine.audit_of(id);
+    let has_nothing = book.view().rows.is_empty() && transactions.is_none() && audit.is_none();
     if has_nothing && calls.len() <= 1 && rejected.is_empty() {
         return push_empty_point(alloc, out, id, outbox, &calls);
     }
@@ -54,12 +55,29 @@ fn push_point(
         }
         None => out.push_str("  no transaction\n")?,
     }
+    push_audit(out, audit)?;
     let calls_line = calls_text(alloc, outbox, calls.len())?;
     write!(out, "  {calls_line}\n")?;
     if !calls.is_empty() {
         call_table(alloc, &calls)?.push_to(out, 4)?;
     }
     push_rejected(alloc, out, rejected)
+}
+
+/// Appends what the point was asked in its audit, and what came of that.
+fn push_audit(out: &mut String, audit: Option<&PointAudit>) -> Result<(), AllocError> {
+    let Some(audit) = audit else {
+        return out.push_str("  no audit\n");
+    };
+    let connector = audit.asked().connector();
+    let seconds = audit.asked().duration();
+    let call = audit.number();
+    let outcome = audit.outcome().name();
+    write!(
+        out,
+        "  audit: connector {connector} for {seconds} s, by call {call}: {outcome}\n"
+    )?;
+    Ok(())
 }
 
 /// Appends the calls that the point confirmed without doing them, if there are any.
@@ -177,7 +195,7 @@ fn calls_text(alloc: Global, outbox: &Outbox, calls: usize) -> Result<String, Al
 
 /// The calls that aren't confirmed.
 fn call_table(alloc: Global, calls: &[WaitingCall]) -> Result<Table, AllocError> {
-    let mut table = Table::new(alloc, &["number", "action", "profiles", "state"])?;
+    let mut table = Table::new(alloc, &["number", "action", "subject", "state"])?;
     for waiting in calls {
         table.push([
             waiting.call.number.to_string(alloc)?,
@@ -189,7 +207,7 @@ fn call_table(alloc: Global, calls: &[WaitingCall]) -> Result<Table, AllocError>
     Ok(table)
 }
 
-/// Which profiles a call is about.
+/// What a call is about: its profiles, or the schedule that it asks for.
 fn subject_text(alloc: Global, body: &CallBody) -> Result<String, AllocError> {
     let mut out = String::new(alloc);
     push_subject(&mut out, body)?;

@@ -33,7 +33,7 @@ request_by_reading id (Ok action) = Act id action
 request_by_reading id (Err fault) = Respond id (Error fault)
 
 -- A charge point is sent an operator's actions; any other isn't implemented, whatever its fields
--- are.
+-- are. This system's own are none that it does.
 abbrev pub request_of_kind : List ℕ → Option ActionKind → Tree → Request
 request_of_kind id None payload = Respond id not_implemented
 request_of_kind id (Some kind) payload = request_by_reading id (action_of_kind kind payload)

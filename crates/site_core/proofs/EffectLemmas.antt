@@ -17,17 +17,20 @@ use Rattle.site_rules.specs.Site.{SiteState}
 use Rattle.site_rules.specs.Admission.{admission_refusal}
 use Rattle.messages.specs.declared.call.Call.{Call}
 use Rattle.point_book.specs.Changes.{first_cause, install_refusal}
+use Rattle.sweep_compiler.specs.Judged.{Judgement}
 use Rattle.site_core.specs.declared.numbers.Numbers.{Numbers}
 use Rattle.site_core.specs.declared.step.Step.{Step}
 use Rattle.site_core.specs.declared.step.Step.TheVariants as steps
 use Rattle.site_core.specs.declared.reply.Reply.{Reply}
 use Rattle.site_core.specs.declared.reply.Reply.TheVariants as replies
+use Rattle.site_core.specs.Audit.{AuditState, unjudged}
+use Rattle.site_core.specs.Equal.{same_request}
 use Rattle.site_core.specs.Limits.{max_number, max_transaction}
 use Rattle.site_core.specs.Outbox.{OutboxState, sendable, is_number_in_flight, is_number_of_first, Traffic, Send, Confirm}
 use Rattle.site_core.specs.OutboxOrder.{confirmed_at}
 use Rattle.site_core.specs.ChargePoint.{ChargePointState, Deed, Stops, traffic_of}
 use Rattle.site_core.specs.State.{MachineState, AreNumbers}
-use Rattle.site_core.specs.Step.{Work, AtPoint, work, unless, facts, deed, drawn, counted, is_event, is_reply_to, refusal_to_install, refusal_to_call, refusal_to_add, refusal_to_start, refusal_to_attach, version_refusal, transaction_number_refusal, next_transaction, is_at_no_connector, installs, clears, starts, starts_as, stops, attaches, sends, sends_call, confirms, loses}
+use Rattle.site_core.specs.Step.{Work, AtPoint, work, unless, facts, deed, drawn, counted, is_event, is_reply_to, refusal_to_install, refusal_to_call, refusal_to_add, refusal_to_start, refusal_to_attach, version_refusal, transaction_number_refusal, next_transaction, is_at_no_connector, installs, clears, starts, starts_as, stops, attaches, sends, sends_call, confirms, loses, audits, refusal_to_audit, judges, judges_audit, status_of, tells_status}
 use Rattle.site_core.specs.History.{reply_takes, asks_answer_of}
 use Rattle.site_core.specs.CallOrder.{calls_by, confirmed_by, numbers_of_calls}
 
@@ -325,6 +328,40 @@ lose_agrees numbers id link point =
     agrees_so numbers point (steps.Lost id link) replies.LinkLost refl refl (λ n. refl)
     (λ n. refl) (λ old. refl) (λ none. refl) (same_numbers numbers) (sym (add-zero _)) refl refl refl refl refl
 
+audit_agrees : (site : SiteState) (numbers : Numbers) (id : List ℕ) (connector duration : ℕ)
+    (point : ChargePointState)
+    → IfOk (audits site connector duration point)
+    (Agrees numbers point (steps.Audit id connector duration))
+audit_agrees site numbers id connector duration point =
+    unless_holds (Agrees numbers point (steps.Audit id connector duration))
+    (refusal_to_audit connector duration point) (replies.Audited point.outbox.next site.unit)
+    (agrees_so numbers point (steps.Audit id connector duration)
+    (replies.Audited point.outbox.next site.unit) refl refl (λ n. refl) (λ n. refl) (λ old. refl)
+    (λ none. absurd (cc none)) (same_numbers numbers) (sym (add-zero _)) refl refl refl refl refl)
+
+judge_agrees : (numbers : Numbers) (id : List ℕ) (call : ℕ) (judged : Judgement)
+    (point : ChargePointState)
+    → IfOk (judges call judged point) (Agrees numbers point (steps.Judge id call judged))
+judge_agrees numbers id call judged point = by (unjudged call point.audit)
+  where
+    P : Reply → Type 0
+    P = Agrees numbers point (steps.Judge id call judged)
+
+    by : (found : Option AuditState) → IfOk (judges_audit judged found) P
+    by None = tt
+    by (Some audit) = either_holds P (same_request audit.asked judged.audit)
+        (Ok replies.VerdictKept) (Err refusals.StrangerInput)
+        (agrees_so numbers point (steps.Judge id call judged) replies.VerdictKept refl refl
+        (λ n. refl) (λ n. refl) (λ old. refl) (λ none. absurd (cc none)) (same_numbers numbers)
+        (sym (add-zero _)) refl refl refl refl refl) tt
+
+status_agrees : (numbers : Numbers) (id : List ℕ) (point : ChargePointState)
+    → IfOk (tells_status numbers point) (Agrees numbers point (steps.Status id))
+status_agrees numbers id point =
+    agrees_so numbers point (steps.Status id) (replies.Status (status_of numbers point)) refl refl
+    (λ n. refl) (λ n. refl) (λ old. refl) (λ none. refl) (same_numbers numbers) (sym (add-zero _))
+    refl refl refl refl refl
+
 -- ---- all of them
 
 -- of a step at a point
@@ -345,4 +382,9 @@ agrees (steps.Send id link) = λ site numbers point. send_agrees numbers id link
 agrees (steps.Confirm id link number) =
     λ site numbers point. confirm_agrees numbers id link number point
 agrees (steps.Lost id link) = λ site numbers point. lose_agrees numbers id link point
+agrees (steps.Audit id connector duration) =
+    λ site numbers point. audit_agrees site numbers id connector duration point
+agrees (steps.Judge id call judged) =
+    λ site numbers point. judge_agrees numbers id call judged point
+agrees (steps.Status id) = λ site numbers point. status_agrees numbers id point
 agrees other = tt

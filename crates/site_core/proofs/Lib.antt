@@ -1,5 +1,6 @@
 pub mod CallQueueLemmas
 pub mod OutboxLemmas
+pub mod EqualLemmas
 pub mod ObeyLemmas
 pub mod OutboxOrderLemmas
 pub mod PointLemmas
@@ -20,3 +21,4 @@ pub mod ObeyOrderLemmas
 pub mod OutboxExamples
 pub mod CallOrderLemmas
 pub mod CountLemmas
+pub mod AuditLemmas

@@ -13,6 +13,7 @@ use Rattle.site_core.specs.declared.decision.Decision.TheVariants.{Answers, Does
 use Rattle.site_core.specs.declared.reply.Reply.{Reply}
 use Rattle.site_core.specs.declared.reply.Reply.TheVariants.{Compiled}
 use Rattle.site_core.specs.declared.step.Step.{Step}
+use Rattle.site_core.specs.declared.via.Via.{Via}
 use Rattle.site_core.specs.declared.numbers.Numbers.{Numbers}
 use Rattle.site_core.specs.ChargePoint.{ChargePointState, Deed, point_with}
 use Rattle.site_core.specs.State.{MachineState, Kept, AreNumbers, IsMachine, no_point, point_at, connectors_in_book}
@@ -72,30 +73,30 @@ done_there old place reply (Some deed) still = refl
 -- ---- a step at a point
 
 -- the point that a step names, which is one at a point
-pub record NamesPoint (step : Step) (point : List ℕ) (link : Option ℕ) : Type 0 where
+pub record NamesPoint (step : Step) (point : List ℕ) (via : Via) : Type 0 where
   pub at : PointStep
   pub is : work step ≡ AtPoint at
   pub point_is : at.point ≡ point
-  pub link_is : at.link ≡ link
+  pub via_is : at.via ≡ via
 
-pub names_point : (step : Step) (point : List ℕ) (link : Option ℕ) → IsFor (work step) point link
-    → NamesPoint step point link
-names_point step point link for = by (work step) refl for
+pub names_point : (step : Step) (point : List ℕ) (via : Via) → IsFor (work step) point via
+    → NamesPoint step point via
+names_point step point via for = by (work step) refl for
   where
-    by : (w : Work) → work step ≡ w → IsFor w point link → NamesPoint step point link
-    by (AtPoint at) is for = record { at = at; is = is; point_is = for.0; link_is = for.1 }
+    by : (w : Work) → work step ≡ w → IsFor w point via → NamesPoint step point via
+    by (AtPoint at) is for = record { at = at; is = is; point_is = for.0; via_is = for.1 }
     by (Takes take) is for = absurd for
     by (Compiling number) is for = absurd for
     by (Answering number) is for = absurd for
     by Finishing is for = absurd for
 
 -- the place that is found for it
-place_there : (old : MachineState) (step : Step) (point : List ℕ) (link : Option ℕ)
-    (found : Result ℕ Refusal) → (n : NamesPoint step point link)
-    → place_for old point link ≡ found → place_for old n.at.point n.at.link ≡ found
-place_there old step point link found n is =
-    ap (λ (p : List ℕ). place_for old p n.at.link) n.point_is
-    ∙ ap (place_for old point) n.link_is ∙ is
+place_there : (old : MachineState) (step : Step) (point : List ℕ) (via : Via)
+    (found : Result ℕ Refusal) → (n : NamesPoint step point via)
+    → place_for old point via ≡ found → place_for old n.at.point n.at.via ≡ found
+place_there old step point via found n is =
+    ap (λ (p : List ℕ). place_for old p n.at.via) n.point_is
+    ∙ ap (place_for old point) n.via_is ∙ is
 
 -- what is decided at its place, and done
 abbrev decided_there : MachineState → Step → PointStep → ℕ → Result Made Refusal
@@ -103,21 +104,21 @@ decided_there old step at place =
     at.decided old.site old.numbers (point_at old place)
     >>= (λ reply. Ok (made_at old step place reply))
 
-stepped_there : (old : MachineState) (step : Step) (point : List ℕ) (link : Option ℕ) (place : ℕ)
-    → (n : NamesPoint step point link) → place_for old point link ≡ Ok place
+stepped_there : (old : MachineState) (step : Step) (point : List ℕ) (via : Via) (place : ℕ)
+    → (n : NamesPoint step point via) → place_for old point via ≡ Ok place
     → stepped no_answer old step ≡ decided_there old step n.at place
-stepped_there old step point link place n found =
+stepped_there old step point via place n found =
     ap (worked no_answer old step) n.is
     ∙ ap (λ (p : Result ℕ Refusal). p >>= decided_there old step n.at)
-    (place_there old step point link (Ok place) n found)
+    (place_there old step point via (Ok place) n found)
 
 -- the connectors that the site file has of the point are those of its book
-pub connectors_of : (old : MachineState) (step : Step) (point : List ℕ) (link : Option ℕ)
-    (place : ℕ) → IsMachine old → IsFor (work step) point link
+pub connectors_of : (old : MachineState) (step : Step) (point : List ℕ) (via : Via)
+    (place : ℕ) → IsMachine old → IsFor (work step) point via
     → place_of old.site point ≡ Some place → place < length old.points
     → HasConnectorsOf (work step) old.site (point_at old place)
-connectors_of old step point link place fits for here within =
-    let n = names_point step point link for in
+connectors_of old step point via place fits for here within =
+    let n = names_point step point via for in
     subst (λ (w : Work). HasConnectorsOf w old.site (point_at old place)) (sym n.is)
     (λ connector has. has_connector old.site old.points n.at.point place connector fits.points
     within (ap (place_of old.site) n.point_is ∙ here) has)
@@ -139,12 +140,12 @@ pub record IsMadeThere (old : MachineState) (step : Step) (place : ℕ) (reply :
   pub connectors : connectors_in_book new ≡ connectors_in_book (point_at old place)
   pub numbers : AreNumbers (drawn reply old.numbers)
 
-pub made_here : (old : MachineState) (step : Step) (point : List ℕ) (link : Option ℕ)
+pub made_here : (old : MachineState) (step : Step) (point : List ℕ) (via : Via)
     (place : ℕ) (reply : Reply) (new : ChargePointState)
-    → IsMachine old → IsFor (work step) point link → place_for old point link ≡ Ok place
+    → IsMachine old → IsFor (work step) point via → place_for old point via ≡ Ok place
     → IsWorked (work step) old.site old.numbers step (point_at old place) (Ok reply) new
     → IsMadeThere old step place reply new
-made_here old step point link place reply new fits for found says = record {
+made_here old step point via place reply new fits for found says = record {
   made = made;
   steps = subst (λ (w : Work). Works old step w reply (with_point old place new
       (drawn reply old.numbers))) (sym n.is)
@@ -156,8 +157,8 @@ made_here old step point link place reply new fits for found says = record {
   numbers = agree.fits fits.numbers;
 }
   where
-    n : NamesPoint step point link
-    n = names_point step point link for
+    n : NamesPoint step point via
+    n = names_point step point via for
 
     was : ChargePointState
     was = point_at old place
@@ -189,25 +190,25 @@ made_here old step point link place reply new fits for found says = record {
       reply = reply;
       after = with_point old place new (drawn reply old.numbers);
     })
-    made = stepped_there old step point link place n found
+    made = stepped_there old step point via place n found
         ∙ ap (λ (r : Result Reply Refusal). r >>= (λ q. Ok (made_at old step place q))) so.0
         ∙ ap Ok after
 
 -- why it isn't
-pub refused_here : (old : MachineState) (step : Step) (point : List ℕ) (link : Option ℕ)
+pub refused_here : (old : MachineState) (step : Step) (point : List ℕ) (via : Via)
     (place : ℕ) (refusal : Refusal) (new : ChargePointState)
-    → IsFor (work step) point link → place_for old point link ≡ Ok place
+    → IsFor (work step) point via → place_for old point via ≡ Ok place
     → IsWorked (work step) old.site old.numbers step (point_at old place) (Err refusal) new
     → IsRefusalOf (stepped no_answer old step) refusal × (new ≡ point_at old place)
-refused_here old step point link place refusal new for found says = (
+refused_here old step point via place refusal new for found says = (
   subst (λ (m : Result Made Refusal). IsRefusalOf m refusal)
-      (sym (stepped_there old step point link place n found))
+      (sym (stepped_there old step point via place n found))
       (by (n.at.decided old.site old.numbers was) so.0),
   so.1,
 )
   where
-    n : NamesPoint step point link
-    n = names_point step point link for
+    n : NamesPoint step point via
+    n = names_point step point via for
 
     was : ChargePointState
     was = point_at old place
@@ -228,46 +229,46 @@ refused_here old step point link place refusal new for found says = (
 
 -- what a method knows of a step at the place of its point
 pub record KnowsPlace (old : MachineState) (step : Step) (site : SiteState) (point : List ℕ)
-    (link : Option ℕ) (place : ℕ) (was : ChargePointState) : Type 0 where
+    (via : Via) (place : ℕ) (was : ChargePointState) : Type 0 where
   pub machine : IsMachine old
-  pub names : IsFor (work step) point link
-  pub found : Ok place ≡ place_for old point link
+  pub names : IsFor (work step) point via
+  pub found : Ok place ≡ place_for old point via
   pub within : place < length old.points
   pub read : was ≡ get_or old.points place was
   pub site_is : site ≡ old.site
 
 -- it knows it of the state that it was lent
 pub knows_place : (old now : MachineState) (step : Step) (site : SiteState) (point : List ℕ)
-    (link : Option ℕ) (place : ℕ) (was : ChargePointState) → old ≡ now → IsMachine old
-    → IsFor (work step) point link → Ok place ≡ place_for now point link
+    (via : Via) (place : ℕ) (was : ChargePointState) → old ≡ now → IsMachine old
+    → IsFor (work step) point via → Ok place ≡ place_for now point via
     → place < length now.points → was ≡ get_or old.points place was → site ≡ old.site
-    → KnowsPlace old step site point link place was
-knows_place old now step site point link place was same machine names found within read site_is =
+    → KnowsPlace old step site point via place was
+knows_place old now step site point via place was same machine names found within read site_is =
     record {
       machine = machine;
       names = names;
-      found = subst (λ (s : MachineState). Ok place ≡ place_for s point link) (sym same) found;
+      found = subst (λ (s : MachineState). Ok place ≡ place_for s point via) (sym same) found;
       within = subst (λ (s : MachineState). place < length s.points) (sym same) within;
       read = read;
       site_is = site_is;
     }
 
 pub the_point : (old : MachineState) (step : Step) (site : SiteState) (point : List ℕ)
-    (link : Option ℕ) (place : ℕ) (was : ChargePointState)
-    → KnowsPlace old step site point link place was → was ≡ point_at old place
-the_point old step site point link place was knows =
+    (via : Via) (place : ℕ) (was : ChargePointState)
+    → KnowsPlace old step site point via place was → was ≡ point_at old place
+the_point old step site point via place was knows =
     knows.read ∙ get_or_default old.points place was no_point knows.within
 
 worked_there : (old : MachineState) (step : Step) (site : SiteState) (point : List ℕ)
-    (link : Option ℕ) (place : ℕ) (was : ChargePointState) (result : Result Reply Refusal)
-    (new : ChargePointState) → KnowsPlace old step site point link place was
+    (via : Via) (place : ℕ) (was : ChargePointState) (result : Result Reply Refusal)
+    (new : ChargePointState) → KnowsPlace old step site point via place was
     → IsWorked (work step) site old.numbers step was result new
     → IsWorked (work step) old.site old.numbers step (point_at old place) result new
-worked_there old step site point link place was result new knows says =
+worked_there old step site point via place was result new knows says =
     subst (λ (s : SiteState). IsWorked (work step) s old.numbers step (point_at old place)
     result new) knows.site_is
     (subst (λ (p : ChargePointState). IsWorked (work step) site old.numbers step p result new)
-    (the_point old step site point link place was knows) says)
+    (the_point old step site point via place was knows) says)
 
 pub record IsMadeSo (old : MachineState) (step : Step) (reply : Reply) (new : MachineState)
     : Type 0 where
@@ -276,21 +277,21 @@ pub record IsMadeSo (old : MachineState) (step : Step) (reply : Reply) (new : Ma
   pub asked : HasAskedConnector reply
 
 pub made_so : (old : MachineState) (step : Step) (site : SiteState) (point : List ℕ)
-    (link : Option ℕ) (place : ℕ) (was : ChargePointState) (reply : Reply) (new : ChargePointState)
-    (numbers : Numbers) → KnowsPlace old step site point link place was
+    (via : Via) (place : ℕ) (was : ChargePointState) (reply : Reply) (new : ChargePointState)
+    (numbers : Numbers) → KnowsPlace old step site point via place was
     → IsWorked (work step) site old.numbers step was (Ok reply) new
     → numbers ≡ drawn reply old.numbers
     → IsMadeSo old step reply (with_point old place new numbers)
-made_so old step site point link place was reply new numbers knows says draws =
-    let made = made_here old step point link place reply new knows.machine knows.names
+made_so old step site point via place was reply new numbers knows says draws =
+    let made = made_here old step point via place reply new knows.machine knows.names
     (sym knows.found)
-    (worked_there old step site point link place was (Ok reply) new knows says) in
+    (worked_there old step site point via place was (Ok reply) new knows says) in
     subst (λ (n : Numbers). IsMadeSo old step reply (with_point old place new n)) (sym draws)
     (record {
       steps = made.steps;
       machine = moved_fits old place was new (drawn reply old.numbers) knows.machine
           knows.within knows.read (made.connectors ∙ ap connectors_in_book
-          (sym (the_point old step site point link place was knows))) made.numbers;
+          (sym (the_point old step site point via place was knows))) made.numbers;
       asked = made.asked;
     })
 
@@ -301,14 +302,14 @@ pub record IsRefusedSo (old : MachineState) (step : Step) (refusal : Refusal)
   pub machine : IsMachine new
 
 pub refused_so : (old : MachineState) (step : Step) (site : SiteState) (point : List ℕ)
-    (link : Option ℕ) (place : ℕ) (was : ChargePointState) (refusal : Refusal)
-    (new : ChargePointState) → KnowsPlace old step site point link place was
+    (via : Via) (place : ℕ) (was : ChargePointState) (refusal : Refusal)
+    (new : ChargePointState) → KnowsPlace old step site point via place was
     → IsWorked (work step) site old.numbers step was (Err refusal) new
     → IsRefusedSo old step refusal (with_point old place new old.numbers)
-refused_so old step site point link place was refusal new knows says =
-    let refused = refused_here old step point link place refusal new knows.names
+refused_so old step site point via place was refusal new knows says =
+    let refused = refused_here old step point via place refusal new knows.names
     (sym knows.found)
-    (worked_there old step site point link place was (Err refusal) new knows says) in
+    (worked_there old step site point via place was (Err refusal) new knows says) in
     let same : with_point old place new old.numbers ≡ old =
     ap (λ (p : ChargePointState). with_point old place p old.numbers) refused.1
     ∙ ap (λ (points : List ChargePointState). record old { points = points })
@@ -320,28 +321,28 @@ refused_so old step site point link place was refusal new knows says =
     }
 
 -- where it has no place, it is refused as that says
-pub refused_nowhere : (old : MachineState) (step : Step) (point : List ℕ) (link : Option ℕ)
-    (refusal : Refusal) → IsFor (work step) point link → place_for old point link ≡ Err refusal
+pub refused_nowhere : (old : MachineState) (step : Step) (point : List ℕ) (via : Via)
+    (refusal : Refusal) → IsFor (work step) point via → place_for old point via ≡ Err refusal
     → stepped no_answer old step ≡ Err refusal
-refused_nowhere old step point link refusal for found =
-    let n = names_point step point link for in
+refused_nowhere old step point via refusal for found =
+    let n = names_point step point via for in
     ap (worked no_answer old step) n.is
     ∙ ap (λ (p : Result ℕ Refusal). p >>= decided_there old step n.at)
-    (place_there old step point link (Err refusal) n found)
+    (place_there old step point via (Err refusal) n found)
 
 -- what a decision says of the whole state
-pub decided_here : (old : MachineState) (step : Step) (point : List ℕ) (link : Option ℕ)
+pub decided_here : (old : MachineState) (step : Step) (point : List ℕ) (via : Via)
     (place : ℕ) (result : Result Decision Refusal)
-    → IsFor (work step) point link → place_for old point link ≡ Ok place
+    → IsFor (work step) point via → place_for old point via ≡ Ok place
     → IsDecided (work step) old.site old.numbers (point_at old place) result
     → outlook old step ≡ outlook_by result
-decided_here old step point link place result for found says =
-    ap (outlook_of old) (stepped_there old step point link place n found)
+decided_here old step point via place result for found says =
+    ap (outlook_of old) (stepped_there old step point via place n found)
     ∙ by (n.at.decided old.site old.numbers was) (all old.site old.numbers was)
     ∙ ap outlook_by (sym so)
   where
-    n : NamesPoint step point link
-    n = names_point step point link for
+    n : NamesPoint step point via
+    n = names_point step point via for
 
     was : ChargePointState
     was = point_at old place

@@ -1,10 +1,11 @@
 -- Bodies as numbered calls.
-use Rattle.std.proofs.Common.{◌≡◌, ℕ, ◌+◌, ◌-◌, ◌<◌, ◌≤◌, suc, refl, sym, ◌∙◌, ap, List, [], ◌∷◌, ◌++◌, length, drop, map, Bool, true, ◌&&◌, false, cond, is_some, nat_eq, Option, Some, None, IsSome, slice_index_or, arith, length-append}
-use Rattle.std.specs.List.{range_with_len}
+use Rattle.std.proofs.Common.{◌≡◌, ℕ, ◌+◌, ◌-◌, ◌<◌, ◌≤◌, ◌==◌, ◌||◌, nat_le, nat_lt, suc, refl, sym, ◌∙◌, ap, List, [], ◌∷◌, ◌++◌, length, drop, map, Bool, true, ◌&&◌, false, cond, is_some, nat_eq, Option, Some, None, IsSome, slice_index_or, arith, length-append}
+use Rattle.std.proofs.lemmas.Bool.Decides.{nat_tests}
+use Rattle.std.specs.List.{list_any, range_with_len}
 use Rattle.messages.specs.declared.call.Call.{Call}
 use Rattle.messages.specs.declared.call.CallBody.{CallBody}
 use Rattle.site_core.specs.Limits.{max_number, max_calls}
-use Rattle.site_core.specs.Outbox.{OutboxState, IsOutbox, numbered, clear_all, is_number_of_first, is_number_in_flight, confirmed, sendable, sendable_by, sending_link}
+use Rattle.site_core.specs.Outbox.{OutboxState, IsOutbox, numbered, clear_all, is_number_of_first, is_number_in_flight, is_unconfirmed, confirmed, sendable, sendable_by, sending_link}
 
 pub numbered_length : (number : ℕ) (bodies : List CallBody)
     → length (numbered number bodies) ≡ length bodies
@@ -139,3 +140,22 @@ number_in_flight outbox number is flies = by outbox.calls is.numbers (is.in_flig
         (call ∷ later) = cc in
         ap (λ (b : Bool). b && nat_eq call.number number) flies
         ∙ ap (λ (n : ℕ). nat_eq n number) first
+
+-- the call of a number waits where the number is one of theirs
+pub waits_by_number : (outbox : OutboxState) (number : ℕ) → IsOutbox outbox
+    → is_unconfirmed outbox.calls number
+    ≡ (nat_le (outbox.next - length outbox.calls) number && nat_lt number outbox.next)
+waits_by_number outbox number is =
+    among outbox.calls (outbox.next - length outbox.calls) is.numbers
+    ∙ ap (λ (n : ℕ). nat_le (outbox.next - length outbox.calls) number && nat_lt number n)
+    (omega (arith, is.drawn))
+  where
+    among : (calls : List Call) (first : ℕ)
+        → map (λ (call : Call). call.number) calls ≡ range_with_len first (length calls)
+        → is_unconfirmed calls number
+        ≡ (nat_le first number && nat_lt number (first + length calls))
+    among [] first same = grind (arith, nat_tests)
+    among (call ∷ later) first same =
+        let here : call.number ≡ first = cc in
+        let rest = among later (first + 1) cc in
+        grind (arith, nat_tests)

@@ -7,6 +7,7 @@ use Rattle.site_rules.specs.Site.{place_of}
 use Rattle.messages.specs.declared.call.Call.{Call}
 use Rattle.site_core.specs.declared.reply.Reply.TheVariants.{Nothing}
 use Rattle.site_core.specs.declared.step.Step.TheVariants as steps
+use Rattle.site_core.specs.declared.via.Via.TheVariants.{Link}
 use Rattle.site_core.specs.Outbox.{sendable}
 use Rattle.site_core.specs.State.{MachineState, outbox_at, link_at, link_of, link_to_send_at, link_to_send, is_this_number}
 use Rattle.site_core.specs.Step.{Made, unchanged, found_place, made_at, sends_call, SendsNothing}
@@ -59,7 +60,7 @@ sends_nothing state point link h = by state.is_stopped (place_of state.site poin
   where
     by : (stopped : Bool) (found : Option ℕ) → cond stopped None
         (link_to_send_at state found) ≡ None
-        → IfOk (cond stopped (Err Stopped) (found_place state (Some link) found)
+        → IfOk (cond stopped (Err Stopped) (found_place state (Link link) found)
         >>= (λ there. Ok (sending state point link there))) (IsNothing state)
     by true found h = tt
     by false None h = tt

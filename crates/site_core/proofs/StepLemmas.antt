@@ -15,6 +15,8 @@ use Rattle.site_core.specs.declared.numbers.Numbers.{Numbers}
 use Rattle.site_core.specs.declared.step.Step.{Step}
 use Rattle.site_core.specs.declared.step.Step.TheVariants as steps
 use Rattle.site_core.specs.declared.step.Take.{Take}
+use Rattle.site_core.specs.declared.via.Via.{Via}
+use Rattle.site_core.specs.declared.via.Via.TheVariants.{Name, Link, Audit}
 use Rattle.site_core.specs.declared.reply.Counted.{Counted}
 use Rattle.site_core.specs.declared.reply.Reply.{Reply}
 use Rattle.site_core.specs.declared.reply.Reply.TheVariants.{Compiled, Answered, NotYet, Finished}
@@ -34,38 +36,40 @@ use Rattle.site_core.proofs.EffectLemmas.{Agrees, WorkAgrees, agrees, changed_in
 -- ---- what holds of whatever is made
 
 -- what holds of each step after another, up to the first fault
-then_holds : {X Y : Type 0} (P : Y → Type 0) (one : Result X Refusal) (next : X → Result Y Refusal)
+pub then_holds : {X Y : Type 0} (P : Y → Type 0) (one : Result X Refusal) (next : X → Result Y Refusal)
     → ((x : X) → one ≡ Ok x → IfOk (next x) P) → IfOk (one >>= next) P
 then_holds P (Ok x) next each = each x refl
 then_holds P (Err refusal) next each = tt
 
 -- what holds of whatever is made holds of what was made
-of_made : (P : Made → Type 0) (result : Result Made Refusal) (made : Made) → result ≡ Ok made
+pub of_made : (P : Made → Type 0) (result : Result Made Refusal) (made : Made) → result ≡ Ok made
     → IfOk result P → P made
 of_made P result made is holds = subst (λ (r : Result Made Refusal). IfOk r P) is holds
 
 -- a place that is found is that of the point, and the central system isn't stopped
-record IsFound (old : MachineState) (point : List ℕ) (place : ℕ) : Type 0 where
+pub record IsFound (old : MachineState) (point : List ℕ) (place : ℕ) : Type 0 where
   pub going : old.is_stopped ≡ false
   pub here : place_of old.site point ≡ Some place
 
-found : (old : MachineState) (point : List ℕ) (link : Option ℕ)
-    → IfOk (place_for old point link) (IsFound old point)
-found old point link = by old.is_stopped refl (place_of old.site point) refl link
+pub found : (old : MachineState) (point : List ℕ) (via : Via)
+    → IfOk (place_for old point via) (IsFound old point)
+found old point via = by old.is_stopped refl (place_of old.site point) refl via
   where
     P : ℕ → Type 0
     P = IsFound old point
 
     by : (stopped : Bool) → old.is_stopped ≡ stopped → (place : Option ℕ)
-        → place_of old.site point ≡ place → (over : Option ℕ)
-        → IfOk (cond stopped (Err refusals.Stopped) (found_place old over place)) P
-    by true is place here over = tt
-    by false is None here None = tt
-    by false is (Some place) here None = record { going = is; here = here }
-    by false is None here (Some number) = tt
-    by false is (Some place) here (Some number) =
+        → place_of old.site point ≡ place → (via : Via)
+        → IfOk (cond stopped (Err refusals.Stopped) (found_place old via place)) P
+    by true is place here via = tt
+    by false is None here Name = tt
+    by false is (Some place) here Name = record { going = is; here = here }
+    by false is None here (Link number) = tt
+    by false is (Some place) here (Link number) =
         either_holds P (is_this_number number (outbox_at old place).link) (Ok place)
         (Err refusals.Superseded) (record { going = is; here = here }) tt
+    by false is None here Audit = tt
+    by false is (Some place) here Audit = record { going = is; here = here }
 
 -- ---- steps at a point
 
@@ -80,12 +84,12 @@ record IsAtPoint (old : MachineState) (point : List ℕ) (step : Step) (made : M
 made_at_point : (old : MachineState) (step : Step) (at : PointStep) → WorkAgrees step (AtPoint at)
     → IfOk (made_there old step at) (IsAtPoint old at.point step)
 made_at_point old step at agree =
-    then_holds (IsAtPoint old at.point step) (place_for old at.point at.link) _ (λ place there.
+    then_holds (IsAtPoint old at.point step) (place_for old at.point at.via) _ (λ place there.
     then_holds (IsAtPoint old at.point step)
     (at.decided old.site old.numbers (point_at old place)) _ (λ reply says. record {
       place = place;
       here = (subst (λ (r : Result ℕ Refusal). IfOk r (IsFound old at.point)) there
-          (found old at.point at.link)).here;
+          (found old at.point at.via)).here;
       reply = reply;
       is = refl;
       agrees = subst (λ (r : Result Reply Refusal). IfOk r
@@ -319,10 +323,10 @@ record IsTaking (old : MachineState) (take : Take) (made : Made) : Type 0 where
 takes_is : (old : MachineState) (take : Take)
     → IfOk (stepped no_answer old (steps.Take take)) (IsTaking old take)
 takes_is old take =
-    then_holds (IsTaking old take) (place_for old take.point None) _ (λ place there.
+    then_holds (IsTaking old take) (place_for old take.point Name) _ (λ place there.
     then_holds (IsTaking old take) (ask_at old.site.unit (book_at old place) take) _ (λ ask asks.
     let at = subst (λ (r : Result ℕ Refusal). IfOk r (IsFound old take.point)) there
-    (found old take.point None) in
+    (found old take.point Name) in
     unless_holds (IsTaking old take) (refusal_to_take old take) (taking old place ask) (record {
       place = place;
       ask = ask;

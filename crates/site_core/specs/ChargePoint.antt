@@ -4,6 +4,7 @@
 use Rattle.std.specs.Prelude.{ℕ, ℤ, ◌-◌, List, Option, Some, None, slice_set}
 use Rattle.profile.specs.declared.row.Row.{Row}
 use Rattle.profile.specs.declared.criteria.Criteria.{Criteria}
+use Rattle.profile.specs.declared.unit.Unit.{Unit}
 use Rattle.profile.specs.Changes.{installed, cleared, without_transaction_profiles}
 use Rattle.transactions.specs.declared.begin.Begin.{Begin}
 use Rattle.transactions.specs.declared.transaction.Transaction.{Transaction}
@@ -11,6 +12,8 @@ use Rattle.messages.specs.declared.call.CallBody.{CallBody}
 use Rattle.messages.specs.declared.call.CallBody.TheVariants as bodies
 use Rattle.site_rules.specs.Site.{PointEntry}
 use Rattle.point_book.specs.Book.{BookState, empty_book}
+use Rattle.sweep_compiler.specs.declared.verdict.Verdict.{Verdict}
+use Rattle.site_core.specs.Audit.{AuditState, begun_audit, judged_audit}
 use Rattle.site_core.specs.Outbox.{OutboxState, opening_outbox, Traffic, Attach, Lose, Add, Send, Confirm, after}
 
 pub record ChargePointState : Type 0 where
@@ -18,11 +21,17 @@ pub record ChargePointState : Type 0 where
   pub book : BookState
   -- the link to it, and the calls that it hasn't confirmed
   pub outbox : OutboxState
+  -- its audit, once it was audited
+  pub audit : Option AuditState
 
 -- a point with nothing installed, no active transaction and no link, to which call 0 is to be sent
 abbrev pub opening_point : PointEntry → ChargePointState
 opening_point point =
-    record { book = empty_book point.ceiling point.ceilings; outbox = opening_outbox }
+    record {
+      book = empty_book point.ceiling point.ceilings;
+      outbox = opening_outbox;
+      audit = None;
+    }
 
 -- ---- what a step does at a point
 
@@ -46,6 +55,11 @@ pub data Deed : Type 0 where
   Sends : Deed
   -- the point has replied to the call of a number
   Confirms : (number : ℕ) → Deed
+  -- the point is called for its schedule of a connector over so many seconds (OCPP 1.6, 5.7), and
+  -- what it has now is kept
+  Audits : (connector duration : ℕ) (unit : Unit) → Deed
+  -- its reply to that call is judged so
+  Judges : (verdict : Verdict) → Deed
 
 -- its profiles then
 abbrev pub rows_after : List Row → Deed → List Row
@@ -57,6 +71,8 @@ rows_after rows (Attaches link) = rows
 rows_after rows Loses = rows
 rows_after rows Sends = rows
 rows_after rows (Confirms number) = rows
+rows_after rows (Audits connector duration unit) = rows
+rows_after rows (Judges verdict) = rows
 
 -- its transactions then
 abbrev pub transactions_after : List (Option Transaction) → Deed → List (Option Transaction)
@@ -69,6 +85,8 @@ transactions_after active (Attaches link) = active
 transactions_after active Loses = active
 transactions_after active Sends = active
 transactions_after active (Confirms number) = active
+transactions_after active (Audits connector duration unit) = active
+transactions_after active (Judges verdict) = active
 
 -- what comes to its outbox: a call that is added, or what becomes of its link and of the first
 -- call. That a transaction begins or ends, a point knows by itself.
@@ -81,6 +99,8 @@ traffic_of (Attaches link) = Some (Attach link)
 traffic_of Loses = Some Lose
 traffic_of Sends = Some Send
 traffic_of (Confirms number) = Some (Confirm number)
+traffic_of (Audits connector duration unit) = Some (Add (bodies.Audit connector duration unit))
+traffic_of (Judges verdict) = None
 
 -- the call that brings it to the point, if there is one
 abbrev pub call_in : Option Traffic → Option CallBody
@@ -95,6 +115,21 @@ abbrev pub rows_by_call : ℕ → CallBody → List Row → List Row
 rows_by_call moment (bodies.Set connector profile) rows =
     installed rows (record { connector = connector; moment = moment; profile = profile })
 rows_by_call moment (bodies.Clear criteria) rows = cleared rows criteria
+rows_by_call moment (bodies.Audit connector duration unit) rows = rows
+
+-- its audit then: an audit takes the place of the one before it
+abbrev pub audit_after : ChargePointState → Deed → Option AuditState
+audit_after old (Audits connector duration unit) =
+    Some (begun_audit old.outbox.next old.book connector duration unit)
+audit_after old (Judges verdict) = judged_audit old.book.transactions verdict old.audit
+audit_after old (Installs row) = old.audit
+audit_after old (Clears criteria) = old.audit
+audit_after old (Starts connector begin number) = old.audit
+audit_after old (Stops connector) = old.audit
+audit_after old (Attaches link) = old.audit
+audit_after old Loses = old.audit
+audit_after old Sends = old.audit
+audit_after old (Confirms number) = old.audit
 
 -- ---- the point then
 
@@ -112,6 +147,7 @@ abbrev pub point_after : ChargePointState → Deed → ChargePointState
 point_after old deed = record old {
   book = book_after old.book deed;
   outbox = outbox_with (traffic_of deed) old.outbox;
+  audit = audit_after old deed;
 }
 
 -- after a step that does something there, or nothing

@@ -1,5 +1,7 @@
 pub mod Limits
 pub mod Outbox
+pub mod Equal
+pub mod Audit
 pub mod ChargePoint
 pub mod State
 pub mod Right
@@ -17,4 +19,5 @@ pub mod Obey
 pub mod ObeyOrder
 pub mod CallOrder
 pub mod Counts
+pub mod Audits
 pub mod Theory

@@ -2,7 +2,7 @@
 -- again until it is confirmed, and the next one only then. `record old { .. }` is the outbox with
 -- these fields changed and all else as it was.
 use Rattle.std.specs.Prelude.{ℕ, ◌+◌, ◌-◌, ◌<◌, ◌≤◌, ◌≡◌, nat_le, nat_lt, ◌==◌, Bool, true, false, ◌&&◌, List, [], ◌∷◌, ◌++◌, length, drop, map, Option, None, Some, IsSome, is_some, if◌then◌else◌}
-use Rattle.std.specs.List.{range_with_len}
+use Rattle.std.specs.List.{list_any, range_with_len}
 use Rattle.profile.specs.declared.criteria.Criteria.{Criteria}
 use Rattle.messages.specs.declared.call.Call.{Call}
 use Rattle.messages.specs.declared.call.CallBody.{CallBody}
@@ -107,6 +107,10 @@ is_number_of_first (call ∷ later) number = call.number == number
 -- whether the call in flight has this number
 abbrev pub is_number_in_flight : OutboxState → ℕ → Bool
 is_number_in_flight outbox number = outbox.is_in_flight && is_number_of_first outbox.calls number
+
+-- whether the call of a number is one of these
+abbrev pub is_unconfirmed : List Call → ℕ → Bool
+is_unconfirmed calls number = list_any (λ (call : Call). call.number == number) calls
 
 -- The call in flight goes, whatever the point answered to it. Another number confirms nothing.
 abbrev pub confirmed : OutboxState → ℕ → OutboxState

@@ -1,12 +1,14 @@
 -- The state of the central system: what it knows between two steps.
-use Rattle.std.specs.Prelude.{ℕ, ◌≡◌, ◌≤◌, ◌==◌, Bool, false, List, [], map, length, slice_index_or, Option, None, Some, if◌then◌else◌}
+use Rattle.std.specs.Prelude.{ℕ, ◌≡◌, ◌≤◌, ◌==◌, Bool, false, List, [], map, length, slice_index_or, Option, None, Some, option_map, if◌then◌else◌}
 use Rattle.meaning.specs.declared.ask.Ask.{Ask}
 pub use Rattle.sweep_compiler.specs.Right.{ScheduleAnswer}
 use Rattle.site_rules.specs.Site.{PointEntry, SiteState, place_of}
 use Rattle.point_book.specs.Book.{BookState, empty_book}
+use Rattle.sweep_compiler.specs.Verdict.{AuditRequest}
 use Rattle.site_core.specs.declared.numbers.Numbers.{Numbers}
 use Rattle.site_core.specs.Limits.{max_number, max_transaction, max_requests}
 use Rattle.site_core.specs.Outbox.{OutboxState, opening_outbox, sending_link}
+use Rattle.site_core.specs.Audit.{AuditState, unjudged}
 use Rattle.site_core.specs.ChargePoint.{ChargePointState, opening_point}
 
 -- a request for a composite schedule that is kept until its answer is handed out
@@ -52,7 +54,7 @@ opening site = opening_at site no_numbers
 -- What is kept of the point at a place of the site file. Each place has its point, so none is read
 -- as one without connectors.
 abbrev pub no_point : ChargePointState
-no_point = record { book = empty_book 0 []; outbox = opening_outbox }
+no_point = record { book = empty_book 0 []; outbox = opening_outbox; audit = None }
 
 abbrev pub point_in : List ChargePointState → ℕ → ChargePointState
 point_in points place = slice_index_or points place no_point
@@ -66,6 +68,10 @@ book_at state place = (point_at state place).book
 
 abbrev pub outbox_at : MachineState → ℕ → OutboxState
 outbox_at state place = (point_at state place).outbox
+
+-- its audit, once it was audited
+abbrev pub audit_at : MachineState → ℕ → Option AuditState
+audit_at state place = (point_at state place).audit
 
 -- the present link of the point at a place, and of the point of an identity; a stranger has none
 abbrev pub link_at : MachineState → Option ℕ → Option ℕ
@@ -98,6 +104,24 @@ outbox_len_at state (Some place) = length (outbox_at state place).calls
 
 abbrev pub outbox_len : MachineState → List ℕ → ℕ
 outbox_len state point = outbox_len_at state (place_of state.site point)
+
+-- the audit of the point of an identity, once it was audited; a stranger has none
+abbrev pub audit_in : MachineState → Option ℕ → Option AuditState
+audit_in state None = None
+audit_in state (Some place) = audit_at state place
+
+abbrev pub audit_of : MachineState → List ℕ → Option AuditState
+audit_of state point = audit_in state (place_of state.site point)
+
+-- what the audit of the point at a place, and of an identity, asked, with what the point had then,
+-- while it has no verdict; a stranger has none
+abbrev pub audit_job_at : MachineState → Option ℕ → ℕ → Option AuditRequest
+audit_job_at state None call = None
+audit_job_at state (Some place) call =
+    option_map (λ (audit : AuditState). audit.asked) (unjudged call (audit_at state place))
+
+abbrev pub audit_job : MachineState → List ℕ → ℕ → Option AuditRequest
+audit_job state point call = audit_job_at state (place_of state.site point) call
 
 -- ---- what is always so
 

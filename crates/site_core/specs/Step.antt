@@ -4,7 +4,7 @@ use Rattle.std.specs.Prelude.{ℕ, ℤ, pos, ◌≡◌, ◌≤◌, ◌+◌, not,
 use Rattle.std.specs.List.{list_any}
 use Rattle.ocpp_scalars.specs.ResultSteps.{◌>>=◌}
 use Rattle.ocpp_scalars.specs.declared.refusal.Refusal.{Refusal}
-use Rattle.ocpp_scalars.specs.declared.refusal.Refusal.TheVariants.{UnknownPoint, UnknownConnector, OutboxFull, TooManyOpen, VersionsExhausted, TransactionsExhausted, Behind, OutOfMemory, UnknownRequest, AlreadyAnswered, Superseded, NothingInFlight}
+use Rattle.ocpp_scalars.specs.declared.refusal.Refusal.TheVariants.{UnknownPoint, UnknownConnector, OutboxFull, BadDuration, TooManyOpen, VersionsExhausted, TransactionsExhausted, Behind, OutOfMemory, UnknownRequest, AlreadyAnswered, StrangerInput, Superseded, NothingInFlight, AuditOpen}
 use Rattle.ocpp_scalars.specs.declared.refusal.Refusal.TheVariants as refusals
 use Rattle.profile.specs.declared.row.Row.{Row}
 use Rattle.profile.specs.declared.criteria.Criteria.{Criteria}
@@ -14,22 +14,29 @@ use Rattle.transactions.specs.declared.active_table.Began.{Began}
 use Rattle.transactions.specs.declared.active_table.Began.TheVariants.{Fresh, Repeat}
 use Rattle.transactions.specs.ActiveTable.{began, connector_of}
 use Rattle.meaning.specs.declared.ask.Ask.{Ask}
+use Rattle.meaning.specs.Limits.{max_duration}
 use Rattle.messages.specs.declared.call.Call.{Call}
+use Rattle.messages.specs.declared.response.PointStatus.{PointStatus}
 use Rattle.site_rules.specs.Site.{SiteState, place_of}
 use Rattle.site_rules.specs.Admission.{admission_refusal}
 use Rattle.point_book.specs.Book.{BookState}
 use Rattle.point_book.specs.Changes.{first_cause, install_refusal}
+use Rattle.sweep_compiler.specs.Judged.{Judgement}
 use Rattle.site_core.specs.declared.numbers.Numbers.{Numbers}
 use Rattle.site_core.specs.declared.step.Step.{Step}
 use Rattle.site_core.specs.declared.step.Step.TheVariants as steps
 use Rattle.site_core.specs.declared.step.Take.{Take}
 use Rattle.site_core.specs.declared.reply.Counted.{Counted}
 use Rattle.site_core.specs.declared.reply.Reply.{Reply}
-use Rattle.site_core.specs.declared.reply.Reply.TheVariants.{Accepted, Unknown, Started, Repeated, Ended, NoSuch, Taken, Compiled, Answered, NotYet, Finished, Attached, Sent, Nothing, Confirmed, LinkLost}
+use Rattle.site_core.specs.declared.reply.Reply.TheVariants.{Accepted, Unknown, Started, Repeated, Ended, NoSuch, Taken, Compiled, Answered, NotYet, Finished, Attached, Sent, Nothing, Confirmed, LinkLost, Audited, VerdictKept, Status}
 use Rattle.site_core.specs.declared.outcome.Refused.{Refused}
+use Rattle.site_core.specs.declared.via.Via.{Via}
+use Rattle.site_core.specs.declared.via.Via.TheVariants.{Name, Link, Audit}
+use Rattle.site_core.specs.Audit.{AuditState, is_open_among, unjudged, audit_outcome}
+use Rattle.site_core.specs.Equal.{same_request}
 use Rattle.site_core.specs.Limits.{max_number, max_transaction, max_requests}
 use Rattle.site_core.specs.Outbox.{OutboxState, is_full, is_exhausted, sendable, is_number_in_flight}
-use Rattle.site_core.specs.ChargePoint.{ChargePointState, Deed, Installs, Clears, Starts, Stops, Attaches, Loses, Sends, Confirms, point_after}
+use Rattle.site_core.specs.ChargePoint.{ChargePointState, Deed, Installs, Clears, Starts, Stops, Attaches, Loses, Sends, Confirms, Audits, Judges, point_after}
 use Rattle.site_core.specs.State.{MachineState, Kept, ScheduleAnswer, point_at, book_at, outbox_at, is_this_number}
 use Rattle.site_core.specs.Requests.{request_of, answered, without, all_stopped}
 use Rattle.site_core.specs.Ask.{ask_at}
@@ -108,6 +115,9 @@ facts (Sent call) = record quiet_event { wants_memory = true }
 facts Nothing = answer_alone
 facts Confirmed = quiet_event
 facts LinkLost = quiet_event
+facts (Audited call unit) = record quiet_event { wants_memory = true }
+facts VerdictKept = quiet_event
+facts (Status status) = answer_alone
 
 -- whether a step with its reply is an event
 abbrev pub is_event : MachineState → Reply → Bool
@@ -119,8 +129,8 @@ counted reply = (facts reply).counts
 abbrev pub drawn : Reply → Numbers → Numbers
 drawn reply numbers = (facts reply).drawn numbers
 
--- What wants memory: a profile and a clear with their calls, a transaction and its end, a request
--- that is kept, and a call that is copied to be sent.
+-- What wants memory: a profile, a clear and an audit with their calls, a transaction and its end, a
+-- request that is kept, and a call that is copied to be sent.
 abbrev pub wants_memory : Reply → Bool
 wants_memory reply = (facts reply).wants_memory
 
@@ -148,6 +158,9 @@ is_reply_to (steps.Send point link) (Sent call) = true
 is_reply_to (steps.Send point link) Nothing = true
 is_reply_to (steps.Confirm point link number) Confirmed = true
 is_reply_to (steps.Lost point link) LinkLost = true
+is_reply_to (steps.Audit point connector duration) (Audited call unit) = true
+is_reply_to (steps.Judge point number judged) VerdictKept = true
+is_reply_to (steps.Status point) (Status status) = true
 is_reply_to step reply = false
 
 -- ---- steps at a point are decided first, from the site, the numbers drawn last and the point
@@ -245,6 +258,42 @@ confirms number point =
 abbrev pub loses : ChargePointState → Result Reply Refusal
 loses point = Ok LinkLost
 
+-- Audit: the point is asked for its own schedule of a connector, 0 being the whole point, unless it
+-- still has to answer the audit before. It is asked in the site's unit.
+abbrev pub is_no_duration : ℕ → Bool
+is_no_duration duration = (duration == 0) || nat_lt max_duration duration
+
+abbrev pub refusal_to_audit : ℕ → ℕ → ChargePointState → Option Refusal
+refusal_to_audit connector duration point =
+    if nat_lt (length point.book.ceilings) connector then Some UnknownConnector
+    else if is_no_duration duration then Some BadDuration
+    else if is_open_among point.outbox.calls point.audit then Some AuditOpen
+    else refusal_to_add point.outbox
+
+abbrev pub audits : SiteState → ℕ → ℕ → ChargePointState → Result Reply Refusal
+audits site connector duration point =
+    unless (refusal_to_audit connector duration point) (Audited point.outbox.next site.unit)
+
+-- Judge: the audit of this number has no verdict yet, and what was judged is that audit
+abbrev pub judges_audit : Judgement → Option AuditState → Result Reply Refusal
+judges_audit judged None = Err UnknownRequest
+judges_audit judged (Some audit) =
+    if same_request audit.asked judged.audit then Ok VerdictKept else Err StrangerInput
+
+abbrev pub judges : ℕ → Judgement → ChargePointState → Result Reply Refusal
+judges number judged point = judges_audit judged (unjudged number point.audit)
+
+-- Status: the version of the store, how many calls the point hasn't confirmed, and its audit
+abbrev pub status_of : Numbers → ChargePointState → PointStatus
+status_of numbers point = record {
+  version = numbers.version;
+  outbox = length point.outbox.calls;
+  audit = audit_outcome point.audit;
+}
+
+abbrev pub tells_status : Numbers → ChargePointState → Result Reply Refusal
+tells_status numbers point = Ok (Status (status_of numbers point))
+
 -- ---- and then done
 
 -- what a step does at its point, which is read from the point, the step and what is replied: no
@@ -259,6 +308,9 @@ deed point (steps.Attach id) (Attached link) = Some (Attaches link)
 deed point (steps.Send id link) (Sent call) = Some Sends
 deed point (steps.Confirm id link number) Confirmed = Some (Confirms number)
 deed point (steps.Lost id link) LinkLost = Some Loses
+deed point (steps.Audit id connector duration) (Audited call unit) =
+    Some (Audits connector duration unit)
+deed point (steps.Judge id number judged) VerdictKept = Some (Judges judged.verdict)
 deed point step reply = None
 
 -- ---- the whole state
@@ -274,19 +326,22 @@ unchanged old reply = record { reply = reply; after = old }
 
 -- ---- where a step is made
 
--- the place of a point of the site; over a link, only where that is the point's present one
-abbrev pub found_place : MachineState → Option ℕ → Option ℕ → Result ℕ Refusal
-found_place old None None = Err UnknownPoint
-found_place old None (Some place) = Ok place
-found_place old (Some link) None = Err Superseded
-found_place old (Some link) (Some place) =
+-- the place of a point of the site; over a link, only where that is the point's present one. A
+-- stranger has no link and no audit.
+abbrev pub found_place : MachineState → Via → Option ℕ → Result ℕ Refusal
+found_place old Name None = Err UnknownPoint
+found_place old Name (Some place) = Ok place
+found_place old (Link link) None = Err Superseded
+found_place old (Link link) (Some place) =
     if is_this_number link (outbox_at old place).link then Ok place else Err Superseded
+found_place old Audit None = Err UnknownRequest
+found_place old Audit (Some place) = Ok place
 
 -- while the central system isn't stopped
-abbrev pub place_for : MachineState → List ℕ → Option ℕ → Result ℕ Refusal
-place_for old point link =
+abbrev pub place_for : MachineState → List ℕ → Via → Result ℕ Refusal
+place_for old point via =
     if old.is_stopped then Err refusals.Stopped
-    else found_place old link (place_of old.site point)
+    else found_place old via (place_of old.site point)
 
 -- what a step makes of the whole state that does something at the point at a place, or nothing
 abbrev pub done_at : MachineState → ℕ → Reply → Option Deed → Made
@@ -332,7 +387,7 @@ taking old place ask = record {
 
 abbrev pub takes : MachineState → Take → Result Made Refusal
 takes old take = do
-  place ← place_for old take.point None
+  place ← place_for old take.point Name
   ask ← ask_at old.site.unit (book_at old place) take
   unless (refusal_to_take old take) (taking old place ask)
 
@@ -376,20 +431,23 @@ finishes old =
 
 -- ---- all steps
 
--- a step at a point: the point that it names, the link that it has to be made over, where it has
--- to, and what it comes to there
+-- a step at a point: the point that it names, how it comes to it, and what it comes to there
 pub record PointStep : Type 0 where
   pub point : List ℕ
-  pub link : Option ℕ
+  pub via : Via
   pub decided : SiteState → Numbers → ChargePointState → Result Reply Refusal
 
 abbrev pub at_point : List ℕ → (SiteState → Numbers → ChargePointState → Result Reply Refusal)
     → PointStep
-at_point point decided = record { point = point; link = None; decided = decided }
+at_point point decided = record { point = point; via = Name; decided = decided }
 
 abbrev pub over_link : List ℕ → ℕ → (ChargePointState → Result Reply Refusal) → PointStep
 over_link point link decided =
-    record { point = point; link = Some link; decided = λ site numbers. decided }
+    record { point = point; via = Link link; decided = λ site numbers. decided }
+
+abbrev pub of_audit : List ℕ → (ChargePointState → Result Reply Refusal) → PointStep
+of_audit point decided =
+    record { point = point; via = Audit; decided = λ site numbers. decided }
 
 -- what a step is about: a point, or the requests that are kept
 pub data Work : Type 0 where
@@ -415,11 +473,15 @@ work (steps.Attach point) = AtPoint (at_point point (λ site numbers. attaches n
 work (steps.Send point link) = AtPoint (over_link point link sends)
 work (steps.Confirm point link number) = AtPoint (over_link point link (confirms number))
 work (steps.Lost point link) = AtPoint (over_link point link loses)
+work (steps.Audit point connector duration) =
+    AtPoint (at_point point (λ site numbers. audits site connector duration))
+work (steps.Judge point number judged) = AtPoint (of_audit point (judges number judged))
+work (steps.Status point) = AtPoint (at_point point (λ site numbers. tells_status numbers))
 
 -- a step at a point is decided, and then done
 abbrev pub made_there : MachineState → Step → PointStep → Result Made Refusal
 made_there old step at = do
-  place ← place_for old at.point at.link
+  place ← place_for old at.point at.via
   reply ← at.decided old.site old.numbers (point_at old place)
   Ok (made_at old step place reply)
 

@@ -1,7 +1,7 @@
 //! What the central system keeps of a charge point, and what a step does there: a method sees
 //! neither other points nor requests. A step is decided first, without a change, and then done.
 
-ghost use Rattle.std.specs.Prelude.{◌≡◌, ◌+◌, ◌<◌, ◌≤◌, ℕ, None, Ok, IfNone, IfOk, length};
+ghost use Rattle.std.specs.Prelude.{◌≡◌, ◌+◌, ◌<◌, ◌≤◌, ℕ, None, Ok, Err, IfErr, IfNone, IfOk, OnOk, length, option_map};
 ghost use Rattle.site_rules.specs.Site.{HasConnector, point_entry};
 ghost use Rattle.transactions.specs.declared.active_table.Began.{Began};
 ghost use Rattle.transactions.specs.ActiveTable.{began};
@@ -11,10 +11,15 @@ ghost use Rattle.site_core.specs.declared.reply.Reply.{Reply};
 ghost use Rattle.site_core.specs.declared.step.Step.TheVariants as steps;
 ghost use Rattle.site_core.specs.Limits.{max_calls, max_number};
 ghost use Rattle.site_core.specs.State.{AreNumbers};
+ghost use Rattle.sweep_compiler.specs.declared.verdict.Verdict.{Verdict};
+ghost use Rattle.site_core.specs.Audit.{is_open_among, judged_audit, unjudged};
+ghost use Rattle.site_core.specs.Audits.{BringsRight};
+ghost use Rattle.sweep_compiler.specs.Judged.{IsJudged};
 ghost use Rattle.site_core.specs.ChargePoint.{opening_point};
-ghost use Rattle.site_core.specs.Step.{refusal_to_call, refusal_to_start, installs, clears, starts, stops, attaches, sends, confirms, loses, next_transaction, work};
+ghost use Rattle.site_core.specs.Step.{refusal_to_add, refusal_to_call, refusal_to_start, installs, clears, starts, stops, attaches, sends, confirms, loses, audits, judges, status_of, next_transaction, work};
 ghost use Rattle.site_core.specs.ByCases.Made.{decision_of, ComesTo, OnDoes, IsMadeAt, IsAtPoint, HasConnectorsOf, IsDecided, IsWorked};
 
+use crate::audit::PointAudit;
 use crate::decision::Decision;
 use crate::numbers::Numbers;
 use crate::outbox::{Outbox, PreparedCall};
@@ -22,22 +27,25 @@ use crate::point_id::PointId;
 use crate::reply::Reply;
 use crate::shared_book::SharedBook;
 use crate::step::Step;
-use messages::CallBody;
+use meaning::MAX_DURATION;
+use messages::{AuditOutcome, CallBody, PointStatus};
 use ocpp_scalars::Refusal;
 use point_book::PointBook;
-use profile::{Criteria, Row};
+use profile::{Criteria, Row, Unit};
 use site_rules::{Site, SitePoint, admit};
 use std::alloc::{AllocError, Global};
 use std::marker::Model;
+use sweep_compiler::{AuditJob, Judged, Verdict};
 use transactions::{Began, Begin};
 
 /// What the central system keeps of a charge point: its profiles and transactions, the link to it,
-/// and the calls that it hasn't confirmed.
+/// the calls that it hasn't confirmed, and its audit.
 #[derive(Drop)]
 pub(crate) struct ChargePoint {
     alloc: Global,
     book: SharedBook,
     outbox: Outbox,
+    audit: Option<PointAudit>,
 }
 
 impl Model for ChargePoint {
@@ -48,6 +56,7 @@ impl Model for ChargePoint {
     ghost view = { λ p. record {
       book = p.book;
       outbox = p.outbox;
+      audit = p.audit;
     } };
 }
 
@@ -62,6 +71,7 @@ impl ChargePoint {
             alloc,
             book: SharedBook::new(alloc, book)?,
             outbox: Outbox::new(alloc)?,
+            audit: None,
         })
     }
 
@@ -73,6 +83,7 @@ impl ChargePoint {
             alloc: self.alloc,
             book: self.book.share()?,
             outbox: self.outbox.copy()?,
+            audit: copy_of_audit(&self.audit)?,
         })
     }
 
@@ -126,6 +137,13 @@ impl ChargePoint {
             Step::Send { .. } => self.decide_send(),
             Step::Confirm { call, .. } => self.decide_confirm(*call),
             Step::Lost { .. } => Ok(Decision::Does),
+            Step::Audit {
+                connector,
+                duration,
+                ..
+            } => self.decide_audit(site, *connector, *duration),
+            Step::Judge { call, judged, .. } => self.decide_judge(*call, judged),
+            Step::Status(_) => Ok(Decision::Answers(Reply::Status(self.status(numbers)))),
             Step::Take(_) | Step::Compile(_) | Step::Answer(_) | Step::Finish => unreachable!(),
         }
     }
@@ -136,7 +154,9 @@ impl ChargePoint {
         requires named { IsAtPoint (work step.now) }
         requires numbers { AreNumbers numbers.now }
         requires connectors { HasConnectorsOf (work step.now) site.now self.old }
-        ensures { IsWorked (work step.now) site.now numbers.now step.now self.old result self.new }
+        ensures worked { IsWorked (work step.now) site.now numbers.now step.now
+            self.old result self.new }
+        ensures brought { OnOk result (BringsRight step.now) }
     {
         match step {
             Step::Install { point, row } => self.install(site, numbers, point, row),
@@ -151,6 +171,17 @@ impl ChargePoint {
             Step::Send { point, link } => self.send(point, *link),
             Step::Confirm { point, link, call } => self.confirm(point, *link, *call),
             Step::Lost { point, link } => Ok(self.lose(point, *link)),
+            Step::Audit {
+                point,
+                connector,
+                duration,
+            } => self.begin_audit(site, point, *connector, *duration),
+            Step::Judge {
+                point,
+                call,
+                judged,
+            } => self.judge(point, *call, judged),
+            Step::Status(_) => Ok(Reply::Status(self.status(numbers))),
             Step::Take(_) | Step::Compile(_) | Step::Answer(_) | Step::Finish => unreachable!(),
         }
     }
@@ -414,9 +445,157 @@ impl ChargePoint {
         }
     }
 
-    /// Why no call is added to those that wait for the point, if memory lasts.
-    fn refusal_to_call(&self, numbers: &Numbers) -> Option<Refusal>
-        ensures refusal { result ≡ refusal_to_call numbers.now self.now }
+    // ---- audits
+
+    fn decide_audit(&self, site: &Site, connector: u32, duration: u32) -> Result<Decision, Refusal>
+        ensures decision { result ≡ decision_of (audits site.now connector duration self.now) }
+        ensures comes { ComesTo (audits site.now connector duration self.now)
+            (Reply.Audited self.now.outbox.next site.now.unit) result }
+        ensures has { OnDoes result (connector ≤ length self.now.book.ceilings) }
+        ensures room { OnDoes result (length self.now.outbox.calls < max_calls) }
+        ensures number { OnDoes result (self.now.outbox.next ≤ max_number) }
+    {
+        if connector > self.book().connectors() {
+            return Err(Refusal::UnknownConnector);
+        }
+        if duration == 0 || duration > MAX_DURATION {
+            return Err(Refusal::BadDuration);
+        }
+        if self.is_audit_open() {
+            return Err(Refusal::AuditOpen);
+        }
+        match self.refusal_to_add() {
+            Some(refusal) => Err(refusal),
+            None => Ok(Decision::Does),
+        }
+    }
+
+    /// Asks the point for its schedule, and keeps what it has now, in place of an audit before.
+    fn begin_audit(
+        &mut self,
+        site: &Site,
+        point: &PointId,
+        connector: u32,
+        duration: u32,
+    ) -> Result<Reply, Refusal>
+        ensures { IsMadeAt (audits site.now connector duration self.old)
+            (steps.Audit point.now connector duration) self.old result self.new }
+    {
+        match self.decide_audit(site, connector, duration)? {
+            Decision::Answers(reply) => Ok(reply),
+            Decision::Does => {
+                let unit = site.unit();
+                let book = self.book.share()?.into_arc();
+                let call = audit_call(self.alloc, connector, duration, unit)?;
+                let number = self.outbox.next_number();
+                self.outbox.add(call);
+                self.audit = Some(PointAudit {
+                    number,
+                    asked: AuditJob::new(book, connector, duration, unit),
+                    verdict: None,
+                });
+                Ok(Reply::Audited { call: number, unit })
+            }
+        }
+    }
+
+    /// Why a verdict isn't kept: `UnknownRequest`, where the audit of this number isn't the
+    /// present one or has its verdict, and then `StrangerInput`.
+    fn check_judged(&self, call: u64, judged: &Judged) -> Result<(), Refusal>
+        ensures kept { OnOk result (judges call judged.now self.now ≡ Ok Reply.VerdictKept) }
+        ensures refused { IfErr result (λ refusal. judges call judged.now self.now ≡ Err refusal) }
+        ensures brought { OnOk result
+            (IsJudged judged.now.audit judged.now.verdict judged.now.short) }
+    {
+        let Some(audit) = self.unjudged(call) else {
+            return Err(Refusal::UnknownRequest);
+        };
+        if !audit.is_judged_by(judged) {
+            return Err(Refusal::StrangerInput);
+        }
+        Ok(())
+    }
+
+    fn decide_judge(&self, call: u64, judged: &Judged) -> Result<Decision, Refusal>
+        ensures { result ≡ decision_of (judges call judged.now self.now) }
+    {
+        match self.check_judged(call, judged) {
+            Ok(()) => Ok(Decision::Does),
+            Err(refusal) => Err(refusal),
+        }
+    }
+
+    /// Keeps the verdict on the audit whose call has this number.
+    fn judge(&mut self, point: &PointId, call: u64, judged: &Judged) -> Result<Reply, Refusal>
+        ensures made { IsMadeAt (judges call judged.now self.old)
+            (steps.Judge point.now call judged.now) self.old result self.new }
+        ensures brought { OnOk result
+            (IsJudged judged.now.audit judged.now.verdict judged.now.short) }
+    {
+        match self.check_judged(call, judged) {
+            Ok(()) => {
+                self.keep_verdict(judged.verdict());
+                Ok(Reply::VerdictKept)
+            }
+            Err(refusal) => Err(refusal),
+        }
+    }
+
+    fn keep_verdict(&mut self, verdict: Verdict)
+        ensures audit { self.new.audit
+            ≡ judged_audit self.old.book.transactions verdict self.old.audit }
+        ensures book { self.new.book ≡ self.old.book }
+        ensures outbox { self.new.outbox ≡ self.old.outbox }
+    {
+        if let Some(audit) = &mut self.audit {
+            audit.verdict = Some(audit.kept_verdict(self.book.book(), verdict));
+        }
+    }
+
+    /// What is told of the point.
+    fn status(&self, numbers: &Numbers) -> PointStatus
+        ensures { result ≡ status_of numbers.now self.now }
+    {
+        PointStatus {
+            version: numbers.version,
+            outbox: self.outbox.len(),
+            audit: match &self.audit {
+                None => AuditOutcome::NoAudit,
+                Some(audit) => audit.outcome(),
+            },
+        }
+    }
+
+    /// Its audit, while the call of that hasn't been confirmed.
+    fn is_audit_open(&self) -> bool
+        ensures { result ≡ is_open_among self.now.outbox.calls self.now.audit }
+    {
+        match &self.audit {
+            None => false,
+            Some(audit) => self.outbox.is_unconfirmed(audit.number),
+        }
+    }
+
+    /// Its audit, if it was audited.
+    pub fn audit(&self) -> Option<&PointAudit>
+        ensures { option_map (λ audit. audit.now) result ≡ self.now.audit }
+    {
+        self.audit.as_ref()
+    }
+
+    /// The audit whose call has this number, while it has no verdict.
+    pub fn unjudged(&self, call: u64) -> Option<&PointAudit>
+        ensures { option_map (λ audit. audit.now) result ≡ unjudged call self.now.audit }
+    {
+        match &self.audit {
+            Some(audit) if audit.number == call && audit.verdict.is_none() => Some(audit),
+            _ => None,
+        }
+    }
+
+    /// Why no call is added to those that wait for the point.
+    fn refusal_to_add(&self) -> Option<Refusal>
+        ensures refusal { result ≡ refusal_to_add self.now.outbox }
         ensures room { IfNone result (length self.now.outbox.calls < max_calls) }
         ensures number { IfNone result (self.now.outbox.next ≤ max_number) }
     {
@@ -426,7 +605,19 @@ impl ChargePoint {
         if self.outbox.is_exhausted() {
             return Some(Refusal::VersionsExhausted);
         }
-        numbers.version_refusal()
+        None
+    }
+
+    /// Why no call that tells of a change is added to those that wait for the point.
+    fn refusal_to_call(&self, numbers: &Numbers) -> Option<Refusal>
+        ensures refusal { result ≡ refusal_to_call numbers.now self.now }
+        ensures room { IfNone result (length self.now.outbox.calls < max_calls) }
+        ensures number { IfNone result (self.now.outbox.next ≤ max_number) }
+    {
+        match self.refusal_to_add() {
+            Some(refusal) => Some(refusal),
+            None => numbers.version_refusal(),
+        }
     }
 }
 
@@ -441,5 +632,34 @@ fn call_of(alloc: Global, row: &Row) -> Result<PreparedCall, AllocError>
     match PreparedCall::new(alloc, body) {
         Ok(call) => Ok(call),
         Err((error, _)) => Err(error),
+    }
+}
+
+/// The call that asks a point for its schedule.
+fn audit_call(
+    alloc: Global,
+    connector: u32,
+    duration: u32,
+    unit: Unit,
+) -> Result<PreparedCall, AllocError>
+    ensures { IfOk result (λ call. call ≡ CallBody.Audit connector duration unit) }
+{
+    let body = CallBody::Audit {
+        connector,
+        duration,
+        unit,
+    };
+    match PreparedCall::new(alloc, body) {
+        Ok(call) => Ok(call),
+        Err((error, _)) => Err(error),
+    }
+}
+
+fn copy_of_audit(audit: &Option<PointAudit>) -> Result<Option<PointAudit>, AllocError>
+    ensures { IfOk result (λ copy. copy ≡ audit.now) }
+{
+    match audit {
+        None => Ok(None),
+        Some(audit) => Ok(Some(audit.copy()?)),
     }
 }

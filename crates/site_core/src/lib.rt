@@ -6,6 +6,8 @@
 #![tactic(auto)]
 
 mod ask;
+mod audit;
+mod audit_laws;
 mod call_laws;
 mod call_queue;
 mod charge_point;
@@ -24,7 +26,10 @@ mod request;
 mod requests;
 mod shared_book;
 mod step;
+mod via;
 
+pub use audit::PointAudit;
+pub use audit_laws::{audits_have_their_books, equal_books_are_one, verdicts_stay_right};
 pub use call_laws::{
     histories_go_on_from_any_state, histories_keep_points_in_step, histories_send_calls_in_order,
     skipped_sends_send_nothing,

@@ -1,16 +1,19 @@
 //! The machine: the state of the central system, and its one step.
 
-ghost use Rattle.std.specs.Prelude.{◌≡◌, ◌<◌, ◌≤◌, Some, IfOk, IfErr, MatchResult, Ok, Err, length, option_map};
+ghost use Rattle.std.specs.Prelude.{◌≡◌, ◌<◌, ◌≤◌, Some, IfOk, IfErr, MatchResult, OnOk, Ok, Err, length, option_map};
+ghost use Rattle.ocpp_scalars.specs.declared.refusal.Refusal.TheVariants.{OutOfMemory};
 ghost use Rattle.site_rules.specs.Site.{place_of};
-ghost use Rattle.site_core.specs.State.{AreNumbers, Kept, book_at, link_of, link_to_send, opening, opening_at, outbox_at, outbox_len};
+ghost use Rattle.site_core.specs.State.{AreNumbers, Kept, audit_job, audit_of, book_at, link_of, link_to_send, opening, opening_at, outbox_at, outbox_len};
 ghost use Rattle.site_core.specs.Requests.{request_of};
 ghost use Rattle.site_core.specs.State.{IsMachine};
 ghost use Rattle.site_core.specs.Step.{HasAskedConnector, Steps, IsRefused, IsRefusalOf, outlook, place_for, stepped, no_answer, work};
+ghost use Rattle.site_core.specs.Audits.{BringsRight};
 ghost use Rattle.site_core.specs.Run.{HasOutcome, Runs};
 ghost use Rattle.site_core.specs.ByCases.Made.{IsAtPoint, outlook_by};
 
 mod schedules;
 
+use crate::audit::PointAudit;
 use crate::charge_point::ChargePoint;
 use crate::charge_points::{copy_of_points, gather_calls, opening_points, point_at};
 use crate::decision::Decision;
@@ -22,6 +25,7 @@ use crate::reply::Reply;
 use crate::request::Request;
 use crate::requests::{compile_outlook, copy_of_requests, hand_out_outlook, request_asked};
 use crate::step::Step;
+use crate::via::Via;
 use meaning::Ask;
 use ocpp_scalars::Refusal;
 use point_book::PointBook;
@@ -29,6 +33,7 @@ use site_rules::Site;
 use std::alloc::{AllocError, Global};
 use std::marker::Model;
 use std::sync::Arc;
+use sweep_compiler::AuditJob;
 
 /// The central system of a site: what each of its points has, the requests for schedules that are
 /// kept, and the numbers that were drawn last.
@@ -186,6 +191,29 @@ impl Machine {
         request_asked(&self.requests, number)
     }
 
+    /// What the audit of the point of an identity asked, with what the point had then, if its call
+    /// has this number and it has no verdict yet. Copies nothing.
+    pub fn audit_job(&self, point: &str, call: u64) -> Result<Option<AuditJob>, Refusal>
+        ensures job { IfOk result (λ job. job ≡ audit_job self.now point.now call) }
+        ensures memory { IfErr result (λ refusal. refusal ≡ OutOfMemory) }
+    {
+        let Some(place) = self.site.place_of(point) else {
+            return Ok(None);
+        };
+        match point_at(&self.points, place).unjudged(call) {
+            None => Ok(None),
+            Some(audit) => Ok(Some(audit.asked.share()?)),
+        }
+    }
+
+    /// The audit of the point of an identity, if the site has such a point and it was audited.
+    pub fn audit_of(&self, point: &str) -> Option<&PointAudit>
+        ensures { option_map (λ audit. audit.now) result ≡ audit_of self.now point.now }
+    {
+        let place = self.site.place_of(point)?;
+        point_at(&self.points, place).audit()
+    }
+
     /// The present link of the point of an identity, if it has one.
     pub fn link_of(&self, point: &str) -> Option<u64>
         ensures { result ≡ link_of self.now point.now }
@@ -221,13 +249,14 @@ impl Machine {
 
     /// Makes a step, or says why not: then nothing has changed, and the step comes back. The
     /// refusal is the first cause. It is `OutOfMemory` only if there is no other cause and the step
-    /// needs memory. These need it: an install, a clear that removes a profile, a start that isn't
-    /// retransmitted, a stop, a take, and a sending. A book that is replied with an `Ask` has the
+    /// needs memory. These need it: an install, a clear that removes a profile, an audit, a start
+    /// that isn't retransmitted, a stop, a take, and a sending. A book that is replied with an `Ask` has the
     /// connector that is asked.
     pub fn step(&mut self, step: Step) -> Result<Reply, Refused>
         ensures made { MatchResult result (λ reply. Steps self.old step reply self.new)
             (λ refused. IsRefused self.old step refused self.new) }
         ensures asked { IfOk result HasAskedConnector }
+        ensures brought { OnOk result (BringsRight step) }
     {
         with_step(self.make(&step), step)
     }
@@ -240,6 +269,7 @@ impl Machine {
         ensures refused { IfErr result (λ refusal.
             IsRefusalOf (stepped no_answer self.old step.now) refusal × (self.new ≡ self.old)) }
         ensures asked { IfOk result HasAskedConnector }
+        ensures brought { OnOk result (BringsRight step.now) }
     {
         match step {
             Step::Take(take) => self.take(take),
@@ -272,9 +302,10 @@ impl Machine {
         ensures refused { IfErr result (λ refusal.
             IsRefusalOf (stepped no_answer self.old step.now) refusal × (self.new ≡ self.old)) }
         ensures asked { IfOk result HasAskedConnector }
+        ensures brought { OnOk result (BringsRight step.now) }
     {
-        let (point, link) = step.target();
-        let place = self.place_for(point, link)?;
+        let (point, via) = step.target();
+        let place = self.place_for(point, via)?;
         let numbers = self.numbers;
         match self.points[place].make(&self.site, &numbers, step) {
             Ok(reply) => {
@@ -289,8 +320,8 @@ impl Machine {
         requires { IsAtPoint (work step.now) }
         ensures { result ≡ outlook self.now step.now }
     {
-        let (point, link) = step.target();
-        let place = self.place_for(point, link)?;
+        let (point, via) = step.target();
+        let place = self.place_for(point, via)?;
         outlook_by(point_at(&self.points, place).decide(&self.site, &self.numbers, step))
     }
 
@@ -323,10 +354,10 @@ impl Machine {
     }
 
     /// The place of the point of an identity, while the central system isn't stopped, and over a
-    /// link only where that is the point's present one. The refusals are `Stopped`, `UnknownPoint`
-    /// and `Superseded`.
-    fn place_for(&self, point: &PointId, link: Option<u64>) -> Result<usize, Refusal>
-        ensures place { result ≡ place_for self.now point.now link }
+    /// link only where that is the point's present one. The refusals are `Stopped`, `UnknownPoint`,
+    /// `Superseded` and, for an audit of a stranger, `UnknownRequest`.
+    fn place_for(&self, point: &PointId, via: Via) -> Result<usize, Refusal>
+        ensures place { result ≡ place_for self.now point.now via }
         ensures here { IfOk result (λ place. place_of self.now.site point.now ≡ Some place) }
         ensures within { IfOk result (λ place. place < length self.now.points) }
     {
@@ -334,15 +365,18 @@ impl Machine {
             return Err(Refusal::Stopped);
         }
         let Some(place) = self.site.place_of(point.as_str()) else {
-            return Err(match link {
-                None => Refusal::UnknownPoint,
-                Some(_) => Refusal::Superseded,
+            return Err(match via {
+                Via::Name => Refusal::UnknownPoint,
+                Via::Link(_) => Refusal::Superseded,
+                Via::Audit => Refusal::UnknownRequest,
             });
         };
-        if link.is_some() && point_at(&self.points, place).outbox().link() != link {
-            return Err(Refusal::Superseded);
+        match via {
+            Via::Link(link) if point_at(&self.points, place).outbox().link() != Some(link) => Err(
+                Refusal::Superseded,
+            ),
+            _ => Ok(place),
         }
-        Ok(place)
     }
 }
 

@@ -2,7 +2,7 @@
 
 ghost use Rattle.std.specs.Prelude.{◌≡◌, ◌+◌, ◌-◌, ◌<◌, ◌≤◌, ◌^◌, ◌++◌, IfErr, IfOk, IsSome, OnErr, OnOk, length};
 ghost use Rattle.site_core.specs.Limits.{max_calls, max_number};
-ghost use Rattle.site_core.specs.Outbox.{IsOutbox, added, attached, confirmed, is_exhausted, is_full, is_number_in_flight, lost, numbered, opening_outbox, sendable, sending_link, sent};
+ghost use Rattle.site_core.specs.Outbox.{IsOutbox, added, attached, confirmed, is_exhausted, is_full, is_number_in_flight, is_unconfirmed, lost, numbered, opening_outbox, sendable, sending_link, sent};
 
 use crate::call_queue::CallQueue;
 use crate::numbers::MAX_NUMBER;
@@ -250,6 +250,21 @@ impl Outbox {
             return false;
         }
         self.first_number() == number
+    }
+
+    /// Whether the call of this number isn't confirmed.
+    #[tactic(auto, using(crate::proofs::OutboxLemmas::waits_by_number))]
+    pub fn is_unconfirmed(&self, number: u64) -> bool
+        ensures { result ≡ is_unconfirmed self.now.calls number }
+    {
+        self.first_number() <= number && number < self.next
+    }
+
+    /// The number of the next call.
+    pub fn next_number(&self) -> u64
+        ensures { result ≡ self.now.next }
+    {
+        self.next
     }
 
     /// The number of the first call that isn't confirmed, or the next one's where there is none. So

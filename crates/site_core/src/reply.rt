@@ -7,8 +7,9 @@ ghost use Rattle.site_core.specs.Step.{counted, drawn, is_event};
 use crate::numbers::Numbers;
 use crate::shared_book::SharedBook;
 use meaning::{Ask, Composite};
-use messages::Call;
+use messages::{Call, PointStatus};
 use ocpp_scalars::Refusal;
+use profile::Unit;
 
 /// What a step that is made replies.
 #[derive(Drop)]
@@ -54,6 +55,15 @@ pub enum Reply {
     Confirmed,
     /// The point has no link now. A call that was in flight waits again.
     LinkLost,
+    /// The point is asked, in this unit, by the call of this number.
+    Audited {
+        call: u64,
+        unit: Unit,
+    },
+    /// The verdict is kept.
+    VerdictKept,
+    /// What is told of a point.
+    Status(PointStatus),
 }
 
 /// How many changes, Takes and answers a reply counts.
@@ -88,9 +98,15 @@ impl Reply {
             | Reply::Attached(_)
             | Reply::Sent(_)
             | Reply::Confirmed
-            | Reply::LinkLost => true,
-            Reply::Unknown | Reply::Repeated(_) | Reply::NoSuch | Reply::NotYet | Reply::Nothing =>
-                false,
+            | Reply::LinkLost
+            | Reply::Audited { .. }
+            | Reply::VerdictKept => true,
+            Reply::Unknown
+            | Reply::Repeated(_)
+            | Reply::NoSuch
+            | Reply::NotYet
+            | Reply::Nothing
+            | Reply::Status(_) => false,
             Reply::Finished => !was_stopped,
         }
     }

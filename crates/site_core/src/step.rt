@@ -5,9 +5,11 @@ ghost use Rattle.site_core.specs.Step.{work};
 ghost use Rattle.site_core.specs.ByCases.Made.{IsAtPoint, IsFor};
 
 use crate::point_id::PointId;
+use crate::via::Via;
 use ocpp_scalars::Instant;
 use profile::{Criteria, Row, Unit};
 use std::alloc::{AllocError, Global};
+use sweep_compiler::Judged;
 use transactions::Begin;
 
 /// What the central system is to do.
@@ -60,6 +62,21 @@ pub enum Step {
         point: PointId,
         link: u64,
     },
+    /// To ask a point for its own schedule of a connector, 0 being the whole point (chapter 5.7).
+    Audit {
+        point: PointId,
+        connector: u32,
+        /// Seconds.
+        duration: u32,
+    },
+    /// To keep the verdict on what a point replied to the audit whose call has this number.
+    Judge {
+        point: PointId,
+        call: u64,
+        judged: Judged,
+    },
+    /// To tell the version of the store, the calls of a point that wait, and its audit.
+    Status(PointId),
 }
 
 /// A request for the composite schedule of a connector, 0 being the whole point.
@@ -78,9 +95,8 @@ pub struct Take {
 }
 
 impl Step {
-    /// The point that a step at a point names, and the link that it has to be made over, where it
-    /// has to.
-    pub(crate) fn target(&self) -> (&PointId, Option<u64>)
+    /// The point that a step at a point names, and how the step comes to it.
+    pub(crate) fn target(&self) -> (&PointId, Via)
         requires { IsAtPoint (work self.now) }
         ensures { IsFor (work self.now) result.0.now result.1 }
     {
@@ -89,10 +105,13 @@ impl Step {
             | Step::Clear { point, .. }
             | Step::Start { point, .. }
             | Step::Stop { point, .. }
-            | Step::Attach(point) => (point, None),
+            | Step::Attach(point)
+            | Step::Audit { point, .. }
+            | Step::Status(point) => (point, Via::Name),
             Step::Send { point, link }
             | Step::Confirm { point, link, .. }
-            | Step::Lost { point, link } => (point, Some(*link)),
+            | Step::Lost { point, link } => (point, Via::Link(*link)),
+            Step::Judge { point, .. } => (point, Via::Audit),
             Step::Take(_) | Step::Compile(_) | Step::Answer(_) | Step::Finish => unreachable!(),
         }
     }
@@ -141,6 +160,25 @@ impl Step {
                 point: point.copy(alloc)?,
                 link: *link,
             },
+            Step::Audit {
+                point,
+                connector,
+                duration,
+            } => Step::Audit {
+                point: point.copy(alloc)?,
+                connector: *connector,
+                duration: *duration,
+            },
+            Step::Judge {
+                point,
+                call,
+                judged,
+            } => Step::Judge {
+                point: point.copy(alloc)?,
+                call: *call,
+                judged: judged.share()?,
+            },
+            Step::Status(point) => Step::Status(point.copy(alloc)?),
         })
     }
 }

@@ -1,6 +1,8 @@
 pub mod Sweeping
 pub mod Explaining
 pub mod WorkedExamples
+pub mod VerdictCases
+pub mod WorkedVerdicts
 pub mod RatesInForce
 pub mod Running
 pub mod Queueing
@@ -14,3 +16,5 @@ pub mod LeadingOn
 pub mod GatheredRuns
 pub mod Starting
 pub mod AtStart
+pub mod Agreeing
+pub mod Judging

@@ -17,13 +17,13 @@ use Rattle.meaning.specs.View.{PointState}
 use Rattle.sweep_compiler.specs.Places.{is_second_asked, places_within}
 
 -- 2025-01-01T00:00:00Z
-abbrev midnight : ℕ
+abbrev pub midnight : ℕ
 midnight = 1735689600
 
-abbrev at_start : ℕ → Option ℕ
+abbrev pub at_start : ℕ → Option ℕ
 at_start second = Some (midnight + second)
 
-abbrev period : ℕ → ℕ → Period
+abbrev pub period : ℕ → ℕ → Period
 period start limit = record { start = start; limit = limit; number_phases = None }
 
 pub no_transaction : (purpose : Purpose) → transaction_of purpose None ≡ None
@@ -54,7 +54,7 @@ row_until until connector purpose kind start own duration periods = record {
   };
 }
 
-abbrev row_at : ℕ → Purpose → (kind : Kind) (start : Option ℕ) → start_of kind start ≡ start → Option ℕ → List Period → Row
+abbrev pub row_at : ℕ → Purpose → (kind : Kind) (start : Option ℕ) → start_of kind start ≡ start → Option ℕ → List Period → Row
 row_at = row_until None
 
 abbrev point : List (Option ℕ) → List Row → PointState

@@ -18,6 +18,8 @@ mod callers;
 #[cfg(test)]
 mod explained_limits;
 #[cfg(test)]
+mod judged_audits;
+#[cfg(test)]
 mod limits_of_a_profile;
 #[cfg(test)]
 mod places_and_levels;

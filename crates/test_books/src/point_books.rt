@@ -1,6 +1,6 @@
 //! Changes and refusals from outside, and that memory suffices. The lines are those of `scripted_books.rt`.
 
-use crate::fixtures::LONGEST_TAG;
+use crate::fixtures::{LONGEST_TAG, begin_of};
 use crate::same::{holds, same};
 use crate::scripted_books::{begin, play, play_on, point};
 use point_book::PointBook;
@@ -129,4 +129,43 @@ fn compares_all_that_it_has(rt: HostRuntime) {
         let other = play(&rt, rt.alloc(), lines);
         holds(&rt, one.same(&other) == (place < 2), lines);
     }
+}
+
+/// Books, of which the first two have equal transactions. Each other one has another number, idTag, start or
+/// connector, or none.
+const STARTED: [&str; 7] = [
+    "start 1 ann 0 1 = 1",
+    "point 320 2 160\nstart 1 ann 0 1 = 1\nrow id=1",
+    "start 1 ann 0 2 = 2",
+    "start 1 aNn 0 1 = 1",
+    "start 1 ann 1 1 = 1",
+    "start 2 ann 0 1 = 1",
+    "rows =",
+];
+
+#[test]
+fn compares_transactions_alone(rt: HostRuntime) {
+    let one = play(&rt, rt.alloc(), STARTED[0]);
+    for (place, lines) in STARTED.iter().enumerate() {
+        let other = play(&rt, rt.alloc(), lines);
+        holds(&rt, one.same_transactions(&other) == (place < 2), lines);
+    }
+}
+
+/// A book with a transaction that began at this reading of the meter.
+fn metered(rt: &impl Abort, alloc: Global, meter_start: i32) -> PointBook {
+    let mut book = point(rt, alloc, 320, (2, 160));
+    let begin = begin_of(alloc, "ann", meter_start, 0).expect(rt, "error");
+    assert!(rt; book.connectors() >= 1);
+    let _began = book.start(1, begin, 1);
+    book
+}
+
+#[test]
+fn compares_meters(rt: HostRuntime) {
+    let one = metered(&rt, rt.alloc(), 0);
+    let same = metered(&rt, rt.alloc(), 0);
+    let other = metered(&rt, rt.alloc(), 1);
+    holds(&rt, one.same_transactions(&same), "one meterStart");
+    holds(&rt, !one.same_transactions(&other), "two");
 }

@@ -3,6 +3,7 @@
 
 ghost use Rattle.std.specs.Prelude.{◌≡◌};
 
+use crate::audits::{judged, judging, schedule};
 use crate::obeying_point::RandomNumbers;
 use crate::runs::opening;
 use crate::same::{holds, same_outcome};
@@ -58,8 +59,12 @@ struct Course {
     request: u64,
     /// The call that was sent last.
     call: u64,
+    /// The call of the last audit.
+    audit: u64,
     /// How often the history was folded.
     folds: u32,
+    /// How many verdicts were kept.
+    verdicts: u32,
 }
 
 impl Course {
@@ -76,11 +81,12 @@ impl Course {
             _ => "CP1",
         };
         let words = match self.random.below(16) {
-            0 | 1 => self.change(alloc, point),
-            2 | 3 => self.transact(alloc, point),
-            4 => format!(in alloc; "{point} take"),
-            5 | 6 => self.request(alloc),
-            7..=9 => format!(in alloc; "{point} attach"),
+            0 => self.change(alloc, point),
+            1 => self.transact(alloc, point),
+            2 => format!(in alloc; "{point} take"),
+            3 | 4 => self.request(alloc),
+            5 | 6 => format!(in alloc; "{point} attach"),
+            7 => self.audit(alloc, point),
             _ => self.exchange(alloc, point, machine.link_of(point).unwrap_or(0)),
         };
         words.expect(rt, "error")
@@ -100,6 +106,15 @@ impl Course {
         match self.random.below(2) {
             0 => format!(in alloc; "{point} stop {transaction}"),
             _ => format!(in alloc; "{point} start {connector}"),
+        }
+    }
+
+    fn audit(&mut self, alloc: Global, point: &str) -> Written {
+        let connector = self.random.below(4);
+        let duration = self.random.below(16);
+        match self.random.below(3) {
+            0 => format!(in alloc; "{point} status"),
+            _ => format!(in alloc; "{point} audit {connector} {duration}"),
         }
     }
 
@@ -131,6 +146,7 @@ impl Course {
             ("Started", number) => self.transaction = number,
             ("Taken", number) => self.request = number,
             ("Sent", number) => self.call = number,
+            ("Audited", number) => self.audit = number,
             _ => {}
         }
     }
@@ -143,14 +159,25 @@ fn machine_words(machine: &mut Machine, step: Step) -> (&'static str, u64) {
     }
 }
 
-/// Makes a step on both.
-fn step_both<C: Ledger, A: Ledger>(
+/// Makes the step of words on both.
+pub(crate) fn step_both<C: Ledger, A: Ledger>(
     rt: &impl Abort,
     desk: &mut Desk<C, A>,
     machine: &mut Machine,
     words: &str,
 ) -> (&'static str, u64) {
     let step = step_of(rt, desk.alloc, words);
+    make_both(rt, desk, machine, step, words)
+}
+
+/// Makes a step on both.
+pub(crate) fn make_both<C: Ledger, A: Ledger>(
+    rt: &impl Abort,
+    desk: &mut Desk<C, A>,
+    machine: &mut Machine,
+    step: Step,
+    words: &str,
+) -> (&'static str, u64) {
     let other = step.copy(desk.alloc).expect(rt, "error");
     let said = desk.comes_to(step);
     same_outcome(rt, said, machine_words(machine, other), words);
@@ -158,6 +185,30 @@ fn step_both<C: Ledger, A: Ledger>(
     holds(rt, desk.pass.totals() == desk.book.totals(), words);
     holds(rt, said.0 != Refusal::OutOfMemory.name(), "memory");
     said
+}
+
+/// Now and then, judges on both the last audit, if it is the first point's.
+fn judge_both<C: Ledger, A: Ledger>(
+    rt: &impl Abort,
+    desk: &mut Desk<C, A>,
+    machine: &mut Machine,
+    course: &mut Course,
+) {
+    let alloc = desk.alloc;
+    let call = course.audit;
+    let Some(job) = desk.book.audit_job("CP1", call).expect(rt, "error") else {
+        return;
+    };
+    if course.random.below(16) > 0 {
+        return;
+    }
+    let limit = u32::from(course.random.below(2)).wrapping_add(159);
+    let verdict = judged(rt, alloc, &job, schedule(rt, alloc, limit));
+    let step = judging(rt, alloc, "CP1", call, verdict);
+    let said = make_both(rt, desk, machine, step, "judge");
+    same_outcome(rt, said, ("VerdictKept", 0), "judge");
+    step_both(rt, desk, machine, "CP1 status");
+    course.verdicts = course.verdicts.saturating_add(1);
 }
 
 /// A random step on both.
@@ -196,8 +247,10 @@ fn run_desk<C: Ledger, A: Ledger>(rt: &impl Abort, desk: &mut Desk<C, A>, course
     let mut machine = opening(rt, desk.alloc);
     for _ in 0..24_000u32 {
         random_step(rt, desk, &mut machine, course);
+        judge_both(rt, desk, &mut machine, course);
     }
     holds(rt, course.folds >= 2, "folds");
+    holds(rt, course.verdicts >= 5, "verdicts");
     holds(rt, desk.book.totals().answers > 100, "answers");
     step_both(rt, desk, &mut machine, "- finish");
     let again = read_machine(&replayed(rt, desk));
@@ -214,7 +267,9 @@ fn run_both<C: Ledger, A: Ledger>(rt: &impl Abort, alloc: Global, changes: Blank
         transaction: 0,
         request: 0,
         call: 0,
+        audit: 0,
         folds: 0,
+        verdicts: 0,
     };
     run_desk(rt, &mut desk, &mut course);
 }

@@ -5,6 +5,8 @@
 #![tactic(auto)]
 
 #[cfg(test)]
+mod audits;
+#[cfg(test)]
 mod callers;
 #[cfg(test)]
 mod calls_beside_steps;

@@ -28,7 +28,7 @@ fn set(rt: &impl Abort, alloc: Global, id: i32) -> CallBody {
     }
 }
 
-/// The chargingProfileId that a call has, none where it clears all profiles.
+/// The chargingProfileId that a call has, none where it clears all profiles or asks for a schedule.
 fn id_of(body: &CallBody) -> Option<i32> {
     match body {
         CallBody::Clear(criteria) => criteria.id,
@@ -36,6 +36,7 @@ fn id_of(body: &CallBody) -> Option<i32> {
             connector: _,
             profile,
         } => Some(profile.id),
+        CallBody::Audit { .. } => None,
     }
 }
 

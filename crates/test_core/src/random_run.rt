@@ -45,6 +45,7 @@ impl Trial {
             4 => self.transact(rt),
             5 => self.attach(rt),
             6 => self.lose(rt),
+            7 => self.audit(rt),
             _ => self.exchange(rt),
         }
     }
@@ -66,6 +67,19 @@ impl Trial {
         let step = self.change_step(rt);
         let made = self.made(step);
         if matches!(made, Some(Reply::Accepted)) {
+            let rows = self.store(rt);
+            self.stores.push(rows).ok().expect(rt, "error");
+        }
+    }
+
+    /// Asks the point for its schedule: a call that changes nothing.
+    fn audit(&mut self, rt: &impl Abort) {
+        let audit = Step::Audit {
+            point: id(rt, self.alloc),
+            connector: 1,
+            duration: 60,
+        };
+        if self.made(audit).is_some() {
             let rows = self.store(rt);
             self.stores.push(rows).ok().expect(rt, "error");
         }

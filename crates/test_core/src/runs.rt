@@ -9,7 +9,7 @@ use site_rules::{Site, read_site};
 use std::alloc::Global;
 use std::process::Abort;
 
-const SITE: &str =
+pub(crate) const SITE: &str =
     r#"{"unit":"A","points":[{"id":"CP1","ceiling":32.0,"connectors":[16.0,16.0]},{"id":"CP2","ceiling":32.0,"connectors":[16.0]}]}"#;
 
 pub(crate) fn site(rt: &impl Abort, alloc: Global) -> Site {
@@ -106,7 +106,9 @@ CP1 stop 1 = NoSuch
 CP1 clear = Unknown
 CP1 take = Taken 1
 - compile 1 = Compiled
-- answer 1 = limit 160";
+- answer 1 = limit 160
+CP1 audit 1 60 = Audited 1
+CP1 status = Waiting 1000000000000002";
 
 const AT_THE_LAST_TRANSACTION: &str = "\
 CP1 start 1 = TransactionsExhausted
@@ -323,7 +325,8 @@ CP1 attach = Attached 1
 CP1 send 1 = Sent 0
 CP1 confirm 1 0 = Confirmed
 CP1 send 1 = Sent 1
-CP1 lost 1 = LinkLost";
+CP1 lost 1 = LinkLost
+CP1 audit 1 60 = Audited 4";
 
 /// Passes whichever allocation of a step is refused: what a refused step left shows in what comes
 /// of the same one once more.
@@ -401,7 +404,8 @@ const WITHOUT_AN_EVENT: &str = "\
 CP1 clear = Unknown
 CP1 start 1 = Repeated 1
 CP1 stop 2 = NoSuch
-CP1 send 1 = Nothing";
+CP1 send 1 = Nothing
+CP1 status = None 1000";
 
 /// Makes the steps before.
 fn make_way(rt: &impl Abort, alloc: Global, machine: &mut Machine) {
@@ -451,6 +455,10 @@ CP1 take = event
 - answer 1 = UnknownRequest
 CP1 attach = event
 CP1 send 1 = Superseded
+CP1 audit 1 60 = event
+CP1 audit 3 60 = UnknownConnector
+CP1 status = answer
+CP9 status = UnknownPoint
 - finish = event";
 
 fn outlook_words(machine: &Machine, step: &Step) -> &'static str {

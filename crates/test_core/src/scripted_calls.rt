@@ -5,7 +5,7 @@ ghost use Rattle.std.specs.Prelude.{◌≡◌};
 
 use crate::runs::{opening, site};
 use crate::same::{same, same_outcome};
-use crate::scripted_steps::{answer_words, parts_of, step_of};
+use crate::scripted_steps::{answer_words, parts_of, status_words, step_of};
 use ocpp_scalars::Refusal;
 use profile::{Criteria, Profile, Row};
 use site_core::{PointId, Reply, Step, Take};
@@ -13,7 +13,7 @@ use std::alloc::Global;
 use std::marker::Brand;
 use std::process::Abort;
 use std::sync::ledger::{Blank, Ledger};
-use sweep_compiler::Compiled;
+use sweep_compiler::{Compiled, Judged};
 use transactions::Begin;
 use version_store::{Book, Job, Pass};
 
@@ -23,6 +23,7 @@ pub(crate) enum Back {
     Nothing,
     Profile(Profile),
     Begin(Begin),
+    Judged(Judged),
 }
 
 /// What comes of a call that gives nothing back, with its number, 0 where it has none.
@@ -81,6 +82,11 @@ impl<C: Ledger, A: Ledger> Desk<C, A> {
                 begin,
             } => self.start(point, connector, begin),
             Step::Compile(number) => self.post(number),
+            Step::Judge {
+                point,
+                call,
+                judged,
+            } => self.judge(point, call, judged),
             Step::Finish => {
                 self.book.finish();
                 Ok(("Finished", 0))
@@ -116,6 +122,19 @@ impl<C: Ledger, A: Ledger> Desk<C, A> {
                 Ok(()) => Ok(("LinkLost", 0)),
                 Err(refusal) => Err(refusal),
             },
+            other => self.audit_call(other),
+        }
+    }
+
+    /// The call of a step of an audit.
+    fn audit_call(&mut self, step: Step) -> Called {
+        match step {
+            Step::Audit {
+                point,
+                connector,
+                duration,
+            } => self.audit(point, connector, duration),
+            Step::Status(point) => self.status(point),
             _ => Ok(("no call", 0)),
         }
     }
@@ -156,6 +175,27 @@ impl<C: Ledger, A: Ledger> Desk<C, A> {
             Ok(Some(call)) => Ok(("Sent", call.number)),
             Ok(None) => Ok(("Nothing", 0)),
             Err(refusal) => Err(refusal),
+        }
+    }
+
+    pub(crate) fn audit(&mut self, point: PointId, connector: u32, duration: u32) -> Called {
+        match self.book.audit(&mut self.pass, point, connector, duration) {
+            Ok(call) => Ok(("Audited", call)),
+            Err(refusal) => Err(refusal),
+        }
+    }
+
+    pub(crate) fn status(&mut self, point: PointId) -> Called {
+        match self.book.status(&mut self.pass, point) {
+            Ok(status) => Ok(status_words(status)),
+            Err(refusal) => Err(refusal),
+        }
+    }
+
+    fn judge(&mut self, point: PointId, call: u64, judged: Judged) -> Made {
+        match self.book.judge(point, call, judged) {
+            Ok(()) => Ok(("VerdictKept", 0)),
+            Err((refusal, judged)) => Err((refusal, Back::Judged(judged))),
         }
     }
 

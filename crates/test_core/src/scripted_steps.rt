@@ -2,13 +2,15 @@
 //!
 //! `CP1 install 70 = Accepted`: the identity of a point (`-` where the step names none), the step,
 //! its numbers, and its outcome with its number, where there is one. The number is that of a
-//! transaction, a request, a link or a call, or the tenths of the first limit that is answered. A
-//! row is a TxDefaultProfile of the whole point with one limit, and its id is the limit's number of
+//! transaction, a request, a link or a call, or the tenths of the first limit that is answered. Of
+//! a status it is how many calls wait, with the version as thousands; its name is what came of the
+//! audit. A row is a TxDefaultProfile of the whole point with one limit, and its id is the limit's number of
 //! tenths. A start is by `ann` at midnight. A request is of connector 1 for a minute from midnight
 //! on.
 
 use crate::same::{same, same_outcome};
 use meaning::Composite;
+use messages::PointStatus;
 use ocpp_scalars::Refusal;
 use site_core::{Machine, Outcome, PointId, Reply, Step, Take};
 use std::alloc::Global;
@@ -50,6 +52,14 @@ fn take(rt: &impl Abort, point: PointId, seen: u64) -> Step {
     })
 }
 
+fn audit(rt: &impl Abort, point: PointId, connector: u64, duration: u64) -> Step {
+    Step::Audit {
+        point,
+        connector: u32::try_from(connector).expect(rt, "no connector"),
+        duration: u32::try_from(duration).expect(rt, "no duration"),
+    }
+}
+
 /// The step of a line's words.
 pub(crate) fn step_of(rt: &impl Abort, alloc: Global, text: &str) -> Step {
     let mut words = Words::of(text);
@@ -87,6 +97,8 @@ fn point_step(
             transaction: i32::try_from(first).expect(rt, "no transaction"),
         },
         "take" => take(rt, point, first),
+        "audit" => audit(rt, point, first, second),
+        "status" => Step::Status(point),
         name => link_step(rt, point, name, first, second),
     }
 }
@@ -113,6 +125,15 @@ pub(crate) fn answer_words(answer: &Result<Composite, Refusal>) -> (&'static str
     }
 }
 
+/// What came of the audit of a point, and how many calls wait, with the version as thousands.
+pub(crate) fn status_words(status: PointStatus) -> (&'static str, u64) {
+    let thousands = status.version.wrapping_mul(1_000);
+    (
+        status.audit.name(),
+        thousands.wrapping_add(status.outbox as u64),
+    )
+}
+
 /// What a step replies, with its number, 0 where it has none.
 pub(crate) fn reply_words(reply: &Reply) -> (&'static str, u64) {
     match reply {
@@ -132,6 +153,9 @@ pub(crate) fn reply_words(reply: &Reply) -> (&'static str, u64) {
         Reply::Nothing => ("Nothing", 0),
         Reply::Confirmed => ("Confirmed", 0),
         Reply::LinkLost => ("LinkLost", 0),
+        Reply::Audited { call, .. } => ("Audited", *call),
+        Reply::VerdictKept => ("VerdictKept", 0),
+        Reply::Status(status) => status_words(*status),
     }
 }
 

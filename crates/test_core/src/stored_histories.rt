@@ -198,7 +198,11 @@ fn attach<C: Ledger, A: Ledger>(rt: &impl Abort, desk: &mut Desk<C, A>) {
 }
 
 /// Attaches the second point until so many events are stored.
-fn attach_until<C: Ledger, A: Ledger>(rt: &impl Abort, desk: &mut Desk<C, A>, wanted: usize) {
+pub(crate) fn attach_until<C: Ledger, A: Ledger>(
+    rt: &impl Abort,
+    desk: &mut Desk<C, A>,
+    wanted: usize,
+) {
     for _ in desk.book.stored()..wanted {
         attach(rt, desk);
     }
@@ -222,6 +226,8 @@ CP1 send 1 = Nothing
 CP1 send 9 = Superseded
 CP1 confirm 1 0 = NothingInFlight
 CP1 start 3 = UnknownConnector
+CP1 audit 1 0 = BadDuration
+CP1 status = None 1000
 CP9 take = UnknownPoint
 - answer 1 = NotYet
 - answer 9 = UnknownRequest
@@ -405,6 +411,7 @@ CP1 send 1 = Sent 0
 CP1 confirm 1 0 = Confirmed
 CP1 send 1 = Sent 1
 CP1 lost 1 = LinkLost
+CP1 audit 1 60 = Audited 3
 - compile 1 = Compiled
 - answer 1 = limit 100
 - finish = Finished";
@@ -417,7 +424,7 @@ fn refused_memory<C: Ledger, A: Ledger>(rt: &impl Abort, desk: &mut Desk<C, A>) 
         let said = made(rt, desk, step, words);
         holds(rt, said == wanted || said == ("OutOfMemory", 1), line);
     }
-    stored(rt, desk, 13, "after all kinds");
+    stored(rt, desk, 14, "after all kinds");
     counted(rt, desk, 4, 1);
 }
 

@@ -45,6 +45,13 @@ const OPERATOR_TEXTS: &str = r#"[2,"a","ClearChargingProfile",{"id":9}] => -
 [2,"a","GetCompositeSchedule",{"connectorId":1,"duration":0}] => BadDuration
 [2,"a","GetCompositeSchedule",{"connectorId":1,"duration":60,"chargingRateUnit":"W"}] => WrongUnit
 [2,"a","GetCompositeSchedule",{"connector":1,"duration":60}] => OccurenceConstraintViolation: connectorId: it is absent + "connector" is no field of OCPP there
+[2,"a","AuditPoint",{"connectorId":0,"duration":2678400}] => -
+[2,"a","AuditPoint",{"connectorId":3,"duration":60}] => UnknownConnector: the point has no connector of this number: connectorId is 3, and 2 is the last one
+[2,"a","AuditPoint",{"connectorId":1,"duration":0}] => BadDuration: the duration is 0 or above 2678400 seconds, thirty-one days: duration is 0
+[2,"a","AuditPoint",{"connectorId":1}] => OccurenceConstraintViolation: duration: it is absent
+[2,"a","AuditPoint",{"connectorId":1,"duration":60,"chargingRateUnit":"A"}] => warning: "chargingRateUnit" is no field there and has no effect
+[2,"a","PointStatus",{}] => -
+[2,"a","PointState",{}] => NotImplemented: "PointState" is no action of an operator ("PointStatus" is one)
 "#;
 
 /// On each line the chargingProfilePurpose, further fields of a profile, and a schedule. They are
@@ -320,6 +327,49 @@ fn calls_that_are_too_many(rt: HostRuntime) {
     let script = repeated(&rt, rt.alloc(), install, 255, clear);
     let findings = found_in_last(&rt, rt.alloc(), script.as_str(), 256);
     are(&rt, rt.alloc(), &findings, wanted, clear);
+}
+
+#[test]
+fn an_audit_while_another_is_open(rt: HostRuntime) {
+    let audit =
+        r#"2025-01-01T00:00:00Z operator CP1 [2,"a","AuditPoint",{"connectorId":1,"duration":60}]"#;
+    let wanted = "line 2: AuditOpen: the call of the point's last audit isn't confirmed yet";
+    let script = repeated(&rt, rt.alloc(), audit, 2, "");
+    let findings = found_in_last(&rt, rt.alloc(), script.as_str(), 2);
+    are(&rt, rt.alloc(), &findings, wanted, audit);
+    finds(&rt, rt.alloc(), script.as_str(), "-");
+}
+
+/// An audit of 16.0 A, whose call is in flight.
+const AUDITED: &str =
+    r#"2025-01-01T00:00:00Z operator CP1 [2,"a","SetChargingProfile",{"connectorId":1,"csChargingProfiles":{"chargingProfileId":1,"stackLevel":1,"chargingProfilePurpose":"TxDefaultProfile","chargingProfileKind":"Absolute","chargingSchedule":{"chargingRateUnit":"A","chargingSchedulePeriod":[{"startPeriod":0,"limit":16}]}}}]
+2025-01-01T00:00:01Z operator CP1 [2,"a","AuditPoint",{"connectorId":1,"duration":60}]
+2025-01-01T00:00:02Z point CP1 [2,"h","Heartbeat",{}]
+2025-01-01T00:00:03Z point CP1 [3,"0",{"status":"Unknown"}]
+2025-01-01T00:00:04Z point CP1 [3,"1",{"status":"Accepted"}]
+2025-01-01T00:00:05Z point CP1 "#;
+
+/// On each line a point's reply to the audit, and what is found.
+const REPLIES: &str =
+    r#"[3,"2",{"status":"Accepted","scheduleStart":"2025-01-01T00:00:05Z","chargingSchedule":{"duration":60,"chargingRateUnit":"A","chargingSchedulePeriod":[{"startPeriod":0,"limit":16}]}}] => -
+[3,"2",{"status":"Accepted","scheduleStart":"2025-01-01T00:00:05Z","chargingSchedule":{"duration":60,"chargingRateUnit":"A","chargingSchedulePeriod":[{"startPeriod":0,"limit":15.9}]}}] => line 6: warning: Differs: the point's schedule of connector 1 for 60 s differs from what the central system means
+[3,"2",{"status":"Accepted","scheduleStart":"2025-01-01T00:00:05Z","chargingSchedule":{"duration":60,"chargingRateUnit":"W","chargingSchedulePeriod":[{"startPeriod":0,"limit":16}]}}] => line 6: remark: Unsettled: the point's schedule of connector 1 for 60 s can't be compared
+[3,"2",{"status":"Rejected"}] => line 6: warning: Rejected: the point tells no schedule of connector 1 for 60 s
+[4,"2","NotSupported","",{}] => line 6: warning: Rejected: the point tells no schedule of connector 1 for 60 s
+[3,"1",{"status":"Rejected"}] => line 6: warning: the point answers call "1" with Rejected
+"#;
+
+fn audit_reply(rt: &impl Abort, alloc: Global, row: &str) {
+    let (reply, wanted) = row_of(row);
+    let script = joined(rt, alloc, &[AUDITED, reply]);
+    finds(rt, alloc, script.as_str(), wanted);
+}
+
+#[test]
+fn replies_to_audits(rt: HostRuntime) {
+    for row in REPLIES.lines() {
+        audit_reply(&rt, rt.alloc(), row);
+    }
 }
 
 /// On each line an answer, and how the sentence of its refusal begins, if it has one.

@@ -29,6 +29,35 @@ pub(crate) const MOMENT: &str = r#"[3,"1",{"currentTime":"2025-01-01T00:00:10Z"}
 /// The point's reply to the first call.
 pub(crate) const CLEARED: &str = r#"[3,"0",{"status":"Unknown"}]"#;
 
+/// The point's reply to the install.
+pub(crate) const SET_ACCEPTED: &str = r#"[3,"1",{"status":"Accepted"}]"#;
+
+pub(crate) const AUDIT: &str = r#"[2,"c","AuditPoint",{"connectorId":1,"duration":60}]"#;
+
+pub(crate) const AUDITED: &str = r#"[3,"c",{"status":"Accepted"}]"#;
+
+/// The call that the audit becomes, behind the install.
+pub(crate) const AUDIT_CALL: &str =
+    r#"[2,"2","GetCompositeSchedule",{"connectorId":1,"duration":60,"chargingRateUnit":"A"}]"#;
+
+/// The point's reply to it, which agrees with the install.
+pub(crate) const AUDIT_AGREES: &str =
+    r#"[3,"2",{"status":"Accepted","connectorId":1,"scheduleStart":"2025-01-01T00:00:08Z","chargingSchedule":{"duration":60,"chargingRateUnit":"A","chargingSchedulePeriod":[{"startPeriod":0,"limit":16.0}]}}]"#;
+
+/// A reply that differs from it.
+pub(crate) const AUDIT_DIFFERS: &str =
+    r#"[3,"2",{"status":"Accepted","connectorId":1,"scheduleStart":"2025-01-01T00:00:08Z","chargingSchedule":{"duration":60,"chargingRateUnit":"A","chargingSchedulePeriod":[{"startPeriod":0,"limit":15.9}]}}]"#;
+
+pub(crate) const AUDIT_FAULT: &str = r#"[4,"2","NotSupported","",{}]"#;
+
+/// A start of the point at connector 1, and its answer.
+pub(crate) const START: &str =
+    r#"[2,"4","StartTransaction",{"connectorId":1,"idTag":"T1","meterStart":0,"timestamp":"2025-01-01T00:00:00Z"}]"#;
+
+pub(crate) const STARTED: &str = r#"[3,"4",{"idTagInfo":{"status":"Accepted"},"transactionId":1}]"#;
+
+pub(crate) const STATUS: &str = r#"[2,"d","PointStatus",{}]"#;
+
 /// What is noted of an operator who installs and asks.
 pub(crate) const NOTED_OF_OPERATOR: &str =
     r#"[2,"a","SetChargingProfile",{"connectorId":0,"csChargingProfiles":{"chargingProfileId":1,"stackLevel":0,"chargingProfilePurpose":"TxDefaultProfile","chargingProfileKind":"Absolute","chargingSchedule":{"startSchedule":"2025-01-01T00:00:00Z","chargingRateUnit":"A","chargingSchedulePeriod":[{"startPeriod":0,"limit":16}]}}}]

@@ -4,8 +4,9 @@ ghost use Rattle.std.specs.Prelude.{◌≡◌};
 
 use crate::same::{holds, same, same_text};
 use crate::served_texts::{
-    ACCEPTED, ASK, CLEAR, CLEARED, HEARTBEAT, INSTALL, MOMENT, NOTED_OF_OPERATOR, NOTED_OF_POINT,
-    SCHEDULE, SET, SITE,
+    ACCEPTED, ASK, AUDIT, AUDIT_AGREES, AUDIT_CALL, AUDIT_DIFFERS, AUDIT_FAULT, AUDITED, CLEAR,
+    CLEARED, HEARTBEAT, INSTALL, MOMENT, NOTED_OF_OPERATOR, NOTED_OF_POINT, SCHEDULE, SET,
+    SET_ACCEPTED, SITE, START, STARTED, STATUS,
 };
 use crate::streams::{client_bytes, client_texts, messages_of, socket_of};
 use crossbeam_channel::{Sender, bounded};
@@ -97,6 +98,7 @@ impl<C: Ledger, A: Ledger> Desk<C, A> {
         );
         let (texts, is_closed) = client_texts(rt, self.alloc, output.as_slice());
         let totals = pass.totals();
+        self.passes.push(pass).ok().expect(rt, "error");
         Served {
             ended,
             texts,
@@ -237,6 +239,92 @@ fn a_retransmitted_start_has_its_number(rt: HostRuntime) {
     ];
     let blanks = (Blank::new(2), Blank::new(2));
     point_texts::<Brand, Brand, HostRuntime>(&rt, rt.alloc(), blanks, &texts, &wanted, 2);
+}
+
+/// An operator installs a profile and audits the point. These messages of the point follow its
+/// Heartbeat and its replies to the first two calls. The operator's next session is told this.
+fn audited<C: Ledger, A: Ledger, R: Abort + Wait>(
+    rt: &R,
+    alloc: Global,
+    blanks: (Blank, Blank),
+    texts: &[&str],
+    wanted: &[&str],
+    status: &str,
+)
+    requires changes { (blanks.0.name ≡ C.name) × (blanks.0.parts ≡ C.parts)
+        × (blanks.0.parts ≡ 2) }
+    requires answers { (blanks.1.name ≡ A.name) × (blanks.1.parts ≡ A.parts)
+        × (blanks.1.parts ≡ 2) }
+{
+    let mut desk: Desk<C, A> = desk_of(rt, alloc, blanks, ten_past_midnight(rt));
+    let audits = messages_of(rt, alloc, &[INSTALL, AUDIT], true);
+    desk.serve_operator(rt, audits)
+        .tells(rt, &[ACCEPTED, AUDITED]);
+    desk.serve_point(rt, texts, 100).tells(rt, wanted);
+    let asks = messages_of(rt, alloc, &[STATUS], true);
+    desk.serve_operator(rt, asks).tells(rt, &[status]);
+}
+
+/// The point's reply to the audit leads to this status.
+fn judged<C: Ledger, A: Ledger, R: Abort + Wait>(
+    rt: &R,
+    alloc: Global,
+    blanks: (Blank, Blank),
+    reply: &str,
+    status: &str,
+)
+    requires changes { (blanks.0.name ≡ C.name) × (blanks.0.parts ≡ C.parts)
+        × (blanks.0.parts ≡ 2) }
+    requires answers { (blanks.1.name ≡ A.name) × (blanks.1.parts ≡ A.parts)
+        × (blanks.1.parts ≡ 2) }
+{
+    let texts = [HEARTBEAT, CLEARED, SET_ACCEPTED, reply];
+    let wanted = [MOMENT, CLEAR, SET, AUDIT_CALL];
+    audited::<C, A, R>(rt, alloc, blanks, &texts, &wanted, status);
+}
+
+#[test]
+fn a_reply_to_an_audit_is_judged(rt: HostRuntime) {
+    let cases = [
+        (
+            AUDIT_AGREES,
+            r#"[3,"d",{"status":"Accepted","version":1,"outbox":0,"audit":"Agrees"}]"#,
+        ),
+        (
+            AUDIT_DIFFERS,
+            r#"[3,"d",{"status":"Accepted","version":1,"outbox":0,"audit":"Differs"}]"#,
+        ),
+        (
+            AUDIT_FAULT,
+            r#"[3,"d",{"status":"Accepted","version":1,"outbox":0,"audit":"Rejected"}]"#,
+        ),
+        // It isn't the id of its call.
+        (
+            CLEARED,
+            r#"[3,"d",{"status":"Accepted","version":1,"outbox":1,"audit":"Waiting"}]"#,
+        ),
+    ];
+    for (reply, status) in cases {
+        let blanks = (Blank::new(2), Blank::new(2));
+        judged::<Brand, Brand, HostRuntime>(&rt, rt.alloc(), blanks, reply, status);
+    }
+}
+
+#[test]
+fn a_start_before_the_reply_leaves_it_unsettled(rt: HostRuntime) {
+    let blanks = (Blank::new(2), Blank::new(2));
+    // The second reply has no call: the first verdict stays.
+    let texts = [
+        HEARTBEAT,
+        CLEARED,
+        SET_ACCEPTED,
+        START,
+        AUDIT_AGREES,
+        AUDIT_FAULT,
+    ];
+    let wanted = [MOMENT, CLEAR, SET, AUDIT_CALL, STARTED];
+    let status = r#"[3,"d",{"status":"Accepted","version":2,"outbox":0,"audit":"Unsettled"}]"#;
+    audited::<Brand, Brand, HostRuntime>(&rt, rt.alloc(), blanks, &texts, &wanted, status);
 }
 
 /// A socket that fails after so many calls, and the point's next session. The call that was in

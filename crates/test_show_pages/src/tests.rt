@@ -1,5 +1,6 @@
 //! What stands, what was printed and what was left undone, each compared with a text made by hand.
 
+mod audited;
 mod left_undone;
 mod ordinary_day;
 mod two_points;

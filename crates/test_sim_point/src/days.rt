@@ -207,6 +207,8 @@ at 0 | -
 < [2,"s","Heartbeat",{}] | [4,"s","NotImplemented","",{}]
 < [2,"t","StopTransaction",{"transactionId":"x"}] | [4,"t","NotImplemented","",{}]
 < [2,"u","Reset",{}] | [4,"u","NotImplemented","",{}]
+< [2,"x","AuditPoint",{"connectorId":1,"duration":60}] | [4,"x","NotImplemented","",{}]
+< [2,"y","PointStatus",{}] | [4,"y","NotImplemented","",{}]
 < [2,"v","GetCompositeSchedule",7] | [4,"v","FormationViolation","",{}]
 < [2,"w"] | [4,"w","FormationViolation","",{}]"#;
 

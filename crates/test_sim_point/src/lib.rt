@@ -1,7 +1,10 @@
 //! Tests of `sim_point` from outside, by its public names alone: what a simulated charge point
-//! answers and calls, and how it ends over streams in memory.
+//! answers and calls, how it ends over streams in memory, and how a central system that audits it
+//! judges it.
 #![tactic(auto)]
 
+#[cfg(test)]
+mod audits;
 #[cfg(test)]
 mod days;
 #[cfg(test)]

@@ -9,7 +9,12 @@ use std::alloc::Global;
 use std::process::Abort;
 
 /// On each line what an operator asks for, and below it the call that is written, of number 7.
-const CALLS: &str = r#"[2,"a","ClearChargingProfile",{}]
+const CALLS: &str =
+    r#"[2,"a","GetCompositeSchedule",{"chargingRateUnit":"A","duration":60,"connectorId":1}]
+[2,"7","GetCompositeSchedule",{"connectorId":1,"duration":60,"chargingRateUnit":"A"}]
+[2,"a","GetCompositeSchedule",{"chargingRateUnit":"W","duration":2147483647,"connectorId":0}]
+[2,"7","GetCompositeSchedule",{"connectorId":0,"duration":2147483647,"chargingRateUnit":"W"}]
+[2,"a","ClearChargingProfile",{}]
 [2,"7","ClearChargingProfile",{}]
 [2,"a","ClearChargingProfile",{"stackLevel":3,"chargingProfilePurpose":"ChargePointMaxProfile","connectorId":0,"id":-5}]
 [2,"7","ClearChargingProfile",{"id":-5,"connectorId":0,"chargingProfilePurpose":"ChargePointMaxProfile","stackLevel":3}]
@@ -40,6 +45,11 @@ fn body_of(rt: &impl Abort, alloc: Global, text: &str) -> CallBody {
     let frame = read_frame(&mut memory, text).ok().expect(rt, text);
     match read_action(alloc, &frame) {
         Ok(Action::ClearChargingProfile(criteria)) => CallBody::Clear(criteria),
+        Ok(Action::GetCompositeSchedule(request)) => CallBody::Audit {
+            connector: request.connector,
+            duration: request.duration,
+            unit: request.unit.expect(rt, text),
+        },
         Ok(
             Action::SetChargingProfile {
                 connector,
@@ -79,8 +89,10 @@ fn calls_are_written(rt: HostRuntime) {
     }
 }
 
-/// On each line which profiles a call is about, and what an operator asks for.
-const SUBJECTS: &str = r#"every profile = [2,"a","ClearChargingProfile",{}]
+/// On each line what a call is about, and what an operator asks for.
+const SUBJECTS: &str =
+    r#"connector 1 for 60 s = [2,"a","GetCompositeSchedule",{"chargingRateUnit":"A","duration":60,"connectorId":1}]
+every profile = [2,"a","ClearChargingProfile",{}]
 id -5, connector 0, ChargePointMaxProfile, stack level 3 = [2,"a","ClearChargingProfile",{"stackLevel":3,"chargingProfilePurpose":"ChargePointMaxProfile","connectorId":0,"id":-5}]
 connector 64, stack level 0 = [2,"a","ClearChargingProfile",{"stackLevel":0,"id":null,"connectorId":64}]
 TxProfile = [2,"a","ClearChargingProfile",{"chargingProfilePurpose":"TxProfile"}]

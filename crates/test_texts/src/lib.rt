@@ -11,6 +11,8 @@ mod frame_texts;
 #[cfg(test)]
 mod message_texts;
 #[cfg(test)]
+mod said_texts;
+#[cfg(test)]
 mod same;
 #[cfg(test)]
 mod scalar_texts;

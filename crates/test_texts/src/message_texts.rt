@@ -3,8 +3,8 @@
 use crate::same::{holds, same_text};
 use meaning::{Ask, Composite, View, compile_plain};
 use messages::{
-    Action, ActionKind, CallFault, FieldKind, FieldName, ObjectKind, Response, ScheduleResponse,
-    Side, fields_in, fields_of, read_action, side_of, write_response,
+    Action, ActionKind, AuditOutcome, CallFault, FieldKind, FieldName, ObjectKind, PointStatus,
+    Response, ScheduleResponse, Side, fields_in, fields_of, read_action, side_of, write_response,
 };
 use ocpp_scalars::{Instant, Refusal};
 use ocppj_frame::{ReadingMemory, read_frame};
@@ -30,6 +30,9 @@ NotACall = [7]
 tag éééééééééééééééééééé, connector 1, meter -2, second 1735689600 = [2,"s","StartTransaction",{"timestamp":"2025-01-01T00:00:00Z","meterStart":-2,"idTag":"éééééééééééééééééééé","connectorId":1}]
 transaction 2 = [2,"e","StopTransaction",{"transactionId":2.0,"timestamp":"never"}]
 connector 1, duration 60, unit Some(A) = [2,"g","GetCompositeSchedule",{"duration":60,"connectorId":1,"chargingRateUnit":"A"}]
+audit of connector 1, duration 60 = [2,"p","AuditPoint",{"duration":60,"chargingRateUnit":7,"connectorId":1}]
+status = [2,"p","PointStatus",{"connectorId":"1"}]
+status = [2,"p","PointStatus"]
 Criteria { id: Some(-5), connector: Some(1), purpose: Some(TxProfile), stack_level: Some(3) } = [2,"c","ClearChargingProfile",{"stackLevel":3,"chargingProfilePurpose":"TxProfile","connectorId":1,"id":-5}]"#;
 
 /// On each line the code and the description of the first fault, and the text of the message. The
@@ -45,6 +48,11 @@ PropertyConstraintViolation chargingProfilePurpose [2,"d","ClearChargingProfile"
 OccurenceConstraintViolation csChargingProfiles [2,"d","SetChargingProfile",{"connectorId":0,"csChargingProfiles":null}]
 TypeConstraintViolation csChargingProfiles [2,"d","SetChargingProfile",{"connectorId":0,"csChargingProfiles":[]}]
 OccurenceConstraintViolation chargingProfileId [2,"d","SetChargingProfile",{"connectorId":0,"csChargingProfiles":{"stackLevel":"0"}}]
+OccurenceConstraintViolation connectorId [2,"d","AuditPoint",{"duration":"60"}]
+PropertyConstraintViolation connectorId [2,"d","AuditPoint",{"duration":-1,"connectorId":-1}]
+OccurenceConstraintViolation duration [2,"d","AuditPoint",{"connectorId":0}]
+TypeConstraintViolation duration [2,"d","AuditPoint",{"duration":"60","connectorId":0}]
+PropertyConstraintViolation duration [2,"d","AuditPoint",{"duration":-1,"connectorId":0}]
 OccurenceConstraintViolation connectorId [2,"d","StartTransaction",{}]
 OccurenceConstraintViolation idTag [2,"d","StartTransaction",{"connectorId":1,"meterStart":"0"}]
 TypeConstraintViolation idTag [2,"d","StartTransaction",{"connectorId":1,"idTag":20}]
@@ -89,6 +97,11 @@ fn described(alloc: Global, action: &Action) -> Result<String, AllocError> {
                 ask.unit
             )
         }
+        Action::AuditPoint {
+            connector,
+            duration,
+        } => format!(in alloc; "audit of connector {connector}, duration {duration}"),
+        Action::PointStatus => String::from_str(alloc, "status"),
         Action::ClearChargingProfile(criteria) => format!(in alloc; "{criteria:?}"),
         Action::Answered(answer) => format!(in alloc; "{answer:?}"),
         Action::NotACall => String::from_str(alloc, "NotACall"),
@@ -174,8 +187,10 @@ fn too_many_periods_are_not_out_of_memory(rt: HostRuntime) {
 }
 
 /// Actions, each with who sends it.
-const SIDES: [(&str, Option<Side>); 3] = [
+const SIDES: [(&str, Option<Side>); 5] = [
     ("GetCompositeSchedule", Some(Side::Operator)),
+    ("AuditPoint", Some(Side::Operator)),
+    ("PointStatus", Some(Side::Operator)),
     ("DataTransfer", Some(Side::Point)),
     ("RemoteStartTransaction", None),
 ];
@@ -190,8 +205,10 @@ fn an_action_comes_from_one_side(rt: HostRuntime) {
 }
 
 /// How many fields an action has, those of its objects left out.
-const FIELD_COUNTS: [(&str, usize); 3] = [
+const FIELD_COUNTS: [(&str, usize); 5] = [
     ("ClearChargingProfile", 4),
+    ("AuditPoint", 2),
+    ("PointStatus", 0),
     ("StopTransaction", 1),
     ("Heartbeat", 0),
 ];
@@ -274,6 +291,50 @@ fn responses_are_written(rt: HostRuntime) {
         let (name, want) = line.split_once(' ').expect(&rt, line);
         let response = response_named(name, current_time);
         assert_response(&rt, rt.alloc(), &response, want);
+    }
+}
+
+/// Outcomes of audits, and the answers to PointStatus that tell them.
+const STATUSES: [(AuditOutcome, &str); 6] = [
+    (
+        AuditOutcome::NoAudit,
+        r#"[3,"é\"",{"status":"Accepted","version":1,"outbox":30,"audit":"None"}]"#,
+    ),
+    (
+        AuditOutcome::Waiting,
+        r#"[3,"é\"",{"status":"Accepted","version":1,"outbox":30,"audit":"Waiting"}]"#,
+    ),
+    (
+        AuditOutcome::Agrees,
+        r#"[3,"é\"",{"status":"Accepted","version":1,"outbox":30,"audit":"Agrees"}]"#,
+    ),
+    (
+        AuditOutcome::Differs,
+        r#"[3,"é\"",{"status":"Accepted","version":1,"outbox":30,"audit":"Differs"}]"#,
+    ),
+    (
+        AuditOutcome::Rejected,
+        r#"[3,"é\"",{"status":"Accepted","version":1,"outbox":30,"audit":"Rejected"}]"#,
+    ),
+    (
+        AuditOutcome::Unsettled,
+        r#"[3,"é\"",{"status":"Accepted","version":1,"outbox":30,"audit":"Unsettled"}]"#,
+    ),
+];
+
+fn assert_status(rt: &impl Abort, alloc: Global, audit: AuditOutcome, wanted: &str) {
+    let response = Response::PointStatus(PointStatus {
+        version: 1,
+        outbox: 30,
+        audit,
+    });
+    assert_response(rt, alloc, &response, wanted);
+}
+
+#[test]
+fn a_status_is_written(rt: HostRuntime) {
+    for (audit, wanted) in &STATUSES {
+        assert_status(&rt, rt.alloc(), *audit, wanted);
     }
 }
 

@@ -32,7 +32,6 @@ use Rattle.texts.specs.declared.asked.Wanted.TheVariants as wanted
 use Rattle.site_core.specs.declared.step.Step.{Step}
 use Rattle.site_core.specs.declared.step.Step.TheVariants as steps
 use Rattle.site_core.specs.declared.step.Take.{Take}
-use Rattle.site_core.specs.Step.{Work, AtPoint, Takes, work}
 use Rattle.texts.specs.ByCases.Number.{number_of}
 use Rattle.texts.specs.SentText.{Sent}
 
@@ -75,6 +74,9 @@ wanted_by text (actions.StartTransaction start) =
     wanted.Step (steps.Start text.point start.connector (begin_of start))
 wanted_by text (actions.StopTransaction transaction) =
     wanted.Step (steps.Stop text.point transaction)
+wanted_by text (actions.AuditPoint connector duration) =
+    wanted.Step (steps.Audit text.point connector duration)
+wanted_by text actions.PointStatus = wanted.Step (steps.Status text.point)
 wanted_by text (actions.Answered answer) = wanted.Response (fixed_response answer text.moment)
 wanted_by text actions.NotACall = wanted.Response not_implemented
 
@@ -131,21 +133,17 @@ asked_of text = asked_of_message text (message_of_text text.frame)
 
 -- ---- what any message asks for
 
--- what is made over a link comes of the link itself
-abbrev pub IsOverNone : Option ℕ → Type 0
-IsOverNone None = Unit {0}
-IsOverNone (Some link) = ⊥
-
-abbrev pub IsWorkOfCall : Work → Type 0
-IsWorkOfCall (AtPoint at) = IsOverNone at.link
-IsWorkOfCall (Takes take) = Unit {0}
-IsWorkOfCall elsewhere = ⊥
-
--- The steps that a CALL may ask for: those at a point that are made over no link, but for its new
--- link, and a Take.
+-- The steps that a CALL may ask for. What is made over a link comes of the link itself, or of a
+-- reply, and so does a verdict.
 abbrev pub IsOfCall : Step → Type 0
-IsOfCall (steps.Attach point) = ⊥
-IsOfCall step = IsWorkOfCall (work step)
+IsOfCall (steps.Install point row) = Unit {0}
+IsOfCall (steps.Clear point criteria) = Unit {0}
+IsOfCall (steps.Start point connector begin) = Unit {0}
+IsOfCall (steps.Stop point number) = Unit {0}
+IsOfCall (steps.Take take) = Unit {0}
+IsOfCall (steps.Audit point connector duration) = Unit {0}
+IsOfCall (steps.Status point) = Unit {0}
+IsOfCall step = ⊥
 
 abbrev pub is_schedule : Response → Bool
 is_schedule (Schedule response) = true

@@ -4,4 +4,5 @@ pub mod Number
 pub mod Unread
 pub mod Asked
 pub mod Response
+pub mod Said
 pub mod Theory

@@ -9,14 +9,16 @@ use Rattle.messages.specs.declared.call_fault.CallFault.TheVariants as faults
 use Rattle.messages.specs.declared.response.Response.{Response}
 use Rattle.messages.specs.declared.response.Response.TheVariants as responses
 use Rattle.site_core.specs.declared.reply.Reply.{Reply}
-use Rattle.site_core.specs.declared.reply.Reply.TheVariants.{Accepted, Unknown, Started, Repeated, Ended, NoSuch, Taken, Compiled, Answered, NotYet, Finished, Attached, Sent, Nothing, Confirmed, LinkLost}
+use Rattle.site_core.specs.declared.reply.Reply.TheVariants.{Accepted, Unknown, Started, Repeated, Ended, NoSuch, Taken, Compiled, Answered, NotYet, Finished, Attached, Sent, Nothing, Confirmed, LinkLost, Audited, VerdictKept, Status}
 use Rattle.site_core.specs.State.{ScheduleAnswer}
 
--- a refused SetChargingProfile or GetCompositeSchedule is answered by its .conf, any other refused
--- CALL by a CALLERROR
+-- a refused SetChargingProfile, GetCompositeSchedule, AuditPoint or PointStatus is answered by its
+-- .conf, any other refused CALL by a CALLERROR
 abbrev pub refused_response : ActionKind → Refusal → Response
 refused_response kinds.SetChargingProfile refusal = responses.Rejected refusal
 refused_response kinds.GetCompositeSchedule refusal = responses.Rejected refusal
+refused_response kinds.AuditPoint refusal = responses.Rejected refusal
+refused_response kinds.PointStatus refusal = responses.Rejected refusal
 refused_response _ refusal = responses.Error (faults.Refused refusal)
 
 -- the answer to a request for a composite schedule, on a site of this unit
@@ -26,8 +28,8 @@ schedule_response unit kind ask (Ok schedule) = responses.Schedule
 schedule_response unit kind ask (Err refusal) = refused_response kind refusal
 
 -- A reply as a response to a CALL of this kind. A retransmitted start is answered as the first
--- time. No answer says that a request is taken or compiled, that the central system is stopped, or
--- what becomes of a link or of a call.
+-- time. No answer says that a request is taken or compiled, that the central system is stopped, what
+-- becomes of a link or of a call, or that a verdict is kept.
 abbrev pub reply_response : Unit → ActionKind → Reply → Option Response
 reply_response unit kind Accepted = Some responses.Accepted
 reply_response unit kind Unknown = Some responses.Unknown
@@ -45,6 +47,9 @@ reply_response unit kind (Sent call) = None
 reply_response unit kind Nothing = None
 reply_response unit kind Confirmed = None
 reply_response unit kind LinkLost = None
+reply_response unit kind (Audited call asked) = Some responses.Accepted
+reply_response unit kind VerdictKept = None
+reply_response unit kind (Status status) = Some (responses.PointStatus status)
 
 -- what came of a step as a response to a CALL of this kind
 abbrev pub response_of : Unit → ActionKind → Result Reply Refusal → Option Response

@@ -229,6 +229,16 @@ fn wanted_by(alloc: Global, text: &SentText<'_>, action: Action) -> Result<Wante
             let point = PointId::copied(alloc, text.point())?;
             return Ok(Wanted::Step(Step::Stop { point, transaction }));
         }
+        Action::AuditPoint {
+            connector,
+            duration,
+        } => {
+            return Ok(Wanted::Step(step_of_audit(alloc, text, connector, duration)?));
+        }
+        Action::PointStatus => {
+            let point = PointId::copied(alloc, text.point())?;
+            return Ok(Wanted::Step(Step::Status(point)));
+        }
         Action::Answered(answer) => answer.response(text.moment()),
         Action::NotACall => NOT_IMPLEMENTED,
     };
@@ -251,6 +261,22 @@ fn step_of_ask(
         unit: request.unit,
         seen: 0,
     }))
+}
+
+/// The audit that these fields make.
+fn step_of_audit(
+    alloc: Global,
+    text: &SentText<'_>,
+    connector: u32,
+    duration: u32,
+) -> Result<Step, AllocError>
+    ensures { IfOk result (λ step. step ≡ Step.Audit text.now.point connector duration) }
+{
+    Ok(Step::Audit {
+        point: PointId::copied(alloc, text.point())?,
+        connector,
+        duration,
+    })
 }
 
 /// The start that these fields make.

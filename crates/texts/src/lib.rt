@@ -4,11 +4,13 @@
 mod asked;
 mod number;
 mod response;
+mod said;
 mod sent_text;
 mod unread;
 
 pub use asked::{Asked, asked_of, hold_of};
 pub use number::number_of;
 pub use response::{refused_response, reply_response, response_of, schedule_response};
+pub use said::said_of;
 pub use sent_text::SentText;
 pub use unread::Unread;

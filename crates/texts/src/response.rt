@@ -29,12 +29,13 @@ pub fn reply_response(unit: Unit, kind: ActionKind, reply: Reply) -> Option<Resp
     ensures { result ≡ reply_response unit kind reply }
 {
     match reply {
-        Reply::Accepted => Some(Response::Accepted),
+        Reply::Accepted | Reply::Audited { .. } => Some(Response::Accepted),
         Reply::Unknown => Some(Response::Unknown),
         Reply::Started(transaction) => Some(Response::StartTransaction { transaction }),
         Reply::Repeated(transaction) => Some(Response::StartTransaction { transaction }),
         Reply::Ended | Reply::NoSuch => Some(Response::Empty),
         Reply::Answered { ask, answer, .. } => Some(schedule_response(unit, kind, &ask, answer)),
+        Reply::Status(status) => Some(Response::PointStatus(status)),
         Reply::Taken { .. }
         | Reply::Compiled
         | Reply::NotYet
@@ -43,7 +44,8 @@ pub fn reply_response(unit: Unit, kind: ActionKind, reply: Reply) -> Option<Resp
         | Reply::Sent(_)
         | Reply::Nothing
         | Reply::Confirmed
-        | Reply::LinkLost => None,
+        | Reply::LinkLost
+        | Reply::VerdictKept => None,
     }
 }
 
@@ -67,15 +69,16 @@ pub fn schedule_response(
     }
 }
 
-/// A refused SetChargingProfile or GetCompositeSchedule is answered by its .conf, any other refused
-/// CALL by a CALLERROR.
+/// A refused SetChargingProfile, GetCompositeSchedule, AuditPoint or PointStatus is answered by its
+/// .conf, any other refused CALL by a CALLERROR.
 pub fn refused_response(kind: ActionKind, refusal: Refusal) -> Response
     ensures { result ≡ refused_response kind refusal }
 {
     match kind {
-        ActionKind::SetChargingProfile | ActionKind::GetCompositeSchedule => {
-            Response::Rejected(refusal)
-        }
+        ActionKind::SetChargingProfile
+        | ActionKind::GetCompositeSchedule
+        | ActionKind::AuditPoint
+        | ActionKind::PointStatus => Response::Rejected(refusal),
         _ => Response::Error(CallFault::Refused(refusal)),
     }
 }

@@ -17,7 +17,7 @@ use Rattle.site_core.specs.declared.step.Take.{Take}
 use Rattle.site_core.specs.Limits.{max_number, max_requests}
 use Rattle.site_core.specs.State.{MachineState, book_at}
 use Rattle.site_core.specs.Ask.{is_other_unit, ask_at}
-use Rattle.site_core.specs.Step.{Made, stepped, no_answer, found_place, refusal_to_take, taking, unless}
+use Rattle.site_core.specs.Step.{Made, stepped, no_answer, at_point, found_place, refusal_to_take, taking, unless}
 use Rattle.version_store.specs.Passes.{PassState}
 use Rattle.version_store.specs.Store.{StoreState}
 use Rattle.version_store.specs.Calls.{IsRefusalTo, IsRefusalOf, IsBehind}
@@ -118,13 +118,18 @@ takes_behind old take place seen found is =
             refusal_behind old take seen found (here ∙ ap Some same)
         unless_behind None here is = absurd (cc is)
 
+-- the place that a Take's point has by its name
+abbrev named_place : MachineState → Take → Option ℕ → Result ℕ Refusal
+named_place old take place =
+    found_place old (at_point take.point (λ site numbers point. Err Stopped)).via place
+
 step_behind : (old : MachineState) (take : Take) (seen found : ℕ)
     → stepped no_answer old (steps.Take take) ≡ Err (Behind seen found)
     → IsOlder old take seen found
 step_behind old take seen found is = go old.is_stopped (place_of old.site take.point) is
   where
     go : (stopped : Bool) (place : Option ℕ)
-        → (cond stopped (Err Stopped) (found_place old None place) >>= takes_at old take)
+        → (cond stopped (Err Stopped) (named_place old take place) >>= takes_at old take)
         ≡ Err (Behind seen found) → IsOlder old take seen found
     go true place is = absurd (cc is)
     go false None is = absurd (cc is)

@@ -6,7 +6,8 @@ use Rattle.ocpp_scalars.specs.declared.refusal.Refusal.TheVariants.{OutOfMemory}
 use Rattle.site_core.specs.declared.step.Step.{Step}
 use Rattle.site_core.specs.declared.step.Step.TheVariants.{Compile}
 use Rattle.site_core.specs.declared.reply.Reply.{Reply}
-use Rattle.site_core.specs.State.{MachineState}
+use Rattle.site_core.specs.Audits.{BringsRight}
+use Rattle.site_core.specs.State.{MachineState, IsMachine}
 use Rattle.site_core.specs.Step.{Made, Steps, IsRefusalOf, stepped, no_answer, is_event, outlook, outlook_of, counted, wants_memory}
 use Rattle.site_core.specs.StoredHistory.{event_of, MayBeGiven}
 use Rattle.site_core.specs.Theory.Steps.{CompileOrOther, is_compile, is_other, compile_or_other}
@@ -189,7 +190,9 @@ adds_alone old from step reply after can is steps folded new same =
 -- its event is the history's next
 pub goes_on_alone : Laws → (old : StoreState) → IsStore old → (step : Step) (reply : Reply)
     (after : MachineState) → may_fold step ≡ true → Steps old.present step reply after
+    → BringsRight step → IsMachine after
     → IsStore (with_event old (event_alone step) (made_with reply after))
-goes_on_alone laws old is step reply after can steps =
+goes_on_alone laws old is step reply after can steps brought machine =
     store_goes_on laws old is (event_alone step) reply after
     (made_of_step old.present step reply after can steps) (not_compiled old.present step can)
+    brought machine

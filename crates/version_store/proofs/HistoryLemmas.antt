@@ -1,10 +1,15 @@
 -- That a stored history goes on with an event more, and from its fold.
-use Rattle.std.proofs.Common.{◌≡◌, ℕ, ◌+◌, ◌≤◌, List, [], ◌∷◌, ◌++◌, Ok, refl, sym, ap, ◌∙◌, add-zero, length, arith}
+use Rattle.std.proofs.Common.{◌≡◌, ℕ, zero, suc, ◌+◌, ◌≤◌, List, [], ◌∷◌, ◌++◌, map, slice_index_or, Option, Some, None, Ok, refl, sym, ap, ◌∙◌, subst, add-zero, length, arith}
+use Rattle.std.specs.Prelude.{IfSome}
 use Rattle.std.proofs.lemmas.List.Sums.{sum_by_push, sum_by-append}
-use Rattle.site_rules.specs.Site.{SiteState}
+use Rattle.site_rules.specs.Site.{PointEntry, SiteState}
+use Rattle.site_core.specs.declared.step.Step.{Step}
 use Rattle.site_core.specs.declared.reply.Reply.{Reply}
 use Rattle.site_core.specs.Limits.{max_number}
-use Rattle.site_core.specs.State.{MachineState, IsMachine, opening, no_numbers}
+use Rattle.site_core.specs.Audit.{AuditState}
+use Rattle.site_core.specs.Audits.{AreAuditsRight, BringsRight, IsAuditRight}
+use Rattle.site_core.specs.ChargePoint.{opening_point}
+use Rattle.site_core.specs.State.{MachineState, IsMachine, opening, no_numbers, no_point, audit_at, connectors_in_book, connectors_in_file}
 use Rattle.site_core.specs.Step.{Made, counted}
 use Rattle.site_core.specs.History.{Event, Legal}
 use Rattle.site_core.specs.StoredHistory.{StoredEvent, IsStoredAs, made_of, event_of, MayBeGiven}
@@ -29,6 +34,49 @@ nothing_more made =
     ap (λ (n : ℕ). totals_of n (made.answers + 0)) (add-zero made.changes)
     ∙ ap (totals_of made.changes) (add-zero made.answers)
 
+-- ---- audits
+
+-- no point of a site is audited before the first event
+no_audit : (points : List PointEntry) (place : ℕ)
+    → (slice_index_or (map opening_point points) place no_point).audit ≡ None
+no_audit [] place = refl
+no_audit (point ∷ points) zero = refl
+no_audit (point ∷ points) (suc place) = no_audit points place
+
+pub opening_unaudited : (site : SiteState) (place : ℕ) → audit_at (opening site) place ≡ None
+opening_unaudited site place = no_audit site.points place
+
+opening_right : (site : SiteState) → AreAuditsRight (opening site)
+opening_right site place =
+    subst (λ (audit : Option AuditState). IfSome audit IsAuditRight)
+    (sym (opening_unaudited site place)) tt
+
+-- the opening state is a machine's
+each_is_kept : (points : List PointEntry)
+    → map connectors_in_book (map opening_point points) ≡ map connectors_in_file points
+each_is_kept [] = refl
+each_is_kept (point ∷ points) =
+    ap (λ (counts : List ℕ). connectors_in_file point ∷ counts) (each_is_kept points)
+
+pub opening_is_machine : (site : SiteState) → IsMachine (opening site)
+opening_is_machine site = record {
+  points = each_is_kept site.points;
+  numbers = record { version = omega arith; request = omega arith; transaction = omega arith; link = omega arith };
+  few = omega arith;
+}
+
+-- an event leaves each verdict right
+verdicts_go_on : Laws → (old : MachineState) (event : StoredEvent) (reply : Reply)
+    (after : MachineState) → IsMachine old → made_of old event ≡ Ok (made_with reply after)
+    → MayBeGiven old event → BringsRight event.step → AreAuditsRight old → AreAuditsRight after
+verdicts_go_on laws old event reply after machine made given brought right =
+    let one : IsStoredAs old (event_of event.step reply ∷ []) after (event ∷ []) =
+    laws.more old [] old [] event (made_with reply after) (record { replay = refl; given = tt }) made
+    given in
+    let legal : Legal old (event_of event.step reply ∷ []) after =
+    laws.legal old (event_of event.step reply ∷ []) after (event ∷ []) one in
+    laws.verdicts old (event_of event.step reply ∷ []) after machine legal (brought, tt) right
+
 -- ---- what a store keeps
 
 -- of its histories; the rest follows
@@ -36,12 +84,15 @@ record Reaches (store : StoreState) : Type 0 where
   site : SiteState
   earlier : List Event
   reached : Legal (opening site) earlier store.base
+  base_machine : IsMachine store.base
   based_changes : store.based.changes ≡ changes_in earlier
   based_answers : store.based.answers ≡ answers_in earlier
   played : List Event
   replays : IsStoredAs store.base played store.present store.events
   changes : store.made.changes ≡ store.based.changes + changes_in played
   answers : store.made.answers ≡ store.based.answers + answers_in played
+  machine : IsMachine store.present
+  verdicts : AreAuditsRight store.present
 
 store_of : Laws → (store : StoreState) → Reaches store → IsStore store
 store_of laws store reaches =
@@ -57,6 +108,7 @@ store_of laws store reaches =
       site = reaches.site;
       earlier = reaches.earlier;
       reached = reaches.reached;
+      base_machine = reaches.base_machine;
       based_changes = reaches.based_changes;
       based_answers = reaches.based_answers;
       played = reaches.played;
@@ -64,9 +116,12 @@ store_of laws store reaches =
       legal = legal;
       changes = reaches.changes;
       answers = reaches.answers;
+      machine = reaches.machine;
       books = laws.books store.base reaches.played store.present base_right legal;
       right = laws.stay store.base reaches.played store.present base_right legal;
       answered = laws.answered store.base reaches.played store.present base_answered legal;
+      audited = laws.audits store.base reaches.played store.present reaches.base_machine legal;
+      verdicts = reaches.verdicts;
     }
 
 -- before the first event
@@ -75,24 +130,29 @@ store_opens laws site = store_of laws (opening_store site) (record {
   site = site;
   earlier = [];
   reached = refl;
+  base_machine = opening_is_machine site;
   based_changes = refl;
   based_answers = refl;
   played = [];
   replays = record { replay = refl; given = tt };
   changes = refl;
   answers = refl;
+  machine = opening_is_machine site;
+  verdicts = opening_right site;
 })
 
 pub store_goes_on : Laws → (old : StoreState) → IsStore old
     → (event : StoredEvent) (reply : Reply) (after : MachineState)
     → made_of old.present event ≡ Ok (made_with reply after) → MayBeGiven old.present event
+    → BringsRight event.step → IsMachine after
     → IsStore (with_event old event (made_with reply after))
-store_goes_on laws old is event reply after made given =
+store_goes_on laws old is event reply after made given brought machine =
     let last : Event = event_of event.step reply in
     store_of laws (with_event old event (made_with reply after)) (record {
       site = is.site;
       earlier = is.earlier;
       reached = is.reached;
+      base_machine = is.base_machine;
       based_changes = is.based_changes;
       based_answers = is.based_answers;
       played = is.played ++ last ∷ [];
@@ -108,6 +168,9 @@ store_goes_on laws old is event reply after made given =
         is.answers,
         sum_by_push (λ (e : Event). (counted e.reply).answers) is.played last,
       );
+      machine = machine;
+      verdicts = verdicts_go_on laws old.present event reply after is.machine made given brought
+          is.verdicts;
     })
 
 -- all that was done since the opening
@@ -139,12 +202,15 @@ store_folds laws old is = store_of laws (folded old) (record {
   site = is.site;
   earlier = is.earlier ++ is.played;
   reached = whole_legal old is;
+  base_machine = is.machine;
   based_changes = whole_changes old is;
   based_answers = whole_answers old is;
   played = [];
   replays = record { replay = refl; given = tt };
   changes = sym (add-zero old.made.changes);
   answers = sym (add-zero old.made.answers);
+  machine = is.machine;
+  verdicts = is.verdicts;
 })
 
 -- no more is counted than numbers were drawn

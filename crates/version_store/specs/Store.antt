@@ -1,10 +1,12 @@
 -- A stored history: a state that it begins with, the events since, and the present state, to which
 -- they lead. Where it has grown long it is folded: it begins anew with the present state.
-use Rattle.std.specs.Prelude.{ℕ, ◌+◌, ◌≡◌, ◌≤◌, nat_le, ◌&&◌, Bool, true, false, List, [], ◌∷◌, ◌++◌, length, is_some, if◌then◌else◌}
+use Rattle.std.specs.Prelude.{ℕ, ◌+◌, ◌≡◌, ◌≤◌, ◌⊎◌, nat_le, ◌&&◌, Bool, true, false, List, [], ◌∷◌, ◌++◌, length, Some, is_some, if◌then◌else◌}
 use Rattle.std.specs.List.{AllByRecursion, sum_by}
 use Rattle.site_rules.specs.Site.{SiteState}
 use Rattle.site_core.specs.declared.step.Step.{Step}
-use Rattle.site_core.specs.State.{MachineState, Kept, opening}
+use Rattle.site_core.specs.Audit.{AuditState}
+use Rattle.site_core.specs.Audits.{AreAuditsRight, IsBegunIn, IsAuditBefore}
+use Rattle.site_core.specs.State.{MachineState, Kept, IsMachine, opening, audit_at}
 use Rattle.site_core.specs.Step.{Made, Work, AtPoint, Takes, Compiling, Answering, Finishing, work}
 use Rattle.site_core.specs.History.{Event, Legal}
 use Rattle.site_core.specs.StoredHistory.{StoredEvent, IsStoredAs}
@@ -67,16 +69,25 @@ folded_for old step = if folds old step then folded old else old
 
 -- ---- what is always so
 
--- The present state is the replay of the base and the stored events. What is played is a legal
--- history, and so is what led to the base from the opening state on. Each kept request has the book
--- that its Take, or the base, gave it, and each answer is right for its book and its `Ask`. Once
--- the central system is stopped, each has one. And the changes and answers are those of these
--- histories.
+-- each audit has the book that its point had when it was begun in these events, or it was begun
+-- before them
+abbrev pub AuditsHaveBooks : MachineState → List Event → MachineState → Type 0
+AuditsHaveBooks old events new =
+    (place : ℕ) (audit : AuditState) → audit_at new place ≡ Some audit
+    → IsBegunIn old events place audit ⊎ IsAuditBefore old place audit
+
+-- The present state is the replay of the base and the stored events, and both are a machine's.
+-- What is played is a legal history, and so is what led to the base from the opening state on.
+-- Each kept request has the book that its Take, or the base, gave it, and each answer is right for
+-- its book and its `Ask`. Once the central system is stopped, each has one. Each point's audit has
+-- the book that the point had when it was begun, and each verdict is right. And the changes and
+-- answers are those of these histories.
 pub record IsStore (store : StoreState) : Type 0 where
   -- until the base
   pub site : SiteState
   pub earlier : List Event
   pub reached : Legal (opening site) earlier store.base
+  pub base_machine : IsMachine store.base
   pub based_changes : store.based.changes ≡ changes_in earlier
   pub based_answers : store.based.answers ≡ answers_in earlier
   -- and since
@@ -86,9 +97,12 @@ pub record IsStore (store : StoreState) : Type 0 where
   pub changes : store.made.changes ≡ store.based.changes + changes_in played
   pub answers : store.made.answers ≡ store.based.answers + answers_in played
   -- now
+  pub machine : IsMachine store.present
   pub books : AllByRecursion (HasItsBook store.base played) store.present.requests
   pub right : KeepsRight store.present
   pub answered : AnsweredOnceStopped store.present
+  pub audited : AuditsHaveBooks store.base played store.present
+  pub verdicts : AreAuditsRight store.present
 
 -- A kept request is still to be compiled, unless it is, and answered.
 abbrev pub events_to_come : Kept → ℕ

@@ -6,7 +6,9 @@ use Rattle.site_rules.specs.Site.{place_of}
 use Rattle.point_book.specs.Book.{BookState}
 use Rattle.site_core.specs.declared.step.Step.TheVariants.{Answer}
 use Rattle.site_core.specs.declared.reply.Reply.TheVariants.{Answered}
-use Rattle.site_core.specs.State.{ScheduleAnswer, IsMachine, opening, outbox_at}
+use Rattle.site_core.specs.Audit.{AuditState}
+use Rattle.site_core.specs.Audits.{IsBegunIn, IsAuditRight}
+use Rattle.site_core.specs.State.{ScheduleAnswer, opening, outbox_at, audit_at}
 use Rattle.site_core.specs.History.{Event, Legal, takes_of, answers_of, kept_of}
 use Rattle.site_core.specs.Counts.{changes_in, answers_in}
 use Rattle.site_core.specs.Headline.{IsRightAfter}
@@ -48,7 +50,7 @@ confirmed_before store is place = length (calls_confirmed (outbox_at (opening is
 -- The calls that are sent since begin with call c or the next one: a fold leaves none out. Each
 -- later one is the one before it or the next.
 abbrev pub StoresSendOn : Type 0
-StoresSendOn = (store : StoreState) (is : IsStore store) → IsMachine store.base → (place : ℕ)
+StoresSendOn = (store : StoreState) (is : IsStore store) (place : ℕ)
     → AreKeptFrom store.base place (confirmed_before store is place)
     × GoesOn (confirmed_before store is place)
     (numbers_of_calls (calls_sent store.base.site place is.played))
@@ -66,3 +68,10 @@ StoresHandOutRight = OfEachStore (λ store is whole.
     (number : ℕ) (book : BookState) (ask : Ask) (answer : ScheduleAnswer) (new : StoreState)
     → Adds store (event_alone (Answer number)) (Answered book ask answer) new
     → IsRightAfter (opening is.site) whole number book ask answer)
+
+-- each audit was begun in the history, with the book that its point had then, and its verdict is one
+-- for that book and something that the point said
+abbrev pub StoresAuditRight : Type 0
+StoresAuditRight = OfEachStore (λ store is whole.
+    (place : ℕ) (audit : AuditState) → audit_at store.present place ≡ Some audit
+    → IsBegunIn (opening is.site) whole place audit × IsAuditRight audit)

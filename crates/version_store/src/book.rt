@@ -8,6 +8,7 @@ ghost use Rattle.version_store.specs.Passes.{unused_pass, totals_together};
 ghost use Rattle.version_store.specs.Store.{IsStore, opening_store, may_fold};
 ghost use Rattle.version_store.specs.Calls.{Calls, IsRefusalOf};
 
+mod audits;
 mod changes;
 mod links;
 mod requests;
@@ -103,6 +104,8 @@ impl<C: Ledger, A: Ledger> Book<C, A> {
     /// How many events are stored. With what is always so of a book. Its present state is the
     /// replay of its base and of these events, and the history is legal. Each kept request has the
     /// book that its Take, or the base, gave it. Each answer is right for that book and the `Ask`.
+    /// Each point's audit has the book that the point had when it was begun, and its verdict is one
+    /// for that book and something that the point said.
     pub fn stored(&self) -> usize
         ensures value { result ≡ length self.now.events }
         ensures store { IsStore self.now }

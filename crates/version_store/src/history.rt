@@ -259,6 +259,7 @@ impl History {
     {
         machine_laws();
         let again = self.present.post(number, brought)?;
+        self.present.open_requests();
         self.events
             .push_reserved(StoredEvent::compiled(number, again));
         Ok(())
@@ -301,6 +302,7 @@ impl History {
         let Ok(_finished) = self.present.step(Step::Finish) else {
             unreachable!()
         };
+        self.present.open_requests();
         self.events.push_reserved(StoredEvent::alone(Step::Finish));
     }
 }

@@ -3,8 +3,9 @@
 ghost use Rattle.version_store.specs.ByCases.Laws.{Laws};
 
 use site_core::{
-    numbers_tell_of_histories, only_events_change_the_state, replies_are_their_steps,
-    requests_go_on_from_any_state, stored_histories_replay,
+    audits_have_their_books, numbers_tell_of_histories, only_events_change_the_state,
+    replies_are_their_steps, requests_go_on_from_any_state, stored_histories_replay,
+    verdicts_stay_right,
 };
 
 /// The laws of the machine that the stored history stands on.
@@ -14,6 +15,8 @@ pub(crate) fn machine_laws()
     stored_histories_replay();
     numbers_tell_of_histories();
     requests_go_on_from_any_state();
+    audits_have_their_books();
+    verdicts_stay_right();
     replies_are_their_steps();
     only_events_change_the_state();
 }

@@ -2,34 +2,36 @@
 
 ghost use Rattle.version_store.specs.WholeHistory.{StoresAreReached, StoresCountAll};
 ghost use Rattle.version_store.specs.WholeHistory.{StoresSendInOrder, StoresAnswerOnce};
-ghost use Rattle.version_store.specs.WholeHistory.{StoresHandOutRight, StoresSendOn};
+ghost use Rattle.version_store.specs.WholeHistory.{StoresHandOutRight, StoresSendOn, StoresAuditRight};
 
 use site_core::{
-    answers_are_right, histories_go_on_from_any_state, histories_send_calls_in_order,
-    requests_are_answered_once,
+    answers_are_right, audits_have_their_books, histories_go_on_from_any_state,
+    histories_send_calls_in_order, requests_are_answered_once,
 };
 
 /// The laws of a book over its whole history: that until its base, and that since. It is the
 /// history from the opening of its site on, however often it was folded. It is legal, and the
 /// totals are those of its changes and its answers. The calls that were sent to a point are in
-/// sending order. No request is lost, and none is answered twice. And each answer that is collected
-/// is the headline's.
+/// sending order. No request is lost, and none is answered twice. Each answer that is collected is
+/// the headline's. And each audit of a point is held against what the point had when it was begun,
+/// and has no verdict but one for that and something that the point said, or Unsettled.
 pub fn books_have_whole_histories()
     ensures reached { StoresAreReached }
     ensures counts { StoresCountAll }
     ensures order { StoresSendInOrder }
     ensures once { StoresAnswerOnce }
     ensures right { StoresHandOutRight }
+    ensures audits { StoresAuditRight }
 {
     answers_are_right();
     requests_are_answered_once();
     histories_send_calls_in_order();
+    audits_have_their_books();
 }
 
-/// The law of the calls to a point since the base, for a base that is a machine's state, as
-/// `Book::base` says. If `c` calls of the point were confirmed until then, the base keeps its calls
-/// from number `c` on. The stored Sends begin with call `c` or the next one: no fold loses a call
-/// or sends an older one.
+/// The law of the calls to a point since the base. If `c` calls of the point were confirmed until
+/// then, the base keeps its calls from number `c` on. The stored Sends begin with call `c` or the
+/// next one: no fold loses a call or sends an older one.
 pub fn stored_calls_go_on()
     ensures { StoresSendOn }
 {

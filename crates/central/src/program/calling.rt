@@ -4,8 +4,8 @@ use crate::program::command_line::Calling;
 use crate::program::payload_file::read_payload_file;
 use crate::program::program_fault::ProgramFault;
 use client::{
-    Address, CallEnd, ClientFault, Lines, OperatorClient, ask_call, clear_call, connect,
-    set_profile_call,
+    Address, CallEnd, ClientFault, Lines, OperatorClient, ask_call, audit_call, clear_call,
+    connect, set_profile_call, status_call,
 };
 use findings::{SentCheck, Severity, answer_sentence, check_sent, json_break};
 use std::alloc::AllocGlobal;
@@ -52,9 +52,10 @@ pub fn call_site<
         client: OperatorClient::new(rt.alloc(), socket),
         all_accepted: true,
     };
-    match (&payload, calling.clear, calling.ask) {
-        (None, None, None) => caller.send_lines()?,
-        _ => caller.send_given(payload, calling)?,
+    if calling.gives_calls() {
+        caller.send_given(payload, calling)?;
+    } else {
+        caller.send_lines()?;
     }
     caller.client.end();
     Ok(if caller.all_accepted { 0 } else { REFUSED })
@@ -79,6 +80,14 @@ impl<R: Input + Print + Eprint + AllocGlobal + RandomSource + Wait + Drop> Calle
         if let Some(asking) = calling.ask {
             let text = ask_call(alloc, asking.connector, asking.seconds)?;
             self.send("ask", text.as_str())?;
+        }
+        if let Some(asking) = calling.audit {
+            let text = audit_call(alloc, asking.connector, asking.seconds)?;
+            self.send("audit", text.as_str())?;
+        }
+        if calling.status {
+            let text = status_call(alloc)?;
+            self.send("status", text.as_str())?;
         }
         Ok(())
     }

@@ -102,7 +102,7 @@ fn find_in_lines(
         let Some(played) = trace.next()? else {
             break;
         };
-        check.take_in(trace.playing().machine().site(), &played)?;
+        check.take_in(trace.playing(), &played)?;
         let lines = played.outcome.printed.as_slice();
         printed.append(&mut check_printed(alloc, played.number, lines)?)?;
         trace.take_in(played)?;

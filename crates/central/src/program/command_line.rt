@@ -2,7 +2,7 @@
 
 ghost use Rattle.std.specs.Prelude.{◌≡◌, IfOk, IfSome, IsSomeAnd, map, option_map, string_bytes};
 ghost use Rattle.clap.specs.Words.{FailsBy, all_of, first_of, found_of, rows_of};
-ghost use Rattle.central.specs.CommandLine.{IsCalling, IsChecking, IsExplaining, IsFlag, IsJob, IsNumber, IsOptionalNumber, IsPointing, IsServing, IsShowing, line_faults, subcommand_named};
+ghost use Rattle.central.specs.CommandLine.{IsAsking, IsCalling, IsChecking, IsExplaining, IsFlag, IsJob, IsNumber, IsOptionalNumber, IsPointing, IsServing, IsShowing, line_faults, subcommand_named};
 
 use crate::program::commands::central_command;
 use clap::{ArgMatches, Error};
@@ -51,10 +51,15 @@ pub struct Calling<'a> {
     pub set_profile: Option<&'a str>,
     /// A ClearChargingProfile's payload.
     pub clear: Option<&'a str>,
+    /// A GetCompositeSchedule.
     pub ask: Option<Asking<'a>>,
+    /// An AuditPoint.
+    pub audit: Option<Asking<'a>>,
+    /// Whether a PointStatus is sent.
+    pub status: bool,
 }
 
-/// A GetCompositeSchedule: the texts of its connector and of its duration in seconds.
+/// What is asked for: the texts of a connector and of a duration in seconds.
 #[derive(Clone, Copy, Debug)]
 pub struct Asking<'a> {
     pub connector: &'a str,
@@ -111,6 +116,17 @@ pub struct Showing<'a> {
     pub last_line: Option<u64>,
     /// Whether for programs.
     pub json: bool,
+}
+
+impl Calling<'_> {
+    /// Whether an option gives a call to send.
+    pub fn gives_calls(&self) -> bool {
+        self.set_profile.is_some()
+            || self.clear.is_some()
+            || self.ask.is_some()
+            || self.audit.is_some()
+            || self.status
+    }
 }
 
 /// The job of a command line, whose first word is the program's name.
@@ -199,17 +215,29 @@ fn calling_of<'a>(given: &ArgMatches<'a>) -> Option<Calling<'a>>
     let url = text_of(given, "url")?;
     let set_profile = text_of(given, "set-profile");
     let clear = text_of(given, "clear");
-    let ask = match texts_of(given, "ask") {
-        Some(&[connector, seconds]) => Some(Asking { connector, seconds }),
-        Some(_) => return None,
-        None => None,
-    };
+    let ask = asking_of(given, "ask")?;
+    let audit = asking_of(given, "audit")?;
+    let status = is_given(given, "status");
     Some(Calling {
         url,
         set_profile,
         clear,
         ask,
+        audit,
+        status,
     })
+}
+
+/// What is asked for by the two values of an option, where it is given. None where they aren't two.
+fn asking_of<'a>(given: &ArgMatches<'a>, option: &str) -> Option<Option<Asking<'a>>>
+    ensures { IfSome result
+        (λ asking. IsAsking (all_of option.now (rows_of (found_of given.now))) asking) }
+{
+    match texts_of(given, option) {
+        Some(&[connector, seconds]) => Some(Some(Asking { connector, seconds })),
+        Some(_) => None,
+        None => Some(None),
+    }
 }
 
 fn pointing_of<'a>(given: &ArgMatches<'a>) -> Option<Pointing<'a>>

@@ -1,16 +1,16 @@
 //! The program's commands and their options, with what the help says of them.
 
-ghost use Rattle.std.specs.Prelude.{◌≡◌, false, codes, IfOk};
+ghost use Rattle.std.specs.Prelude.{◌≡◌, false, IfOk};
 ghost use Rattle.clap.specs.Words.{App, app_of, rule_of};
 ghost use Rattle.central.specs.CommandLine.{needed, numbered, option, optional, optional_numbers, flag, central_app, replay_command, serve_command, call_command, point_command, explain_command, check_command, show_command};
 
 use crate::program::help_text::{
-    ABOUT, ASK_HELP, ASK_VALUES, AT_HELP, CALL_ABOUT, CALL_NOTES, CHECK_ABOUT, CHECK_NOTES,
-    CLEAR_HELP, CONNECTOR_HELP, DURATION_HELP, EXPLAIN_ABOUT, EXPLAIN_NOTES, ID_HELP, JOURNAL_HELP,
-    JSON_HELP, LISTEN_HELP, OPERATOR_URL_HELP, PICTURE_HELP, POINT_ABOUT, POINT_HELP, POINT_NOTES,
-    POINT_URL_HELP, REPLAY_ABOUT, REPLAY_EXAMPLE, SERVE_ABOUT, SERVE_NOTES, SESSIONS_HELP,
-    SET_PROFILE_HELP, SHOW_ABOUT, SHOW_NOTES, SITE_HELP, START_HELP, STATUSES, TRACE_HELP, VERSION,
-    WORKERS_HELP,
+    ABOUT, ASK_HELP, ASK_VALUES, AT_HELP, AUDIT_HELP, CALL_ABOUT, CALL_NOTES, CHECK_ABOUT,
+    CHECK_NOTES, CLEAR_HELP, CONNECTOR_HELP, DURATION_HELP, EXPLAIN_ABOUT, EXPLAIN_NOTES, ID_HELP,
+    JOURNAL_HELP, JSON_HELP, LISTEN_HELP, OPERATOR_URL_HELP, PICTURE_HELP, POINT_ABOUT, POINT_HELP,
+    POINT_NOTES, POINT_URL_HELP, REPLAY_ABOUT, REPLAY_EXAMPLE, SERVE_ABOUT, SERVE_NOTES,
+    SESSIONS_HELP, SET_PROFILE_HELP, SHOW_ABOUT, SHOW_NOTES, SITE_HELP, START_HELP, STATUS_HELP,
+    STATUSES, TRACE_HELP, VERSION, WORKERS_HELP,
 };
 use clap::builder::ValueParser;
 use clap::{Arg, ArgAction, Command};
@@ -80,7 +80,8 @@ fn serve<'a>(alloc: Global) -> Result<Command<'a>, AllocError>
         .arg(optional(alloc, "journal", "FILE", JOURNAL_HELP))
 }
 
-/// `call --url U [--set-profile FILE] [--clear CRITERIA] [--ask CONNECTOR SECONDS]`.
+/// `call --url U [--set-profile FILE] [--clear CRITERIA] [--ask CONNECTOR SECONDS]
+/// [--audit CONNECTOR SECONDS] [--status]`.
 fn call<'a>(alloc: Global) -> Result<Command<'a>, AllocError>
     ensures { IfOk result (λ command. app_of command ≡ call_command) }
 {
@@ -90,7 +91,9 @@ fn call<'a>(alloc: Global) -> Result<Command<'a>, AllocError>
         .arg(needed(alloc, "url", "U", OPERATOR_URL_HELP))?
         .arg(optional(alloc, "set-profile", "FILE", SET_PROFILE_HELP))?
         .arg(optional(alloc, "clear", "CRITERIA", CLEAR_HELP))?
-        .arg(ask(alloc))
+        .arg(asking(alloc, "ask", ASK_HELP))?
+        .arg(asking(alloc, "audit", AUDIT_HELP))?
+        .arg(flag(alloc, "status", STATUS_HELP))
 }
 
 /// `point --url U --site F --id ID`.
@@ -156,16 +159,16 @@ fn show<'a>(alloc: Global) -> Result<Command<'a>, AllocError>
         .arg(flag(alloc, "json", JSON_HELP))
 }
 
-/// `--ask CONNECTOR SECONDS`.
-fn ask<'a>(alloc: Global) -> Arg<'a>
-    ensures rule { rule_of result ≡ optional_numbers (codes "ask") 2147483647 }
+/// An option that takes CONNECTOR and SECONDS.
+fn asking<'a>(alloc: Global, name: &'a str, help: &'a str) -> Arg<'a>
+    ensures rule { rule_of result ≡ optional_numbers name.now 2147483647 }
     ensures global { result.global ≡ false }
 {
-    option(alloc, "ask")
+    option(alloc, name)
         .num_args(2usize)
         .value_names(ASK_VALUES.as_slice())
         .value_parser(ValueParser::unsigned(0, 2_147_483_647))
-        .help(ASK_HELP)
+        .help(help)
 }
 
 /// The same option, with a whole number from one to another as its value.

@@ -75,11 +75,17 @@ pub const SET_PROFILE_HELP: &str = "Sends SetChargingProfile with the payload th
 pub const CLEAR_HELP: &str =
     "Sends ClearChargingProfile with this payload; {} clears all, fuse limits too";
 
-/// What the values of `--ask` are.
+/// What the values of `--ask` and of `--audit` are.
 pub static ASK_VALUES: [&str; 2] = ["CONNECTOR", "SECONDS"];
 
 /// What `--ask` says.
 pub const ASK_HELP: &str = "Sends GetCompositeSchedule; connector 0 is the whole point";
+
+/// What `--audit` says.
+pub const AUDIT_HELP: &str = "Sends AuditPoint: the point's own schedule is compared";
+
+/// What `--status` says.
+pub const STATUS_HELP: &str = "Sends PointStatus: what came of the audit";
 
 /// What `call` reads, and calls of it.
 pub const CALL_NOTES: &str =
@@ -91,6 +97,8 @@ Examples:
   central call --url ws://127.0.0.1:9000/operator/CP1 --ask 1 86400
   central call --url ws://127.0.0.1:9000/operator/CP1 --set-profile night.json --ask 0 3600
   central call --url ws://127.0.0.1:9000/operator/CP1 --clear '{\"id\":5}'
+  central call --url ws://127.0.0.1:9000/operator/CP1 --audit 1 86400
+  central call --url ws://127.0.0.1:9000/operator/CP1 --status
 where night.json is, say,
   {\"connectorId\":0,\"csChargingProfiles\":{\"chargingProfileId\":5,\"stackLevel\":0,
    \"chargingProfilePurpose\":\"TxDefaultProfile\",\"chargingProfileKind\":\"Recurring\",\"recurrencyKind\":\"Daily\",
@@ -193,7 +201,7 @@ pub const SHOW_ABOUT: &str = "Shows what each point of a site has after a script
 /// What `show` reads and prints.
 pub const SHOW_NOTES: &str =
     "The script is standard input, as of 'central replay'; its lines are played and not printed. Then the
-profiles, transactions and waiting calls of each point are printed, and the requests that are held.
+profiles, transactions, audit and waiting calls of each point are printed, and the requests that are held.
 
 Example:
   central show --site site.json < script

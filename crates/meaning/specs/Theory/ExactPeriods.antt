@@ -13,26 +13,26 @@ use Rattle.meaning.specs.ByCases.Exact.{begins_period, period_from, exact_period
 use Rattle.meaning.specs.Theory.Ranges.{range_more}
 
 -- each period starts later than a second
-abbrev AllAfter : ℕ → List CompositePeriod → Type 0
+abbrev pub AllAfter : ℕ → List CompositePeriod → Type 0
 AllAfter second periods = AllByRecursion (λ p. second < p.start) periods
 
 none_begun : (second : ℕ) (ps : List CompositePeriod) → AllAfter second ps → filter (λ (p : CompositePeriod). nat_le p.start second) ps ≡ []
 none_begun second [] h = refl
 none_begun second (p ∷ ps) h = let later : second < p.start = h.0 in let rest = none_begun second ps h.1 in grind (arith, nat_tests)
 
-at_first : (second : ℕ) (p : CompositePeriod) (ps : List CompositePeriod) → p.start ≤ second → AllAfter second ps → at (p ∷ ps) second ≡ Some p.limit
+pub at_first : (second : ℕ) (p : CompositePeriod) (ps : List CompositePeriod) → p.start ≤ second → AllAfter second ps → at (p ∷ ps) second ≡ Some p.limit
 at_first second p ps h k =
     let begun : nat_le p.start second ≡ true = le-leb _ _ h in
     let none = none_begun second ps k in
     rw (begun, none) refl
 
-at_later : (second : ℕ) (p q : CompositePeriod) (ps : List CompositePeriod) → p.start ≤ second → q.start ≤ second → at (p ∷ (q ∷ ps)) second ≡ at (q ∷ ps) second
+pub at_later : (second : ℕ) (p q : CompositePeriod) (ps : List CompositePeriod) → p.start ≤ second → q.start ≤ second → at (p ∷ (q ∷ ps)) second ≡ at (q ∷ ps) second
 at_later second p q ps h k =
     let begun : nat_le p.start second ≡ true = le-leb _ _ h in
     let next : nat_le q.start second ≡ true = le-leb _ _ k in
     rw (begun, next) refl
 
-later_all : (low high : ℕ) (ps : List CompositePeriod) → low ≤ high → AllAfter high ps → AllAfter low ps
+pub later_all : (low high : ℕ) (ps : List CompositePeriod) → low ≤ high → AllAfter high ps → AllAfter low ps
 later_all low high [] h k = tt
 later_all low high (p ∷ ps) h k = let after : high < p.start = k.0 in (omega arith, later_all low high ps h k.1)
 
@@ -40,7 +40,7 @@ within_all : (low high : ℕ) (ps : List CompositePeriod) → low ≤ high → A
 within_all low high [] h k = tt
 within_all low high (p ∷ ps) h k = let below : p.start < low = k.0 in (omega arith, within_all low high ps h k.1)
 
-increasing_after : (p : CompositePeriod) (ps : List CompositePeriod) → AreStrictlyIncreasing (p ∷ ps) → AllAfter p.start ps
+pub increasing_after : (p : CompositePeriod) (ps : List CompositePeriod) → AreStrictlyIncreasing (p ∷ ps) → AllAfter p.start ps
 increasing_after p [] h = tt
 increasing_after p (q ∷ ps) h = let first : p.start < q.start = h.0 in (first, later_all p.start q.start ps (omega arith) (increasing_after q ps h.1))
 

@@ -1,17 +1,18 @@
 //! Steps of the central system's machine, those on a point's link and calls among them.
 
 ghost use Rattle.std.specs.Prelude.{◌≡◌, IsTrue, IfOk, OnOk};
-ghost use Rattle.replay.specs.MachineSteps.{stepped_exactly, handed_out, stepped_at_once, attached_once, call_sent, sent_first, confirmed_by};
+ghost use Rattle.replay.specs.MachineSteps.{stepped_exactly, handed_out, stepped_at_once, attached_once, call_sent, sent_first, confirmed_by, judged_exactly, verdict_kept};
 ghost use Rattle.site_core.specs.declared.step.Step.TheVariants as steps;
 ghost use Rattle.replay.specs.ByCases.MachineSteps.{ComesOf, IsAsked, is_memory, LeadsTo, MayBeSkimmed};
 
 use crate::player::most_periods::most_periods;
 use crate::player::wanted::Wanted;
-use meaning::{Ask, MAX_COMPOSITE_PERIODS, exact_schedules};
+use meaning::{Ask, MAX_COMPOSITE_PERIODS, Said, exact_schedules};
 use messages::Call;
 use ocpp_scalars::Refusal;
 use site_core::{Machine, PointId, Reply, Step, Take, skipped_sends_send_nothing};
 use std::alloc::{AllocError, Global};
+use sweep_compiler::{AuditJob, Judged, verdicts_are_computed};
 
 /// What comes of a step: its reply, or why it is refused.
 pub type StepOutcome = Result<Reply, Refusal>;
@@ -175,6 +176,38 @@ pub fn confirm_call(
         Some(link) => step_exactly(machine, Step::Confirm { point, link, call }),
         None => Ok(Err(Refusal::NothingInFlight)),
     }
+}
+
+/// Judges an audit by what its point said. A verdict that is short of memory is none.
+pub fn judge_exactly(alloc: Global, job: AuditJob, said: Said) -> Result<Judged, AllocError>
+    ensures { IfOk result (λ judged. judged ≡ judged_exactly job said) }
+{
+    // A law: nothing runs.
+    verdicts_are_computed();
+    let judged = Judged::make(alloc, job, said);
+    if judged.short() {
+        return Err(AllocError);
+    }
+    Ok(judged)
+}
+
+/// Keeps a verdict on the audit of a point whose call has this number. If the audit has one, or is
+/// no longer the point's, nothing changes.
+pub fn keep_verdict(
+    machine: &mut Machine,
+    point: PointId,
+    call: u64,
+    judged: Judged,
+) -> Result<(), AllocError>
+    ensures { OnOk result (machine.new ≡ verdict_kept machine.old point call judged) }
+{
+    let step = Step::Judge {
+        point,
+        call,
+        judged,
+    };
+    let _ = step_exactly(machine, step)?;
+    Ok(())
 }
 
 /// Makes a step, or says why not.

@@ -4,14 +4,15 @@
 ghost use Rattle.std.specs.Prelude.{◌≡◌, ◌∷◌, [], ◌++◌, None, IfOk, OnOk};
 ghost use Rattle.site_core.specs.declared.step.Step.TheVariants as steps;
 ghost use Rattle.texts.specs.Asked.{hold_of, asked_of};
+ghost use Rattle.texts.specs.Said.{said_of};
 ghost use Rattle.replay.specs.Held.{id_held, let_go};
-ghost use Rattle.replay.specs.MachineSteps.{stepped_exactly, handed_out, stepped_at_once, attached_once, sent_first, confirmed_by};
+ghost use Rattle.replay.specs.MachineSteps.{stepped_exactly, handed_out, stepped_at_once, attached_once, sent_first, replied_by, verdict_kept, judged_exactly};
 ghost use Rattle.replay.specs.ByCases.MachineSteps.{IsAsked};
 
 use crate::player::held::{Held, let_go};
 use crate::player::machine_steps::{
-    StepOutcome, attach_once, confirm_call, hand_out, send_first, skim_take, step_at_once,
-    step_exactly,
+    StepOutcome, attach_once, confirm_call, hand_out, judge_exactly, keep_verdict, send_first,
+    skim_take, step_at_once, step_exactly,
 };
 use crate::player::wanted::Wanted;
 use messages::Call;
@@ -20,7 +21,8 @@ use site_core::{Machine, PointId, Step, Take};
 use site_rules::Site;
 use std::alloc::{AllocError, Global};
 use std::marker::Model;
-use texts::{Asked, SentText, Unread, asked_of, hold_of};
+use sweep_compiler::AuditJob;
+use texts::{Asked, SentText, Unread, asked_of, hold_of, said_of};
 
 /// The player of a script.
 #[derive(Drop)]
@@ -161,13 +163,49 @@ impl Player {
         send_first(self.alloc, &mut self.machine, point)
     }
 
-    /// Confirms the call of a number to a point, if it is in flight.
-    pub fn confirm_call(&mut self, point: PointId, call: u64) -> Result<StepOutcome, AllocError>
+    /// Confirms the call of a number to a point, if it is in flight, for the message with which the
+    /// point replied to it. If it is the call of the point's audit, what the message says is judged,
+    /// and the verdict kept.
+    pub fn reply_to_call(
+        &mut self,
+        text: &SentText<'_>,
+        point: PointId,
+        call: u64,
+    ) -> Result<StepOutcome, AllocError>
         ensures { IfOk result (λ outcome.
-            ComesTo self.old (confirmed_by self.old.machine point call) outcome self.new) }
+            ComesTo self.old (replied_by self.old.machine text.now point call) outcome self.new) }
     {
-        let outcome = confirm_call(&mut self.machine, point, call)?;
-        Ok(outcome)
+        match self.machine.audit_job(point.as_str(), call) {
+            Ok(None) => {
+                let outcome = confirm_call(&mut self.machine, point, call)?;
+                Ok(outcome)
+            }
+            Ok(Some(job)) => {
+                let audited = point.copy(self.alloc)?;
+                let outcome = confirm_call(&mut self.machine, point, call)?;
+                if outcome.is_ok() {
+                    self.judge_reply(text, audited, call, job)?;
+                }
+                Ok(outcome)
+            }
+            Err(_) => Err(AllocError),
+        }
+    }
+
+    /// Judges what a message says as a point's reply to its audit, and keeps the verdict.
+    fn judge_reply(
+        &mut self,
+        text: &SentText<'_>,
+        point: PointId,
+        call: u64,
+        job: AuditJob,
+    ) -> Result<(), AllocError>
+        ensures { OnOk result (self.new ≡ with_machine self.old (verdict_kept self.old.machine
+            point call (judged_exactly job (said_of text.now)))) }
+    {
+        let said = said_of(self.alloc, &mut self.memory, text)?;
+        let judged = judge_exactly(self.alloc, job, said)?;
+        keep_verdict(&mut self.machine, point, call, judged)
     }
 
     /// Holds a request.

@@ -87,7 +87,7 @@ fn said_outcome(
     match said {
         ScriptLine::Text(text) => text_outcome(player, text),
         ScriptLine::Hold(text) => match player.hold_of(text)? {
-            Some(asked) => hold_outcome(player, asked),
+            Some(asked) => hold_outcome(player, text, asked),
             None => fault_outcome(player.alloc(), number, LineFault::NotComposite),
         },
         ScriptLine::Release(request) => release_outcome(player, number, *request),
@@ -205,17 +205,21 @@ fn push_call_line(
 /// What comes of a message without a call that goes out: its answer, if it has one.
 fn answer_outcome(player: &mut Player, text: &SentText<'_>) -> Result<LineOutcome, AllocError>
     ensures { IfOk result (λ outcome. IsHandled
-        (asked_handled player.old (asked_of text.now)) outcome player.new) }
+        (asked_handled player.old text.now (asked_of text.now)) outcome player.new) }
 {
     let asked = player.asked_of(text)?;
-    asked_outcome(player, asked)
+    asked_outcome(player, text, asked)
 }
 
 /// What comes of what a message asks for.
-pub fn asked_outcome(player: &mut Player, asked: Asked) -> Result<LineOutcome, AllocError>
+pub fn asked_outcome(
+    player: &mut Player,
+    text: &SentText<'_>,
+    asked: Asked,
+) -> Result<LineOutcome, AllocError>
     requires { AsksNoCompile asked }
     ensures { IfOk result
-        (λ outcome. IsHandled (asked_handled player.old asked) outcome player.new) }
+        (λ outcome. IsHandled (asked_handled player.old text.now asked) outcome player.new) }
 {
     match asked {
         Asked::Nothing => Ok(without_lines(player.alloc(), PointChange::Nothing)),
@@ -229,17 +233,21 @@ pub fn asked_outcome(player: &mut Player, asked: Asked) -> Result<LineOutcome, A
             step_outcome(player.alloc(), unit, id, kind, outcome)
         }
         Asked::Confirm { point, call } => {
-            let outcome = player.confirm_call(point, call)?;
+            let outcome = player.reply_to_call(text, point, call)?;
             Ok(without_lines(player.alloc(), change_of(&outcome)))
         }
     }
 }
 
 /// What comes of a held request: the number of its request, or the answer where none is kept.
-fn hold_outcome(player: &mut Player, asked: Asked) -> Result<LineOutcome, AllocError>
+fn hold_outcome(
+    player: &mut Player,
+    text: &SentText<'_>,
+    asked: Asked,
+) -> Result<LineOutcome, AllocError>
     requires { AsksNoCompile asked }
     ensures { IfOk result
-        (λ outcome. IsHandled (hold_handled player.old asked) outcome player.new) }
+        (λ outcome. IsHandled (hold_handled player.old text.now asked) outcome player.new) }
 {
     match asked {
         Asked::Step { id, kind, step } => {
@@ -256,7 +264,7 @@ fn hold_outcome(player: &mut Player, asked: Asked) -> Result<LineOutcome, AllocE
                 outcome => step_outcome(player.alloc(), unit, id, kind, outcome),
             }
         }
-        other => asked_outcome(player, other),
+        other => asked_outcome(player, text, other),
     }
 }
 

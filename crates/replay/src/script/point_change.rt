@@ -16,7 +16,9 @@ pub enum PointChange {
     Profiles,
     /// A transaction began or ended, and TxProfiles may be gone with it.
     Transaction,
-    /// The point answered the call in flight, which is done with.
+    /// An audit began, and the call that asks the point was added.
+    Audit,
+    /// The point answered the call in flight, which is done with. An answer to its audit is judged.
     Confirmed,
 }
 
@@ -37,6 +39,7 @@ fn change_by(reply: &Reply) -> PointChange
     match reply {
         Reply::Accepted => PointChange::Profiles,
         Reply::Started(_) | Reply::Ended => PointChange::Transaction,
+        Reply::Audited { .. } => PointChange::Audit,
         Reply::Confirmed => PointChange::Confirmed,
         Reply::Unknown
         | Reply::Repeated(_)
@@ -49,6 +52,8 @@ fn change_by(reply: &Reply) -> PointChange
         | Reply::Attached(_)
         | Reply::Sent(_)
         | Reply::Nothing
-        | Reply::LinkLost => PointChange::Nothing,
+        | Reply::LinkLost
+        | Reply::VerdictKept
+        | Reply::Status(_) => PointChange::Nothing,
     }
 }

@@ -70,17 +70,22 @@ fn skim_text(
     match text.sender() {
         Side::Operator => {
             let asked = player.asked_of(text)?;
-            skim_asked(player, asked, wanted)
+            skim_asked(player, text, asked, wanted)
         }
         Side::Point => text_outcome(player, text),
     }
 }
 
 /// What comes of what a message asks for, but for schedules.
-fn skim_asked(player: &mut Player, asked: Asked, wanted: Wanted) -> Result<LineOutcome, AllocError>
+fn skim_asked(
+    player: &mut Player,
+    text: &SentText<'_>,
+    asked: Asked,
+    wanted: Wanted,
+) -> Result<LineOutcome, AllocError>
     requires { AsksNoCompile asked }
     ensures { IfOk result (λ outcome. LeadsTo
-        (text_played (asked_handled player.old asked)) outcome player.new) }
+        (text_played (asked_handled player.old text.now asked)) outcome player.new) }
 {
     match asked {
         Asked::Step { id, kind, step } => match step {
@@ -89,8 +94,8 @@ fn skim_asked(player: &mut Player, asked: Asked, wanted: Wanted) -> Result<LineO
                 let outcome = player.skim_take(take, wanted)?;
                 step_outcome(player.alloc(), unit, id, kind, outcome)
             }
-            step => asked_outcome(player, Asked::Step { id, kind, step }),
+            step => asked_outcome(player, text, Asked::Step { id, kind, step }),
         },
-        other => asked_outcome(player, other),
+        other => asked_outcome(player, text, other),
     }
 }

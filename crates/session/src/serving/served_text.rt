@@ -8,6 +8,7 @@ ghost use Rattle.session.specs.Serving.{KeepsPass};
 use crate::context::Context;
 use crate::journal::Journal;
 use crate::outcome::{Outcome, Performed};
+use crate::serving::audits::{OpenAudit, audit_confirmed, audit_to_judge, judge_reply};
 use crate::serving::calls::send_call;
 use crate::serving::ended::Ended;
 use crate::serving::sockets::{read_text, send_text};
@@ -85,7 +86,7 @@ pub fn serve_sent_text<C: Ledger, A: Ledger, R: Wait, M: Moments, J: Journal>(
     };
     let step = todo.take_step();
     let is_noted = step.is_some();
-    let outcome = outcome_of(context, pass, sent, step)?;
+    let outcome = outcome_of(context, memory, pass, sent, step)?;
     let is_short = matches!(outcome, Some(Outcome::Refused(Refusal::OutOfMemory)));
     match core.answer(todo, outcome) {
         Ok(None) if is_short => Err(Ended::OutOfMemory),
@@ -97,55 +98,68 @@ pub fn serve_sent_text<C: Ledger, A: Ledger, R: Wait, M: Moments, J: Journal>(
 /// The outcome of the step of a message, if it has one.
 fn outcome_of<C: Ledger, A: Ledger, R: Wait, M: Moments, J: Journal>(
     context: &Context<'_, C, A, R, M, J>,
+    memory: &mut ReadingMemory,
     pass: &mut Pass<C, A>,
     sent: &SentText<'_>,
     step: Option<Step>,
 ) -> Result<Option<Outcome>, Ended>
     requires { IfSome step IsOfText }
     ensures pass { KeepsPass pass.old pass.new }
-    ensures outcome { IfOk result (HasOutcome pass.old step) }
+    ensures outcome { IfOk result (HasOutcome pass.old sent.now step) }
 {
     match step {
-        Some(step) => Ok(Some(outcome_of_step(context, pass, sent, step)?)),
+        Some(step) => Ok(Some(outcome_of_step(context, memory, pass, sent, step)?)),
         None => Ok(None),
     }
 }
 
-/// Makes the step of a message. A request for a schedule is compiled, and its answer collected.
+/// Makes the step of a message. A request for a schedule is compiled, and its answer collected. A
+/// reply to the point's audit is judged, once its call is confirmed.
 fn outcome_of_step<C: Ledger, A: Ledger, R: Wait, M: Moments, J: Journal>(
     context: &Context<'_, C, A, R, M, J>,
+    memory: &mut ReadingMemory,
     pass: &mut Pass<C, A>,
     sent: &SentText<'_>,
     step: Step,
 ) -> Result<Outcome, Ended>
     requires { IsOfText step }
     ensures pass { KeepsPass pass.old pass.new }
-    ensures outcome { IfOk result (IsOutcomeOf pass.old step) }
+    ensures outcome { IfOk result (IsOutcomeOf pass.old sent.now step) }
 {
-    match perform_noted(context, pass, sent, step) {
+    let (performed, audit) = perform_noted(context, pass, sent, step)?;
+    if let Some(audit) = audit_to_judge(&performed, audit) {
+        judge_reply(context, memory, sent, audit);
+    }
+    match performed {
         Performed::Job(job) => answer_of(context, pass, job),
         Performed::Outcome(outcome) => Ok(outcome),
     }
 }
 
 /// Makes the one call on the shared book that the step of a message stands for, and notes the
-/// message.
+/// message. In a reply to the point's audit, what that asked is read before: nobody else has the
+/// book in between, so it is the audit whose call is confirmed. If there is no memory for it, the
+/// call isn't confirmed, nothing is noted, and the session ends.
 fn perform_noted<C: Ledger, A: Ledger, R: Wait, M: Moments, J: Journal>(
     context: &Context<'_, C, A, R, M, J>,
     pass: &mut Pass<C, A>,
     sent: &SentText<'_>,
     step: Step,
-) -> Performed
+) -> Result<(Performed, Option<OpenAudit>), Ended>
     requires { IsOfText step }
     ensures pass { KeepsPass pass.old pass.new }
-    ensures performed { IsPerformed pass.old step result }
+    ensures performed { IfOk result
+        (λ performed. IsPerformed pass.old step performed.0 performed.1) }
 {
     let mut book = context.shared.lock(context.rt);
+    let Ok(audit) = audit_confirmed(context.alloc, &book, &step) else {
+        return Err(Ended::OutOfMemory);
+    };
     context.journal.note(sent);
     let performed = perform(&mut book, pass, step);
     drop(book);
     context.journal.write_out();
-    performed
+    Ok((performed, audit))
 }
 
 /// The answer to a request that is kept: compiled by a worker, or here where none takes it. No lock

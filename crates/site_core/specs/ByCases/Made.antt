@@ -9,6 +9,7 @@ use Rattle.site_core.specs.declared.decision.Decision.TheVariants.{Answers, Does
 use Rattle.site_core.specs.declared.numbers.Numbers.{Numbers}
 use Rattle.site_core.specs.declared.reply.Reply.{Reply}
 use Rattle.site_core.specs.declared.step.Step.{Step}
+use Rattle.site_core.specs.declared.via.Via.{Via}
 use Rattle.site_core.specs.ChargePoint.{ChargePointState, point_with}
 use Rattle.site_core.specs.State.{MachineState}
 use Rattle.site_core.specs.Step.{Made, IsRefusalOf, Work, AtPoint, facts, answer_alone, wants_memory, deed}
@@ -68,10 +69,10 @@ abbrev pub IsAtPoint : Work → Type 0
 IsAtPoint (AtPoint at) = Unit {0}
 IsAtPoint other = ⊥
 
--- it names this point and this link
-abbrev pub IsFor : Work → List ℕ → Option ℕ → Type 0
-IsFor (AtPoint at) point link = (at.point ≡ point) × (at.link ≡ link)
-IsFor other point link = ⊥
+-- it names this point, and comes to it so
+abbrev pub IsFor : Work → List ℕ → Via → Type 0
+IsFor (AtPoint at) point via = (at.point ≡ point) × (at.via ≡ via)
+IsFor other point via = ⊥
 
 -- the connectors that the site file has of its point are those of the book
 abbrev pub HasConnectorsOf : Work → SiteState → ChargePointState → Type 0

@@ -4,7 +4,7 @@ use Rattle.site_core.specs.declared.step.Step.{Step}
 use Rattle.site_core.specs.declared.step.Step.TheVariants as steps
 use Rattle.site_core.specs.declared.step.Take.{Take}
 use Rattle.site_core.specs.declared.reply.Reply.{Reply}
-use Rattle.site_core.specs.declared.reply.Reply.TheVariants.{Unknown, Repeated, NoSuch, NotYet, Finished, Nothing}
+use Rattle.site_core.specs.declared.reply.Reply.TheVariants.{Unknown, Repeated, NoSuch, NotYet, Finished, Nothing, Status}
 use Rattle.site_core.specs.State.{MachineState, ScheduleAnswer}
 use Rattle.site_core.specs.Step.{PointStep, Work, AtPoint, work, worked, Works, Steps, stepped, no_answer, OnlyEventsWantMemory}
 
@@ -84,5 +84,6 @@ only_events_want_memory old NoSuch wants = absurd (cc wants)
 only_events_want_memory old NotYet wants = absurd (cc wants)
 only_events_want_memory old Finished wants = absurd (cc wants)
 only_events_want_memory old Nothing wants = absurd (cc wants)
+only_events_want_memory old (Status status) wants = absurd (cc wants)
 -- each other reply is an event's
 only_events_want_memory old reply wants = refl

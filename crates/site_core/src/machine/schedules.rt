@@ -19,6 +19,7 @@ use crate::request::{MAX_REQUESTS, Request};
 use crate::requests::{compile_request, hand_out, post_answer, stop_all};
 use crate::shared_book::SharedBook;
 use crate::step::Take;
+use crate::via::Via;
 use meaning::{Ask, Composite};
 use ocpp_scalars::Refusal;
 use sweep_compiler::Compiled;
@@ -68,7 +69,7 @@ impl Machine {
             found.1.connector ≤ length (book_at self.now found.0).ceilings) }
         ensures last { IfOk result (λ found. refusal_to_take self.now take.now ≡ None) }
     {
-        let place = self.place_for(&take.point, None)?;
+        let place = self.place_for(&take.point, Via::Name)?;
         let ask = ask_at(self.site.unit(), point_at(&self.points, place).book(), take)?;
         match self.refusal_to_take(take) {
             Some(refusal) => Err(refusal),

@@ -21,17 +21,19 @@ const NIGHT: &str = "CP1
     id  connector  purpose           level  kind             from                  until                 periods
     1   1          TxDefaultProfile  2      Recurring Daily  2025-01-01T22:00:00Z  2025-03-01T00:00:00Z  0 s 10.5 A, 8 h end
   no transaction
+  no audit
   calls: 1 confirmed, 1 in flight, 0 waiting
-    number  action              profiles                           state
+    number  action              subject                            state
     1       SetChargingProfile  TxDefaultProfile 1 at connector 1  in flight
 ";
 
 const END: &str = "CP1
   no profile
   no transaction
+  no audit
   calls: 2 confirmed, 0 in flight, 1 waiting
-    number  action                profiles  state
-    2       ClearChargingProfile  id 1      waiting
+    number  action                subject  state
+    2       ClearChargingProfile  id 1     waiting
   calls that the point rejected
     number  call                                                   answered  at line
     1       SetChargingProfile, TxDefaultProfile 1 at connector 1  Rejected  4
@@ -57,7 +59,7 @@ CP1: 1 call never went out, waiting since line 6: a call goes out after a messag
 ";
 
 const JSON: &str =
-    r#"{"lines":7,"faults":1,"points":[{"id":"CP1","profiles":[],"transactions":[],"linked":true,"confirmed":2,"calls":[{"number":2,"state":"waiting","action":"ClearChargingProfile","id":1}],"rejected":[{"number":1,"status":"Rejected","line":4}]}],"held":[{"number":1,"messageId":"h","point":"CP1","connectorId":1,"start":"2025-01-01T00:00:04Z","duration":60}]}"#;
+    r#"{"lines":7,"faults":1,"points":[{"id":"CP1","profiles":[],"transactions":[],"audit":null,"linked":true,"confirmed":2,"calls":[{"number":2,"state":"waiting","action":"ClearChargingProfile","id":1}],"rejected":[{"number":1,"status":"Rejected","line":4}]}],"held":[{"number":1,"messageId":"h","point":"CP1","connectorId":1,"start":"2025-01-01T00:00:04Z","duration":60}]}"#;
 
 #[test]
 fn stands(rt: HostRuntime) -> Result<(), Fail> {

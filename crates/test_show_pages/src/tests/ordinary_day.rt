@@ -33,8 +33,9 @@ const EVENING: &str = "garage
     id  connector  purpose                level  kind      from                  until  periods
     20  0          ChargePointMaxProfile  0      Absolute  2025-06-02T00:00:00Z  -      0 s 25.0 A
   no transaction
+  no audit
   calls: 0 confirmed, 1 in flight, 5 waiting
-    number  action                profiles                                 state
+    number  action                subject                                  state
     0       ClearChargingProfile  every profile                            in flight
     1       SetChargingProfile    TxDefaultProfile 10 at connector 0       waiting
     2       SetChargingProfile    ChargePointMaxProfile 20 at connector 0  waiting
@@ -46,8 +47,9 @@ street
   transactions
     connector  id  idTag  since
     1          2   ben    2025-06-02T18:40:00Z
+  no audit
   calls: 0 confirmed, 1 in flight, 0 waiting
-    number  action                profiles       state
+    number  action                subject        state
     0       ClearChargingProfile  every profile  in flight
 ";
 
@@ -61,8 +63,9 @@ const AFTERNOON: &str = "garage
   transactions
     connector  id  idTag  since
     1          1   ann    2025-06-02T17:30:00Z
+  no audit
   calls: 0 confirmed, 1 in flight, 3 waiting
-    number  action                profiles                                 state
+    number  action                subject                                  state
     0       ClearChargingProfile  every profile                            in flight
     1       SetChargingProfile    TxDefaultProfile 10 at connector 0       waiting
     2       SetChargingProfile    ChargePointMaxProfile 20 at connector 0  waiting

@@ -5,6 +5,7 @@ use Rattle.site_core.specs.declared.reply.Reply.{Reply}
 use Rattle.site_core.specs.State.{MachineState}
 use Rattle.site_core.specs.Step.{Steps, is_event, RepliesAreTheirSteps, OnlyEventsWantMemory}
 use Rattle.site_core.specs.StoredHistory.{ReplaysAreLegal, ReplaysGoOn}
+use Rattle.site_core.specs.Audits.{AuditsHaveTheirBooks, VerdictsStayRight}
 use Rattle.site_core.specs.Counts.{NumbersTellOfHistories}
 use Rattle.site_core.specs.Headline.{OpeningsKeepRight, RequestsStayRight, RequestsHaveTheirBooks, StoppedRequestsStayAnswered}
 
@@ -16,6 +17,8 @@ pub record Laws : Type 0 where
   pub stay : RequestsStayRight
   pub books : RequestsHaveTheirBooks
   pub answered : StoppedRequestsStayAnswered
+  pub audits : AuditsHaveTheirBooks
+  pub verdicts : VerdictsStayRight
   -- of what is no event
   pub changes : (old new : MachineState) (step : Step) (reply : Reply)
       → Steps old step reply new → is_event old reply ≡ false → new ≡ old

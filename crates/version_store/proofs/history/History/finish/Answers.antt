@@ -31,7 +31,8 @@ invariant_of-self c =
     let made = finished_made c.self.inside.present c.in-Ok._finished c.step.new.self
     c.in-Ok.ensures.made in
     let is = store_goes_on c.machine_laws.ensures _ c.self.invariant.0 (event_alone Finish)
-    Finished c.step.new.self made (λ number kept same found. absurd (cc same)) in
+    Finished c.step.new.self made (λ number kept same found. absurd (cc same)) tt
+    c.open_requests.ensures.machine in
     let less = room_finished c.self.inside.present c.in-Ok._finished c.step.new.self
     (sym c.if-is_stopped.ensures) c.in-Ok.ensures.made in
     let longer = length_push c.self.inside.events.items (event_alone Finish) in

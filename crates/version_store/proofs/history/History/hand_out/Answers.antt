@@ -40,7 +40,8 @@ pub invariant_of-self-2 : goal.invariant_of-self-2
 invariant_of-self-2 c =
     let event = event_alone (Answer c.args.number) in
     let is = store_goes_on c.machine_laws.ensures _ c.self.invariant.0 event c.in-Ok.reply
-    c.step.new.self c.in-Ok.ensures.made (λ number kept same found. absurd (cc same)) in
+    c.step.new.self c.in-Ok.ensures.made (λ number kept same found. absurd (cc same)) tt
+    c.open_requests.ensures.machine in
     let made = subst
     (λ (r : Reply). Replies c.self.inside.present c.step.new.self r c.args.number)
     c.in-Answered.is c.in-Ok.ensures.made in

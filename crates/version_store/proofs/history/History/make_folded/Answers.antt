@@ -21,7 +21,8 @@ pub after-self-inside-requires-clause-changes : goal.after-self-inside-requires-
 after-self-inside-requires-clause-changes c =
     let was = store_folds c.machine_laws.ensures _ c.self.invariant.0 in
     let is = goes_on_alone c.machine_laws.ensures _ was c.args.step c.in-Ok-make.reply
-    c.make.new.self c.requires.can_fold c.in-Ok-make.ensures.made in
+    c.make.new.self c.requires.can_fold c.in-Ok-make.ensures.made c.in-Ok-make.ensures.brought
+    c.open_requests.ensures.machine in
     let fits = counts_fit c.machine_laws.ensures _ is c.open_requests.ensures.machine in
     omega (arith, fits.changes)
 
@@ -29,7 +30,8 @@ pub after-self-inside-requires-clause-answers : goal.after-self-inside-requires-
 after-self-inside-requires-clause-answers c =
     let was = store_folds c.machine_laws.ensures _ c.self.invariant.0 in
     let is = goes_on_alone c.machine_laws.ensures _ was c.args.step c.in-Ok-make.reply
-    c.make.new.self c.requires.can_fold c.in-Ok-make.ensures.made in
+    c.make.new.self c.requires.can_fold c.in-Ok-make.ensures.made c.in-Ok-make.ensures.brought
+    c.open_requests.ensures.machine in
     let fits = counts_fit c.machine_laws.ensures _ is c.open_requests.ensures.machine in
     omega (arith, fits.answers)
 
@@ -59,7 +61,8 @@ invariant_of-self-2 c =
     ) in
     let was = store_folds c.machine_laws.ensures _ c.self.invariant.0 in
     let is = goes_on_alone c.machine_laws.ensures _ was c.args.step c.in-Ok-make.reply
-    c.make.new.self c.requires.can_fold c.in-Ok-make.ensures.made in
+    c.make.new.self c.requires.can_fold c.in-Ok-make.ensures.made c.in-Ok-make.ensures.brought
+    c.open_requests.ensures.machine in
     let room : HasRoom (then c) =
     room_for_more (then c) (omega arith) c.open_requests.ensures.machine in (
       subst IsStore same is,

@@ -20,14 +20,16 @@ returns-in-Err-clause-refusal c =
 pub after-self-inside-requires-clause-changes : goal.after-self-inside-requires-clause-changes
 after-self-inside-requires-clause-changes c =
     let is = goes_on_alone c.machine_laws.ensures _ c.self.invariant.0 c.args.step c.in-Ok.reply
-    c.make.new.self c.requires.can_fold c.in-Ok.ensures.made in
+    c.make.new.self c.requires.can_fold c.in-Ok.ensures.made c.in-Ok.ensures.brought
+    c.open_requests.ensures.machine in
     let fits = counts_fit c.machine_laws.ensures _ is c.open_requests.ensures.machine in
     omega (arith, fits.changes)
 
 pub after-self-inside-requires-clause-answers : goal.after-self-inside-requires-clause-answers
 after-self-inside-requires-clause-answers c =
     let is = goes_on_alone c.machine_laws.ensures _ c.self.invariant.0 c.args.step c.in-Ok.reply
-    c.make.new.self c.requires.can_fold c.in-Ok.ensures.made in
+    c.make.new.self c.requires.can_fold c.in-Ok.ensures.made c.in-Ok.ensures.brought
+    c.open_requests.ensures.machine in
     let fits = counts_fit c.machine_laws.ensures _ is c.open_requests.ensures.machine in
     omega (arith, fits.answers)
 
@@ -50,7 +52,8 @@ invariant_of-self-2 c =
     let new_is : then c ≡ new c =
     cc (c.push_reserved.ensures.items, c.alone.ensures, c.after-self-inside.ensures) in
     let is = goes_on_alone c.machine_laws.ensures _ c.self.invariant.0 c.args.step c.in-Ok.reply
-    c.make.new.self c.requires.can_fold c.in-Ok.ensures.made in
+    c.make.new.self c.requires.can_fold c.in-Ok.ensures.made c.in-Ok.ensures.brought
+    c.open_requests.ensures.machine in
     let longer = length_push c.self.inside.events.items (event_alone c.args.step) in
     let room : HasRoom (then c) =
     room_for_more (then c) (omega (arith, longer, few c)) c.open_requests.ensures.machine in (

@@ -28,7 +28,7 @@ invariant_of-self-2 c =
     let posts = c.in_ok-again.ensures.posts in
     let given = posted_may_be_given old.present c.args.number c.args.brought c.post.new.self posts in
     let is = store_goes_on c.machine_laws.ensures old c.self.invariant.0 event Compiled c.post.new.self
-    posts.made given in
+    posts.made given tt c.open_requests.ensures.machine in
     let less = room_compiled old.present c.args.number c.args.brought.answer c.post.new.self
     posts.made in
     let longer = length_push old.events event in

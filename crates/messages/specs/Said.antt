@@ -1,0 +1,51 @@
+-- What a charge point says of the composite schedule that it follows, in its reply to a
+-- GetCompositeSchedule (OCPP 1.6, 5.7, and chapter 6, GetCompositeSchedule.conf).
+use Rattle.std.specs.Prelude.{ℕ, List, map, Bool, false, Result, Ok, Err, codes, if◌then◌else◌}
+use Rattle.std.specs.Str.{bytes_eq}
+use Rattle.ocpp_scalars.specs.ResultSteps.{◌>>=◌}
+use Rattle.ocppj_frame.specs.declared.field.Field.{Field}
+use Rattle.ocppj_frame.specs.declared.field.Field.TheVariants.{Value}
+use Rattle.ocppj_frame.specs.Message.{Message, call_result}
+use Rattle.ocppj_frame.specs.Tree.{Tree}
+use Rattle.profile.specs.declared.period.Period.{Period}
+use Rattle.meaning.specs.declared.composite.CompositePeriod.{CompositePeriod}
+use Rattle.meaning.specs.declared.said.Said.{Said}
+use Rattle.meaning.specs.declared.said.Said.TheVariants.{Refused, Unread, Schedule}
+use Rattle.messages.specs.declared.call_fault.CallFault.{CallFault}
+use Rattle.messages.specs.declared.field_name.FieldName.TheVariants.{ChargingSchedule, ConnectorId, ScheduleStart, Status}
+use Rattle.messages.specs.Fields.{required, optional, whole_from_zero, instant, object, text}
+use Rattle.messages.specs.ProfileFields.{schedule_of}
+
+-- The status is the text Accepted, exactly.
+abbrev pub is_accepted : Field (List ℕ) → Bool
+is_accepted (Value status) = bytes_eq status (codes "Accepted")
+is_accepted _ = false
+
+-- A period by its start and its limit.
+abbrev pub composite_period : Period → CompositePeriod
+composite_period period = record { start = period.start; limit = period.limit }
+
+-- The schedule that an accepted reply has, or a fault of its fields. Every field of the schedule is
+-- checked as a profile's is; startSchedule, minChargingRate and numberPhases are then left out, and
+-- so is the connector.
+unfoldable pub schedule_said : Tree → Result Said CallFault
+schedule_said payload = do
+  connector ← optional (whole_from_zero payload ConnectorId)
+  start ← required (instant payload ScheduleStart)
+  fields ← required (object payload ChargingSchedule)
+  schedule ← schedule_of fields
+  Ok (Schedule start schedule.duration schedule.unit (map composite_period schedule.periods))
+
+-- A reply that is accepted, but has no schedule that can be read.
+abbrev pub or_unread : Result Said CallFault → Said
+or_unread (Ok said) = said
+or_unread (Err fault) = Unread
+
+abbrev pub said_of_payload : Tree → Said
+said_of_payload payload =
+    if is_accepted (text payload Status).field then or_unread (schedule_said payload) else Refused
+
+-- What a message says of the schedule: a CALLERROR refuses it, and so does what is no CALLRESULT.
+abbrev pub said_of : Message → Said
+said_of (call_result id payload) = said_of_payload payload
+said_of _ = Refused

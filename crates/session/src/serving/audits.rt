@@ -1,0 +1,128 @@
+//! A point's reply to its audit: which audit that is, and the verdict on it.
+
+ghost use Rattle.std.specs.Prelude.{◌≡◌, IfOk};
+ghost use Rattle.session.specs.Audit.{BringsVerdict, IsJudgedBy, MakesOrRefuses, audit_confirmed, audit_to_judge};
+ghost use Rattle.site_core.specs.declared.step.Step.TheVariants as steps;
+
+use crate::context::Context;
+use crate::journal::Journal;
+use crate::outcome::{Outcome, Performed};
+use meaning::Said;
+use ocpp_scalars::Moments;
+use ocppj_frame::ReadingMemory;
+use site_core::{PointId, Reply, Step};
+use std::alloc::{AllocError, Global};
+use std::marker::Model;
+use std::sync::Wait;
+use std::sync::ledger::Ledger;
+use sweep_compiler::{AuditJob, Judged};
+use texts::{SentText, said_of};
+use version_store::Book;
+
+/// An audit that has no verdict yet.
+#[derive(Drop)]
+pub(crate) struct OpenAudit {
+    point: PointId,
+    /// The number of its call.
+    call: u64,
+    job: AuditJob,
+}
+
+impl Model for OpenAudit {
+    ghost use Rattle.session.specs.Audit as audit;
+
+    ghost Value = { audit.OpenAudit };
+
+    ghost view = { λ a. record { point = a.point; call = a.call; asked = a.job } };
+}
+
+/// The audit that a step replies to, if it does: the step confirms its call. Nothing is changed.
+pub(crate) fn audit_confirmed<C: Ledger, A: Ledger>(
+    alloc: Global,
+    book: &Book<C, A>,
+    step: &Step,
+) -> Result<Option<OpenAudit>, AllocError>
+    ensures { IfOk result (λ audit. audit ≡ audit_confirmed book.now.present step.now) }
+{
+    let Step::Confirm { point, call, .. } = step else {
+        return Ok(None);
+    };
+    match book.audit_job(point.as_str(), *call) {
+        Ok(None) => Ok(None),
+        Ok(Some(job)) => Ok(Some(OpenAudit {
+            point: point.copy(alloc)?,
+            call: *call,
+            job,
+        })),
+        Err(_) => Err(AllocError),
+    }
+}
+
+/// The audit whose reply is to be judged: its call was confirmed.
+pub(crate) fn audit_to_judge(performed: &Performed, audit: Option<OpenAudit>) -> Option<OpenAudit>
+    ensures { result ≡ audit_to_judge performed.now audit }
+{
+    match performed {
+        Performed::Outcome(Outcome::Made(Reply::Confirmed)) => audit,
+        _ => None,
+    }
+}
+
+/// Judges the reply to an audit whose call is confirmed, and keeps the verdict.
+///
+/// Nobody has the book while the reply is judged. It is locked once more to keep the verdict. Other
+/// sessions may have had it since the Confirm:
+/// - A Start or a Stop at the point changed its transactions. Then Agrees or Differs becomes
+///   Unsettled.
+/// - An AuditPoint began another audit. Then the verdict is refused, as late.
+/// - An Install or a Clear, or a new link, changes nothing: the book of the audit is kept.
+/// - A Finish stopped the store. Then the verdict is refused.
+///
+/// A refused verdict is dropped, for want of memory too: the audit then has none. The journal notes
+/// the message where its call is confirmed, and a replay judges it there. So its verdict may be
+/// another one, if a Start, a Stop or an AuditPoint is noted in between. A PointStatus in between is
+/// answered Waiting, but by a replay with the verdict.
+pub(crate) fn judge_reply<C: Ledger, A: Ledger, R: Wait, M: Moments, J: Journal>(
+    context: &Context<'_, C, A, R, M, J>,
+    memory: &mut ReadingMemory,
+    sent: &SentText<'_>,
+    audit: OpenAudit,
+)
+    ensures { BringsVerdict sent.now audit }
+{
+    let OpenAudit { point, call, job } = audit;
+    let judged = judged_by(context.alloc, memory, sent, job);
+    let mut book = context.shared.lock(context.rt);
+    bring_verdict(&mut book, point, call, judged);
+}
+
+/// Keeps a verdict on the audit of a point whose call has this number. What is refused is dropped.
+fn bring_verdict<C: Ledger, A: Ledger>(
+    book: &mut Book<C, A>,
+    point: PointId,
+    call: u64,
+    judged: Judged,
+)
+    ensures { MakesOrRefuses book.old (steps.Judge point call judged) book.new }
+{
+    match book.judge(point, call, judged) {
+        Ok(()) => {}
+        Err((_refusal, _judged)) => {}
+    }
+}
+
+/// The verdict on what a message says. What can't be read for want of memory is judged as unread.
+fn judged_by(
+    alloc: Global,
+    memory: &mut ReadingMemory,
+    sent: &SentText<'_>,
+    job: AuditJob,
+) -> Judged
+    ensures { IsJudgedBy sent.now job result }
+{
+    let said = match said_of(alloc, memory, sent) {
+        Ok(said) => said,
+        Err(AllocError) => Said::Unread,
+    };
+    Judged::make(alloc, job, said)
+}

@@ -1,0 +1,38 @@
+-- Of a private loop: two schedules gone through period by period. What `agree` returns is Agree of
+-- Agree.antt.
+use Rattle.std.specs.Prelude.{◌≡◌, ℕ, ◌+◌, ◌<◌, ◌≤◌, ◌==◌, nat_lt, Bool, not, ◌&&◌, ◌⊎◌, Option, Some, None, slice_get}
+use Rattle.meaning.specs.declared.composite.CompositePeriod.{CompositePeriod}
+use Rattle.meaning.specs.Composite.{CompositeSchedule, at}
+use Rattle.sweep_compiler.specs.declared.agreement.Stretch.{Stretch}
+
+abbrev pub start_or : ℕ → Option CompositePeriod → ℕ
+start_or end None = end
+start_or end (Some p) = p.start
+
+-- the second at which the period at a place begins, and behind the last one the end of the schedule
+abbrev pub begin_of : CompositeSchedule → ℕ → ℕ
+begin_of schedule place = start_or schedule.duration (slice_get schedule.periods place)
+
+-- the time of the period at a place of a schedule with its start, and the schedule's limit then
+pub record IsStretch (schedule : CompositeSchedule) (start place : ℕ) (stretch : Stretch)
+    : Type 0 where
+  pub from : stretch.start ≡ start + begin_of schedule place
+  pub to : stretch.end ≡ start + begin_of schedule (place + 1)
+  pub some : stretch.start < stretch.end
+  pub inside : stretch.end ≤ start + schedule.duration
+  pub limit :
+      (second : ℕ) → stretch.start ≤ start + second → start + second < stretch.end
+      → at schedule.periods second ≡ Some stretch.limit
+
+-- two stretches have a second in common, and two limits
+abbrev pub contradict : Stretch → Stretch → Bool
+contradict one other =
+    not (one.limit == other.limit) && (nat_lt one.start other.end && nat_lt other.start one.end)
+
+-- two schedules agree at each second before one of two places
+abbrev pub AgreeBefore : CompositeSchedule → ℕ → ℕ → CompositeSchedule → ℕ → ℕ → Type 0
+AgreeBefore first first_start place second second_start other_place =
+    (one other : ℕ) → one < first.duration → other < second.duration
+    → first_start + one ≡ second_start + other
+    → (one < begin_of first place) ⊎ (other < begin_of second other_place)
+    → at first.periods one ≡ at second.periods other

@@ -1,0 +1,77 @@
+//! Whether two schedules agree.
+
+ghost use Rattle.std.specs.Prelude.{◌≡◌, ◌↔◌, ◌<◌, length, IsTrue};
+ghost use Rattle.sweep_compiler.specs.Agree.{Agree};
+ghost use Rattle.sweep_compiler.specs.ByCases.Agree.{begin_of, IsStretch, contradict};
+
+use meaning::Composite;
+use ocpp_scalars::Instant;
+
+/// Whether two schedules, each with its start, have equal limits at each instant that both cover. Those
+/// that have no instant in common agree. Each list of periods is gone through once. Allocates nothing.
+pub fn agree(
+    first: &Composite,
+    first_start: Instant,
+    second: &Composite,
+    second_start: Instant,
+) -> bool
+    ensures { IsTrue result ↔ Agree first.now first_start second.now second_start }
+{
+    let (firsts, seconds) = (first.periods(), second.periods());
+    let (mut one, mut other) = (0, 0);
+    while one < firsts.len() && other < seconds.len() {
+        let left = Stretch::of(first, first_start, one);
+        let right = Stretch::of(second, second_start, other);
+        if left.contradicts(&right) {
+            return false;
+        }
+        if left.end <= right.end {
+            one += 1;
+        } else {
+            other += 1;
+        }
+    }
+    true
+}
+
+/// The time of one period, in seconds since 1970, with its limit.
+#[derive(Clone, Copy)]
+struct Stretch {
+    start: u64,
+    /// The second behind its last one.
+    end: u64,
+    /// In tenths.
+    limit: u32,
+}
+
+impl Stretch {
+    /// The time of a schedule's period: up to the next one, and of the last one up to the end.
+    fn of(schedule: &Composite, start: Instant, place: usize) -> Stretch
+        requires inside { place < length schedule.now.periods }
+        ensures { IsStretch schedule.now start place result }
+    {
+        let limit = schedule.periods()[place].limit;
+        Stretch {
+            start: start.seconds() + u64::from(begin_of(schedule, place)),
+            end: start.seconds() + u64::from(begin_of(schedule, place + 1)),
+            limit,
+        }
+    }
+
+    /// Whether another stretch has an instant in common and another limit.
+    fn contradicts(&self, other: &Stretch) -> bool
+        ensures { result ≡ contradict self.now other.now }
+    {
+        self.limit != other.limit && self.start < other.end && other.start < self.end
+    }
+}
+
+/// The second at which the period at a place begins, and behind the last one the end of the schedule.
+fn begin_of(schedule: &Composite, place: usize) -> u32
+    ensures { result ≡ begin_of schedule.now place }
+{
+    match schedule.periods().get(place) {
+        Some(period) => period.start,
+        None => schedule.duration(),
+    }
+}

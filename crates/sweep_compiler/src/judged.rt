@@ -1,0 +1,158 @@
+//! Audits with their verdicts.
+
+ghost use Rattle.std.specs.Prelude.{◌≡◌, IfOk, IfSome, IfNone, OnErr, OnSome};
+ghost use Rattle.meaning.specs.Said.{IsSaidSchedule};
+ghost use Rattle.sweep_compiler.specs.Judged.{IsJudged, IsVerdictFor};
+ghost use Rattle.sweep_compiler.specs.Verdict.{CanBeCompared, IsVerdict, IsVerdictOn, MayNeedMemory};
+
+use crate::agreement::agree;
+use crate::audit_job::AuditJob;
+use crate::compiler::compile;
+use crate::turns::Turns;
+use crate::verdict::Verdict;
+use meaning::{Ask, Composite, Said, SaidPeriods};
+use ocpp_scalars::{Instant, Refusal};
+use profile::Unit;
+use std::alloc::{AllocError, Global};
+use std::marker::Model;
+
+/// An audit with its verdict. Whoever has one needn't trust who made it: the verdict is right for this
+/// audit and something that its point said.
+#[derive(Drop)]
+pub struct Judged {
+    job: AuditJob,
+    verdict: Verdict,
+    short: bool,
+}
+
+impl Model for Judged {
+    ghost use Rattle.sweep_compiler.specs.Judged.{Judgement, IsJudged};
+
+    ghost Value = { Judgement };
+
+    ghost view = { λ judged. record {
+      audit = judged.job;
+      verdict = judged.verdict;
+      short = judged.short;
+    } };
+
+    ghost invariant = { λ judged. IsJudged judged.job judged.verdict judged.short };
+}
+
+impl Judged {
+    /// The verdict of an audit on what its point said. Where memory runs out, that is Unsettled and
+    /// `short`.
+    pub fn make(alloc: Global, job: AuditJob, said: Said) -> Judged
+        ensures audit { result.audit ≡ job }
+        ensures right { IsVerdictFor job said result.verdict result.short }
+    {
+        match verdict_of(alloc, &job, said) {
+            Ok(verdict) => Judged {
+                job,
+                verdict,
+                short: false,
+            },
+            Err(AllocError) => Judged {
+                job,
+                verdict: Verdict::Unsettled,
+                short: true,
+            },
+        }
+    }
+
+    /// The same, its audit's book with one owner more. Copies nothing.
+    pub fn share(&self) -> Result<Judged, AllocError>
+        ensures { IfOk result (λ judged. judged ≡ self.now) }
+    {
+        Ok(Judged {
+            job: self.job.share()?,
+            verdict: self.verdict,
+            short: self.short,
+        })
+    }
+
+    /// What was asked.
+    pub fn audit(&self) -> &AuditJob
+        ensures value { result.now ≡ self.now.audit }
+        ensures right { IsJudged self.now.audit self.now.verdict self.now.short }
+    {
+        &self.job
+    }
+
+    /// The verdict.
+    pub fn verdict(&self) -> Verdict
+        ensures { result ≡ self.now.verdict }
+    {
+        self.verdict
+    }
+
+    /// Whether the verdict is Unsettled only because memory ran out. Else refused memory has no part in
+    /// it.
+    pub fn short(&self) -> bool
+        ensures { result ≡ self.now.short }
+    {
+        self.short
+    }
+}
+
+/// The verdict on what a point said.
+fn verdict_of(alloc: Global, job: &AuditJob, said: Said) -> Result<Verdict, AllocError>
+    ensures verdict { IfOk result (λ verdict. IsVerdict job.now said verdict) }
+    ensures short { OnErr result (MayNeedMemory job.now said) }
+{
+    match said {
+        Said::Refused => Ok(Verdict::Rejected),
+        Said::Unread => Ok(Verdict::Unsettled),
+        Said::Schedule {
+            start,
+            duration,
+            unit,
+            periods,
+        } => {
+            let lasts = duration.unwrap_or(job.duration());
+            match comparable(job, lasts, unit, periods) {
+                Some(schedule) => compared(alloc, job, start, &schedule),
+                None => Ok(Verdict::Unsettled),
+            }
+        }
+    }
+}
+
+/// The schedule that a point says over a number of seconds, where it is one in the asked unit.
+fn comparable(job: &AuditJob, duration: u32, unit: Unit, periods: SaidPeriods) -> Option<Composite>
+    ensures said { IfSome result
+        (λ schedule. schedule ≡ record { duration = duration; periods = periods }) }
+    ensures fits { OnSome result ((unit ≡ job.now.unit) × IsSaidSchedule duration periods) }
+    ensures unfit { IfNone result (unit ≡ job.now.unit → ¬ IsSaidSchedule duration periods) }
+{
+    if !unit.is_same(job.unit()) {
+        return None;
+    }
+    match Composite::from_said(duration, periods) {
+        Ok(schedule) => Some(schedule),
+        Err(_) => None,
+    }
+}
+
+/// The verdict on a schedule from a start on, in the unit that was asked.
+fn compared(
+    alloc: Global,
+    job: &AuditJob,
+    start: Instant,
+    said: &Composite,
+) -> Result<Verdict, AllocError>
+    requires schedule { IsSaidSchedule said.now.duration said.now.periods }
+    ensures verdict { IfOk result
+        (λ verdict. IsVerdictOn job.now start job.now.unit said.now verdict) }
+    ensures short { OnErr result (CanBeCompared job.now start job.now.unit said.now) }
+{
+    let Ok(ask) = Ask::try_new(job.connector(), start, job.duration()) else {
+        return Ok(Verdict::Unsettled);
+    };
+    match compile(alloc, job.book(), &ask, &mut Turns::new()) {
+        Ok(exact) if agree(&exact, start, said, start) => Ok(Verdict::Agrees),
+        Ok(_) => Ok(Verdict::Differs),
+        Err(Refusal::ResultTooLong) => Ok(Verdict::Unsettled),
+        Err(_) => Err(AllocError),
+    }
+}

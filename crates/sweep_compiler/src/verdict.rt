@@ -1,0 +1,14 @@
+//! Verdicts of audits.
+
+/// Whether a charge point's composite schedule is the one that its book means (chapter 5.7).
+#[derive(Clone, Copy, Debug, PartialEq, Eq)]
+pub enum Verdict {
+    /// Both have equal limits at each second that both cover.
+    Agrees,
+    /// Their limits differ at a second.
+    Differs,
+    /// The point refused to tell.
+    Rejected,
+    /// They can't be compared.
+    Unsettled,
+}

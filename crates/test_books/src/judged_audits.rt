@@ -1,0 +1,278 @@
+//! Verdicts found by hand, and that memory suffices for them.
+//!
+//! | Line | What is judged |
+//! |---|---|
+//! | `1 60 A refused` | an audit of a connector for a number of seconds in a unit, whose point refuses to tell |
+//! | `1 60 A unread` | the same, of what can't be read |
+//! | `1 60 A schedule 8 60 A 0:160 30:80` | the same, of a schedule from a second after midnight on, over a number of seconds (`-`: it doesn't say), in a unit, with these periods |
+//! | `1 60 A schedule 8 60 A each=4096` | the same, with so many periods, one each second, of 16 A |
+
+use crate::fixtures::row_of;
+use crate::same::{holds, same_text};
+use crate::scripted_books::{play, point};
+use crate::words::Words;
+use meaning::{Composite, CompositePeriod, Said, SaidPeriods};
+use ocpp_scalars::Instant;
+use point_book::PointBook;
+use profile::{Named, Unit};
+use std::alloc::Global;
+use std::process::Abort;
+use std::sync::Arc;
+use sweep_compiler::{AuditJob, Judged, Verdict, agree};
+
+/// A period of `30:80`, its start and its limit.
+fn period_of(rt: &impl Abort, word: &str) -> CompositePeriod {
+    let (start, limit) = word.split_once(':').expect(rt, word);
+    CompositePeriod {
+        start: start.parse::<u32>().ok().expect(rt, word),
+        limit: limit.parse::<u32>().ok().expect(rt, word),
+    }
+}
+
+/// The periods of `0:160 30:80`, or of `each=4096`.
+fn periods_of(rt: &impl Abort, alloc: Global, words: &str) -> SaidPeriods {
+    let mut periods = Vec::new(alloc);
+    if let Some(count) = words.strip_prefix("each=") {
+        for start in 0..count.parse::<u32>().ok().expect(rt, words) {
+            let period = CompositePeriod { start, limit: 160 };
+            periods.push(period).expect(rt, "error");
+        }
+        return SaidPeriods::new(periods);
+    }
+    for word in words.split_whitespace() {
+        periods.push(period_of(rt, word)).expect(rt, "error");
+    }
+    SaidPeriods::new(periods)
+}
+
+fn unit_of(rt: &impl Abort, word: &str) -> Unit {
+    Unit::named(word).expect(rt, word)
+}
+
+/// What a point says in words.
+fn said_of(rt: &impl Abort, alloc: Global, words: &str) -> Said {
+    let mut words = Words::of(words);
+    match words.word() {
+        "refused" => Said::Refused,
+        "unread" => Said::Unread,
+        _ => Said::Schedule {
+            start: words.instant().expect(rt, "a start"),
+            duration: words.number(),
+            unit: unit_of(rt, words.word()),
+            periods: periods_of(rt, alloc, words.rest()),
+        },
+    }
+}
+
+/// The audit of words, of a connector that the book has.
+fn job_of(rt: &impl Abort, book: &Arc<PointBook>, words: &mut Words<'_>) -> AuditJob {
+    let connector = words.number().expect(rt, "a connector");
+    let duration = words.number().expect(rt, "a duration");
+    let unit = unit_of(rt, words.word());
+    assert!(rt; connector <= book.connectors());
+    AuditJob::new(
+        Arc::try_clone(book).expect(rt, "error"),
+        connector,
+        duration,
+        unit,
+    )
+}
+
+fn verdict_name(verdict: Verdict) -> &'static str {
+    match verdict {
+        Verdict::Agrees => "Agrees",
+        Verdict::Differs => "Differs",
+        Verdict::Rejected => "Rejected",
+        Verdict::Unsettled => "Unsettled",
+    }
+}
+
+/// That the audit and what was said of a line come to its verdict, and that memory sufficed.
+fn expect(rt: &impl Abort, alloc: Global, book: &Arc<PointBook>, line: &str) {
+    let (asked, wanted) = line.split_once(" = ").expect(rt, line);
+    let mut words = Words::of(asked);
+    let job = job_of(rt, book, &mut words);
+    let kept = job.share().expect(rt, "error");
+    let judged = Judged::make(alloc, job, said_of(rt, alloc, words.rest()));
+    same_text(rt, verdict_name(judged.verdict()), wanted, line);
+    holds(rt, !judged.short(), line);
+    holds(rt, judged.audit().same(&kept), line);
+}
+
+fn expect_all(rt: &impl Abort, alloc: Global, rows: &str, lines: &str) {
+    let book = Arc::new(alloc, play(rt, alloc, rows)).expect(rt, "error");
+    for line in lines.lines() {
+        expect(rt, alloc, &book, line);
+    }
+}
+
+/// 16 A for half a minute from wherever one asks, and then 8 A. At connector 2, 10 A until a minute past midnight.
+const ROWS: &str = "\
+row id=1 kind=Relative periods=0:160,30:80
+row id=2 connector=2 level=1 start=0 periods=0:100,60:120";
+
+const COMPARED: &str = "\
+1 60 A schedule 8 60 A 0:160 30:80 = Agrees
+1 60 A schedule 9000 60 A 0:160 30:80 = Agrees
+1 60 A schedule 8 - A 0:160 30:80 = Agrees
+1 60 W schedule 8 60 W 0:160 30:80 = Agrees
+1 60 A schedule 8 60 A 0:159 30:80 = Differs
+1 60 A schedule 8 60 A 0:160 30:81 = Differs
+1 60 A schedule 8 60 A 0:160 29:80 = Differs
+1 60 A schedule 8 60 A 0:160 31:80 = Differs
+1 60 A schedule 8 60 A 0:160 = Differs
+2 120 A schedule 0 120 A 0:100 60:120 = Agrees
+2 120 A schedule 10 120 A 0:100 50:120 = Agrees
+2 120 A schedule 10 120 A 0:100 60:120 = Differs
+1 120 A schedule 10 120 A 0:100 50:120 = Differs
+0 60 A schedule 0 60 A 0:0 = Agrees
+0 60 A schedule 0 60 A 0:160 30:80 = Differs";
+
+#[test]
+fn compares_limits_from_the_start_that_is_said(rt: HostRuntime) {
+    expect_all(&rt, rt.alloc(), ROWS, COMPARED);
+}
+
+const EACH_SECOND: &str = "\
+1 60 A schedule 8 60 A 0:160 10:160 30:80 45:80 = Agrees
+1 60 A schedule 8 10 A 0:160 = Agrees
+1 60 A schedule 8 30 A 0:160 = Agrees
+1 60 A schedule 8 31 A 0:160 = Differs
+1 60 A schedule 8 600 A 0:160 30:80 = Agrees
+1 60 A schedule 8 600 A 0:160 30:80 60:0 = Agrees
+1 60 A schedule 8 600 A 0:160 30:80 59:0 = Differs
+1 30 A schedule 8 8000 A each=4096 = Agrees
+1 31 A schedule 8 8000 A each=4096 = Differs";
+
+#[test]
+fn compares_the_seconds_that_both_cover(rt: HostRuntime) {
+    expect_all(&rt, rt.alloc(), ROWS, EACH_SECOND);
+}
+
+const UNSETTLED: &str = "\
+1 60 A refused = Rejected
+1 60 A unread = Unsettled
+1 60 A schedule 8 60 A  = Unsettled
+1 60 A schedule 8 60 A 1:160 30:80 = Unsettled
+1 60 A schedule 8 60 A 0:160 30:80 20:80 = Unsettled
+1 60 A schedule 8 60 A 0:160 30:80 30:80 = Unsettled
+1 60 A schedule 8 60 A 0:160 30:80 60:80 = Unsettled
+1 60 A schedule 8 30 A 0:160 30:80 = Unsettled
+1 60 A schedule 8 - A 0:160 30:80 60:80 = Unsettled
+1 60 A schedule 8 0 A 0:160 = Unsettled
+1 60 A schedule 8 60 W 0:160 30:80 = Unsettled
+1 60 W schedule 8 60 A 0:160 30:80 = Unsettled
+1 30 A schedule 8 8000 A each=4097 = Unsettled
+1 30 A schedule 251666611170 30 A 0:160 = Agrees
+1 30 A schedule 251666611171 30 A 0:160 = Unsettled
+1 0 A schedule 8 60 A 0:160 30:80 = Unsettled
+1 2678400 A schedule 8 60 A 0:160 30:80 = Agrees
+1 2678401 A schedule 8 60 A 0:160 30:80 = Unsettled";
+
+#[test]
+fn leaves_unsettled_what_cannot_be_compared(rt: HostRuntime) {
+    expect_all(&rt, rt.alloc(), ROWS, UNSETTLED);
+}
+
+const MOST_PERIODS: &str = "row kind=Recurring recurrency=Daily start=0 turns=432";
+
+const LONG: &str = "\
+1 1769472 A schedule 0 432 A 0:60 = Agrees
+1 1769472 A schedule 0 433 A 0:60 = Differs
+1 1769473 A schedule 0 432 A 0:60 = Unsettled
+1 1769473 A schedule 0 433 A 0:60 = Unsettled";
+
+#[test]
+fn leaves_unsettled_what_is_too_long(rt: HostRuntime) {
+    expect_all(&rt, rt.alloc(), MOST_PERIODS, LONG);
+}
+
+/// A book of 16 A for half a minute from wherever one asks, and then 8 A.
+fn relative(rt: &impl Abort, alloc: Global) -> Arc<PointBook> {
+    let mut book = point(rt, alloc, 630, (2, 320));
+    let row = row_of(alloc, "kind=Relative periods=0:160,30:80").expect(rt, "error");
+    assert!(rt; row.connector <= book.connectors());
+    match book.install(row) {
+        Ok(()) => Arc::new(alloc, book).expect(rt, "error"),
+        Err((refusal, _)) => panic!(rt; "error: {refusal}"),
+    }
+}
+
+/// An audit that is judged again, where the first time memory ran out.
+#[test]
+fn an_audit_is_judged_again_where_memory_was_refused(rt: HostRuntime) {
+    let alloc = rt.alloc();
+    let book = relative(&rt, alloc);
+    let mut words = Words::of("1 60 A schedule 8 60 A 0:160 30:80");
+    let job = job_of(&rt, &book, &mut words);
+    let again = job.share().expect(&rt, "error");
+    let said = said_of(&rt, alloc, words.rest());
+    let said_again = said_of(&rt, alloc, words.rest());
+    let first = Judged::make(alloc, job, said);
+    if !first.short() {
+        holds(&rt, first.verdict() == Verdict::Agrees, "with memory");
+        return;
+    }
+    holds(&rt, first.verdict() == Verdict::Unsettled, "without memory");
+    let second = Judged::make(alloc, again, said_again);
+    holds(&rt, second.verdict() == Verdict::Agrees, "judged again");
+    holds(&rt, !second.short(), "with memory again");
+}
+
+/// The schedule of `60 0:160 30:80`, a duration and periods, with its start before them.
+fn schedule_of(rt: &impl Abort, alloc: Global, words: &str) -> (Instant, Composite) {
+    let mut words = Words::of(words);
+    let start = words.instant().expect(rt, "a start");
+    let duration = words.number().expect(rt, "a duration");
+    let periods = periods_of(rt, alloc, words.rest());
+    let schedule = Composite::from_said(duration, periods).ok();
+    (start, schedule.expect(rt, "a schedule"))
+}
+
+/// Two schedules in a line, with whether they agree: each its start, its duration and its periods.
+fn expect_agreement(rt: &impl Abort, alloc: Global, line: &str) {
+    let (both, wanted) = line.split_once(" = ").expect(rt, line);
+    let (one, other) = both.split_once(" | ").expect(rt, line);
+    let (start, first) = schedule_of(rt, alloc, one);
+    let (other_start, second) = schedule_of(rt, alloc, other);
+    let found = agree(&first, start, &second, other_start);
+    holds(rt, found == (wanted == "yes"), line);
+    let turned = agree(&second, other_start, &first, start);
+    holds(rt, turned == found, line);
+}
+
+const PAIRS: &str = "\
+0 60 0:160 30:80 | 0 60 0:160 30:80 = yes
+0 60 0:160 30:80 | 0 60 0:160 20:160 30:80 = yes
+0 60 0:160 30:80 | 0 60 0:160 31:80 = no
+0 60 0:160 30:80 | 30 60 0:80 = yes
+0 60 0:160 30:80 | 30 60 0:80 30:70 = yes
+0 60 0:160 30:80 | 30 60 0:80 29:70 = no
+0 60 0:160 30:80 | 29 60 0:80 = no
+0 60 0:160 | 60 60 0:80 = yes
+0 60 0:160 | 59 60 0:80 = no
+0 60 0:160 | 9000 60 0:80 = yes
+10 10 0:160 5:80 | 0 100 0:160 15:80 = yes
+10 10 0:160 5:80 | 0 100 0:160 14:80 = no
+10 10 0:160 5:80 | 0 100 0:70 10:160 15:80 20:70 = yes
+251666611199 60 0:160 | 251666611199 60 0:160 = yes
+251666611199 60 0:160 | 251666611199 4294967295 0:160 59:80 = no";
+
+#[test]
+fn agrees_where_schedules_overlap(rt: HostRuntime) {
+    for line in PAIRS.lines() {
+        expect_agreement(&rt, rt.alloc(), line);
+    }
+}
+
+/// Periods of a duration that make no schedule come back as they were.
+#[test]
+fn returns_periods_that_make_no_schedule(rt: HostRuntime) {
+    for words in ["", "1:160", "0:160 30:80 30:90", "0:160 60:80"] {
+        let periods = periods_of(&rt, rt.alloc(), words);
+        let wanted = periods_of(&rt, rt.alloc(), words);
+        let back = Composite::from_said(60, periods).err().expect(&rt, words);
+        holds(&rt, back.as_slice() == wanted.as_slice(), words);
+        holds(&rt, back.len() == wanted.len(), words);
+    }
+}

@@ -1,0 +1,111 @@
+//! The calls of audits of points. They are no changes of what a point has.
+
+ghost use Rattle.std.specs.Prelude.{◌≡◌, IfOk, IfErr};
+ghost use Rattle.ocpp_scalars.specs.declared.refusal.Refusal.{Refusal};
+ghost use Rattle.site_core.specs.declared.step.Step.TheVariants as steps;
+ghost use Rattle.site_core.specs.declared.reply.Reply.{Reply};
+ghost use Rattle.site_core.specs.State.{audit_job};
+ghost use Rattle.site_core.specs.Audits.{AreAuditsRight};
+ghost use Rattle.version_store.specs.Calls.{Calls, Makes, IsRefusalOf};
+
+use crate::book::Book;
+use crate::pass::Pass;
+use messages::PointStatus;
+use ocpp_scalars::Refusal;
+use site_core::{PointId, Refused, Reply, Step};
+use std::sync::ledger::Ledger;
+use sweep_compiler::{AuditJob, Judged};
+
+impl<C: Ledger, A: Ledger> Book<C, A> {
+    /// Asks a point for its own schedule of a connector, 0 being the whole point, over this many
+    /// seconds (chapter 5.7). What the point has now is kept, and its reply is held against that.
+    /// It takes the place of an audit before. The number is that of the call.
+    pub fn audit(
+        &mut self,
+        pass: &mut Pass<C, A>,
+        point: PointId,
+        connector: u32,
+        duration: u32,
+    ) -> Result<u64, Refusal>
+        ensures calls { IfOk result (λ call. Calls self.old pass.old
+            (steps.Audit point connector duration)
+            (Reply.Audited call self.old.present.site.unit) self.new pass.new) }
+        ensures refusal { IfErr result (λ refusal. IsRefusalOf self.old
+            (steps.Audit point connector duration) refusal) }
+        ensures kept { IfErr result (λ refusal. (self.new ≡ self.old) × (pass.new ≡ pass.old)) }
+    {
+        let step = Step::Audit {
+            point,
+            connector,
+            duration,
+        };
+        match self.make_step(pass, step) {
+            Ok(Reply::Audited { call, .. }) => Ok(call),
+            Ok(_) => unreachable!(),
+            Err(refused) => Err(refused.refusal),
+        }
+    }
+
+    /// Keeps the verdict on what a point replied to the audit whose call has this number. It is the
+    /// store's own doing, and no session's. On a refusal the verdict comes back.
+    pub fn judge(
+        &mut self,
+        point: PointId,
+        call: u64,
+        judged: Judged,
+    ) -> Result<(), (Refusal, Judged)>
+        ensures makes { IfOk result (λ _. Makes self.old (steps.Judge point call judged)
+            Reply.VerdictKept self.new) }
+        ensures refusal { IfErr result (λ refused.
+            IsRefusalOf self.old (steps.Judge point call judged) refused.0) }
+        ensures kept { IfErr result (λ refused. self.new ≡ self.old) }
+        ensures back { IfErr result (λ refused. refused.1 ≡ judged) }
+    {
+        let step = Step::Judge {
+            point,
+            call,
+            judged,
+        };
+        match self.history.make(step) {
+            Ok(Reply::VerdictKept) => Ok(()),
+            Ok(_) => unreachable!(),
+            Err(
+                Refused {
+                    refusal,
+                    step: Step::Judge { judged, .. },
+                },
+            ) => Err((refusal, judged)),
+            Err(_) => unreachable!(),
+        }
+    }
+
+    /// The version of the store, how many calls of a point aren't confirmed, and what came of its
+    /// audit. Changes nothing.
+    pub fn status(&mut self, pass: &mut Pass<C, A>, point: PointId) -> Result<PointStatus, Refusal>
+        ensures calls { IfOk result (λ status. Calls self.old pass.old (steps.Status point)
+            (Reply.Status status) self.new pass.new) }
+        ensures refusal { IfErr result (λ refusal.
+            IsRefusalOf self.old (steps.Status point) refusal) }
+        ensures pass { IfErr result (λ refusal. pass.new ≡ pass.old) }
+        ensures kept { self.new ≡ self.old }
+    {
+        match self.make_step(pass, Step::Status(point)) {
+            Ok(Reply::Status(status)) => Ok(status),
+            Ok(_) => unreachable!(),
+            Err(refused) => Err(refused.refusal),
+        }
+    }
+
+    /// What the audit of the point of an identity asked, with what the point had then, if its call
+    /// has this number and it has no verdict yet. Copies nothing. With what is always so of the
+    /// audits of a book: each verdict is one for what was asked, the book of then and something
+    /// that the point said, or Unsettled.
+    pub fn audit_job(&self, point: &str, call: u64) -> Result<Option<AuditJob>, Refusal>
+        ensures job { IfOk result (λ job. job ≡ audit_job self.now.present point.now call) }
+        ensures memory { IfErr result (λ refusal. refusal ≡ Refusal.OutOfMemory) }
+        ensures right { AreAuditsRight self.now.present }
+    {
+        self.stored();
+        self.present().audit_job(point, call)
+    }
+}
