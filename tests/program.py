@@ -357,7 +357,7 @@ def explain_problems(program, folder):
     ok = first.count(b"TxDefaultProfile 1,") == 1 and b"1 d     10.0 A" in first and b"TxDefaultProfile 2" not in first
     yield "explain after a line", [] if ok else [repr(first)]
     told = json.loads(explain("--json").stdout)
-    limits = [(part["start"], part["limit"], part["cause"]["chargingProfileId"]) for part in told["stretches"]]
+    limits = [(part["start"], part["limit"], part["cause"]["chargingProfileId"]) for part in told["intervals"]]
     wanted = [("2025-01-03T12:00:00Z", 10, 1), ("2025-01-03T22:00:00Z", 32, 2), ("2025-01-04T06:00:00Z", 10, 1)]
     yield "explain for programs", [] if limits == wanted else [f"{limits}, wanted {wanted}"]
     for name, first_bytes in (("picture.svg", b"<?xml "), ("page.html", b"<!DOCTYPE html>")):

@@ -10,13 +10,13 @@ use std::alloc::{AllocError, Global};
 use sweep_compiler::Interval;
 
 /// An explained schedule as one line of JSON: `point`, `connector`, `unit`, `start`, `duration` in seconds,
-/// `stretches`, each with `start`, `end`, `limit`, `cause` and `shares`, and `notCounted`. Limits have one
+/// `intervals`, each with `start`, `end`, `limit`, `cause` and `shares`, and `notCounted`. Limits have one
 /// decimal, instants are texts (RFC 3339), and an `end` behind the last instant is null.
 pub fn write_json(alloc: Global, explained: &ExplainedAsk<'_>) -> Result<String, AllocError> {
     let mut line = JsonLine::new(alloc);
     line.out.begin_object()?;
     line.push_asked(explained)?;
-    line.out.key("stretches")?;
+    line.out.key("intervals")?;
     line.out.begin_array()?;
     for interval in explained.intervals {
         line.push_interval(explained, interval)?;

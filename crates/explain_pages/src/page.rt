@@ -37,8 +37,8 @@ pub fn write_page(alloc: Global, explained: &ExplainedAsk<'_>) -> Result<String,
     Ok(out)
 }
 
-const HEAD: &str = r#"<h2 id="stretches">Each limit, and why</h2>
-<div class="wide" role="region" aria-labelledby="stretches" tabindex="0">
+const HEAD: &str = r#"<h2 id="intervals">Each limit, and why</h2>
+<div class="wide" role="region" aria-labelledby="intervals" tabindex="0">
 <table>
 <caption>Times in UTC</caption>
 <thead><tr><th scope="col">From</th><th scope="col">To</th><th scope="col">Length</th><th scope="col" class="number">Limit</th><th scope="col">Why</th></tr></thead>

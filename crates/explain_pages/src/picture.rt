@@ -95,7 +95,7 @@ pub(crate) fn push_more(out: &mut String, count: usize, shown: usize) -> Result<
     if count <= shown {
         return Ok(());
     }
-    out.push_str(" Further stretches: ")?;
+    out.push_str(" Further intervals: ")?;
     push_integer(out, count - shown)?;
     out.push('.')
 }

@@ -250,8 +250,8 @@ impl Machine {
     /// Makes a step, or says why not: then nothing has changed, and the step comes back. The
     /// refusal is the first cause. It is `OutOfMemory` only if there is no other cause and the step
     /// needs memory. These need it: an install, a clear that removes a profile, an audit, a start
-    /// that isn't retransmitted, a stop, a take, and a sending. A book that is replied with an `Ask` has the
-    /// connector that is asked.
+    /// that isn't retransmitted, a stop, a take, and a sending. A book that is replied with an
+    /// `Ask` has the connector that is asked.
     pub fn step(&mut self, step: Step) -> Result<Reply, Refused>
         ensures made { MatchResult result (λ reply. Steps self.old step reply self.new)
             (λ refused. IsRefused self.old step refused self.new) }

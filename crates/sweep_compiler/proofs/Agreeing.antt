@@ -1,4 +1,4 @@
--- That two schedules agree before a place, and what one stretch more, or one that contradicts, comes to.
+-- That two schedules agree before a place, and what one interval more, or one that contradicts, comes to.
 use Rattle.std.proofs.Common.{◌≡◌, ℕ, ◌+◌, ◌-◌, ◌<◌, ◌≤◌, ◌==◌, ◌⊎◌, inl, inr, zero, suc, nat_lt, true, false, not, ◌&&◌, List, [], ◌∷◌, length, Some, slice_get, slice_index_or, refl, sym, ap, ◌∙◌, arith}
 use Rattle.std.proofs.lemmas.Bool.{and_parts, and_cases, cases_lt, ltb-true, ltb-false, eqb-true, eq-eqb, not-true, not-false, both_ways}
 use Rattle.std.proofs.lemmas.Option.{slice_get_past, slice_get-get_or, none-some, same_Some}
@@ -6,9 +6,9 @@ use Rattle.meaning.specs.declared.composite.CompositePeriod.{CompositePeriod}
 use Rattle.meaning.specs.Composite.{CompositeSchedule, IsSchedule, BeginAtZero, AreStrictlyIncreasing, at}
 use Rattle.std.specs.List.{AllByRecursion}
 use Rattle.meaning.specs.Theory.ExactPeriods.{at_first, at_later, later_all, increasing_after}
-use Rattle.sweep_compiler.specs.declared.agreement.Stretch.{Stretch}
+use Rattle.sweep_compiler.specs.declared.agreement.PeriodInterval.{PeriodInterval}
 use Rattle.sweep_compiler.specs.Agree.{Agree}
-use Rattle.sweep_compiler.specs.ByCases.Agree.{start_or, begin_of, IsStretch, contradict, AgreeBefore}
+use Rattle.sweep_compiler.specs.ByCases.Agree.{start_or, begin_of, IsPeriodInterval, contradict, AgreeBefore}
 
 begins_at_zero : (duration : ℕ) (ps : List CompositePeriod) → BeginAtZero ps → start_or duration (slice_get ps 0) ≡ 0
 begins_at_zero duration [] first = absurd first
@@ -38,8 +38,8 @@ agree_all first first_start place second second_start other_place before end = �
       | inr past ↦ let whole = end_is second other_place past in before one other inside within same (inr (omega (arith, whole)))
     ]
 
--- two stretches have equal limits at each second that both cover
-equal_limits : (left right : Stretch) (instant : ℕ) → contradict left right ≡ false
+-- two intervals have equal limits at each second that both cover
+equal_limits : (left right : PeriodInterval) (instant : ℕ) → contradict left right ≡ false
     → left.start ≤ instant → instant < left.end → right.start ≤ instant → instant < right.end
     → left.limit ≡ right.limit
 equal_limits left right instant agree h i j k =
@@ -51,9 +51,9 @@ equal_limits left right instant agree h i j k =
       ]
     ]
 
--- both schedules have equal limits at a second of two stretches that don't contradict
-both_here : (first : CompositeSchedule) (first_start place : ℕ) (second : CompositeSchedule) (second_start other_place : ℕ) (left right : Stretch)
-    → IsStretch first first_start place left → IsStretch second second_start other_place right → contradict left right ≡ false
+-- both schedules have equal limits at a second of two intervals that don't contradict
+both_here : (first : CompositeSchedule) (first_start place : ℕ) (second : CompositeSchedule) (second_start other_place : ℕ) (left right : PeriodInterval)
+    → IsPeriodInterval first first_start place left → IsPeriodInterval second second_start other_place right → contradict left right ≡ false
     → (one other : ℕ) → first_start + one ≡ second_start + other
     → left.start ≤ first_start + one → first_start + one < left.end → right.start ≤ second_start + other → second_start + other < right.end
     → at first.periods one ≡ at second.periods other
@@ -61,8 +61,8 @@ both_here first first_start place second second_start other_place left right h k
     let limits = equal_limits left right (first_start + one) agree i j (omega arith) (omega arith) in
     h.limit one i j ∙ (ap (λ (n : ℕ). Some n) limits ∙ sym (k.limit other l m))
 
-pub agree_left : (first : CompositeSchedule) (first_start place : ℕ) (second : CompositeSchedule) (second_start other_place : ℕ) (left right : Stretch)
-    → IsStretch first first_start place left → IsStretch second second_start other_place right → contradict left right ≡ false
+pub agree_left : (first : CompositeSchedule) (first_start place : ℕ) (second : CompositeSchedule) (second_start other_place : ℕ) (left right : PeriodInterval)
+    → IsPeriodInterval first first_start place left → IsPeriodInterval second second_start other_place right → contradict left right ≡ false
     → left.end ≤ right.end
     → AgreeBefore first first_start place second second_start other_place
     → AgreeBefore first first_start (place + 1) second second_start other_place
@@ -81,8 +81,8 @@ agree_left first first_start place second second_start other_place left right h 
       ]
     ]
 
-pub agree_right : (first : CompositeSchedule) (first_start place : ℕ) (second : CompositeSchedule) (second_start other_place : ℕ) (left right : Stretch)
-    → IsStretch first first_start place left → IsStretch second second_start other_place right → contradict left right ≡ false
+pub agree_right : (first : CompositeSchedule) (first_start place : ℕ) (second : CompositeSchedule) (second_start other_place : ℕ) (left right : PeriodInterval)
+    → IsPeriodInterval first first_start place left → IsPeriodInterval second second_start other_place right → contradict left right ≡ false
     → right.end ≤ left.end
     → AgreeBefore first first_start place second second_start other_place
     → AgreeBefore first first_start place second second_start (other_place + 1)
@@ -101,9 +101,9 @@ agree_right first first_start place second second_start other_place left right h
       ]
     ]
 
--- two stretches that contradict have a second in common, at which the schedules don't agree
-pub contradicted : (first : CompositeSchedule) (first_start place : ℕ) (second : CompositeSchedule) (second_start other_place : ℕ) (left right : Stretch)
-    → IsStretch first first_start place left → IsStretch second second_start other_place right → contradict left right ≡ true
+-- two intervals that contradict have a second in common, at which the schedules don't agree
+pub contradicted : (first : CompositeSchedule) (first_start place : ℕ) (second : CompositeSchedule) (second_start other_place : ℕ) (left right : PeriodInterval)
+    → IsPeriodInterval first first_start place left → IsPeriodInterval second second_start other_place right → contradict left right ≡ true
     → Agree first first_start second second_start → ⊥
 contradicted first first_start place second second_start other_place left right h k against agree =
     let parts = and_parts (not (left.limit == right.limit)) (nat_lt left.start right.end && nat_lt right.start left.end) against in
@@ -174,9 +174,9 @@ begins_inside duration [] place within = omega arith
 begins_inside duration (p ∷ ps) zero within = let below : p.start < duration = within.0 in omega arith
 begins_inside duration (p ∷ ps) (suc place) within = begins_inside duration ps place within.1
 
-pub stretch_is : (schedule : CompositeSchedule) (start place : ℕ) (d : CompositePeriod) → IsSchedule schedule.duration schedule.periods → place < length schedule.periods
-    → IsStretch schedule start place (record { start = start + begin_of schedule place; end = start + begin_of schedule (place + 1); limit = (slice_index_or schedule.periods place d).limit })
-stretch_is schedule start place d is inside =
+pub period_interval_is : (schedule : CompositeSchedule) (start place : ℕ) (d : CompositePeriod) → IsSchedule schedule.duration schedule.periods → place < length schedule.periods
+    → IsPeriodInterval schedule start place (record { start = start + begin_of schedule place; end = start + begin_of schedule (place + 1); limit = (slice_index_or schedule.periods place d).limit })
+period_interval_is schedule start place d is inside =
     let next : place + 1 ≡ suc place = omega arith in
     let found = slice_get-get_or schedule.periods place d inside in
     let begins : begin_of schedule place ≡ (slice_index_or schedule.periods place d).start = ap (start_or schedule.duration) found in

@@ -2,7 +2,7 @@
 
 ghost use Rattle.std.specs.Prelude.{◌≡◌, ◌↔◌, ◌<◌, length, IsTrue};
 ghost use Rattle.sweep_compiler.specs.Agree.{Agree};
-ghost use Rattle.sweep_compiler.specs.ByCases.Agree.{begin_of, IsStretch, contradict};
+ghost use Rattle.sweep_compiler.specs.ByCases.Agree.{begin_of, IsPeriodInterval, contradict};
 
 use meaning::Composite;
 use ocpp_scalars::Instant;
@@ -20,8 +20,8 @@ pub fn agree(
     let (firsts, seconds) = (first.periods(), second.periods());
     let (mut one, mut other) = (0, 0);
     while one < firsts.len() && other < seconds.len() {
-        let left = Stretch::of(first, first_start, one);
-        let right = Stretch::of(second, second_start, other);
+        let left = PeriodInterval::of(first, first_start, one);
+        let right = PeriodInterval::of(second, second_start, other);
         if left.contradicts(&right) {
             return false;
         }
@@ -36,7 +36,7 @@ pub fn agree(
 
 /// The time of one period, in seconds since 1970, with its limit.
 #[derive(Clone, Copy)]
-struct Stretch {
+struct PeriodInterval {
     start: u64,
     /// The second behind its last one.
     end: u64,
@@ -44,22 +44,22 @@ struct Stretch {
     limit: u32,
 }
 
-impl Stretch {
+impl PeriodInterval {
     /// The time of a schedule's period: up to the next one, and of the last one up to the end.
-    fn of(schedule: &Composite, start: Instant, place: usize) -> Stretch
+    fn of(schedule: &Composite, start: Instant, place: usize) -> PeriodInterval
         requires inside { place < length schedule.now.periods }
-        ensures { IsStretch schedule.now start place result }
+        ensures { IsPeriodInterval schedule.now start place result }
     {
         let limit = schedule.periods()[place].limit;
-        Stretch {
+        PeriodInterval {
             start: start.seconds() + u64::from(begin_of(schedule, place)),
             end: start.seconds() + u64::from(begin_of(schedule, place + 1)),
             limit,
         }
     }
 
-    /// Whether another stretch has an instant in common and another limit.
-    fn contradicts(&self, other: &Stretch) -> bool
+    /// Whether another interval has an instant in common and another limit.
+    fn contradicts(&self, other: &PeriodInterval) -> bool
         ensures { result ≡ contradict self.now other.now }
     {
         self.limit != other.limit && self.start < other.end && other.start < self.end

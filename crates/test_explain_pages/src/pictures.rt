@@ -156,7 +156,7 @@ fn too_many_intervals(rt: HostRuntime) -> Result<(), Fail> {
     expect(
         &rt,
         page.as_str(),
-        "the limit, drawn up to 2025-01-01 05:33:20 alone\n<p> Further stretches: 1.</p>",
+        "the limit, drawn up to 2025-01-01 05:33:20 alone\n<p> Further intervals: 1.</p>",
     );
     Ok(())
 }

@@ -125,7 +125,7 @@ from                 to        length   limit  why
 ";
 
 const SUM_JSON: &str =
-    r#"{"point":"a\"\\é","connector":0,"unit":"W","start":"2025-01-01T00:00:00Z","duration":45,"stretches":[{"start":"2025-01-01T00:00:00Z","end":"2025-01-01T00:00:15Z","limit":42.0,"cause":{"kind":"Sum"},"shares":[{"connector":1,"limit":10.0,"cause":{"kind":"Profile","chargingProfileId":4,"purpose":"TxProfile","stackLevel":3,"connector":1}},{"connector":2,"limit":32.0,"cause":{"kind":"ConnectorCeiling"}}]},{"start":"2025-01-01T00:00:15Z","end":"2025-01-01T00:00:45Z","limit":0.0,"cause":{"kind":"Sum"},"shares":[]}],"notCounted":[{"chargingProfileId":-5,"purpose":"ChargePointMaxProfile","stackLevel":0,"connector":0,"reason":"NotLeast","sentence":"It prevails, but another limit is as low or lower."}]}
+    r#"{"point":"a\"\\é","connector":0,"unit":"W","start":"2025-01-01T00:00:00Z","duration":45,"intervals":[{"start":"2025-01-01T00:00:00Z","end":"2025-01-01T00:00:15Z","limit":42.0,"cause":{"kind":"Sum"},"shares":[{"connector":1,"limit":10.0,"cause":{"kind":"Profile","chargingProfileId":4,"purpose":"TxProfile","stackLevel":3,"connector":1}},{"connector":2,"limit":32.0,"cause":{"kind":"ConnectorCeiling"}}]},{"start":"2025-01-01T00:00:15Z","end":"2025-01-01T00:00:45Z","limit":0.0,"cause":{"kind":"Sum"},"shares":[]}],"notCounted":[{"chargingProfileId":-5,"purpose":"ChargePointMaxProfile","stackLevel":0,"connector":0,"reason":"NotLeast","sentence":"It prevails, but another limit is as low or lower."}]}
 "#;
 
 /// The share of a profile of its connector's own, and that of a ceiling.
@@ -185,7 +185,7 @@ from              to     length   limit  why
 ";
 
 const LAST_JSON: &str =
-    r#"{"point":"CP1","connector":2,"unit":"A","start":"9999-12-31T23:59:00Z","duration":60,"stretches":[{"start":"9999-12-31T23:59:00Z","end":null,"limit":63.0,"cause":{"kind":"PointCeiling"},"shares":[]}],"notCounted":[]}
+    r#"{"point":"CP1","connector":2,"unit":"A","start":"9999-12-31T23:59:00Z","duration":60,"intervals":[{"start":"9999-12-31T23:59:00Z","end":null,"limit":63.0,"cause":{"kind":"PointCeiling"},"shares":[]}],"notCounted":[]}
 "#;
 
 #[test]

@@ -3,7 +3,7 @@
 use Rattle.std.specs.Prelude.{◌≡◌, ℕ, ◌+◌, ◌<◌, ◌≤◌, ◌==◌, nat_lt, Bool, not, ◌&&◌, ◌⊎◌, Option, Some, None, slice_get}
 use Rattle.meaning.specs.declared.composite.CompositePeriod.{CompositePeriod}
 use Rattle.meaning.specs.Composite.{CompositeSchedule, at}
-use Rattle.sweep_compiler.specs.declared.agreement.Stretch.{Stretch}
+use Rattle.sweep_compiler.specs.declared.agreement.PeriodInterval.{PeriodInterval}
 
 abbrev pub start_or : ℕ → Option CompositePeriod → ℕ
 start_or end None = end
@@ -14,18 +14,19 @@ abbrev pub begin_of : CompositeSchedule → ℕ → ℕ
 begin_of schedule place = start_or schedule.duration (slice_get schedule.periods place)
 
 -- the time of the period at a place of a schedule with its start, and the schedule's limit then
-pub record IsStretch (schedule : CompositeSchedule) (start place : ℕ) (stretch : Stretch)
+pub record IsPeriodInterval (schedule : CompositeSchedule) (start place : ℕ)
+    (interval : PeriodInterval)
     : Type 0 where
-  pub from : stretch.start ≡ start + begin_of schedule place
-  pub to : stretch.end ≡ start + begin_of schedule (place + 1)
-  pub some : stretch.start < stretch.end
-  pub inside : stretch.end ≤ start + schedule.duration
+  pub from : interval.start ≡ start + begin_of schedule place
+  pub to : interval.end ≡ start + begin_of schedule (place + 1)
+  pub some : interval.start < interval.end
+  pub inside : interval.end ≤ start + schedule.duration
   pub limit :
-      (second : ℕ) → stretch.start ≤ start + second → start + second < stretch.end
-      → at schedule.periods second ≡ Some stretch.limit
+      (second : ℕ) → interval.start ≤ start + second → start + second < interval.end
+      → at schedule.periods second ≡ Some interval.limit
 
--- two stretches have a second in common, and two limits
-abbrev pub contradict : Stretch → Stretch → Bool
+-- two intervals have a second in common, and two limits
+abbrev pub contradict : PeriodInterval → PeriodInterval → Bool
 contradict one other =
     not (one.limit == other.limit) && (nat_lt one.start other.end && nat_lt other.start one.end)
 
