@@ -249,7 +249,7 @@ fn audited<C: Ledger, A: Ledger, R: Abort + Wait>(
     blanks: (Blank, Blank),
     texts: &[&str],
     wanted: &[&str],
-    status: &str,
+    statuses: &[&str],
 )
     requires changes { (blanks.0.name ≡ C.name) × (blanks.0.parts ≡ C.parts)
         × (blanks.0.parts ≡ 2) }
@@ -262,51 +262,39 @@ fn audited<C: Ledger, A: Ledger, R: Abort + Wait>(
         .tells(rt, &[ACCEPTED, AUDITED]);
     desk.serve_point(rt, texts, 100).tells(rt, wanted);
     let asks = messages_of(rt, alloc, &[STATUS], true);
-    desk.serve_operator(rt, asks).tells(rt, &[status]);
+    desk.serve_operator(rt, asks).tells(rt, statuses);
 }
 
-/// The point's reply to the audit leads to this status.
-fn judged<C: Ledger, A: Ledger, R: Abort + Wait>(
-    rt: &R,
-    alloc: Global,
-    blanks: (Blank, Blank),
-    reply: &str,
-    status: &str,
-)
-    requires changes { (blanks.0.name ≡ C.name) × (blanks.0.parts ≡ C.parts)
-        × (blanks.0.parts ≡ 2) }
-    requires answers { (blanks.1.name ≡ A.name) × (blanks.1.parts ≡ A.parts)
-        × (blanks.1.parts ≡ 2) }
-{
-    let texts = [HEARTBEAT, CLEARED, SET_ACCEPTED, reply];
-    let wanted = [MOMENT, CLEAR, SET, AUDIT_CALL];
-    audited::<C, A, R>(rt, alloc, blanks, &texts, &wanted, status);
-}
+/// The point's reply to the audit, and the status that it leads to.
+const JUDGED: [(&str, &str); 4] = [
+    (
+        AUDIT_AGREES,
+        r#"[3,"d",{"status":"Accepted","version":1,"outbox":0,"audit":"Agrees"}]"#,
+    ),
+    (
+        AUDIT_DIFFERS,
+        r#"[3,"d",{"status":"Accepted","version":1,"outbox":0,"audit":"Differs"}]"#,
+    ),
+    (
+        AUDIT_FAULT,
+        r#"[3,"d",{"status":"Accepted","version":1,"outbox":0,"audit":"Rejected"}]"#,
+    ),
+    // It isn't the id of its call.
+    (
+        CLEARED,
+        r#"[3,"d",{"status":"Accepted","version":1,"outbox":1,"audit":"Waiting"}]"#,
+    ),
+];
 
 #[test]
 fn a_reply_to_an_audit_is_judged(rt: HostRuntime) {
-    let cases = [
-        (
-            AUDIT_AGREES,
-            r#"[3,"d",{"status":"Accepted","version":1,"outbox":0,"audit":"Agrees"}]"#,
-        ),
-        (
-            AUDIT_DIFFERS,
-            r#"[3,"d",{"status":"Accepted","version":1,"outbox":0,"audit":"Differs"}]"#,
-        ),
-        (
-            AUDIT_FAULT,
-            r#"[3,"d",{"status":"Accepted","version":1,"outbox":0,"audit":"Rejected"}]"#,
-        ),
-        // It isn't the id of its call.
-        (
-            CLEARED,
-            r#"[3,"d",{"status":"Accepted","version":1,"outbox":1,"audit":"Waiting"}]"#,
-        ),
-    ];
-    for (reply, status) in cases {
+    for place in 0..JUDGED.len() {
+        let (reply, status) = JUDGED[place];
         let blanks = (Blank::new(2), Blank::new(2));
-        judged::<Brand, Brand, HostRuntime>(&rt, rt.alloc(), blanks, reply, status);
+        let texts = [HEARTBEAT, CLEARED, SET_ACCEPTED, reply];
+        let wanted = [MOMENT, CLEAR, SET, AUDIT_CALL];
+        let statuses = [status];
+        audited::<Brand, Brand, HostRuntime>(&rt, rt.alloc(), blanks, &texts, &wanted, &statuses);
     }
 }
 
@@ -323,8 +311,8 @@ fn a_start_before_the_reply_leaves_it_unsettled(rt: HostRuntime) {
         AUDIT_FAULT,
     ];
     let wanted = [MOMENT, CLEAR, SET, AUDIT_CALL, STARTED];
-    let status = r#"[3,"d",{"status":"Accepted","version":2,"outbox":0,"audit":"Unsettled"}]"#;
-    audited::<Brand, Brand, HostRuntime>(&rt, rt.alloc(), blanks, &texts, &wanted, status);
+    let statuses = [r#"[3,"d",{"status":"Accepted","version":2,"outbox":0,"audit":"Unsettled"}]"#];
+    audited::<Brand, Brand, HostRuntime>(&rt, rt.alloc(), blanks, &texts, &wanted, &statuses);
 }
 
 /// A socket that fails after so many calls, and the point's next session. The call that was in
