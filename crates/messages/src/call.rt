@@ -90,18 +90,9 @@ impl CallBody {
             } => Ok(CallBody::RemoteStart {
                 connector: *connector,
                 id_tag: id_tag.copy(alloc)?,
-                profile: copied(profile)?,
+                profile: Profile::copy_if_any(profile)?,
             }),
         }
     }
 }
 
-/// A copy of a profile, if there is one.
-fn copied(profile: &Option<Profile>) -> Result<Option<Profile>, AllocError>
-    ensures { IfOk result (λ copy. copy ≡ profile.now) }
-{
-    match profile {
-        Some(profile) => Ok(Some(profile.copy()?)),
-        None => Ok(None),
-    }
-}

@@ -122,6 +122,16 @@ impl Profile {
         })
     }
 
+    /// A copy of a profile, where there is one.
+    pub fn copy_if_any(profile: &Option<Profile>) -> Result<Option<Profile>, AllocError>
+        ensures { IfOk result (λ copy. copy ≡ profile.now) }
+    {
+        match profile {
+            Some(profile) => Ok(Some(profile.copy()?)),
+            None => Ok(None),
+        }
+    }
+
     /// Whether two profiles are equal.
     pub fn same(&self, other: &Profile) -> bool
         ensures { IsTrue result ↔ (self.now ≡ other.now) }

@@ -86,7 +86,8 @@ fn call_of(
             profile,
         } => {
             let begin = begin_of(alloc, tag, 0, now)?;
-            Ok(start_of(book, *connector, begin, copied(profile)?))
+            let profile = Profile::copy_if_any(profile)?;
+            Ok(start_of(book, *connector, begin, profile))
         }
         SimStep::Stop { connector } => Ok(stop_of(book, *connector, now)),
     }
@@ -128,15 +129,6 @@ fn begin_of(alloc: Global, tag: &IdTag, meter: i32, now: Instant) -> Result<Begi
         meter_start: meter,
         timestamp: now,
     })
-}
-
-fn copied(profile: &Option<Profile>) -> Result<Option<Profile>, AllocError>
-    ensures { IfOk result (λ copy. copy ≡ profile.now) }
-{
-    match profile {
-        Some(profile) => Ok(Some(profile.copy()?)),
-        None => Ok(None),
-    }
 }
 
 /// The stop of the transaction that is active at a connector, if one is.

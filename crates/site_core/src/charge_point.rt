@@ -29,7 +29,7 @@ use crate::point_id::PointId;
 use crate::reply::Reply;
 use crate::shared_book::SharedBook;
 use crate::step::Step;
-use crate::waiting_starts::{WaitingStart, WaitingStarts, copy_of_profile};
+use crate::waiting_starts::{WaitingStart, WaitingStarts};
 use meaning::MAX_DURATION;
 use messages::{AuditOutcome, CallBody, PointStatus};
 use ocpp_scalars::{IdTag, Refusal};
@@ -719,7 +719,7 @@ impl ChargePoint {
                     connector,
                     call: number,
                     id_tag: id_tag.copy(self.alloc)?,
-                    profile: copy_of_profile(profile)?,
+                    profile: Profile::copy_if_any(profile)?,
                 };
                 let call = remote_start_call(self.alloc, connector, id_tag, profile)?;
                 self.waiting.add(start)?;
@@ -813,7 +813,7 @@ fn remote_start_call(
     let body = CallBody::RemoteStart {
         connector,
         id_tag: id_tag.copy(alloc)?,
-        profile: copy_of_profile(profile)?,
+        profile: Profile::copy_if_any(profile)?,
     };
     match PreparedCall::new(alloc, body) {
         Ok(call) => Ok(call),

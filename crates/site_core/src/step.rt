@@ -6,7 +6,6 @@ ghost use Rattle.site_core.specs.ByCases.Made.{IsAtPoint, IsFor};
 
 use crate::point_id::PointId;
 use crate::via::Via;
-use crate::waiting_starts::copy_of_profile;
 use ocpp_scalars::{IdTag, Instant};
 use profile::{Criteria, Profile, Row, Unit};
 use std::alloc::{AllocError, Global};
@@ -206,7 +205,7 @@ impl Step {
                 point: point.copy(alloc)?,
                 connector: *connector,
                 id_tag: id_tag.copy(alloc)?,
-                profile: copy_of_profile(profile)?,
+                profile: Profile::copy_if_any(profile)?,
             },
         })
     }

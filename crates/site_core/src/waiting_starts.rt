@@ -32,7 +32,7 @@ impl WaitingStart {
             connector: self.connector,
             call: self.call,
             id_tag: self.id_tag.copy(alloc)?,
-            profile: copy_of_profile(&self.profile)?,
+            profile: Profile::copy_if_any(&self.profile)?,
         })
     }
 
@@ -41,7 +41,7 @@ impl WaitingStart {
         ensures { IfOk result (λ profile. profile ≡ profile_for id_tag.now (Some self.now)) }
     {
         if self.id_tag.as_str().eq_ignore_ascii_case(id_tag.as_str()) {
-            copy_of_profile(&self.profile)
+            Profile::copy_if_any(&self.profile)
         } else {
             Ok(None)
         }
@@ -161,14 +161,4 @@ fn copy_of_starts(alloc: Global, starts: &[WaitingStart]) -> Result<Vec<WaitingS
         copies.push(start.copy(alloc)?)?;
     }
     Ok(copies)
-}
-
-/// A copy of a profile, where there is one.
-pub(crate) fn copy_of_profile(profile: &Option<Profile>) -> Result<Option<Profile>, AllocError>
-    ensures { IfOk result (λ copy. copy ≡ profile.now) }
-{
-    match profile {
-        None => Ok(None),
-        Some(profile) => Ok(Some(profile.copy()?)),
-    }
 }

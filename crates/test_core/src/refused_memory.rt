@@ -177,7 +177,7 @@ fn told(rt: &impl Abort, said: (&'static str, u64), line: &str) {
 
 // ---- on a machine
 
-/// What comes of a step. A refused one changes nothing, and where that is for want of memory, it is
+/// What comes of a step. A refused one changes nothing, and where that is for lack of memory, it is
 /// made again.
 fn step_again(rt: &impl Abort, machine: &mut Machine, step: Step) -> Result<Reply, Refusal> {
     let before = read_machine(machine);

@@ -450,7 +450,7 @@ fn with_back(step: Step, back: Back) -> Step {
     }
 }
 
-/// What comes of a call. A refused one changes nothing, and where that is for want of memory, it is
+/// What comes of a call. A refused one changes nothing, and where that is for lack of memory, it is
 /// made again.
 pub(crate) fn made<C: Ledger, A: Ledger>(
     rt: &impl Abort,

@@ -18,7 +18,7 @@ pub(crate) const SCHEDULE: &str =
 pub(crate) const SCHEDULE_WITHOUT: &str =
     r#"[3,"b",{"status":"Accepted","connectorId":1,"scheduleStart":"2025-01-01T00:00:10Z","chargingSchedule":{"duration":60,"chargingRateUnit":"A","chargingSchedulePeriod":[{"startPeriod":0,"limit":32.0}]}}]"#;
 
-/// What an install, an ask and a Heartbeat are answered for want of memory.
+/// What an install, an ask and a Heartbeat are answered for lack of memory.
 pub(crate) const INSTALL_SHORT: &str = r#"[4,"a","InternalError","OutOfMemory",{}]"#;
 
 pub(crate) const ASK_SHORT: &str = r#"[4,"b","InternalError","OutOfMemory",{}]"#;
