@@ -192,7 +192,14 @@ fn start(rt: &impl Abort, book: &mut PointBook, mut line: Line<'_>) -> String {
     let second = line.words.long().expect(rt, line.whole);
     let next = line.words.whole().expect(rt, line.whole);
     let profile = own_profile(rt, line.alloc, line.words.rest());
-    let said = match begin_with(rt, line.alloc, book, (connector, tag, second), next, profile) {
+    let said = match begin_with(
+        rt,
+        line.alloc,
+        book,
+        (connector, tag, second),
+        next,
+        profile,
+    ) {
         Began::Fresh => format!(in line.alloc; "{next}"),
         Began::Repeat(number) => format!(in line.alloc; "again {number}"),
     };
