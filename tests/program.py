@@ -8,11 +8,13 @@ and allocations that fail. With `cases` it stops behind the cases.
 Where the environment has UNPROVED, the program is one of which nothing is proved. It is slower and has checks of memory: a script
 and the frames of a memory are shorter then, and no allocation fails.
 """
+import itertools
 import json
 import os
 import re
 import shutil
 import signal
+import string
 import subprocess
 import sys
 import tempfile
@@ -23,6 +25,7 @@ TOP = os.path.dirname(os.path.dirname(os.path.abspath(__file__)))
 UNPROVED = "UNPROVED" in os.environ
 # Seconds that a run may take on a machine that is busy.
 PATIENCE = 600 if UNPROVED else 120
+MAX_SITE_BYTES = 16_777_216
 SITE = b'{"unit":"A","points":[{"id":"CP1","ceiling":63.0,"connectors":[32.0,32.0]}]}'
 
 
@@ -61,6 +64,7 @@ def fault_cases(folder):
     yield "no site file", ["replay", "--site", os.path.join(folder, "none")], b"", b"", b"central: device: read\n", 3
     yield "a folder as site file", ["replay", "--site", folder], b"", b"", b"central: device: read\n", 3
     yield from limit_cases(good)
+    yield from cut_cases(good)
 
 
 def site_texts():
@@ -73,7 +77,7 @@ def site_texts():
         return f'{{"unit":"A","points":[{",".join(entries)}]}}'.encode()
 
     many = [point(f"CP{number}") for number in range(1_001)]
-    spaces = b" " * (16_777_216 - len(points(point())))
+    spaces = b" " * (MAX_SITE_BYTES - len(points(point())))
     return (
         (None, SITE),
         (None, b'{"more":[1],"points":[{"x":0,"connectors":[0],"ceiling":0,"id":"a.B_9-~"}],"unit":"W"}'),
@@ -136,6 +140,36 @@ def limit_cases(good):
     yield "a frame on a line past the limit", good, prefix + b"x" * (room + 1) + end + b"\n", b"! 1 TooLong\n", b"", 2
     frames = (prefix + b"x" * (room - 1) + end + b"\n") * 16
     yield "a script of frames of the limit", good, frames, answer + call + answer * 15, b"", 0
+
+
+def cut_messages():
+    """The first example's script and output, and each proper beginning of its messages, with the
+    head of its line."""
+    example = Case("examples/first-schedule")
+    begun = []
+    for line in example.script.splitlines():
+        head, mark, rest = line.partition(b"[")
+        begun += [(head, b"")] + [(head, mark + rest[:length]) for length in range(len(rest))]
+    return example.script, example.wanted[0], begun
+
+
+def cut_cases(good):
+    """Messages cut at each byte. An operator's bring nothing, and the whole ones then have their
+    answers. A point's bring no more than the call that waits for it."""
+    script, printed, begun = cut_messages()
+    lines = b"".join(head + text + b"\n" for head, text in begun)
+    yield "an operator's messages cut at each byte", good, lines + script, printed, b"", 0
+    install, accepted = script.partition(b"\n")[0], printed.partition(b"\n")[0]
+    payload = install.partition(b",{")[2].replace(b'"limit":16}', b'"limit":16.0}')
+    point = b"2025-01-01T00:00:00Z point CP1 "
+    lines = [point + b'[2,"0","Heartbeat",{}]', point + b'[3,"0",{"status":"Unknown"}]']
+    printed = [b'> [3,"0",{"currentTime":"2025-01-01T00:00:00Z"}]']
+    printed += [b'* CP1 [2,"0","ClearChargingProfile",{}]']
+    for number, (_, text) in enumerate(begun, 1):
+        lines += [install, point + text, point + b'[3,"%d",{"status":"Accepted"}]' % number]
+        printed += [accepted, b'* CP1 [2,"%d","SetChargingProfile",{%s' % (number, payload)]
+    lines, printed = b"\n".join(lines), b"\n".join([*printed, b""])
+    yield "a point's messages cut at each byte", good, lines, printed, b"", 0
 
 
 def run(program, arguments, given, stdout=subprocess.PIPE, folder=None):
@@ -253,16 +287,28 @@ def device_problems(program, folder):
         yield name, [] if ok else [f"status {done.returncode}, {done.stderr!r}, {done.stdout!r}"]
 
 
-def peak_memory(program, folder, script):
-    """The most kilobytes that a replay of a script has at one time, and its exit status."""
-    path = os.path.join(folder, "script")
-    with open(path, "wb") as file:
-        file.write(script)
-    arguments = [program, "replay", "--site", os.path.join(folder, "good")]
-    with open(path, "rb") as given, subprocess.Popen(arguments, stdin=given, stdout=subprocess.DEVNULL) as process:
-        _, status, usage = os.wait4(process.pid, 0)
-        process.returncode = os.waitstatus_to_exitcode(status)
-    return usage.ru_maxrss, process.returncode
+# Starts a program without output, and prints the most kilobytes that it had, and its exit status. A process counts what its parent
+# had when it was started, too: so the parent is a small one.
+MEASURE = """import os, sys
+nowhere = [(os.POSIX_SPAWN_OPEN, handle, os.devnull, os.O_WRONLY, 0) for handle in (1, 2)]
+process = os.posix_spawn(sys.argv[1], sys.argv[1:], os.environ, file_actions=nowhere)
+_, status, usage = os.wait4(process, 0)
+print(usage.ru_maxrss, os.waitstatus_to_exitcode(status))"""
+
+
+def peak_memory(program, folder, script, site=SITE):
+    """The most kilobytes that a replay of a script on a site has at one time, and its exit status."""
+    path, site_path = os.path.join(folder, "script"), os.path.join(folder, "site-of-the-script")
+    for name, content in ((path, script), (site_path, site)):
+        with open(name, "wb") as file:
+            file.write(content)
+    arguments = [sys.executable, "-I", "-S", "-c", MEASURE, program, "replay", "--site", site_path]
+    # A build that is watched by a sanitizer is told not to keep memory that was freed. Others don't look.
+    kept = {"ASAN_OPTIONS": "quarantine_size_mb=1", **os.environ}
+    with open(path, "rb") as given:
+        done = subprocess.run(arguments, stdin=given, capture_output=True, env=kept, timeout=PATIENCE, check=True)
+    peak, status = done.stdout.split()
+    return int(peak), int(status)
 
 
 def growth_problems(program, folder):
@@ -273,6 +319,40 @@ def growth_problems(program, folder):
     broken, broken_status = peak_memory(program, folder, line.replace(b"%s", b"]") * count)
     ok = (read_status, broken_status) == (0, 0) and read < broken + 8_192
     yield f"{count} frames in one memory", [] if ok else [f"{read} KB, status {read_status}; broken {broken} KB, {broken_status}"]
+
+
+def filled(size, before, items, after):
+    """A site file of this size or a little less: as many of the items as fit."""
+    content, size = bytearray(before), size - len(after)
+    for item in items:
+        if len(content) + len(item) + 1 > size:
+            break
+        content += item + b","
+    return bytes(content[:-1]) + after
+
+
+def site_growth_problems(program, folder):
+    """Full site files, right and wrong ones: a replay takes at most ten bytes for each of their bytes, whatever fills them."""
+    size = 1 << 19 if UNPROVED else MAX_SITE_BYTES
+    point = b'{"id":"CP1","ceiling":63.0,"connectors":[32.0]}'
+    head, noted = b'{"unit":"A","points":[', b'{"unit":"A","points":[' + point + b'],"note":'
+    one_point = head + b'{"id":"CP1","ceiling":63.0,"connectors":['
+    names = (b'"%s":0' % "".join(name).encode() for name in itertools.product(string.ascii_letters + string.digits, repeat=4))
+    least, _ = peak_memory(program, folder, b"")
+    for name, site, wanted in (
+        ("unknown numbers", filled(size, noted + b"[", itertools.repeat(b"1"), b"]}"), 0),
+        ("unknown lists", filled(size, noted + b"[", itertools.repeat(b"[1]"), b"]}"), 0),
+        ("unknown objects", filled(size, noted + b"[", itertools.repeat(b'{"a":0}'), b"]}"), 0),
+        ("unknown fields", filled(size, noted + b"{", names, b"}}"), 0),
+        ("points", filled(size, head, itertools.repeat(point), b"]}"), 1),
+        ("points without a field", filled(size, head, itertools.repeat(b"{}"), b"]}"), 1),
+        ("connectors", filled(size, one_point, itertools.repeat(b"1"), b"]}]}"), 1),
+        ("a long id", head + point.replace(b"CP1", b"a" * (size - 100)) + b"]}", 1),
+        ("points in no JSON", filled(size, head, itertools.repeat(point), b"]"), 1),
+    ):
+        peak, status = peak_memory(program, folder, b"", site)
+        ok = status == wanted and (peak - least) * 1024 <= 10 * len(site)
+        yield f"a site file full of {name}", [] if ok else [f"{len(site)} bytes, {peak - least} KB, status {status}"]
 
 
 def memory_problems(program, folder):
@@ -287,6 +367,10 @@ def memory_problems(program, folder):
         ("examples/ordinary-day", [], 150),
         ("examples/calls-to-a-point", [], 80),
         ("tests/cases/replay/holds-released-in-another-order", [], 100),
+        ("tests/cases/replay/profile-of-a-transaction", [], 120),
+        ("tests/cases/replay/hold-and-release", [], 80),
+        ("tests/cases/replay/calls-confirmed-in-turn", [], 80),
+        ("tests/cases/replay/audits-of-a-point", [], 150),
         ("tests/cases/explain/two-cars", [], 60),
         ("tests/cases/explain/two-cars", ["--picture", picture], 60),
         ("tests/cases/explain/hour-that-lifts-a-limit", ["--picture", page], 60),
@@ -302,25 +386,7 @@ def memory_problems(program, folder):
         if refused < least:
             problems.append(f"only {refused} allocations were refused")
         yield f"{os.path.basename(name)}: each of {refused} allocations refused", problems
-    for crate, test, in_a_row, least in (
-        ("test_core", "runs::a_step_is_made_again_where_memory_was_refused", 1, 20),
-        ("test_core", "runs::a_run_goes_on_where_memory_was_refused", 1, 2),
-        # A book's call lends its step to the machine, and so copies no more of it than the machine keeps.
-        ("test_core", "stored_histories::a_call_is_made_again_where_memory_was_refused", 1, 20),
-        # From each allocation on all are refused: past its beginning the test makes none, until its last step.
-        ("test_core", "runs::a_step_without_an_event_wants_no_memory", 1_000_000, 1),
-        # A chunk of the arena that is refused is asked for at half its size, and so on: all of that is refused.
-        ("test_texts", "frame_texts::a_text_is_read_again_where_memory_was_refused", 20, 30),
-    ):
-        yield again_problems(library, [built_tests(program, crate), test], in_a_row, least, range(1, 151))
-    # The last two calls of these are those that are made again, after a history that takes many allocations.
-    for test in (
-        "stored_histories::an_install_folds_again_where_memory_was_refused",
-        "stored_histories::a_start_folds_again_where_memory_was_refused",
-    ):
-        words = [built_tests(program, "test_core"), test]
-        last = allocations(library, words)
-        yield again_problems(library, words, 1, 10, range(last - 40, last + 6))
+    yield from again_tests(program, library)
     for test, step in (
         ("waiting_sessions::stopping_wakes_all_who_wait", 1),
         ("settled_totals::two_sessions_count_what_all_was", 7),
@@ -331,6 +397,56 @@ def memory_problems(program, folder):
         ("workers_beside_sessions::eight_workers_answer_64_requests", 61),
     ):
         yield ending_problems(library, [built_tests(program, "test_pool"), test], step)
+
+
+# Tests of what is tried again: the crate, the test, how many allocations in a row are refused, in
+# how many runs at least, and up to which allocation of its first.
+AGAIN = (
+    ("test_core", "runs::a_step_is_made_again_where_memory_was_refused", 1, 20, 150),
+    ("test_core", "runs::a_run_goes_on_where_memory_was_refused", 1, 2, 150),
+    # A book's call lends its step to the machine, and so copies no more of it than the machine keeps.
+    ("test_core", "stored_histories::a_call_is_made_again_where_memory_was_refused", 1, 20, 150),
+    ("test_core", "audits::an_audit_is_made_again_where_memory_was_refused", 1, 1, 200),
+    ("test_core", "refused_memory::a_profile_on_a_machine", 1, 5, 150),
+    ("test_core", "refused_memory::a_profile_on_a_book", 1, 8, 150),
+    ("test_core", "refused_memory::a_transaction_on_a_machine", 1, 10, 150),
+    ("test_core", "refused_memory::a_transaction_on_a_book", 1, 13, 150),
+    ("test_core", "refused_memory::a_held_request_on_a_machine", 1, 10, 150),
+    ("test_core", "refused_memory::a_held_request_on_a_book", 1, 12, 150),
+    ("test_core", "refused_memory::calls_on_a_machine", 1, 2, 150),
+    ("test_core", "refused_memory::calls_on_a_book", 1, 4, 150),
+    ("test_core", "refused_memory::an_audit_on_a_machine", 1, 3, 150),
+    ("test_core", "refused_memory::an_audit_on_a_book", 1, 5, 150),
+    ("test_books", "judged_audits::an_audit_is_judged_again_where_memory_was_refused", 1, 2, 150),
+    ("test_session", "sessions_over_memory::an_operators_session_is_refused_memory", 1, 25, 200),
+    ("test_session", "sessions_over_memory::a_points_session_is_refused_memory", 1, 15, 200),
+    # From each allocation on all are refused: past its beginning the test makes none, until its last step.
+    ("test_core", "runs::a_step_without_an_event_wants_no_memory", 1_000_000, 1, 150),
+    # The same: one allocation just before a compiling, and those of the compiling.
+    ("test_core", "refused_memory::a_compiling_without_memory_on_a_machine", 1_000_000, 2, 150),
+    ("test_core", "refused_memory::a_compiling_without_memory_on_a_book", 1_000_000, 2, 150),
+    # A chunk of the arena that is refused is asked for at half its size, and so on: all of that is refused.
+    ("test_texts", "frame_texts::a_text_is_read_again_where_memory_was_refused", 20, 30, 150),
+)
+
+# The last calls of these are made again, after a history that takes many allocations.
+FOLDED_AGAIN = (
+    ("stored_histories::an_install_folds_again_where_memory_was_refused", 10),
+    ("stored_histories::a_start_folds_again_where_memory_was_refused", 10),
+    ("audits::an_audit_folds_again_where_memory_was_refused", 3),
+    ("audits::a_verdict_folds_again_where_memory_was_refused", 3),
+)
+
+
+def again_tests(program, library):
+    """Tests of steps and calls that are tried again where memory was refused to them."""
+    for crate, test, in_a_row, least, last in AGAIN:
+        words = [built_tests(program, crate), test]
+        yield again_problems(library, words, in_a_row, least, range(1, last + 1))
+    for test, least in FOLDED_AGAIN:
+        words = [built_tests(program, "test_core"), test]
+        last = allocations(library, words)
+        yield again_problems(library, words, 1, least, range(last - 40, last + 6))
 
 
 NIGHT = os.path.join("examples", "night-profile")
@@ -520,7 +636,8 @@ def allocations(library, test):
 
 def again_problems(library, test, in_a_row, least, numbers):
     """A test of what is tried again, refused its allocations from each in turn: it passes, unless it was set up without memory."""
-    no_memory = re.compile(rb"error: (OutOfMemory|AllocError|AllocFailed \{ \.\. \})\n")
+    kinds = rb"OutOfMemory|AllocError|AllocFailed \{ \.\. \}|Io\(Kind\(OutOfMemory\)\)"
+    no_memory = re.compile(rb"error: (" + kinds + rb")\n")
     problems, unready, refused, passes = [], 0, 0, 0
     for number in numbers:
         environment = {
@@ -623,6 +740,7 @@ def all_problems(program):
         results.extend(check_and_show_problems(program, folder))
         results.extend(drawn_problems(program, folder))
         results.extend(growth_problems(program, folder))
+        results.extend(site_growth_problems(program, folder))
         if not UNPROVED:
             results.extend(memory_problems(program, folder))
     return results

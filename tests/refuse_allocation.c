@@ -1,6 +1,7 @@
-/* Loaded before the C library by tests/program.py: of the program's allocations the REFUSED_ALLOCATION-th is refused,
-   and as many after it as REFUSED_IN_A_ROW says, itself included. With REPORT_REFUSED the program says at its exit
-   whether one was. */
+/* Loaded before the C library by tests/program.py and tests/sockets: of the program's allocations the
+   REFUSED_ALLOCATION-th is refused, and as many after it as REFUSED_IN_A_ROW says, itself included. With
+   REFUSED_WHILE_THERE they count while a file is there, and with REFUSED_TO_ONE_THREAD only those of the thread are
+   refused to which the first one was. With REPORT_REFUSED the program says at its exit whether one was. */
 #define _GNU_SOURCE
 #include <dlfcn.h>
 #include <errno.h>
@@ -13,6 +14,11 @@
 static atomic_long made;
 static long first, past;
 static atomic_int was_refused;
+/* The file of REFUSED_WHILE_THERE. */
+static const char *sign;
+/* The thread to which the first was refused; 0 before, and where it doesn't matter. */
+static int is_for_one_thread;
+static atomic_long refused_thread;
 
 static long number_of(const char *name, long otherwise) {
     const char *text = getenv(name);
@@ -22,6 +28,8 @@ static long number_of(const char *name, long otherwise) {
 __attribute__((constructor)) static void begin(void) {
     first = number_of("REFUSED_ALLOCATION", 0);
     past = first > 0 ? first + number_of("REFUSED_IN_A_ROW", 1) : 0;
+    sign = getenv("REFUSED_WHILE_THERE");
+    is_for_one_thread = getenv("REFUSED_TO_ONE_THREAD") != NULL;
     made = 0;
 }
 
@@ -32,9 +40,24 @@ __attribute__((destructor)) static void end(void) {
     }
 }
 
+static int is_counted(void) {
+    int kept = errno;
+    int is_there = sign == NULL || access(sign, F_OK) == 0;
+    errno = kept;
+    return is_there;
+}
+
+static int is_of_another_thread(void) {
+    long own = gettid(), found = 0;
+    return is_for_one_thread && !atomic_compare_exchange_strong(&refused_thread, &found, own) && found != own;
+}
+
 static int is_refused(void) {
+    if (!is_counted()) {
+        return 0;
+    }
     long number = atomic_fetch_add(&made, 1) + 1;
-    if (number < first || past <= number) {
+    if (number < first || past <= number || is_of_another_thread()) {
         return 0;
     }
     was_refused = 1;

@@ -1,10 +1,14 @@
 """Messages of every kind on an open session: which are read, which are ignored, and which end it."""
+import json
 import struct
 
 from python_client import PythonClient
 from raw_client import BINARY, CLOSE, CONTINUATION, PING, PONG, TEXT, Frame, RawClient, frame_bytes
 from serving import Serving, expect
-from texts import CALL_0, OCPP, ask, call, error, heartbeat, plain_site, without_moment
+from texts import (
+    CALL_0, OCPP, accepted, ask, call, error, heartbeat, install, install_call, plain_site, profile,
+    without_moment,
+)
 
 SITE = plain_site(2)
 LONGEST_TEXT = 1_048_576
@@ -53,6 +57,58 @@ def dropped_texts(program):
             expect("texts of the next", moments_cut(client.texts_of(heartbeat("1"))), [ANSWER])
             client.close()
             expect("the totals", serving.totals(), (0, 0))
+
+
+# An operator's two messages, the schedule that follows from them, and their proper beginnings.
+LIMIT = profile(1, [16])
+INSTALL, ASK = install("a", LIMIT), ask("b")
+SCHEDULE = {
+    "status": "Accepted",
+    "connectorId": 1,
+    "chargingSchedule": {
+        "duration": 3600,
+        "chargingRateUnit": "A",
+        "chargingSchedulePeriod": [{"startPeriod": 0, "limit": 16.0}],
+    },
+}
+BEGUN = [text[:length] for text in (INSTALL, ASK) for length in range(len(text))]
+
+
+def schedule_of(texts):
+    """The payload of the one answer among the texts, without the schedule's moment."""
+    expect("how many texts", len(texts), 1)
+    kind, message_id, payload = json.loads(texts[0])
+    expect("whose answer", (kind, message_id), (3, "b"))
+    payload.pop("scheduleStart")
+    return payload
+
+
+def cut_texts(program):
+    """An operator's messages cut at each byte bring nothing, and the whole ones then have their
+    answers. A point's bring no more than the call that waits for it."""
+    with Serving(program, SITE, 2) as serving:
+        with RawClient.connected(serving, "/operator/P1") as operator:
+            for text in BEGUN:
+                expect(f"texts of {text!r}", operator.texts_of(text), [])
+            expect("texts of the install", operator.texts_of(INSTALL), [accepted("a")])
+            expect("the schedule", schedule_of(operator.texts_of(ASK)), SCHEDULE)
+            with RawClient.connected(serving, "/P1") as point:
+                cut_texts_of_a_point(operator, point)
+                point.close()
+            operator.close()
+        expect("the totals", serving.totals(), (1 + len(BEGUN), 1))
+
+
+def cut_texts_of_a_point(operator, point):
+    """Each follows an install, whose call it brings. The first of those was made before."""
+    limit = profile(1, [16.0])
+    expect("texts of the first", moments_cut(point.texts_of(heartbeat("1"))), [ANSWER, CALL_0])
+    expect("texts of a reply", point.texts_of(accepted("0")), [install_call(1, limit)])
+    expect("texts of the next reply", point.texts_of(accepted("1")), [])
+    for number, text in enumerate(BEGUN, 2):
+        expect("texts of an install", operator.texts_of(INSTALL), [accepted("a")])
+        expect(f"texts of {text!r}", point.texts_of(text), [install_call(number, limit)])
+        expect("texts of its reply", point.texts_of(accepted(str(number))), [])
 
 
 def fragmented_texts(program):
@@ -215,6 +271,7 @@ async def messages_of_the_library(program):
 def tests():
     yield "binary messages", binary_messages
     yield "dropped texts", dropped_texts
+    yield "texts cut at each byte", cut_texts
     yield "texts in parts", fragmented_texts
     yield "many frames in one write", texts_in_one_write
     yield "bytes one by one", bytes_one_by_one

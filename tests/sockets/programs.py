@@ -20,6 +20,8 @@ PROFILE = '{"connectorId":0,"csChargingProfiles":{"chargingProfileId":1,"stackLe
     '"chargingProfilePurpose":"TxDefaultProfile","chargingProfileKind":"Absolute","chargingSchedule":\n' \
     '{"startSchedule":"2025-01-01T00:00:00Z","chargingRateUnit":"A","chargingSchedulePeriod":[{"startPeriod":0,"limit":8}]}}}\n'
 
+TX_PROFILE = '{"chargingProfileId":5,"transactionId":9,"stackLevel":0,"chargingProfilePurpose":"TxProfile","chargingProfileKind":' \
+    '"Relative",\n"chargingSchedule":{"chargingRateUnit":"A","chargingSchedulePeriod":[{"startPeriod":0,"limit":6}]}}\n'
 
 CLEARS_ALL = b"clear: warning: a clear without a criterion clears EVERYTHING that the point has, a fuse limit (ChargePointMaxProfile) too"
 
@@ -63,6 +65,41 @@ def options_of_call(program):
         why = b"ask: UnknownConnector: the point has no connector of this number\n"
         expect("ask another connector", operator(serving, "--ask", "3", "60"), (2, refused, why))
         expect("the totals", serving.totals(), (2, 2))
+
+
+def remote_starts_of_call(program):
+    """`--remote-start` sends its call, with the profile of a file; a simulated point starts, and the profile counts from then on."""
+    accepted, told = b'[3,"remote-start",{"status":"Accepted"}]\n', b'[3,"status",{"status":"Accepted","version":%d,"outbox":%d,"audit":"None"}]\n'
+    with Serving(program, SITE, 6) as serving, tempfile.NamedTemporaryFile("w", suffix=".json") as profile:
+        profile.write(TX_PROFILE)
+        profile.flush()
+        given = operator(serving, "--status", "--ask", "1", "60", "--remote-start", "1", 'T"1', profile.name)
+        why = b"remote-start: warning: transactionId has no effect in a remote start: its transaction has no number yet\n"
+        expect("with a profile", given, (0, accepted + SCHEDULE % (b"ask", 1, b"32.0") + told % (0, 2), why))
+        expect("without one", operator(serving, "--remote-start", "2", "T2"), (0, accepted, b""))
+        refused = b'[3,"remote-start",{"status":"Rejected","reason":"UnknownConnector"}]\n'
+        why = b"remote-start: UnknownConnector: the point has no connector of this number\n"
+        expect("at the whole point", operator(serving, "--remote-start", "0", "T2"), (2, refused, why))
+        status, out, error = point(serving, b"heartbeat\n" * 4)
+        expect("the point's end", (status, error), (0, b""))
+        sent = b'sent [2,"%d","StartTransaction",{"connectorId":%d,"idTag":"%s","meterStart":0,"timestamp":"NOW"}]\n'
+        expect("it starts", [text for text in (sent % (3, 1, b'T\\"1'), sent % (4, 2, b"T2")) if text not in out], [])
+        calls = [b"Heartbeat"] * 3 + [b"StartTransaction"] * 2 + [b"Heartbeat"]
+        expect("its calls in turn", re.findall(rb'sent \[2,"\d+","(\w+)"', out), calls)
+        given = operator(serving, "--ask", "1", "60", "--status")
+        expect("the profile counts", given, (0, SCHEDULE % (b"ask", 1, b"6.0") + told % (2, 0), b""))
+        profile.write("}")
+        profile.flush()
+        given = operator(serving, "--remote-start", "1", "T1", profile.name)
+        why = b"remote-start: line 3, column 1: nothing more is wanted behind the value, and `}` stands there\n"
+        expect("no JSON", given, (2, b"! remote-start NotACall\n", why))
+        expect("the totals", serving.totals(), (2, 2))
+    missing = b"central: /none: it isn't there, may not be read, isn't UTF-8, or is longer than a message may be\ncentral: device: read\n"
+    line = ["call", "--url", "ws://127.0.0.1:9/operator/P1", "--remote-start"]
+    expect("no file", run(program, [*line, "1", "T1", "/none"]), (3, b"", missing))
+    no_number = b"central: command line: the CONNECTOR of --remote-start is no whole number from 0 on\n"
+    for connector in ("x", "", "1.5", "4294967296"):
+        expect(f"the connector {connector!r}", run(program, [*line, connector, "T1", "/none"]), (4, b"", no_number))
 
 
 def mistakes_before_a_call(program):
@@ -151,13 +188,16 @@ def command_lines(program):
         ["call", "--url", "ws://x/", "--audit", "1"],
         ["call", "--url", "ws://x/", "--audit", "1", "60", "9"],
         ["call", "--url", "ws://x/", "--status", "1"],
+        ["call", "--url", "ws://x/", "--remote-start", "1"],
+        ["call", "--url", "ws://x/", "--remote-start", "-1", "T1"],
+        ["call", "--url", "ws://x/", "--remote-start", "1", "T1", "f", "g"],
         ["call", "--url", "ws://x/", "--clear"],
         ["point", "--url", "ws://x", "--site", "s"],
         ["point", "--url", "ws://x", "--site", "s", "--id", "a", "--id", "b"],
     ):
         status, out, error = run(program, line)
         expect(f"the end of {line}", (status, out, error != b""), (4, b"", True))
-    for command, words in (("call", (b"--set-profile", b"NotACall", b"--ask", b"--audit", b"--status")), ("point", (b"heartbeat", b"pause SECONDS", b"--id"))):
+    for command, words in (("call", (b"--set-profile", b"NotACall", b"--ask", b"--audit", b"--status", b"--remote-start")), ("point", (b"heartbeat", b"pause SECONDS", b"--id"))):
         status, out, error = run(program, [command, "--help"])
         expect(f"the help of {command}", (status, error, [word for word in words if word not in out]), (0, b"", []))
 
@@ -190,6 +230,16 @@ def pause_of_a_point(program):
         reply = b'[3,"0",{"currentTime":"NOW"}]\n'
         expect("what comes in the pause", out.partition(reply)[2].startswith(got + answered + b"sent "), True)
         expect("the totals", serving.totals(), (0, 0))
+
+
+def remote_start_in_a_pause(program):
+    """A start that a point is asked for in a pause is made in it: no line comes behind."""
+    with Serving(program, SITE, 2) as serving:
+        expect("the operator", operator(serving, "--remote-start", "2", "T1")[::2], (0, b""))
+        status, out, error = point(serving, b"heartbeat\npause 3\n")
+        expect("its end", (status, error), (0, b""))
+        expect("its calls", re.findall(rb'sent \[2,"\d+","(\w+)"', out), [b"Heartbeat", b"StartTransaction"])
+        expect("the totals", serving.totals(), (1, 0))
 
 
 def state_of(process):
@@ -290,12 +340,14 @@ def back_office(program):
 
 def tests():
     yield "the options of call", options_of_call
+    yield "the remote starts of call", remote_starts_of_call
     yield "mistakes before a call", mistakes_before_a_call
     yield "the lines of call", lines_of_call
     yield "the faults of call", faults_of_call
     yield "command lines", command_lines
     yield "a point's day", day_of_a_point
     yield "a point's pause", pause_of_a_point
+    yield "a remote start in a pause", remote_start_in_a_pause
     yield "a point that is stopped in its pause", point_stopped_in_its_pause
     yield "a server that never closes", server_that_never_closes
     yield "the faults of a point", faults_of_a_point

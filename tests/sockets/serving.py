@@ -59,10 +59,13 @@ class Serving:
     """`PROGRAM serve` of a site for so many connections. At the end of a `with` block it doesn't run any more.
 
     `limits` are those of `resource.setrlimit` that the program has, by their kind. With a `journal` it writes one. Its
-    standard error is a pipe, or `error`.
+    standard error is a pipe, or `error`. `environment` is what its environment has beside that of all.
     """
 
-    def __init__(self, program, site, sessions, workers=2, limits=None, journal=None, error=subprocess.PIPE):
+    def __init__(
+        self, program, site, sessions, workers=2, limits=None, journal=None, error=subprocess.PIPE,
+        environment=None,
+    ):
         self.program = program
         self.site = site
         self.sessions = sessions
@@ -70,6 +73,7 @@ class Serving:
         self.limits = limits or {}
         self.options = [] if journal is None else ["--journal", journal]
         self.error = error
+        self.environment = {**ENVIRONMENT, **(environment or {})}
         self.port = None
         self.process = None
 
@@ -99,7 +103,8 @@ class Serving:
         numbers = ["--workers", str(self.workers), "--sessions", str(self.sessions)]
         command = [self.program, "serve", "--site", path, "--listen", address, *numbers, *self.options]
         self.process = subprocess.Popen(
-            command, stdout=subprocess.PIPE, stderr=self.error, env=ENVIRONMENT, preexec_fn=lambda: limit(self.limits)
+            command, stdout=subprocess.PIPE, stderr=self.error, env=self.environment,
+            preexec_fn=lambda: limit(self.limits),
         )
         select.select([self.process.stdout], [], [], PATIENCE)
         line = self.process.stdout.readline() if self.process.poll() is None else b""

@@ -18,6 +18,7 @@ import messages
 import node_clients
 import programs
 import reconnects
+import refusals
 import replays
 from node_client import NodeClient
 
@@ -33,10 +34,15 @@ SUBJECTS = {
     "programs": programs,
     "journals": journals,
     "audits": audits,
+    "refusals": refusals,
 }
 
-# What takes a program that is proved: others are too slow, or have no thread to spare.
-NEED_A_PROOF = {("messages", "a message past the limit"), ("crowds", "64 texts of the limit"), ("endings", "no threads")}
+# What takes a program that is proved: others are too slow, have no thread to spare, or can't be
+# refused an allocation.
+NEED_A_PROOF = {
+    ("messages", "a message past the limit"), ("crowds", "64 texts of the limit"), ("endings", "no threads"),
+    *(("refusals", name) for name, _ in refusals.tests()),
+}
 
 # No test takes a tenth of it on a machine that is busy.
 LONGEST_TEST = 720.0 if "UNPROVED" in os.environ else 240.0

@@ -12,6 +12,7 @@ use Rattle.central.specs.declared.program.command_line.Job.TheVariants.{Replay, 
 use Rattle.central.specs.declared.program.command_line.Serving.{Serving}
 use Rattle.central.specs.declared.program.command_line.Calling.{Calling}
 use Rattle.central.specs.declared.program.command_line.Asking.{Asking}
+use Rattle.central.specs.declared.program.command_line.Starting.{Starting}
 use Rattle.central.specs.declared.program.command_line.Pointing.{Pointing}
 use Rattle.central.specs.declared.program.command_line.Explaining.{Explaining}
 use Rattle.central.specs.declared.program.command_line.Checking.{Checking}
@@ -68,14 +69,23 @@ optional_numbers name most = record (option name) {
   parser = Some (Unsigned 0 most);
 }
 
--- `call --url U [--set-profile FILE] [--clear CRITERIA] [--ask CONNECTOR SECONDS]
--- [--audit CONNECTOR SECONDS] [--status]`
+-- an option that takes two values or three, for which the help has names
+abbrev pub optional_values : Text → Rule
+optional_values name = record (option name) {
+  range = Some (record { start_inclusive = 2; end_inclusive = 3 });
+  value_names = 3;
+}
+
+-- `call --url U [--set-profile FILE] [--clear CRITERIA] [--remote-start CONNECTOR TAG [FILE]]
+-- [--ask CONNECTOR SECONDS] [--audit CONNECTOR SECONDS] [--status]`
 abbrev pub call_command : App
 call_command =
-    with_rule (with_rule (with_rule (with_rule (with_rule (with_rule (new_app (codes "call"))
+    with_rule (with_rule (with_rule (with_rule (with_rule (with_rule (with_rule
+    (new_app (codes "call"))
     (needed (codes "url")))
     (optional (codes "set-profile")))
     (optional (codes "clear")))
+    (optional_values (codes "remote-start")))
     (optional_numbers (codes "ask") 2147483647))
     (optional_numbers (codes "audit") 2147483647))
     (flag (codes "status"))
@@ -182,12 +192,25 @@ abbrev pub IsAsking : Option (List Text) → Option Asking → Type 0
 IsAsking given None = given ≡ None
 IsAsking given (Some asking) = given ≡ Some (asking.connector.now ∷ asking.seconds.now ∷ [])
 
+-- the texts of what is to be started: the connector, the idTag, and the profile's file if it is
+-- given
+abbrev pub texts_of_start : Text → Text → Option Text → List Text
+texts_of_start connector id_tag None = connector ∷ id_tag ∷ []
+texts_of_start connector id_tag (Some profile) = connector ∷ id_tag ∷ profile ∷ []
+
+abbrev pub IsStarting : Option (List Text) → Option Starting → Type 0
+IsStarting given None = given ≡ None
+IsStarting given (Some starting) =
+    given ≡ Some (texts_of_start starting.connector.now starting.id_tag.now
+    (option_map (λ text. text.now) starting.profile))
+
 -- what an operator's client is to send, where that isn't read from standard input
 pub record IsCalling (rows : List Row) (calling : Calling) : Type 0 where
   pub url : first_of (codes "url") rows ≡ Some calling.url.now
   pub set_profile :
       first_of (codes "set-profile") rows ≡ option_map (λ text. text.now) calling.set_profile
   pub clear : first_of (codes "clear") rows ≡ option_map (λ text. text.now) calling.clear
+  pub remote_start : IsStarting (all_of (codes "remote-start") rows) calling.remote_start
   pub ask : IsAsking (all_of (codes "ask") rows) calling.ask
   pub audit : IsAsking (all_of (codes "audit") rows) calling.audit
   pub status : IsFlag (codes "status") rows calling.status

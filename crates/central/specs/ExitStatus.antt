@@ -7,7 +7,7 @@ use Rattle.replay.specs.declared.script.run.Summary.{Summary}
 use Rattle.client.specs.declared.fault.ClientFault.{ClientFault}
 use Rattle.client.specs.declared.fault.ClientFault.TheVariants as client_fault
 use Rattle.central.specs.declared.program.program_fault.ProgramFault.{ProgramFault}
-use Rattle.central.specs.declared.program.program_fault.ProgramFault.TheVariants.{Words, Site, SiteFile, Write, Replay, Serve, JournalExists, Journal, Client, File, NoSuchPoint, NoSuchConnector, NoInstant, PastCalendar, NoPicture, OutOfMemory}
+use Rattle.central.specs.declared.program.program_fault.ProgramFault.TheVariants.{Words, Site, SiteFile, Write, Replay, Serve, JournalExists, Journal, Client, File, NoSuchPoint, NoSuchConnector, NoInstant, NoNumber, PastCalendar, NoPicture, OutOfMemory}
 
 abbrev pub replay_status : ReplayFault → ℕ
 replay_status replay_fault.Read = 3
@@ -35,6 +35,7 @@ fault_status File = 3
 fault_status NoSuchPoint = 4
 fault_status NoSuchConnector = 4
 fault_status NoInstant = 4
+fault_status NoNumber = 4
 fault_status PastCalendar = 4
 fault_status NoPicture = 4
 fault_status OutOfMemory = 3

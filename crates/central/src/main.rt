@@ -78,10 +78,7 @@ fn do_job<
             serve_file(rt, serving)?;
             Ok(0)
         }
-        Ok(Job::Call(calling)) => {
-            let status = call_site(rt, calling);
-            naming(rt, calling.set_profile.unwrap_or(""), status)
-        }
+        Ok(Job::Call(calling)) => call_site(rt, calling),
         Ok(Job::Point(pointing)) => {
             let status = run_point(rt, pointing);
             naming(rt, pointing.site, status)
@@ -104,20 +101,15 @@ fn do_job<
     }
 }
 
-/// Names the file that a job couldn't read, if that is why it stopped.
+/// Names the site file that a job couldn't read, if that is why it stopped.
 fn naming<T, R: Eprint>(
     rt: &R,
     path: &str,
     done: Result<T, ProgramFault>,
 ) -> Result<T, ProgramFault> {
-    let why = match &done {
-        Err(ProgramFault::SiteFile) => "it isn't there, is a folder, or may not be read",
-        Err(ProgramFault::File) => {
-            "it isn't there, may not be read, isn't UTF-8, or is longer than a message may be"
-        }
-        _ => return done,
-    };
-    let _ = eprintln!(rt; "central: {path}: {why}");
+    if let Err(ProgramFault::SiteFile) = &done {
+        let _ = eprintln!(rt; "central: {path}: it isn't there, is a folder, or may not be read");
+    }
     done
 }
 

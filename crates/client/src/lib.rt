@@ -16,6 +16,8 @@ pub use connecting::{Address, Connection, connect};
 pub use fault::ClientFault;
 pub use lines::Lines;
 pub use operator::{CallEnd, OperatorClient};
-pub use operator_texts::{ask_call, audit_call, clear_call, set_profile_call, status_call};
+pub use operator_texts::{
+    ask_call, audit_call, clear_call, remote_start_call, set_profile_call, status_call,
+};
 pub use point_lines::{PointLine, point_line};
 pub use terminal_point::TerminalPoint;

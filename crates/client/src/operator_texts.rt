@@ -1,6 +1,6 @@
 //! An operator's calls, made from what a command line gives. Their ids say what they are.
 
-use ocppj_frame::write_call;
+use ocppj_frame::{push_string, write_call};
 use std::alloc::{AllocError, Global};
 
 /// SetChargingProfile (chapter 5.16) with a payload that is given as its text.
@@ -11,6 +11,29 @@ pub fn set_profile_call(alloc: Global, payload: &str) -> Result<String, AllocErr
 /// ClearChargingProfile (chapter 5.5) with a payload that is given as its text.
 pub fn clear_call(alloc: Global, payload: &str) -> Result<String, AllocError> {
     write_call(alloc, "clear", "ClearChargingProfile", payload)
+}
+
+/// RemoteStartTransaction (chapter 5.11) of a connector and an idTag, and with a profile where its
+/// text is given.
+pub fn remote_start_call(
+    alloc: Global,
+    connector: u32,
+    id_tag: &str,
+    profile: Option<&str>,
+) -> Result<String, AllocError> {
+    let mut payload = format!(in alloc; "{{\"connectorId\":{connector},\"idTag\":")?;
+    push_string(&mut payload, id_tag)?;
+    if let Some(profile) = profile {
+        payload.push_str(",\"chargingProfile\":")?;
+        payload.push_str(profile)?;
+    }
+    payload.push_str("}")?;
+    write_call(
+        alloc,
+        "remote-start",
+        "RemoteStartTransaction",
+        payload.as_str(),
+    )
 }
 
 /// GetCompositeSchedule (chapter 5.7) of a connector, and for this many seconds, each given as its

@@ -26,9 +26,9 @@ pub struct TerminalPoint<'a, S: Read + Write, K: MaskKeys, W: Write> {
 }
 
 impl<S: Read + Write + OpenStream + Drop, K: MaskKeys + Drop, W: Write> TerminalPoint<'_, S, K, W> {
-    /// Does what each line says, and closes the connection behind the last one. A line that says
-    /// nothing, or a step that makes no call, is written as `! NUMBER NAME`. Returns how many there
-    /// were.
+    /// Does what each line says, and closes the connection behind the last one. A start that the
+    /// point accepts comes before the next line. A line that says nothing, or a step that makes no
+    /// call, is written as `! NUMBER NAME`. Returns how many there were.
     pub fn play<R: Wait + Clock, I: Read + Drop, M: Moments>(
         mut self,
         rt: &R,
@@ -69,8 +69,8 @@ impl<S: Read + Write + OpenStream + Drop, K: MaskKeys + Drop, W: Write> Terminal
         }
     }
 
-    /// Makes the call of a step, and waits for its reply. The name of the fault, if the step makes
-    /// none.
+    /// Makes the call of a step, and then the starts that came meanwhile. The name of the fault, if
+    /// the step makes none.
     fn make_step<R: Wait, M: Moments>(
         &mut self,
         rt: &R,
@@ -80,11 +80,30 @@ impl<S: Read + Write + OpenStream + Drop, K: MaskKeys + Drop, W: Write> Terminal
         if self.point.add_step(step).is_err() {
             return Err(ClientFault::OutOfMemory);
         }
+        if !self.make_call(rt, clock)? {
+            return Ok(Some("NoCall"));
+        }
+        self.make_starts(rt, clock)?;
+        Ok(None)
+    }
+
+    /// Makes the starts that the point accepted: of the steps, they alone are left now.
+    fn make_starts<R: Wait, M: Moments>(&mut self, rt: &R, clock: &M) -> Result<(), ClientFault> {
+        for _start in rt.forever() {
+            if !self.make_call(rt, clock)? {
+                return Ok(());
+            }
+        }
+        unreachable!()
+    }
+
+    /// Makes the call of the next step, and waits for its reply. Whether a step makes one.
+    fn make_call<R: Wait, M: Moments>(&mut self, rt: &R, clock: &M) -> Result<bool, ClientFault> {
         let Ok(call) = self.point.next_call(present(clock)?) else {
             return Err(ClientFault::OutOfMemory);
         };
         let Some(call) = call else {
-            return Ok(Some("NoCall"));
+            return Ok(false);
         };
         self.send(call.as_str())?;
         for _message in rt.forever() {
@@ -93,10 +112,10 @@ impl<S: Read + Write + OpenStream + Drop, K: MaskKeys + Drop, W: Write> Terminal
             }
             self.take_message(clock)?;
         }
-        Ok(None)
+        Ok(true)
     }
 
-    /// Answers what comes within this many seconds.
+    /// Answers what comes within this many seconds, and makes the starts that it is asked for.
     fn pause<R: Wait + Clock, M: Moments>(
         &mut self,
         rt: &R,
@@ -118,8 +137,10 @@ impl<S: Read + Write + OpenStream + Drop, K: MaskKeys + Drop, W: Write> Terminal
             }
             self.wait_at_most(Some(left))?;
             self.take_message(clock)?;
+            self.wait_at_most(None)?;
+            self.make_starts(rt, clock)?;
         }
-        self.wait_at_most(None)
+        Ok(())
     }
 
     /// Sets how long a message is waited for.

@@ -9,6 +9,7 @@ use crate::payload_fields::{UnknownField, repeated_payload_fields, unknown_paylo
 use crate::payload_objects::{PayloadObject, names_of};
 use crate::printed_check::depends_on_state;
 use crate::profile_check::check_install;
+use crate::remote_start_check::check_remote_start;
 use crate::report::Report;
 use crate::sentences::sentence;
 use crate::similar::similar_name;
@@ -131,6 +132,7 @@ fn check_asked(
         }
         Action::ClearChargingProfile(criteria) => check_clear(report, call, &criteria),
         Action::GetCompositeSchedule(request) => check_ask(report, call.text, &request),
+        Action::RemoteStartTransaction(start) => check_remote_start(report, call.text, start),
         // The point is asked for a schedule, in the site's unit.
         Action::AuditPoint {
             connector,
@@ -399,6 +401,11 @@ pub(crate) fn connector_found(
         }
         None => format!(in alloc; "connectorId is {connector}"),
     }
+}
+
+/// How many connectors the line's point has.
+pub(crate) fn connector_count(text: &LineText<'_>) -> usize {
+    point_of(text.site, text).map_or(0, |point| point.ceilings.len())
 }
 
 /// The unit of the site.

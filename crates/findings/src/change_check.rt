@@ -29,7 +29,9 @@ pub fn check_change(alloc: Global, change: &RowChange<'_>) -> Result<Vec<Finding
     let mut findings = Vec::new(alloc);
     if let Some(came) = change.came {
         for gone in change.gone {
-            findings.push(replaced(alloc, change.number, came, *gone)?)?;
+            if takes_place_of(came, *gone) {
+                findings.push(replaced(alloc, change.number, came, *gone)?)?;
+            }
         }
     } else if clears_at_large(alloc, change.frame)? {
         for gone in change.gone {
@@ -39,6 +41,15 @@ pub fn check_change(alloc: Global, change: &RowChange<'_>) -> Result<Vec<Finding
         }
     }
     Ok(findings)
+}
+
+/// Whether a profile took another's place. A TxProfile may also be gone with its transaction, which
+/// a start with a profile of its own ended.
+fn takes_place_of(came: PrevailingProfile, gone: PrevailingProfile) -> bool {
+    came.id == gone.id
+        || (came.purpose == gone.purpose
+            && came.connector == gone.connector
+            && came.stack_level == gone.stack_level)
 }
 
 /// That a profile took another's place.

@@ -44,6 +44,8 @@ pub(crate) struct LineText<'a> {
     pub printed: &'a [PrintedLine],
     /// The point's audit, where the message confirmed a call.
     pub audit: Option<JudgedAudit>,
+    /// Whether the message confirmed a call that asks for a start.
+    pub replies_to_start: bool,
 }
 
 impl<'a> LineText<'a> {
@@ -78,6 +80,7 @@ impl<'a> LineText<'a> {
             line: utf8_of(played.line).0,
             printed: played.outcome.printed.as_slice(),
             audit: None,
+            replies_to_start: false,
         }
     }
 

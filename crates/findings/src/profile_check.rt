@@ -20,10 +20,8 @@ pub(crate) fn check_install(
     parts: ProfileParts,
 ) -> Result<(), AllocError> {
     let site = text.site;
-    warn_dropped(report, &parts)?;
-    let profile = match Profile::try_new(parts) {
-        Ok(profile) => profile,
-        Err((refusal, parts)) => return refuse_parts(report, refusal, &parts),
+    let Some(profile) = check_parts(report, parts)? else {
+        return Ok(());
     };
     match admit(site, text.point, connector, &profile) {
         Err(Refusal::UnknownPoint) => {
@@ -34,11 +32,7 @@ pub(crate) fn check_install(
             let found = place_found(report.alloc, site, text, connector, refusal)?;
             reject(report, refusal, Some(found.as_str()))?;
         },
-        Ok(()) => {
-            if let Some(point) = point_of(site, text) {
-                warn_ceiling(report, point, connector, &profile)?;
-            }
-        }
+        Ok(()) => warn_ceiling_at(report, text, connector, &profile)?,
     }
     warn_transaction(report, &profile)?;
     warn_rates(report, text.moment, &profile)
@@ -50,13 +44,31 @@ pub(crate) fn check_sent_profile(
     report: &mut Report,
     parts: ProfileParts,
 ) -> Result<(), AllocError> {
-    warn_dropped(report, &parts)?;
-    let profile = match Profile::try_new(parts) {
-        Ok(profile) => profile,
-        Err((refusal, parts)) => return refuse_parts(report, refusal, &parts),
+    let Some(profile) = check_parts(report, parts)? else {
+        return Ok(());
     };
     warn_transaction(report, &profile)?;
-    match never_rated(&profile) {
+    warn_never_rated(report, &profile)
+}
+
+/// The profile of its parts, or their refusal. What has no effect in it is warned of.
+pub(crate) fn check_parts(
+    report: &mut Report,
+    parts: ProfileParts,
+) -> Result<Option<Profile>, AllocError> {
+    warn_dropped(report, &parts)?;
+    match Profile::try_new(parts) {
+        Ok(profile) => Ok(Some(profile)),
+        Err((refusal, parts)) => {
+            refuse_parts(report, refusal, &parts)?;
+            Ok(None)
+        }
+    }
+}
+
+/// A profile that never has a rate.
+pub(crate) fn warn_never_rated(report: &mut Report, profile: &Profile) -> Result<(), AllocError> {
+    match never_rated(profile) {
         Some(why) => report.warn_text(never_sentence(why)),
         None => Ok(()),
     }
@@ -137,6 +149,19 @@ fn warn_transaction(report: &mut Report, profile: &Profile) -> Result<(), AllocE
     Ok(())
 }
 
+/// A profile that never lowers a limit at the line's point.
+pub(crate) fn warn_ceiling_at(
+    report: &mut Report,
+    text: &LineText<'_>,
+    connector: u32,
+    profile: &Profile,
+) -> Result<(), AllocError> {
+    match point_of(text.site, text) {
+        Some(point) => warn_ceiling(report, point, connector, profile),
+        None => Ok(()),
+    }
+}
+
 /// A profile that never lowers a limit, since the ceilings of the site file are below it.
 fn warn_ceiling(
     report: &mut Report,
@@ -173,7 +198,11 @@ fn highest_ceiling(point: SitePoint<'_>, connector: u32, purpose: Purpose) -> u3
 }
 
 /// When a profile has no rate: never, or in intervals that probably weren't meant.
-fn warn_rates(report: &mut Report, moment: Instant, profile: &Profile) -> Result<(), AllocError> {
+pub(crate) fn warn_rates(
+    report: &mut Report,
+    moment: Instant,
+    profile: &Profile,
+) -> Result<(), AllocError> {
     if let Some(why) = never_rated(profile) {
         return report.warn_text(never_sentence(why));
     }

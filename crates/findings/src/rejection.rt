@@ -19,12 +19,13 @@ pub(crate) enum Rejection<'text> {
 }
 
 /// The refusals that an answer may name.
-const REFUSALS: [Refusal; 23] = [
+const REFUSALS: [Refusal; 24] = [
     Refusal::UnknownPoint,
     Refusal::UnknownConnector,
     Refusal::MaxNotAtZero,
     Refusal::TxAtZero,
     Refusal::WrongUnit,
+    Refusal::NotTxProfile,
     Refusal::LevelTooHigh,
     Refusal::TooManyPeriods,
     Refusal::PeriodsOutOfOrder,

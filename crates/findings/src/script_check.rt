@@ -4,8 +4,10 @@ use crate::audit_check::judged_audit;
 use crate::finding::{FaultName, Finding, Location};
 use crate::line_hints::mistake_message;
 use crate::line_text::LineText;
+use crate::remote_start_check::check_ended_start;
 use crate::report::Report;
 use crate::sentences::line_sentence;
+use crate::starts::Starts;
 use crate::text_check::check_text;
 use ocppj_frame::ReadingMemory;
 use replay::{Held, LineFault, MAX_SCRIPT_BYTES, PlayedLine, Playing, PrintedLine, ScriptLine};
@@ -38,6 +40,7 @@ pub struct ScriptCheck {
     report: Report,
     memory: ReadingMemory,
     held: Vec<HeldLine>,
+    starts: Starts,
 }
 
 /// A request that a line held.
@@ -55,6 +58,7 @@ impl ScriptCheck {
             report: Report::new(alloc),
             memory: ReadingMemory::new(alloc),
             held: Vec::new(alloc),
+            starts: Starts::new(alloc),
         }
     }
 
@@ -86,12 +90,17 @@ impl ScriptCheck {
         match &played.said {
             None => Ok(()),
             Some(Ok(ScriptLine::Text(sent))) => {
-                let audit = judged_audit(playing, played, sent.point());
+                let starts = self.starts.follow(playing, played, sent.point())?;
                 let text = LineText {
-                    audit,
+                    audit: judged_audit(playing, played, sent.point()),
+                    replies_to_start: starts.is_reply,
                     ..LineText::new(site, played, sent)
                 };
-                check_text(report, &mut self.memory, &text)
+                check_text(report, &mut self.memory, &text)?;
+                match &starts.ended {
+                    Some(ended) => check_ended_start(report, ended),
+                    None => Ok(()),
+                }
             }
             Some(Ok(ScriptLine::Hold(sent))) => {
                 check_text(

@@ -12,6 +12,7 @@ use crate::field_fault::field_fault_message;
 use crate::finding::{FaultName, Finding};
 use crate::json_fault::json_fault_text;
 use crate::profile_check::check_sent_profile;
+use crate::remote_start_check::check_sent_start;
 use crate::report::Report;
 use crate::text_check::why_dropped;
 use crate::text_place::place_in_text;
@@ -150,6 +151,11 @@ fn check_read(
         } => {
             warn_unknown(report, text, kind)?;
             check_sent_profile(report, profile)?;
+            Ok(false)
+        }
+        Action::RemoteStartTransaction(start) => {
+            warn_unknown(report, text, kind)?;
+            check_sent_start(report, start)?;
             Ok(false)
         }
         _action => {

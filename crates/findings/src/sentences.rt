@@ -17,6 +17,7 @@ pub fn sentence(refusal: Refusal) -> &'static str {
             "a ChargePointMaxProfile stands at connector 0, the whole point, alone",
         Refusal::TxAtZero => "a TxProfile stands at a connector above 0, not at the whole point",
         Refusal::WrongUnit => "chargingRateUnit isn't the unit of the site file",
+        Refusal::NotTxProfile => "the profile of a remote start isn't a TxProfile",
         Refusal::LevelTooHigh => "the stackLevel is above 99",
         Refusal::TooManyPeriods => "there are more than 200 periods in chargingSchedulePeriod",
         Refusal::PeriodsOutOfOrder =>

@@ -6,6 +6,7 @@ use crate::call_check::{Call, check_call};
 use crate::finding::FaultName;
 use crate::json_fault::{JsonFault, json_fault_text};
 use crate::line_text::{LineText, Sender};
+use crate::remote_start_check::warn_not_started;
 use crate::report::Report;
 use crate::sentences::{call_sentence, line_sentence};
 use crate::words::excerpt;
@@ -75,12 +76,25 @@ fn check_frame(
         }
         _ if text.sender == Sender::Hold => not_composite(report, text, "it is no CALL"),
         Frame::Reply { id, payload } => {
-            check_reply(report, text, id.as_str(), reply_status(payload.root()))
+            let status = unaccepted_status(text.replies_to_start, payload.root());
+            check_reply(report, text, id.as_str(), status)
         }
         Frame::Fault { id } => check_reply(report, text, id.as_str(), Some("an error")),
         Frame::Other => report.warn_text(
             "the first element of the frame is none of 2 (CALL), 3 (CALLRESULT) and 4 (CALLERROR): the frame is discarded without an answer",
         ),
+    }
+}
+
+/// The status of a reply, to a remote start or another call, where it isn't well.
+fn unaccepted_status<'memory>(
+    is_of_start: bool,
+    payload: Node<'_, 'memory>,
+) -> Option<&'memory str> {
+    if is_of_start {
+        status_of_start(payload)
+    } else {
+        reply_status(payload)
     }
 }
 
@@ -90,6 +104,15 @@ fn reply_status<'memory>(payload: Node<'_, 'memory>) -> Option<&'memory str> {
         Field::Value("Accepted" | "Unknown") => None,
         Field::Value(status) => Some(status),
         _ => None,
+    }
+}
+
+/// The status of a reply to a remote start, where it isn't accepted.
+fn status_of_start<'memory>(payload: Node<'_, 'memory>) -> Option<&'memory str> {
+    match text_field(payload, "status") {
+        Field::Value("Accepted") => None,
+        Field::Value(status) => Some(status),
+        _ => Some("no status"),
     }
 }
 
@@ -114,6 +137,9 @@ fn check_reply(
     let Some(status) = status else {
         return Ok(());
     };
+    if text.replies_to_start {
+        return warn_not_started(report, id, status);
+    }
     let id = excerpt(alloc, id)?;
     let status = excerpt(alloc, status)?;
     let message = format!(in alloc;

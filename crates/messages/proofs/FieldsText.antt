@@ -43,6 +43,14 @@ later_field old key value after a b c p q r =
     appended old (codes "," ++ string_text key ++ codes ":" ++ value) b (later_texts (filter_map present after)) c
     (appended old (codes "," ++ string_text key ++ codes ":") a value b p q) r
 
+-- The same without later fields.
+pub one_later_field : (old key value a b : List ℕ)
+    → a ≡ old ++ (codes "," ++ string_text key ++ codes ":") → b ≡ a ++ value
+    → b ≡ old ++ later_fields_text ((key, Some value) ∷ [])
+unfolding later_fields_text
+one_later_field old key value a b p q =
+    later_field old key value [] a b b p q (sym (append-nil b))
+
 -- An object's fields, a key behind a comma, its value and the later fields.
 pub nested_object : (old : List ℕ) (before middle after : List (List ℕ × Option (List ℕ)))
     (key value name text s t u v w x : List ℕ) → s ≡ old ++ codes "{"
@@ -66,6 +74,16 @@ pub object_of_two : (old : List ℕ) (middle : List (List ℕ × Option (List �
 unfolding later_fields_text
 object_of_two old middle key value name text s t u v x h i j k m = nested_object old [] middle [] key value name text s t u v v x h i j k (sym (append-nil v)) m
 
+-- Two fields, the second of them behind its key, and the later fields.
+pub fields_of_two_and_later : (old : List ℕ) (middle after : List (List ℕ × Option (List ℕ)))
+    (key value name text s t u v : List ℕ) → s ≡ old ++ fields_text ((key, Some value) ∷ middle)
+    → t ≡ s ++ (codes "," ++ string_text name ++ codes ":") → u ≡ t ++ text
+    → v ≡ u ++ later_fields_text after
+    → v ≡ old ++ fields_text ((key, Some value) ∷ (middle ++ ((name, Some text) ∷ after)))
+fields_of_two_and_later old middle after key value name text s t u v h i j k =
+    fields_more old [] middle ((name, Some text) ∷ after) key value s v h
+    (later_field s name text after t u v i j k)
+
 -- Two fields, the second of them behind its key.
 pub fields_of_two : (old : List ℕ) (middle : List (List ℕ × Option (List ℕ)))
     (key value name text s t u : List ℕ) → s ≡ old ++ fields_text ((key, Some value) ∷ middle)
@@ -73,8 +91,7 @@ pub fields_of_two : (old : List ℕ) (middle : List (List ℕ × Option (List �
     → u ≡ old ++ fields_text ((key, Some value) ∷ (middle ++ ((name, Some text) ∷ [])))
 unfolding later_fields_text
 fields_of_two old middle key value name text s t u h i j =
-    fields_more old [] middle ((name, Some text) ∷ []) key value s u h
-    (later_field s name text [] t u u i j (sym (append-nil u)))
+    fields_of_two_and_later old middle [] key value name text s t u u h i j (sym (append-nil u))
 
 -- An object's first field stands apart from what is written behind it.
 pub first_field : (key value : List ℕ) (fields : List (List ℕ × Option (List ℕ))) → object_text ((key, Some value) ∷ fields) ≡ first_field_text key value ++ (later_fields_text fields ++ codes "}")

@@ -8,19 +8,20 @@ use Rattle.ocppj_frame.specs.declared.field.Field.{Field}
 use Rattle.ocppj_frame.specs.declared.field.Field.TheVariants.{Absent, WrongKind, WrongValue, Value}
 use Rattle.ocppj_frame.specs.Tree.{Tree, is_object}
 use Rattle.profile.specs.Names.{purpose_named, kind_named, recurrency_named, unit_named}
+use Rattle.profile.specs.declared.parts.ProfileParts.{ProfileParts}
 use Rattle.profile.specs.declared.period.Period.{Period}
 use Rattle.messages.specs.declared.action_kind.ActionKind.{ActionKind}
-use Rattle.messages.specs.declared.action_kind.ActionKind.TheVariants.{SetChargingProfile, ClearChargingProfile, GetCompositeSchedule, AuditPoint, PointStatus, BootNotification, Heartbeat, Authorize, StartTransaction, StopTransaction, StatusNotification, MeterValues, FirmwareStatusNotification, DiagnosticsStatusNotification, DataTransfer}
+use Rattle.messages.specs.declared.action_kind.ActionKind.TheVariants.{SetChargingProfile, ClearChargingProfile, GetCompositeSchedule, RemoteStartTransaction, AuditPoint, PointStatus, BootNotification, Heartbeat, Authorize, StartTransaction, StopTransaction, StatusNotification, MeterValues, FirmwareStatusNotification, DiagnosticsStatusNotification, DataTransfer}
 use Rattle.messages.specs.declared.call_fault.CallFault.{CallFault}
 use Rattle.messages.specs.declared.field_name.FieldName.{FieldName}
-use Rattle.messages.specs.declared.field_name.FieldName.TheVariants.{ChargingProfileId, ChargingProfileKind, ChargingProfilePurpose, ChargingRateUnit, ChargingSchedule, ChargingSchedulePeriod, ConnectorId, CsChargingProfiles, Duration, Id, IdTag, Limit, MeterStart, MinChargingRate, NumberPhases, RecurrencyKind, StackLevel, StartPeriod, StartSchedule, Timestamp, TransactionId, ValidFrom, ValidTo}
+use Rattle.messages.specs.declared.field_name.FieldName.TheVariants.{ChargingProfile, ChargingProfileId, ChargingProfileKind, ChargingProfilePurpose, ChargingRateUnit, ChargingSchedule, ChargingSchedulePeriod, ConnectorId, CsChargingProfiles, Duration, Id, IdTag, Limit, MeterStart, MinChargingRate, NumberPhases, RecurrencyKind, StackLevel, StartPeriod, StartSchedule, Timestamp, TransactionId, ValidFrom, ValidTo}
 use Rattle.messages.specs.declared.field_row.ObjectKind.TheVariants.{Profile, Schedule}
 use Rattle.messages.specs.declared.field_row.ObjectKind.TheVariants as objects
 use Rattle.messages.specs.declared.fields.NamedField.{NamedField}
 use Rattle.messages.specs.FieldRow.{fields_in}
-use Rattle.messages.specs.Fields.{required, required_value, optional, whole, whole_from_zero, tenths, instant, one_name_of, list, object, text, as_object, as_id_tag}
-use Rattle.messages.specs.ProfileFields.{period_of, each_period_of, unless_empty, periods_of, schedule_of, profile_of}
-use Rattle.messages.specs.Action.{set_charging_profile_of, clear_charging_profile_of, get_composite_schedule_of, audit_point_of, id_tag_of, start_transaction_of, stop_transaction_of, action_of_kind}
+use Rattle.messages.specs.Fields.{required, required_value, optional, optional_value, whole, whole_from_zero, tenths, instant, one_name_of, list, object, text, as_object, as_id_tag}
+use Rattle.messages.specs.ProfileFields.{period_of, each_period_of, unless_empty, periods_of, schedule_of, profile_of, optional_profile_of}
+use Rattle.messages.specs.Action.{set_charging_profile_of, clear_charging_profile_of, get_composite_schedule_of, remote_start_of, audit_point_of, id_tag_of, start_transaction_of, stop_transaction_of, action_of_kind}
 use Rattle.messages.specs.FieldFaults.{Checked, faults_of_value, entry_faults, empty_fault, entries_faults, id_tag_faults, faults_down, field_faults, HaveNoFault, IsFirstFault}
 
 -- ---- the first fault, computed
@@ -133,6 +134,33 @@ within_field : {A B C : Type 0} → (read : NamedField A) (inner : A → Checked
 within_field read inner reading next rest here h =
     step (required read) _ _ (λ x e. steps (reading x) (next x) (inner x) rest (here x) (λ y _. h x y) ∙ inside inner rest read x e)
 
+-- what stands in a field that may be absent
+abbrev faults_if_given : {A : Type 0} → (A → Checked) → Option A → Checked
+faults_if_given inner None = []
+faults_if_given inner (Some x) = inner x
+
+inside_option : {A : Type 0} → (inner : A → Checked) (rest : Checked) (name : FieldName) (field : Field A) (found : Option A) → optional_value name field ≡ Ok found
+    → first_fault (faults_if_given inner found ++ rest) ≡ first_fault (faults_of_value inner field ++ rest)
+inside_option {A} inner rest name Absent found h =
+    let e : None ≡ found = cc in ap (λ (z : Option A). first_fault (faults_if_given inner z ++ rest)) (sym e)
+inside_option inner rest name WrongKind found h = cc
+inside_option inner rest name WrongValue found h = cc
+inside_option {A} inner rest name (Value y) found h =
+    let e : Some y ≡ found = cc in ap (λ (z : Option A). first_fault (faults_if_given inner z ++ rest)) (sym e)
+
+inside_optional : {A : Type 0} → (inner : A → Checked) (rest : Checked) (read : NamedField A) (found : Option A) → optional read ≡ Ok found
+    → first_fault (faults_if_given inner found ++ rest) ≡ first_fault (faults_of_value inner read.field ++ rest)
+unfolding optional
+inside_optional inner rest read found h = inside_option inner rest read.name read.field found h
+
+-- the whole of a field that may be absent with what stands in it, and then the rest
+within_optional : {A B C : Type 0} → (read : NamedField A) (inner : A → Checked) (reading : Option A → Result B CallFault) (next : Option A → B
+    → Result C CallFault) (rest : Checked)
+    → ((x : Option A) → result_err (reading x) ≡ first_fault (faults_if_given inner x)) → ((x : Option A) (y : B) → result_err (next x y) ≡ first_fault rest)
+    → result_err (optional read >>= (λ x. reading x >>= next x)) ≡ first_fault (result_err (optional read) ∷ (faults_of_value inner read.field ++ rest))
+within_optional read inner reading next rest here h =
+    step (optional read) _ _ (λ x e. steps (reading x) (next x) (faults_if_given inner x) rest (here x) (λ y _. h x y) ∙ inside_optional inner rest read x e)
+
 -- ---- a profile
 
 by_test : (b : Bool) (entry node : Tree) (fault : CallFault) → (if b then Ok entry else Err fault) ≡ Ok node → node ≡ entry
@@ -199,6 +227,10 @@ profile_first fields =
     step (optional (instant fields ValidTo)) _ _ (λ _ _.
     within_field (object fields ChargingSchedule) schedule_faults schedule_of _ _ schedule_first (λ _ _. refl)))))))))
 
+optional_profile_first : (fields : Option Tree) → result_err (optional_profile_of fields) ≡ first_fault (faults_if_given profile_faults fields)
+optional_profile_first None = refl
+optional_profile_first (Some fields) = last (profile_of fields) (λ (profile : ProfileParts). Some profile) ∙ profile_first fields
+
 -- ---- the actions
 
 set_first : (payload : Tree) → result_err (set_charging_profile_of payload) ≡ first_fault (field_faults SetChargingProfile payload)
@@ -236,6 +268,13 @@ id_tag_first payload next rest h =
     ap result_err (regrouped (required (text payload IdTag)) (as_id_tag IdTag) next)
     ∙ within_field (text payload IdTag) (id_tag_faults IdTag) (as_id_tag IdTag) (λ _. next) rest (λ tag. sym (single (result_err (as_id_tag IdTag tag)))) (λ _ tag. h tag)
 
+remote_first : (payload : Tree) → result_err (remote_start_of payload) ≡ first_fault (field_faults RemoteStartTransaction payload)
+unfolding remote_start_of
+remote_first payload =
+    step (required (whole_from_zero payload ConnectorId)) _ _ (λ _ _.
+    id_tag_first payload _ _ (λ _.
+    within_optional (object payload ChargingProfile) profile_faults optional_profile_of _ _ optional_profile_first (λ _ _. refl)))
+
 start_first : (payload : Tree) → result_err (start_transaction_of payload) ≡ first_fault (field_faults StartTransaction payload)
 unfolding start_transaction_of
 start_first payload =
@@ -252,6 +291,7 @@ pub action_first : (kind : ActionKind) (payload : Tree) → result_err (action_o
 action_first SetChargingProfile payload = set_first payload
 action_first ClearChargingProfile payload = clear_first payload
 action_first GetCompositeSchedule payload = get_first payload
+action_first RemoteStartTransaction payload = remote_first payload
 action_first AuditPoint payload = audit_first payload
 action_first PointStatus payload = refl
 action_first BootNotification payload = refl

@@ -9,17 +9,17 @@ use Rattle.profile.specs.Names.{purpose_named, unit_named}
 use Rattle.messages.specs.declared.action.Action.{Action}
 use Rattle.messages.specs.declared.action.Action.TheVariants as actions
 use Rattle.messages.specs.declared.action_kind.ActionKind.{ActionKind}
-use Rattle.messages.specs.declared.action_kind.ActionKind.TheVariants.{SetChargingProfile, ClearChargingProfile, GetCompositeSchedule, AuditPoint, PointStatus, StartTransaction, StopTransaction}
+use Rattle.messages.specs.declared.action_kind.ActionKind.TheVariants.{SetChargingProfile, ClearChargingProfile, GetCompositeSchedule, RemoteStartTransaction, AuditPoint, PointStatus, StartTransaction, StopTransaction}
 use Rattle.messages.specs.declared.call_fault.CallFault.{CallFault}
 use Rattle.messages.specs.declared.call_fault.CallFault.TheVariants.{NotImplemented}
-use Rattle.messages.specs.declared.field_name.FieldName.TheVariants.{ChargingProfilePurpose, ChargingRateUnit, ConnectorId, CsChargingProfiles, Duration, Id, IdTag, MeterStart, StackLevel, Timestamp, TransactionId}
+use Rattle.messages.specs.declared.field_name.FieldName.TheVariants.{ChargingProfile, ChargingProfilePurpose, ChargingRateUnit, ConnectorId, CsChargingProfiles, Duration, Id, IdTag, MeterStart, StackLevel, Timestamp, TransactionId}
 use Rattle.messages.specs.declared.field_row.FieldKind.{FieldKind}
 use Rattle.messages.specs.declared.field_row.FieldKind.TheVariants.{IdToken, Object, Objects}
 use Rattle.messages.specs.declared.fixed_answer.FixedAnswer.{FixedAnswer}
 use Rattle.messages.specs.ActionKind.{action_named, answer_of_kind, fields_of}
 use Rattle.messages.specs.FieldRow.{kind_of_row}
 use Rattle.messages.specs.Fields.{required, optional, whole, whole_from_zero, instant, one_name_of, object, text, as_id_tag}
-use Rattle.messages.specs.ProfileFields.{profile_of}
+use Rattle.messages.specs.ProfileFields.{profile_of, optional_profile_of}
 
 -- ---- the fields of operators' actions
 
@@ -50,6 +50,22 @@ get_composite_schedule_of payload = do
   Ok (actions.GetCompositeSchedule (record
       { connector = connector; duration = duration; unit = unit }))
 
+-- an idTag with its length
+unfoldable pub id_tag_of : Tree → Result (List ℕ) CallFault
+id_tag_of payload = do
+  tag ← required (text payload IdTag)
+  as_id_tag IdTag tag
+
+-- RemoteStartTransaction.req
+unfoldable pub remote_start_of : Tree → Result Action CallFault
+remote_start_of payload = do
+  connector ← required (whole_from_zero payload ConnectorId)
+  tag ← id_tag_of payload
+  fields ← optional (object payload ChargingProfile)
+  profile ← optional_profile_of fields
+  Ok (actions.RemoteStartTransaction (record
+      { connector = connector; id_tag = tag; profile = profile }))
+
 -- AuditPoint, this system's own
 unfoldable pub audit_point_of : Tree → Result Action CallFault
 audit_point_of payload = do
@@ -58,11 +74,6 @@ audit_point_of payload = do
   Ok (actions.AuditPoint connector duration)
 
 -- ---- the fields of points' actions that this system uses
-
-unfoldable pub id_tag_of : Tree → Result (List ℕ) CallFault
-id_tag_of payload = do
-  tag ← required (text payload IdTag)
-  as_id_tag IdTag tag
 
 -- StartTransaction.req
 unfoldable pub start_transaction_of : Tree → Result Action CallFault
@@ -92,6 +103,7 @@ abbrev pub action_of_kind : ActionKind → Tree → Result Action CallFault
 action_of_kind SetChargingProfile payload = set_charging_profile_of payload
 action_of_kind ClearChargingProfile payload = clear_charging_profile_of payload
 action_of_kind GetCompositeSchedule payload = get_composite_schedule_of payload
+action_of_kind RemoteStartTransaction payload = remote_start_of payload
 action_of_kind AuditPoint payload = audit_point_of payload
 action_of_kind PointStatus payload = Ok actions.PointStatus
 action_of_kind StartTransaction payload = start_transaction_of payload

@@ -1,15 +1,16 @@
 -- The table of actions: of each its name, who sends it, what it is answered where its fields aren't
 -- looked at, and else its fields in the order in which they are checked (OCPP 1.6, chapters 4 to
--- 6). AuditPoint and PointStatus are this system's own.
+-- 6; RemoteStartTransaction's connectorId may be absent there). AuditPoint and PointStatus are
+-- this system's own.
 use Rattle.std.specs.Prelude.{ℕ, List, [], ◌∷◌, Bool, true, false, Option, Some, None, codes, option_map, if◌then◌else◌}
 use Rattle.std.specs.Str.{bytes_eq}
 use Rattle.messages.specs.declared.action_kind.ActionKind.{ActionKind}
-use Rattle.messages.specs.declared.action_kind.ActionKind.TheVariants.{SetChargingProfile, ClearChargingProfile, GetCompositeSchedule, AuditPoint, PointStatus, BootNotification, Heartbeat, Authorize, StartTransaction, StopTransaction, StatusNotification, MeterValues, FirmwareStatusNotification, DiagnosticsStatusNotification, DataTransfer}
+use Rattle.messages.specs.declared.action_kind.ActionKind.TheVariants.{SetChargingProfile, ClearChargingProfile, GetCompositeSchedule, RemoteStartTransaction, AuditPoint, PointStatus, BootNotification, Heartbeat, Authorize, StartTransaction, StopTransaction, StatusNotification, MeterValues, FirmwareStatusNotification, DiagnosticsStatusNotification, DataTransfer}
 use Rattle.messages.specs.declared.fixed_answer.FixedAnswer.{FixedAnswer}
 use Rattle.messages.specs.declared.fixed_answer.FixedAnswer.TheVariants as answers
 use Rattle.messages.specs.declared.side.Side.{Side}
 use Rattle.messages.specs.declared.side.Side.TheVariants.{Operator, Point}
-use Rattle.messages.specs.declared.field_name.FieldName.TheVariants.{ChargingProfilePurpose, ChargingRateUnit, ConnectorId, CsChargingProfiles, Duration, Id, IdTag, MeterStart, StackLevel, Timestamp, TransactionId}
+use Rattle.messages.specs.declared.field_name.FieldName.TheVariants.{ChargingProfile, ChargingProfilePurpose, ChargingRateUnit, ConnectorId, CsChargingProfiles, Duration, Id, IdTag, MeterStart, StackLevel, Timestamp, TransactionId}
 use Rattle.messages.specs.declared.field_row.FieldKind.TheVariants.{Whole, WholeFromZero, Time, IdToken, PurposeName, UnitName, Object}
 use Rattle.messages.specs.declared.field_row.ObjectKind.TheVariants.{Profile}
 use Rattle.messages.specs.declared.field_row.FieldRow.{FieldRow}
@@ -46,6 +47,11 @@ row_of GetCompositeSchedule = with_fields Operator (codes "GetCompositeSchedule"
     (Required ConnectorId WholeFromZero
     ∷ Required Duration WholeFromZero
     ∷ Optional ChargingRateUnit UnitName
+    ∷ [])
+row_of RemoteStartTransaction = with_fields Operator (codes "RemoteStartTransaction")
+    (Required ConnectorId WholeFromZero
+    ∷ Required IdTag IdToken
+    ∷ Optional ChargingProfile (Object Profile)
     ∷ [])
 row_of AuditPoint = with_fields Operator (codes "AuditPoint")
     (Required ConnectorId WholeFromZero
@@ -92,6 +98,7 @@ action_kinds =
     SetChargingProfile
     ∷ ClearChargingProfile
     ∷ GetCompositeSchedule
+    ∷ RemoteStartTransaction
     ∷ AuditPoint
     ∷ PointStatus
     ∷ BootNotification

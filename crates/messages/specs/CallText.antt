@@ -1,8 +1,9 @@
 -- What calls to a charge point look like, byte for byte: the keys in the order of OCPP 1.6,
 -- chapters 6 and 7, without those of absent fields, no blanks, limits with one decimal.
-use Rattle.std.specs.Prelude.{Bool, true, false, ℕ, ℤ, List, [], ◌∷◌, ◌++◌, map, Option, Some, option_map, codes}
+use Rattle.std.specs.Prelude.{Bool, true, false, ℕ, ℤ, List, [], ◌∷◌, ◌++◌, map, Option, Some, None, option_map, codes}
 use Rattle.std.specs.List.{filter_map}
 use Rattle.std.specs.Fmt.{decimal, signed_decimal}
+use Rattle.json.specs.Print.{quoted}
 use Rattle.ocpp_scalars.specs.Writing.{tenths_text}
 use Rattle.ocppj_frame.specs.Write as frames
 use Rattle.profile.specs.declared.charging_profile.Profile.{Profile}
@@ -15,7 +16,7 @@ use Rattle.messages.specs.ObjectText.{list_text, object_text, string_text, time_
 use Rattle.messages.specs.Names.{kind_name, purpose_name, recurrency_name, recurrency_of, unit_text}
 use Rattle.messages.specs.declared.call.Call.{Call}
 use Rattle.messages.specs.declared.call.CallBody.{CallBody}
-use Rattle.messages.specs.declared.call.CallBody.TheVariants.{Clear, Set, Audit}
+use Rattle.messages.specs.declared.call.CallBody.TheVariants.{Clear, Set, Audit, RemoteStart}
 use Rattle.messages.specs.declared.call_text.Criterion.{Criterion}
 use Rattle.messages.specs.declared.call_text.Criterion.TheVariants as criterion
 
@@ -79,16 +80,26 @@ audit_fields connector duration unit =
     ∷ (codes "chargingRateUnit", Some (string_text (unit_text unit)))
     ∷ []
 
+-- OCPP 1.6, chapter 6, RemoteStartTransaction.req
+abbrev pub remote_start_fields : ℕ → List ℕ → Option Profile → List (List ℕ × Option (List ℕ))
+remote_start_fields connector tag profile =
+    (codes "connectorId", Some (decimal connector))
+    ∷ (codes "idTag", Some (quoted tag))
+    ∷ (codes "chargingProfile", option_map profile_text profile)
+    ∷ []
+
 abbrev pub action_name : CallBody → List ℕ
 action_name (Clear criteria) = codes "ClearChargingProfile"
 action_name (Set connector profile) = codes "SetChargingProfile"
 action_name (Audit connector duration unit) = codes "GetCompositeSchedule"
+action_name (RemoteStart connector tag profile) = codes "RemoteStartTransaction"
 
 -- the fields of a call's payload
 abbrev pub payload_fields : CallBody → List (List ℕ × Option (List ℕ))
 payload_fields (Clear criteria) = clear_fields criteria
 payload_fields (Set connector profile) = set_fields connector profile
 payload_fields (Audit connector duration unit) = audit_fields connector duration unit
+payload_fields (RemoteStart connector tag profile) = remote_start_fields connector tag profile
 
 abbrev pub payload_text : CallBody → List ℕ
 payload_text body = object_text (payload_fields body)
@@ -141,9 +152,23 @@ abbrev pub audit_words : ℕ → ℕ → List ℕ
 audit_words connector duration =
     codes "connector " ++ decimal connector ++ (codes " for " ++ decimal duration ++ codes " s")
 
--- what a call is about: its profiles, or the schedule that it asks for
+-- the profile that a remote start has, if any
+abbrev pub words_of_profile : Option Profile → List ℕ
+words_of_profile None = []
+words_of_profile (Some profile) = codes " with " ++ profile_words profile.purpose profile.id
+
+abbrev pub tag_words : ℕ → List ℕ → List ℕ
+tag_words connector tag = codes "idTag " ++ tag ++ (codes " at connector " ++ decimal connector)
+
+-- a remote start by its idTag, its connector and its profile
+abbrev pub remote_start_words : ℕ → List ℕ → Option Profile → List ℕ
+remote_start_words connector tag profile =
+    tag_words connector tag ++ words_of_profile profile
+
+-- what a call is about: its profiles, the schedule that it asks for, or the start that it asks for
 abbrev pub subject_text : CallBody → List ℕ
 subject_text (Clear criteria) = criteria_text (criteria_given criteria)
 subject_text (Set connector profile) =
     profile_words profile.purpose profile.id ++ (codes " at connector " ++ decimal connector)
 subject_text (Audit connector duration unit) = audit_words connector duration
+subject_text (RemoteStart connector tag profile) = remote_start_words connector tag profile

@@ -3,10 +3,11 @@
 -- definition.
 use Rattle.std.specs.Prelude.{ℕ, List, codes}
 use Rattle.messages.specs.declared.field_name.FieldName.{FieldName}
-use Rattle.messages.specs.declared.field_name.FieldName.TheVariants.{ChargingProfileId, ChargingProfileKind, ChargingProfilePurpose, ChargingRateUnit, ChargingSchedule, ChargingSchedulePeriod, ConnectorId, CsChargingProfiles, Duration, Id, IdTag, Limit, MeterStart, MinChargingRate, NumberPhases, RecurrencyKind, ScheduleStart, StackLevel, StartPeriod, StartSchedule, Status, Timestamp, TransactionId, ValidFrom, ValidTo}
+use Rattle.messages.specs.declared.field_name.FieldName.TheVariants.{ChargingProfile, ChargingProfileId, ChargingProfileKind, ChargingProfilePurpose, ChargingRateUnit, ChargingSchedule, ChargingSchedulePeriod, ConnectorId, CsChargingProfiles, Duration, Id, IdTag, Limit, MeterStart, MinChargingRate, NumberPhases, RecurrencyKind, ScheduleStart, StackLevel, StartPeriod, StartSchedule, Status, Timestamp, TransactionId, ValidFrom, ValidTo}
 
 -- The name under which a field is read from a payload.
 abbrev pub field_name : FieldName → List ℕ
+field_name ChargingProfile = codes "chargingProfile"
 field_name ChargingProfileId = codes "chargingProfileId"
 field_name ChargingProfileKind = codes "chargingProfileKind"
 field_name ChargingProfilePurpose = codes "chargingProfilePurpose"
@@ -35,6 +36,7 @@ field_name ValidTo = codes "validTo"
 
 -- The description of a fault of a field.
 abbrev pub fault_field_text : FieldName → List ℕ
+fault_field_text ChargingProfile = codes "chargingProfile"
 fault_field_text ChargingProfileId = codes "chargingProfileId"
 fault_field_text ChargingProfileKind = codes "chargingProfileKind"
 fault_field_text ChargingProfilePurpose = codes "chargingProfilePurpose"

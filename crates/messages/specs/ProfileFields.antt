@@ -1,5 +1,5 @@
 -- The fields of a charging profile, in the order in which they are checked (OCPP 1.6, chapter 7).
-use Rattle.std.specs.Prelude.{List, [], ◌∷◌, Result, Ok, Err}
+use Rattle.std.specs.Prelude.{List, [], ◌∷◌, Option, Some, None, Result, Ok, Err}
 use Rattle.ocpp_scalars.specs.ResultSteps.{◌>>=◌}
 use Rattle.ocppj_frame.specs.Tree.{Tree}
 use Rattle.profile.specs.declared.period.Period.{Period}
@@ -79,3 +79,10 @@ profile_of fields = do
     valid_to = valid_to;
     schedule = schedule;
   })
+
+-- a profile that may be absent
+abbrev pub optional_profile_of : Option Tree → Result (Option ProfileParts) CallFault
+optional_profile_of None = Ok None
+optional_profile_of (Some fields) = do
+  profile ← profile_of fields
+  Ok (Some profile)

@@ -1,5 +1,5 @@
--- What a charge point says of the composite schedule that it follows, in its reply to a
--- GetCompositeSchedule (OCPP 1.6, 5.7, and chapter 6, GetCompositeSchedule.conf).
+-- What a charge point's reply says: whether it accepts, and in its reply to a GetCompositeSchedule
+-- the composite schedule that it follows (OCPP 1.6, 5.7, and chapter 6, the .conf payloads).
 use Rattle.std.specs.Prelude.{ℕ, List, map, Bool, false, Result, Ok, Err, codes, if◌then◌else◌}
 use Rattle.std.specs.Str.{bytes_eq}
 use Rattle.ocpp_scalars.specs.ResultSteps.{◌>>=◌}
@@ -20,6 +20,11 @@ use Rattle.messages.specs.ProfileFields.{schedule_of}
 abbrev pub is_accepted : Field (List ℕ) → Bool
 is_accepted (Value status) = bytes_eq status (codes "Accepted")
 is_accepted _ = false
+
+-- whether a message is a reply that accepts: a CALLERROR isn't one, nor is what is no CALLRESULT
+abbrev pub is_accepted_reply : Message → Bool
+is_accepted_reply (call_result id payload) = is_accepted (text payload Status).field
+is_accepted_reply _ = false
 
 -- A period by its start and its limit.
 abbrev pub composite_period : Period → CompositePeriod

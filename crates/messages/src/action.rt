@@ -4,19 +4,21 @@ ghost use Rattle.std.specs.Prelude.{◌≡◌, Some};
 ghost use Rattle.ocppj_frame.specs.Frame.{message_in};
 ghost use Rattle.ocppj_frame.specs.Payload.{tree_at};
 ghost use Rattle.messages.specs.Action.{action_answered, action_in, action_of_kind, kind_asked, NeedsNoMemory};
-ghost use Rattle.messages.specs.Action.{set_charging_profile_of, clear_charging_profile_of, get_composite_schedule_of, audit_point_of, start_transaction_of, stop_transaction_of, id_tag_of};
+ghost use Rattle.messages.specs.Action.{set_charging_profile_of, clear_charging_profile_of, get_composite_schedule_of, remote_start_of, audit_point_of, start_transaction_of, stop_transaction_of, id_tag_of};
 ghost use Rattle.ocpp_scalars.specs.Reading.{ReadsUnless};
 ghost use Rattle.messages.specs.CallFault.{is_memory};
 
 use crate::action_kind::ActionKind;
 use crate::call_fault::CallFault;
 use crate::field_name::FieldName::{
-    self, ChargingProfilePurpose, ChargingRateUnit, ConnectorId, CsChargingProfiles, Duration, Id,
-    MeterStart, StackLevel, Timestamp, TransactionId,
+    self, ChargingProfile, ChargingProfilePurpose, ChargingRateUnit, ConnectorId,
+    CsChargingProfiles, Duration, Id, MeterStart, StackLevel, Timestamp, TransactionId,
 };
-use crate::fields::{instant, one_name_of, required_object, required_text, whole, whole_from_zero};
+use crate::fields::{
+    instant, one_name_of, optional_object, required_object, required_text, whole, whole_from_zero,
+};
 use crate::fixed_answer::FixedAnswer;
-use crate::profile_fields::read_profile;
+use crate::profile_fields::{read_optional_profile, read_profile};
 use ocpp_scalars::{IdTag, Instant};
 use ocppj_frame::{Frame, Node};
 use profile::{Criteria, ProfileParts, Unit};
@@ -31,6 +33,7 @@ pub enum Action {
     },
     ClearChargingProfile(Criteria),
     GetCompositeSchedule(ScheduleRequest),
+    RemoteStartTransaction(RemoteStartTransaction),
     /// An audit of a connector over a duration, in seconds.
     AuditPoint {
         connector: u32,
@@ -54,6 +57,15 @@ pub struct ScheduleRequest {
     pub duration: u32,
     /// chargingRateUnit: the unit that the schedule has to be in.
     pub unit: Option<Unit>,
+}
+
+/// The fields of a RemoteStartTransaction (chapter 6, RemoteStartTransaction.req).
+#[derive(Drop)]
+pub struct RemoteStartTransaction {
+    pub connector: u32,
+    pub id_tag: IdTag,
+    /// chargingProfile, with the transactionId that it may have.
+    pub profile: Option<ProfileParts>,
 }
 
 /// The fields of a StartTransaction that this system uses (chapter 6, StartTransaction.req).
@@ -91,7 +103,8 @@ pub fn read_action(alloc: Global, frame: &Frame<'_>) -> Result<Action, CallFault
 }
 
 /// Reads the fields of an action from the payload of its CALL, or names the first fault in the order
-/// in which they are checked. Only a SetChargingProfile or a StartTransaction can be out of memory.
+/// in which they are checked. Only a SetChargingProfile, a RemoteStartTransaction or a
+/// StartTransaction can be out of memory.
 pub fn read_fields(
     alloc: Global,
     kind: ActionKind,
@@ -106,6 +119,7 @@ pub fn read_fields(
         ActionKind::SetChargingProfile => read_set_charging_profile(alloc, payload),
         ActionKind::ClearChargingProfile => read_clear_charging_profile(payload),
         ActionKind::GetCompositeSchedule => read_get_composite_schedule(payload),
+        ActionKind::RemoteStartTransaction => read_remote_start(alloc, payload),
         ActionKind::AuditPoint => read_audit_point(payload),
         ActionKind::PointStatus => Ok(Action::PointStatus),
         ActionKind::StartTransaction => read_start_transaction(alloc, payload),
@@ -169,6 +183,23 @@ fn read_get_composite_schedule(payload: Node<'_, '_>) -> Result<Action, CallFaul
     }))
 }
 
+/// Chapter 6, RemoteStartTransaction.req.
+#[tactic(auto, unfolding(crate::specs::Action::remote_start_of))]
+fn read_remote_start(alloc: Global, payload: Node<'_, '_>) -> Result<Action, CallFault>
+    ensures { ReadsUnless is_memory (λ action. action) result
+        (remote_start_of (tree_at payload.entry)) }
+{
+    let connector = whole_from_zero(payload, ConnectorId).required()?;
+    let id_tag = read_id_tag(alloc, payload)?;
+    let fields = optional_object(payload, ChargingProfile)?;
+    let profile = read_optional_profile(alloc, fields)?;
+    Ok(Action::RemoteStartTransaction(RemoteStartTransaction {
+        connector,
+        id_tag,
+        profile,
+    }))
+}
+
 /// AuditPoint, this system's own.
 #[tactic(auto, unfolding(crate::specs::Action::audit_point_of))]
 fn read_audit_point(payload: Node<'_, '_>) -> Result<Action, CallFault>
@@ -180,6 +211,15 @@ fn read_audit_point(payload: Node<'_, '_>) -> Result<Action, CallFault>
         connector,
         duration,
     })
+}
+
+/// The idTag: a text of at most 20 characters (chapter 7, IdToken).
+#[tactic(auto, unfolding(crate::specs::Action::id_tag_of))]
+fn read_id_tag(alloc: Global, payload: Node<'_, '_>) -> Result<IdTag, CallFault>
+    ensures { ReadsUnless is_memory (λ id_tag. id_tag) result (id_tag_of (tree_at payload.entry)) }
+{
+    let tag = required_text(payload, FieldName::IdTag)?;
+    IdTag::try_copy(alloc, tag)?.ok_or(CallFault::PropertyConstraintViolation(FieldName::IdTag))
 }
 
 // ---- the fields of points' actions
@@ -200,15 +240,6 @@ fn read_start_transaction(alloc: Global, payload: Node<'_, '_>) -> Result<Action
         meter_start,
         timestamp,
     }))
-}
-
-/// The idTag: a text of at most 20 characters (chapter 7, IdToken).
-#[tactic(auto, unfolding(crate::specs::Action::id_tag_of))]
-fn read_id_tag(alloc: Global, payload: Node<'_, '_>) -> Result<IdTag, CallFault>
-    ensures { ReadsUnless is_memory (λ id_tag. id_tag) result (id_tag_of (tree_at payload.entry)) }
-{
-    let tag = required_text(payload, FieldName::IdTag)?;
-    IdTag::try_copy(alloc, tag)?.ok_or(CallFault::PropertyConstraintViolation(FieldName::IdTag))
 }
 
 /// Chapter 6, StopTransaction.req, of which the transaction alone is looked at.

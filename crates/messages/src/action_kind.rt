@@ -5,8 +5,8 @@ ghost use Rattle.std.specs.Prelude.{◌≡◌, [], Some, None};
 ghost use Rattle.messages.specs.ActionKind.{action_kinds, action_named, answer_of_kind, fields_of, kind_in, kind_of_sender, name_of_kind, row_of, side_of_kind};
 
 use crate::field_name::FieldName::{
-    ChargingProfilePurpose, ChargingRateUnit, ConnectorId, CsChargingProfiles, Duration, Id, IdTag,
-    MeterStart, StackLevel, Timestamp, TransactionId,
+    ChargingProfile, ChargingProfilePurpose, ChargingRateUnit, ConnectorId, CsChargingProfiles,
+    Duration, Id, IdTag, MeterStart, StackLevel, Timestamp, TransactionId,
 };
 use crate::field_row::FieldKind::{
     IdToken, Object, PurposeName, Time, UnitName, Whole, WholeFromZero,
@@ -23,6 +23,7 @@ pub enum ActionKind {
     SetChargingProfile,
     ClearChargingProfile,
     GetCompositeSchedule,
+    RemoteStartTransaction,
     /// This system's own: the point is asked for the composite schedule that it follows, to compare it.
     AuditPoint,
     /// This system's own: the version, the calls that are left, and the last audit.
@@ -59,6 +60,13 @@ const GET_FIELDS: &[FieldRow] = &[
     Required(ConnectorId, WholeFromZero),
     Required(Duration, WholeFromZero),
     Optional(ChargingRateUnit, UnitName),
+];
+
+/// RemoteStartTransaction.req, of which this system requires the connectorId.
+const REMOTE_START_FIELDS: &[FieldRow] = &[
+    Required(ConnectorId, WholeFromZero),
+    Required(IdTag, IdToken),
+    Optional(ChargingProfile, Object(ObjectKind::Profile)),
 ];
 
 /// AuditPoint, of this system's own.
@@ -126,6 +134,7 @@ impl ActionKind {
             ActionKind::SetChargingProfile,
             ActionKind::ClearChargingProfile,
             ActionKind::GetCompositeSchedule,
+            ActionKind::RemoteStartTransaction,
             ActionKind::AuditPoint,
             ActionKind::PointStatus,
             ActionKind::BootNotification,
@@ -156,6 +165,11 @@ impl ActionKind {
                 CLEAR_FIELDS,
             ),
             Self::GetCompositeSchedule => with_fields(Operator, "GetCompositeSchedule", GET_FIELDS),
+            Self::RemoteStartTransaction => with_fields(
+                Operator,
+                "RemoteStartTransaction",
+                REMOTE_START_FIELDS,
+            ),
             Self::AuditPoint => with_fields(Operator, "AuditPoint", AUDIT_FIELDS),
             Self::PointStatus => with_fields(Operator, "PointStatus", &[]),
             Self::BootNotification => answered(

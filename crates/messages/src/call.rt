@@ -3,8 +3,9 @@
 ghost use Rattle.std.specs.Prelude.{◌≡◌, IfOk};
 ghost use Rattle.messages.specs.CallText.{action_name};
 
+use ocpp_scalars::IdTag;
 use profile::{Criteria, Profile, Unit};
-use std::alloc::AllocError;
+use std::alloc::{AllocError, Global};
 
 /// A call to a charge point (OCPP-J 1.6, 4.2.1).
 #[derive(Debug, Drop)]
@@ -14,7 +15,7 @@ pub struct Call {
     pub body: CallBody,
 }
 
-/// What a call asks a charge point to do (chapters 5.5, 5.7 and 5.16).
+/// What a call asks a charge point to do (chapters 5.5, 5.7, 5.11 and 5.16).
 #[derive(Debug, Drop)]
 pub enum CallBody {
     /// ClearChargingProfile, of the profiles that match these criteria.
@@ -30,16 +31,22 @@ pub enum CallBody {
         duration: u32,
         unit: Unit,
     },
+    /// RemoteStartTransaction, at this connector by this idTag, and with this profile if there is one.
+    RemoteStart {
+        connector: u32,
+        id_tag: IdTag,
+        profile: Option<Profile>,
+    },
 }
 
 impl Call {
     /// A copy.
-    pub fn copy(&self) -> Result<Call, AllocError>
+    pub fn copy(&self, alloc: Global) -> Result<Call, AllocError>
         ensures { IfOk result (λ copy. copy ≡ self.now) }
     {
         Ok(Call {
             number: self.number,
-            body: self.body.copy()?,
+            body: self.body.copy(alloc)?,
         })
     }
 }
@@ -53,11 +60,12 @@ impl CallBody {
             CallBody::Clear(_) => "ClearChargingProfile",
             CallBody::Set { .. } => "SetChargingProfile",
             CallBody::Audit { .. } => "GetCompositeSchedule",
+            CallBody::RemoteStart { .. } => "RemoteStartTransaction",
         }
     }
 
     /// A copy.
-    pub fn copy(&self) -> Result<CallBody, AllocError>
+    pub fn copy(&self, alloc: Global) -> Result<CallBody, AllocError>
         ensures { IfOk result (λ copy. copy ≡ self.now) }
     {
         match self {
@@ -74,6 +82,15 @@ impl CallBody {
                 connector: *connector,
                 duration: *duration,
                 unit: *unit,
+            }),
+            CallBody::RemoteStart {
+                connector,
+                id_tag,
+                profile,
+            } => Ok(CallBody::RemoteStart {
+                connector: *connector,
+                id_tag: id_tag.copy(alloc)?,
+                profile: Profile::copy_if_any(profile)?,
             }),
         }
     }

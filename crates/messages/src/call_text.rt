@@ -1,10 +1,11 @@
 //! The texts of calls to a charge point, byte for byte.
-ghost use Rattle.std.specs.Prelude.{◌≡◌, ◌++◌, Some, codes, option_map, string_bytes};
+ghost use Rattle.std.specs.Prelude.{◌≡◌, ◌++◌, [], ◌∷◌, Some, codes, option_map, string_bytes};
 ghost use Rattle.std.specs.Fmt.{decimal, signed_decimal};
 ghost use Rattle.ocpp_scalars.specs.Appending.{Appends};
-ghost use Rattle.messages.specs.CallText.{audit_fields, audit_words, call_text, clear_fields, criteria_given, criteria_text, criterion_words, own_fields, payload_fields, payload_text, period_text, profile_text, profile_words, schedule_text, set_fields, subject_text};
+ghost use Rattle.messages.specs.CallText.{audit_fields, audit_words, call_text, clear_fields, criteria_given, criteria_text, criterion_words, own_fields, payload_fields, payload_text, period_text, profile_text, profile_words, remote_start_fields, remote_start_words, schedule_text, set_fields, subject_text, tag_words, words_of_profile};
 ghost use Rattle.messages.specs.ObjectText.{fields_text};
 ghost use Rattle.messages.specs.ByCases.FieldValue.{value_text};
+ghost use Rattle.messages.specs.ByCases.ObjectText.{later_fields_text};
 
 use crate::call::{Call, CallBody};
 use crate::field_value::{
@@ -13,7 +14,8 @@ use crate::field_value::{
 use crate::list_text::{ListItem, push_list};
 use crate::names::purpose_name;
 use crate::object_text::{push_fields, push_later_fields, push_object};
-use ocppj_frame::{push_call_head, push_frame_end};
+use ocpp_scalars::IdTag;
+use ocppj_frame::{push_call_head, push_frame_end, push_string};
 use profile::{Criteria, Period, Profile, Purpose, Schedule, Unit};
 use std::alloc::AllocError;
 
@@ -53,6 +55,11 @@ pub fn push_payload_fields(out: &mut String, body: &CallBody) -> Result<(), Allo
             duration,
             unit,
         } => push_audit(out, *connector, *duration, *unit),
+        CallBody::RemoteStart {
+            connector,
+            id_tag,
+            profile,
+        } => push_remote_start(out, *connector, id_tag, profile),
     }
 }
 
@@ -96,6 +103,36 @@ fn push_audit(out: &mut String, connector: u32, duration: u32, unit: Unit) -> Re
             ("chargingRateUnit", Some(FieldValue::UnitName(unit))),
         ],
     )
+}
+
+/// Appends the fields of RemoteStartTransaction.req (chapter 6).
+fn push_remote_start(
+    out: &mut String,
+    connector: u32,
+    id_tag: &IdTag,
+    profile: &Option<Profile>,
+) -> Result<(), AllocError>
+    ensures { Appends result (string_bytes out.old) (string_bytes out.new)
+        (fields_text (remote_start_fields connector id_tag.now profile.now)) }
+{
+    push_fields(out, &[("connectorId", Some(FieldValue::Whole(connector)))])?;
+    out.push_str(r#","idTag":"#)?;
+    push_string(out, id_tag.as_str())?;
+    push_profile_field(out, profile)?;
+    Ok(())
+}
+
+/// Appends a profile behind a comma and its key, if there is one.
+#[tactic(auto, unfolding(crate::specs::ByCases::ObjectText::later_fields_text))]
+fn push_profile_field(out: &mut String, profile: &Option<Profile>) -> Result<(), AllocError>
+    ensures { Appends result (string_bytes out.old) (string_bytes out.new)
+        (later_fields_text ((codes "chargingProfile", option_map profile_text profile.now) ∷ [])) }
+{
+    if let Some(profile) = profile {
+        out.push_str(r#","chargingProfile":"#)?;
+        push_profile(out, profile)?;
+    }
+    Ok(())
 }
 
 /// Appends a profile (chapter 7, ChargingProfile).
@@ -197,8 +234,8 @@ fn push_period(out: &mut String, period: &Period) -> Result<(), AllocError>
 
 // ---- what a call is about
 
-/// Appends what a call is about, in words: `TxProfile 7 at connector 1`, the criteria of a clear, or
-/// `connector 1 for 60 s` of an audit.
+/// Appends what a call is about, in words: `TxProfile 7 at connector 1`, the criteria of a clear,
+/// `connector 1 for 60 s` of an audit, or `idTag T1 at connector 1` of a remote start.
 pub fn push_subject(out: &mut String, body: &CallBody) -> Result<(), AllocError>
     ensures { Appends result (string_bytes out.old) (string_bytes out.new) (subject_text body.now) }
 {
@@ -210,6 +247,11 @@ pub fn push_subject(out: &mut String, body: &CallBody) -> Result<(), AllocError>
             duration,
             ..
         } => push_audit_words(out, *connector, *duration),
+        CallBody::RemoteStart {
+            connector,
+            id_tag,
+            profile,
+        } => push_remote_start_words(out, *connector, id_tag, profile),
     }
 }
 
@@ -307,4 +349,41 @@ fn push_audit_words(out: &mut String, connector: u32, duration: u32) -> Result<(
     push_words(out, "connector ", FieldValue::Whole(connector))?;
     push_words(out, " for ", FieldValue::Whole(duration))?;
     out.push_str(" s")
+}
+
+/// Appends a remote start by its idTag, its connector, and its profile if there is one.
+fn push_remote_start_words(
+    out: &mut String,
+    connector: u32,
+    id_tag: &IdTag,
+    profile: &Option<Profile>,
+) -> Result<(), AllocError>
+    ensures { Appends result (string_bytes out.old) (string_bytes out.new)
+        (remote_start_words connector id_tag.now profile.now) }
+{
+    push_tag_words(out, connector, id_tag.as_str())?;
+    push_words_of_profile(out, profile)?;
+    Ok(())
+}
+
+fn push_tag_words(out: &mut String, connector: u32, id_tag: &str) -> Result<(), AllocError>
+    ensures { Appends result (string_bytes out.old) (string_bytes out.new)
+        (tag_words connector id_tag.now) }
+{
+    out.push_str("idTag ")?;
+    out.push_str(id_tag)?;
+    push_words(out, " at connector ", FieldValue::Whole(connector))
+}
+
+fn push_words_of_profile(out: &mut String, profile: &Option<Profile>) -> Result<(), AllocError>
+    ensures { Appends result (string_bytes out.old) (string_bytes out.new)
+        (words_of_profile profile.now) }
+{
+    match profile {
+        Some(profile) => {
+            out.push_str(" with ")?;
+            push_profile_words(out, profile)
+        }
+        None => Ok(()),
+    }
 }

@@ -5,6 +5,7 @@ ghost use Rattle.messages.specs.FieldName.{fault_field_text, field_name};
 /// A field of a payload, under its OCPP name.
 #[derive(Clone, Copy, Debug, PartialEq, Eq)]
 pub enum FieldName {
+    ChargingProfile,
     ChargingProfileId,
     ChargingProfileKind,
     ChargingProfilePurpose,
@@ -39,6 +40,7 @@ impl FieldName {
         ensures written { result.now ≡ fault_field_text self }
     {
         match self {
+            FieldName::ChargingProfile => "chargingProfile",
             FieldName::ChargingProfileId => "chargingProfileId",
             FieldName::ChargingProfileKind => "chargingProfileKind",
             FieldName::ChargingProfilePurpose => "chargingProfilePurpose",

@@ -1,6 +1,6 @@
 //! The fields of an object, each read under its name and then as required or optional, so that the
 //! reading of an action stands as its table of fields does.
-ghost use Rattle.std.specs.Prelude.{◌≡◌, Ok, Err, MatchResult};
+ghost use Rattle.std.specs.Prelude.{◌≡◌, Ok, Err, MatchResult, option_map};
 ghost use Rattle.ocppj_frame.specs.Field.{field_map};
 ghost use Rattle.ocppj_frame.specs.Payload.{entries_in, tree_at};
 ghost use Rattle.messages.specs.Fields.{required, optional, from_zero, one_of, value_or_wrong, whole, whole_from_zero, tenths, instant, one_name_of, text, list, object};
@@ -150,6 +150,23 @@ pub fn required_object<'tree, 'memory>(
         field: object_field(fields, name.text()),
     }
     .required()
+}
+
+/// The object of a field that may be absent.
+#[tactic(auto, unfolding(crate::specs::Fields::optional, crate::specs::Fields::object))]
+pub fn optional_object<'tree, 'memory>(
+    fields: Node<'tree, 'memory>,
+    name: FieldName,
+) -> Result<Option<Node<'tree, 'memory>>, CallFault>
+    ensures { MatchResult result
+        (λ node. optional (object (tree_at fields.entry) name) ≡ Ok (option_map tree_at node))
+        (λ fault. optional (object (tree_at fields.entry) name) ≡ Err fault) }
+{
+    NamedField {
+        name,
+        field: object_field(fields, name.text()),
+    }
+    .optional()
 }
 
 /// The text of a field that has to be there.

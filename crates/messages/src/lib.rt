@@ -22,7 +22,9 @@ mod response_text;
 mod said;
 mod side;
 
-pub use action::{Action, ScheduleRequest, StartTransaction, read_action, read_fields};
+pub use action::{
+    Action, RemoteStartTransaction, ScheduleRequest, StartTransaction, read_action, read_fields,
+};
 pub use action_kind::{ActionKind, fields_of};
 pub use call::{Call, CallBody};
 pub use call_fault::CallFault;
@@ -34,5 +36,5 @@ pub use laws::{action_names, first_faults};
 pub use names::{kind_name, purpose_name, recurrency_name, unit_name};
 pub use response::{AuditOutcome, PointStatus, Response, ScheduleResponse};
 pub use response_text::{push_response, write_response};
-pub use said::read_said;
+pub use said::{is_accepted, read_said};
 pub use side::{Side, side_of};

@@ -1,7 +1,7 @@
 //! The fields of a charging profile.
-ghost use Rattle.std.specs.Prelude.{◌≡◌};
+ghost use Rattle.std.specs.Prelude.{◌≡◌, option_map};
 ghost use Rattle.ocppj_frame.specs.Payload.{entries_in, tree_at};
-ghost use Rattle.messages.specs.ProfileFields.{period_of, periods_of, schedule_of, profile_of};
+ghost use Rattle.messages.specs.ProfileFields.{period_of, periods_of, schedule_of, profile_of, optional_profile_of};
 ghost use Rattle.ocpp_scalars.specs.Reading.{ReadsUnless};
 ghost use Rattle.messages.specs.CallFault.{is_memory};
 
@@ -45,6 +45,20 @@ pub fn read_profile(alloc: Global, fields: Node<'_, '_>) -> Result<ProfileParts,
         valid_to,
         schedule,
     })
+}
+
+/// Reads the fields of a profile that may be absent.
+pub fn read_optional_profile(
+    alloc: Global,
+    fields: Option<Node<'_, '_>>,
+) -> Result<Option<ProfileParts>, CallFault>
+    ensures { ReadsUnless is_memory (λ parts. parts) result
+        (optional_profile_of (option_map tree_at fields.entry)) }
+{
+    match fields {
+        Some(fields) => Ok(Some(read_profile(alloc, fields)?)),
+        None => Ok(None),
+    }
 }
 
 /// Reads the fields of a schedule (chapter 7, ChargingSchedule), or names the first fault.

@@ -1,4 +1,5 @@
-//! What a charge point says of the composite schedule that it follows.
+//! What a charge point's reply says: whether it accepts, and of the composite schedule that the point
+//! follows.
 ghost use Rattle.std.specs.Prelude.{◌≡◌, IfErr, IfOk, map};
 ghost use Rattle.ocpp_scalars.specs.Reading.{ReadsUnless};
 ghost use Rattle.ocpp_scalars.specs.declared.refusal.Refusal.{Refusal};
@@ -8,7 +9,7 @@ ghost use Rattle.ocppj_frame.specs.Payload.{tree_at};
 ghost use Rattle.messages.specs.CallFault.{is_memory};
 ghost use Rattle.messages.specs.Fields.{text};
 ghost use Rattle.messages.specs.declared.field_name.FieldName.{FieldName};
-ghost use Rattle.messages.specs.Said.{composite_period, is_accepted, or_unread, said_of, said_of_payload, schedule_said};
+ghost use Rattle.messages.specs.Said.{composite_period, is_accepted, is_accepted_reply, or_unread, said_of, said_of_payload, schedule_said};
 
 use crate::call_fault::CallFault;
 use crate::field_name::FieldName::{ChargingSchedule, ConnectorId, ScheduleStart, Status};
@@ -19,6 +20,17 @@ use ocpp_scalars::Refusal;
 use ocppj_frame::{Field, Frame, Node, text_field};
 use profile::Period;
 use std::alloc::{AllocError, Global};
+
+/// Whether a message is a reply that accepts what was asked: a CALLRESULT whose status is the text
+/// Accepted.
+pub fn is_accepted(frame: &Frame<'_>) -> bool
+    ensures { result ≡ is_accepted_reply (message_in frame.now) }
+{
+    match frame {
+        Frame::Reply { payload, .. } => has_accepted(payload.root()),
+        Frame::Call { .. } | Frame::Fault { .. } | Frame::Other => false,
+    }
+}
 
 /// Reads what a reply to a GetCompositeSchedule says (chapter 6, GetCompositeSchedule.conf):
 /// `Refused` where its status isn't Accepted or the message is no CALLRESULT, `Unread` where a field
@@ -43,16 +55,16 @@ fn read_payload(alloc: Global, payload: Node<'_, '_>) -> Result<Said, AllocError
     }
 }
 
-/// Whether a reply is accepted.
+/// Whether a payload's status is Accepted.
 #[tactic(auto, unfolding(crate::specs::Fields::text))]
 fn has_accepted(payload: Node<'_, '_>) -> bool
     ensures { result ≡ is_accepted (text (tree_at payload.entry) FieldName.Status).field }
 {
-    is_accepted(text_field(payload, Status.text()))
+    is_accepted_status(text_field(payload, Status.text()))
 }
 
 /// Whether a status is Accepted.
-fn is_accepted(status: Field<&str>) -> bool
+fn is_accepted_status(status: Field<&str>) -> bool
     ensures { result ≡ is_accepted (field_map (λ text. text.now) status.entry) }
 {
     match status {

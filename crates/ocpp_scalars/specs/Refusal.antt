@@ -1,7 +1,7 @@
 -- The names of the refusals.
 use Rattle.std.specs.Prelude.{ℕ, List, codes}
 use Rattle.ocpp_scalars.specs.declared.refusal.Refusal.{Refusal}
-use Rattle.ocpp_scalars.specs.declared.refusal.Refusal.TheVariants.{UnknownPoint, UnknownConnector, MaxNotAtZero, TxAtZero, WrongUnit, LevelTooHigh, TooManyPeriods, PeriodsOutOfOrder, NoRecurrency, NoTransaction, OtherTransaction, TooManyProfiles, OutboxFull, BadDuration, PastCalendar, TooManyOpen, ResultTooLong, VersionsExhausted, TransactionsExhausted, Behind, Stopped, OutOfMemory, UnknownRequest, AlreadyAnswered, Superseded, NothingInFlight, StrangerInput, AuditOpen}
+use Rattle.ocpp_scalars.specs.declared.refusal.Refusal.TheVariants.{UnknownPoint, UnknownConnector, MaxNotAtZero, TxAtZero, WrongUnit, LevelTooHigh, TooManyPeriods, PeriodsOutOfOrder, NoRecurrency, NoTransaction, OtherTransaction, TooManyProfiles, OutboxFull, BadDuration, PastCalendar, TooManyOpen, ResultTooLong, VersionsExhausted, TransactionsExhausted, Behind, Stopped, OutOfMemory, UnknownRequest, AlreadyAnswered, Superseded, NothingInFlight, StrangerInput, AuditOpen, NotTxProfile}
 
 -- the bytes of a refusal's name, as answers print it
 abbrev pub refusal_name : Refusal → List ℕ
@@ -34,3 +34,4 @@ refusal_name Superseded = codes "Superseded"
 refusal_name NothingInFlight = codes "NothingInFlight"
 refusal_name StrangerInput = codes "StrangerInput"
 refusal_name AuditOpen = codes "AuditOpen"
+refusal_name NotTxProfile = codes "NotTxProfile"

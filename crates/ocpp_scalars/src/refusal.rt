@@ -67,6 +67,8 @@ pub enum Refusal {
     StrangerInput,
     /// The call of the point's last audit isn't confirmed yet.
     AuditOpen,
+    /// The profile of a remote start isn't a TxProfile.
+    NotTxProfile,
 }
 
 impl Refusal {
@@ -103,6 +105,7 @@ impl Refusal {
             Refusal::NothingInFlight => "NothingInFlight",
             Refusal::StrangerInput => "StrangerInput",
             Refusal::AuditOpen => "AuditOpen",
+            Refusal::NotTxProfile => "NotTxProfile",
         }
     }
 }

@@ -21,13 +21,13 @@ no_pair : {A : Type 0} (x : Option A) (r : List Token) → option_map {U = A × 
 no_pair None r e = refl
 no_pair (Some y) r e = absurd (cc)
 
-pair_mapped : {A B : Type 0} (f : A → B) (x : Option A) (r : List Token)
+pub pair_mapped : {A B : Type 0} (f : A → B) (x : Option A) (r : List Token)
     → option_map (λ b. (b, r)) (option_map f x) ≡ parse_map f (option_map (λ a. (a, r)) x)
 pair_mapped f None r = refl
 pair_mapped f (Some a) r = refl
 
 -- what is converted was parsed
-was_parsed : {A B : Type 0} (f : A → Option B) (o : Option (A × List Token)) (b : B) (r : List Token)
+pub was_parsed : {A B : Type 0} (f : A → Option B) (o : Option (A × List Token)) (b : B) (r : List Token)
     → converted f o ≡ Some (b, r) → (a : A) × (o ≡ Some (a, r)) × (f a ≡ Some b)
 was_parsed f None b r e = absurd (cc)
 was_parsed f (Some p) b r e =

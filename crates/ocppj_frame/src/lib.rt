@@ -24,6 +24,7 @@ pub use field::{
 };
 pub use frame::{Frame, MAX_FRAME_BYTES, read_frame};
 pub use laws::{frame_messages, marked_texts};
+pub use mark::{after_mark, mark_text};
 pub use message_id::{MAX_ID_CHARACTERS, MessageId};
 pub use payload::{Entries, EntriesIter, Node, Payload, read_tree};
 pub use reading_memory::ReadingMemory;

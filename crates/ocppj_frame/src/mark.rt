@@ -10,7 +10,7 @@ use std::mem;
 
 /// The text with each string and each number marked, as a JSON text without numbers. It is written
 /// to `room`, in the place of what was there.
-pub(crate) fn mark_text<'a>(text: &str, room: &'a mut Vec<u8>) -> Result<&'a str, AllocError>
+pub fn mark_text<'a>(text: &str, room: &'a mut Vec<u8>) -> Result<&'a str, AllocError>
     ensures { IfOk result (λ marked. marked.now ≡ marked_text text.now) }
 {
     mark_bytes(text.as_bytes(), room)?;
@@ -120,8 +120,9 @@ fn continues_number(byte: u8) -> bool
     matches!(byte, b'0'..=b'9' | b'-' | b'+' | b'.' | b'e' | b'E')
 }
 
-/// What follows the mark.
-pub(crate) fn after_mark(text: &str, mark: u8) -> Option<&str>
+/// What follows this mark in a string of a marked text: `s` for a text, `n` for a number. `None`
+/// where the string has another.
+pub fn after_mark(text: &str, mark: u8) -> Option<&str>
     requires { mark < 128 }
     ensures { option_map (λ t. t.now) result ≡ after_mark mark text.now }
 {

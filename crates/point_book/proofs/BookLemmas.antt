@@ -1,12 +1,15 @@
 -- That each change of a book leaves a book.
-use Rattle.std.proofs.Common.{◌≡◌, ℕ, ◌+◌, ◌-◌, ◌<◌, ◌≤◌, ◌==◌, ◌^◌, ◌≢◌, zero, suc, ℤ, Bool, true, false, not, ◌&&◌, cond, refl, sym, ◌∙◌, ap, List, [], ◌∷◌, ◌++◌, length, set, filter, Option, Some, None, option_map, IsSome, arith}
+use Rattle.std.proofs.Common.{◌≡◌, ℕ, ◌+◌, ◌-◌, ◌<◌, ◌≤◌, ◌==◌, ◌^◌, ◌≢◌, nat_le, zero, suc, ℤ, Bool, true, false, not, ◌&&◌, cond, refl, sym, subst, ◌∙◌, ap, List, [], ◌∷◌, ◌++◌, length, set, filter, Option, Some, None, option_map, IsSome, arith}
 use Rattle.std.specs.List.{AllByRecursion, position}
 use Rattle.std.proofs.lemmas.List.{length-set, length-replicate}
 use Rattle.std.proofs.lemmas.Bool.{eqb-false}
 use Rattle.ocpp_scalars.specs.declared.refusal.Refusal.TheVariants.{NoTransaction}
 use Rattle.profile.specs.declared.row.Row.{Row}
 use Rattle.profile.specs.Purpose.{is_tx}
-use Rattle.profile.specs.Changes.{rows_beside, is_tx_profile_at}
+use Rattle.profile.specs.declared.charging_profile.Profile.{Profile}
+use Rattle.profile.specs.Changes.{installed, rows_beside, is_tx_profile_at, without_transaction_profiles}
+use Rattle.stacking.specs.Limits.{max_rows}
+use Rattle.stacking.specs.Rows.{installed_if_room, rows_begun, transaction_row}
 use Rattle.transactions.specs.declared.begin.Begin.{Begin}
 use Rattle.transactions.specs.declared.transaction.Transaction.{Transaction}
 use Rattle.transactions.specs.declared.active_table.Began.{Began}
@@ -120,18 +123,62 @@ book-filtered book test is = record {
   rows = all-filtered _ _ test (λ (r : Row) here stays. here) book.rows is.rows;
 }
 
--- also where a transaction begins
-pub book-started : (book : BookState) (test : Row → Bool) (connector : ℕ) (begin : Begin) (id : ℤ) → IsBook book
-    → IsBook (record book { rows = filter test book.rows; transactions = started book.transactions connector begin id })
-book-started book test connector begin id is = go (began book.transactions connector begin)
+-- a connector is active once a transaction was put in its slot
+active-placed : (slots : List (Option Transaction)) (place : ℕ) (transaction : Transaction)
+    → place < length slots
+    → IsSome (active_on (set slots place (Some transaction)) (suc place))
+active-placed [] place transaction has = absurd (omega (arith, has))
+active-placed (slot ∷ slots) zero transaction has = refl
+active-placed (slot ∷ slots) (suc place) transaction has =
+    active-placed slots place transaction (omega (arith, has))
+
+-- a row is installed, or given up
+all-installed : (P : Row → Type 0) (rows : List Row) (row : Row) → AllByRecursion P rows → P row
+    → AllByRecursion P (installed_if_room rows row)
+all-installed P rows row all here = go (nat_le (length (installed rows row)) max_rows)
   where
-    go : (b : Began) → IsBook (record book { rows = filter test book.rows; transactions = placed b book.transactions connector (record { id = id; begin = begin }) })
-    go Fresh = record {
-      few = is.few;
-      slots = length-set book.transactions (connector - 1) _ ∙ is.slots;
-      rows = all-filtered _ _ test (λ (r : Row) here stays. row-started book.transactions (connector - 1) _ r here) book.rows is.rows;
-    }
-    go (Repeat other) = book-filtered book test is
+    go : (b : Bool) → AllByRecursion P (cond b (installed rows row) rows)
+    go true = all-push P (rows_beside rows row) row
+        (all-filtered P P _ (λ (r : Row) (is : P r) stays. is) rows all) here
+    go false = all
+
+-- also where a transaction begins
+pub book-begun : (book : BookState) (connector : ℕ) (begin : Begin) (id : ℤ) (profile : Option Profile)
+    → IsBook book → 0 < connector → connector ≤ length book.ceilings
+    → IsBook (record book {
+      rows = rows_begun book.rows connector begin.timestamp id profile;
+      transactions = set book.transactions (connector - 1) (Some (record { id = id; begin = begin }));
+    })
+book-begun book connector begin id profile is above has = record {
+  few = is.few;
+  slots = length-set book.transactions (connector - 1) _ ∙ is.slots;
+  rows = go profile;
+}
+  where
+    active : Transaction
+    active = record { id = id; begin = begin }
+
+    slots : List (Option Transaction)
+    slots = set book.transactions (connector - 1) (Some active)
+
+    one-more : suc (connector - 1) ≡ connector
+    one-more = omega (arith, above)
+
+    within : connector - 1 < length book.transactions
+    within = omega (arith, above, has, is.slots)
+
+    stand : AllByRecursion (MayStand slots) (without_transaction_profiles book.rows connector)
+    stand = all-filtered _ _ _ (λ (r : Row) here stays. row-started book.transactions (connector - 1) active r here) book.rows is.rows
+
+    go : (profile : Option Profile) → AllByRecursion (MayStand slots) (rows_begun book.rows connector begin.timestamp id profile)
+    go None = stand
+    go (Some profile) = all-installed _ (without_transaction_profiles book.rows connector)
+        (transaction_row connector begin.timestamp id profile) stand
+        (record {
+          has_connector = rw (length-set book.transactions (connector - 1) (Some active), is.slots) has;
+          in_transaction = λ tx. subst (λ (c : ℕ). IsSome (active_on slots c)) one-more
+              (active-placed book.transactions (connector - 1) active within);
+        })
 
 pub book-stopped : (book : BookState) (id : ℤ) → IsBook book → IsBook (book_stopped book id)
 book-stopped book id is = go (position (has_id id) book.transactions)

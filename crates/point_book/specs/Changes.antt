@@ -12,6 +12,7 @@ use Rattle.profile.specs.declared.purpose.Purpose.TheVariants.{TxProfile}
 use Rattle.profile.specs.Purpose.{is_tx}
 use Rattle.profile.specs.Changes.{installed, cleared, without_transaction_profiles}
 use Rattle.stacking.specs.Limits.{max_rows}
+use Rattle.stacking.specs.Rows.{rows_begun}
 use Rattle.transactions.specs.declared.begin.Begin.{Begin}
 use Rattle.transactions.specs.declared.active_table.Began.{Began}
 use Rattle.transactions.specs.declared.active_table.Began.TheVariants.{Fresh, Repeat}
@@ -99,16 +100,32 @@ book_cleared book criteria = record book { rows = cleared book.rows criteria }
 
 -- ---- StartTransaction (OCPP 1.6, 4.8)
 
--- a new transaction ends the one before it at its connector, and so that one's TxProfiles (3.13)
-abbrev pub rows_after_start : Began → List Row → ℕ → List Row
-rows_after_start Fresh rows connector = without_transaction_profiles rows connector
-rows_after_start (Repeat id) rows connector = rows
+-- A new transaction ends the one before it at its connector, and so that one's TxProfiles (3.13).
+-- It may begin with a profile of its own (5.11), which is installed then.
+abbrev pub rows_started : List Row → ℕ → Begin → ℤ → Option Profile → List Row
+rows_started rows connector begin id profile =
+    rows_begun rows connector begin.timestamp id profile
 
-abbrev pub book_started : BookState → ℕ → Begin → ℤ → BookState
-book_started book connector begin id = record book {
-  rows = rows_after_start (began book.transactions connector begin) book.rows connector;
+abbrev pub rows_after_start : Began → List Row → ℕ → Begin → ℤ → Option Profile → List Row
+rows_after_start Fresh rows connector begin id profile =
+    rows_started rows connector begin id profile
+rows_after_start (Repeat other) rows connector begin id profile = rows
+
+abbrev pub book_started : BookState → ℕ → Begin → ℤ → Option Profile → BookState
+book_started book connector begin id profile = record book {
+  rows = rows_after_start (began book.transactions connector begin)
+      book.rows connector begin id profile;
   transactions = started book.transactions connector begin id;
 }
+
+-- memory ran out: nothing has changed, and what began came back with its profile
+pub record IsStartRefused (old : BookState) (begin : Begin) (profile : Option Profile)
+    (refused : Refusal × Begin × Option Profile) (new : BookState)
+    : Type 0 where
+  pub cause : refused.0 ≡ OutOfMemory
+  pub unchanged : new ≡ old
+  pub begin_back : refused.1 ≡ begin
+  pub profile_back : refused.2 ≡ profile
 
 -- ---- StopTransaction (OCPP 1.6, 4.10)
 

@@ -1,6 +1,6 @@
 //! The book of a charge point.
 
-ghost use Rattle.std.specs.Prelude.{◌≡◌, ◌↔◌, ◌+◌, ◌<◌, ◌≤◌, None, IsTrue, IfErr, IfOk, OnOk, length};
+ghost use Rattle.std.specs.Prelude.{◌≡◌, ◌↔◌, ◌+◌, ◌<◌, ◌≤◌, None, IsOk, IsTrue, IfErr, IfOk, OnOk, length};
 ghost use Rattle.std.specs.List.{list_any};
 ghost use Rattle.std.specs.Option.{option_copied};
 ghost use Rattle.profile.specs.Candidates.{candidates};
@@ -11,12 +11,12 @@ ghost use Rattle.stacking.specs.ByCases.Candidates.{candidates_left};
 ghost use Rattle.stacking.specs.Rows.{AreRows};
 ghost use Rattle.transactions.specs.ActiveTable.{active_at, began, connector_of};
 ghost use Rattle.point_book.specs.Book.{IsBook, empty_book, state_of};
-ghost use Rattle.point_book.specs.Changes.{install_refusal, IsRefused, book_installed, book_cleared, book_started, book_stopped};
+ghost use Rattle.point_book.specs.Changes.{install_refusal, IsRefused, IsStartRefused, book_installed, book_cleared, book_started, book_stopped};
 
 use crate::refusal::transaction_refusal;
 use meaning::View;
 use ocpp_scalars::Refusal;
-use profile::{Criteria, Purpose, Row};
+use profile::{Criteria, Profile, Purpose, Row};
 use stacking::{Candidates, Rows};
 use std::alloc::{AllocError, Global};
 use std::marker::Model;
@@ -170,19 +170,34 @@ impl PointBook {
     }
 
     /// Begins a transaction at a connector (chapter 4.8), in place of the one that is active there
-    /// and without that one's TxProfiles. A retransmitted StartTransaction of that one changes
-    /// nothing. Allocates nothing.
-    pub fn start(&mut self, connector: u32, begin: Begin, next: i32) -> Began
+    /// and without that one's TxProfiles. With a profile (chapter 5.11) that is installed for the
+    /// transaction, from its timestamp on, unless there would be too many: then it is given up. A
+    /// retransmitted StartTransaction of the active one changes nothing. Only a profile wants
+    /// memory: on `OutOfMemory` nothing changes, and both come back.
+    pub fn start(
+        &mut self,
+        connector: u32,
+        begin: Begin,
+        next: i32,
+        profile: Option<Profile>,
+    ) -> Result<Began, (Refusal, Begin, Option<Profile>)>
         requires above { 0 < connector }
         requires has { connector ≤ length self.old.ceilings }
-        ensures answer { result ≡ began self.old.transactions connector begin }
-        ensures book { self.new ≡ book_started self.old connector begin next }
+        ensures answer { IfOk result
+            (λ answer. answer ≡ began self.old.transactions connector begin) }
+        ensures book { OnOk result (self.new ≡ book_started self.old connector begin next profile) }
+        ensures refused { IfErr result
+            (λ refused. IsStartRefused self.old begin profile refused self.new) }
+        ensures certain { profile ≡ None → IsOk result }
     {
-        let began = self.transactions.start(connector, begin, next);
-        if let Began::Fresh = began {
-            self.rows.drop_tx(connector);
+        if let Began::Repeat(id) = self.transactions.began(connector, &begin) {
+            return Ok(Began::Repeat(id));
         }
-        began
+        let moment = begin.timestamp;
+        if let Err(profile) = self.rows.begin(connector, moment, next, profile) {
+            return Err((Refusal::OutOfMemory, begin, profile));
+        }
+        Ok(self.transactions.start(connector, begin, next))
     }
 
     /// What a start at a connector would be: a new transaction, or the active one's StartTransaction,

@@ -1,8 +1,18 @@
--- The limit of a profile at an instant.
-use Rattle.std.specs.Prelude.{ℕ, ◌-◌, nat_le, nat_lt, Bool, true, ◌&&◌, Option, Some, None, unwrap_or, option_and_then, if◌then◌else◌}
+-- A profile for a transaction, and the limit of a profile at an instant.
+use Rattle.std.specs.Prelude.{ℕ, ℤ, ◌-◌, nat_le, nat_lt, Bool, true, ◌&&◌, Option, Some, None, unwrap_or, option_and_then, if◌then◌else◌}
 use Rattle.profile.specs.declared.charging_profile.Profile.{Profile}
 use Rattle.profile.specs.Kind.{start_of, offset_after}
 use Rattle.profile.specs.Periods.{limit_in}
+use Rattle.profile.specs.Purpose.{transaction_of}
+use Rattle.profile.specs.ByCases.Parts.{transaction_of_again}
+
+-- A TxProfile for the transaction of a number (OCPP 1.6, chapter 7, ChargingProfile): that field
+-- alone is set. A profile of another purpose has no transactionId, and stays as it is.
+abbrev pub with_transaction : Profile → ℤ → Profile
+with_transaction profile id = record profile {
+  transaction = transaction_of profile.purpose (Some id);
+  own_transaction = transaction_of_again profile.purpose (Some id);
+}
 
 -- Nothing of a profile is in force before its anchor: its startSchedule where it has one and isn't
 -- Relative, else the base (OCPP 1.6, 3.13 and chapter 7, ChargingProfileKindType).

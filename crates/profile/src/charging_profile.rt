@@ -1,8 +1,8 @@
 //! A well-formed charging profile, and its limit at an instant.
 
-ghost use Rattle.std.specs.Prelude.{◌≡◌, ◌↔◌, ℕ, nat_le, IsTrue, IfErr, IfOk, MatchResult, Ok, Err};
+ghost use Rattle.std.specs.Prelude.{◌≡◌, ◌↔◌, ℕ, nat_le, true, Some, IsTrue, IfErr, IfOk, MatchResult, Ok, Err};
 ghost use Rattle.profile.specs.Limits.{max_stack_level};
-ghost use Rattle.profile.specs.Purpose.{transaction_of};
+ghost use Rattle.profile.specs.Purpose.{is_tx, transaction_of};
 ghost use Rattle.profile.specs.Kind.{start_of};
 
 use crate::kind::Kind;
@@ -42,7 +42,7 @@ pub struct Profile {
 impl Profile {
     ghost use Rattle.profile.specs.Parts.{IsProfileOf, profile_of_parts};
     ghost use Rattle.profile.specs.ByCases.Same.{HaveSameKeys, HaveSameTimes};
-    ghost use Rattle.profile.specs.ChargingProfile.{anchor, offset, is_valid_at, rate_within, rate};
+    ghost use Rattle.profile.specs.ChargingProfile.{with_transaction, anchor, offset, is_valid_at, rate_within, rate};
 
     /// The well-formed profile of these parts. What belongs to another purpose or kind is dropped:
     /// a transactionId unless it is a TxProfile, a recurrencyKind unless it is Recurring, and the
@@ -87,6 +87,24 @@ impl Profile {
         })
     }
 
+    /// A TxProfile for the transaction of this number, whichever it named before. A profile of
+    /// another purpose stays as it is. Allocates nothing.
+    pub fn with_transaction(self, id: i32) -> Profile
+        ensures profile { result ≡ with_transaction self id }
+        ensures transaction { is_tx self.purpose ≡ true → result.transaction ≡ Some id }
+    {
+        Profile {
+            id: self.id,
+            transaction: self.purpose.transaction_of(Some(id)),
+            stack_level: self.stack_level,
+            purpose: self.purpose,
+            kind: self.kind,
+            valid_from: self.valid_from,
+            valid_to: self.valid_to,
+            schedule: self.schedule,
+        }
+    }
+
     /// A copy.
     pub fn copy(&self) -> Result<Profile, AllocError>
         ensures { IfOk result (λ copy. copy ≡ self.now) }
@@ -102,6 +120,16 @@ impl Profile {
             valid_to: self.valid_to,
             schedule,
         })
+    }
+
+    /// A copy of a profile, where there is one.
+    pub fn copy_if_any(profile: &Option<Profile>) -> Result<Option<Profile>, AllocError>
+        ensures { IfOk result (λ copy. copy ≡ profile.now) }
+    {
+        match profile {
+            Some(profile) => Ok(Some(profile.copy()?)),
+            None => Ok(None),
+        }
     }
 
     /// Whether two profiles are equal.

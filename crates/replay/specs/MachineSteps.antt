@@ -1,6 +1,6 @@
 -- What comes of the steps that a message asks for, where each compile gives the exact schedule or
 -- ResultTooLong, and of those that its point's link and calls are for.
-use Rattle.std.specs.Prelude.{ℕ, List, false, Option, Some, None, Result, Ok, Err}
+use Rattle.std.specs.Prelude.{Bool, ℕ, List, false, Option, Some, None, Result, Ok, Err}
 use Rattle.ocpp_scalars.specs.declared.refusal.Refusal.{Refusal}
 use Rattle.ocpp_scalars.specs.declared.refusal.Refusal.TheVariants.{NothingInFlight}
 use Rattle.messages.specs.declared.call.Call.{Call}
@@ -92,13 +92,15 @@ sent_first old point = sent_over (link_of old point) old point
 
 -- a point has answered the call of a number; where that isn't in flight, nothing changes, and none
 -- is in flight to a point without a link
-abbrev pub confirmed_over : Option ℕ → MachineState → List ℕ → ℕ → Stepped
-confirmed_over None old point number = record { outcome = Err NothingInFlight; after = old }
-confirmed_over (Some link) old point number =
-    stepped_exactly old (steps.Confirm point link number)
+abbrev pub confirmed_over : Option ℕ → MachineState → List ℕ → ℕ → Bool → Stepped
+confirmed_over None old point number accepted =
+    record { outcome = Err NothingInFlight; after = old }
+confirmed_over (Some link) old point number accepted =
+    stepped_exactly old (steps.Confirm point link number accepted)
 
-abbrev pub confirmed_by : MachineState → List ℕ → ℕ → Stepped
-confirmed_by old point number = confirmed_over (link_of old point) old point number
+abbrev pub confirmed_by : MachineState → List ℕ → ℕ → Bool → Stepped
+confirmed_by old point number accepted =
+    confirmed_over (link_of old point) old point number accepted
 
 -- ---- replies to audits (OCPP 1.6, 5.7)
 
@@ -125,9 +127,9 @@ reply_judged point number (Some asked) said confirmed =
     (verdict_kept confirmed.after point number (judged_exactly asked said)) confirmed.after
 
 -- a point has replied to the call of a number: that is confirmed, and the reply to an audit judged
-abbrev pub replied_by : MachineState → texts.Sent → List ℕ → ℕ → Stepped
-replied_by old text point number = record {
-  outcome = (confirmed_by old point number).outcome;
+abbrev pub replied_by : MachineState → texts.Sent → List ℕ → ℕ → Bool → Stepped
+replied_by old text point number accepted = record {
+  outcome = (confirmed_by old point number accepted).outcome;
   after = reply_judged point number (audit_job old point number) (said_of text)
-      (confirmed_by old point number);
+      (confirmed_by old point number accepted);
 }

@@ -78,8 +78,8 @@ asked_handled old text (asked.Respond id response) =
     record { printed = lines.Answer id response ∷ []; change = Nothing; after = old }
 asked_handled old text (asked.Step id kind step) =
     answered old id kind (stepped_at_once old.machine step)
-asked_handled old text (asked.Confirm point number) =
-    replied old (replied_by old.machine text point number)
+asked_handled old text (asked.Confirm point number accepted) =
+    replied old (replied_by old.machine text point number accepted)
 
 -- ---- messages of points
 

@@ -4,10 +4,11 @@ use Rattle.ocpp_scalars.specs.declared.refusal.Refusal.{Refusal}
 use Rattle.site_core.specs.declared.reply.Reply.{Reply}
 use Rattle.site_core.specs.declared.reply.Reply.TheVariants as replies
 use Rattle.replay.specs.declared.script.point_change.PointChange.{PointChange}
-use Rattle.replay.specs.declared.script.point_change.PointChange.TheVariants.{Nothing, Profiles, Transaction, Audit, Confirmed}
+use Rattle.replay.specs.declared.script.point_change.PointChange.TheVariants.{Nothing, Profiles, Transaction, Audit, RemoteStart, Confirmed}
 
 -- What a step changes that is made for the message of a line, by its reply. An install, a clear that
--- removes profiles, and an audit each add a call to the point; TxProfiles may go with a transaction.
+-- removes profiles, an audit and a remote start each add a call to the point. TxProfiles may go with
+-- a transaction, and one may come.
 -- A verdict comes with the reply that confirms the audit's call.
 abbrev pub change_by : Reply → PointChange
 change_by replies.Accepted = Profiles
@@ -29,6 +30,7 @@ change_by replies.LinkLost = Nothing
 change_by (replies.Audited call asked) = Audit
 change_by replies.VerdictKept = Nothing
 change_by (replies.Status status) = Nothing
+change_by (replies.Called number) = RemoteStart
 
 -- a refused step changes nothing
 abbrev pub change_of : Result Reply Refusal → PointChange

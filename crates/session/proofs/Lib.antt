@@ -1,3 +1,4 @@
 pub mod AuditLemmas
+pub mod PerformLemmas
 pub mod ServedLemmas
 pub mod TodoLemmas

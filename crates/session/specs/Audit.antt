@@ -25,7 +25,7 @@ pub record OpenAudit : Type 0 where
 
 -- the audit that a step replies to: where it confirms the call of the point's audit
 abbrev pub audit_confirmed : MachineState → Step → Option OpenAudit
-audit_confirmed state (steps.Confirm point link call) = option_map
+audit_confirmed state (steps.Confirm point link call accepted) = option_map
     (λ (asked : AuditRequest). record { point = point; call = call; asked = asked })
     (audit_job state point call)
 audit_confirmed state step = None

@@ -26,8 +26,8 @@ abbrev pub Performs : StoreState → PassState → Step → Performed → StoreS
 Performs old was step (Job job) new pass =
     Calls old was (seen_by was step) (Taken job.number job.book job.ask) new pass
 Performs old was (steps.Take take) (Outcome (Made reply)) new pass = ⊥
-Performs old was (steps.Confirm point link call) (Outcome (Made reply)) new pass =
-    Makes old (steps.Confirm point link call) reply new × (pass ≡ was)
+Performs old was (steps.Confirm point link call accepted) (Outcome (Made reply)) new pass =
+    Makes old (steps.Confirm point link call accepted) reply new × (pass ≡ was)
 Performs old was step (Outcome (Made reply)) new pass =
     Calls old was (seen_by was step) reply new pass
 Performs old was step (Outcome (Answered handed)) new pass = ⊥

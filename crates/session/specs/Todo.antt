@@ -1,5 +1,5 @@
 -- What is to be done for a message of a session: at most one step, and an answer.
-use Rattle.std.specs.Prelude.{ℕ, ◌≡◌, ◌⊎◌, List, Option, Some, None, option_map}
+use Rattle.std.specs.Prelude.{ℕ, ◌≡◌, ◌⊎◌, Bool, List, Option, Some, None, option_map}
 use Rattle.ocpp_scalars.specs.declared.instant.Instant.{Instant}
 use Rattle.ocpp_scalars.specs.declared.refusal.Refusal.TheVariants.{OutOfMemory}
 use Rattle.ocppj_frame.specs.ByCases.Message.{message_of_text}
@@ -30,10 +30,11 @@ pub record TodoState : Type 0 where
   pub owed : Owed
 
 -- a point's reply confirms a call over the point's present link, if it has one
-abbrev pub confirming : Peer → List ℕ → ℕ → Option Step
-confirming (Operator unit) point call = None
-confirming (Point None) point call = None
-confirming (Point (Some link)) point call = Some (steps.Confirm point link call)
+abbrev pub confirming : Peer → List ℕ → ℕ → Bool → Option Step
+confirming (Operator unit) point call accepted = None
+confirming (Point None) point call accepted = None
+confirming (Point (Some link)) point call accepted =
+    Some (steps.Confirm point link call accepted)
 
 abbrev pub todo_asked : Peer → Asked → TodoState
 todo_asked peer asked.Nothing = record { step = None; owed = owed.Nothing }
@@ -41,8 +42,8 @@ todo_asked peer (asked.Respond id response) =
     record { step = None; owed = owed.Response id response }
 todo_asked peer (asked.Step id kind step) =
     record { step = Some step; owed = owed.Outcome id kind }
-todo_asked peer (asked.Confirm point call) =
-    record { step = confirming peer point call; owed = owed.Nothing }
+todo_asked peer (asked.Confirm point call accepted) =
+    record { step = confirming peer point call accepted; owed = owed.Nothing }
 
 -- what is to be done for a message that comes at a moment
 abbrev pub todo_of : SessionState → Instant → List ℕ → TodoState

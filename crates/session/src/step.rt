@@ -5,6 +5,7 @@ ghost use Rattle.site_core.specs.declared.step.Step.TheVariants as steps;
 ghost use Rattle.session.specs.declared.outcome.Outcome.{Outcome};
 ghost use Rattle.session.specs.declared.outcome.Performed.{Performed};
 ghost use Rattle.session.specs.Perform.{IsOfText, Performs};
+ghost use Rattle.session.specs.Serving.{KeepsPass};
 
 use crate::outcome::{Outcome, Performed};
 use ocpp_scalars::Refusal;
@@ -20,11 +21,17 @@ pub fn perform<C: Ledger, A: Ledger>(
     step: Step,
 ) -> Performed
     requires { IsOfText step }
-    ensures { Performs book.old pass.old step result book.new pass.new }
+    ensures performs { Performs book.old pass.old step result book.new pass.new }
+    ensures pass { KeepsPass pass.old pass.new }
 {
     match step {
         Step::Take(take) => perform_take(book, pass, take),
-        Step::Confirm { point, link, call } => match book.confirm(point, link, call) {
+        Step::Confirm {
+            point,
+            link,
+            call,
+            accepted,
+        } => match book.confirm(point, link, call, accepted) {
             Ok(()) => made(Reply::Confirmed),
             Err(refusal) => refused(refusal),
         },
@@ -41,7 +48,8 @@ fn perform_take<C: Ledger, A: Ledger>(
     pass: &mut Pass<C, A>,
     take: Take,
 ) -> Performed
-    ensures { Performs book.old pass.old (steps.Take take) result book.new pass.new }
+    ensures performs { Performs book.old pass.old (steps.Take take) result book.new pass.new }
+    ensures pass { KeepsPass pass.old pass.new }
 {
     let Take {
         point,

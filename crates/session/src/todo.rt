@@ -60,8 +60,12 @@ impl Todo {
                 step: Some(step),
                 owed: Owed::Outcome { id, kind },
             },
-            Asked::Confirm { point, call } => Todo {
-                step: confirming(peer, point, call),
+            Asked::Confirm {
+                point,
+                call,
+                accepted,
+            } => Todo {
+                step: confirming(peer, point, call, accepted),
                 owed: Owed::Nothing,
             },
         }
@@ -101,12 +105,17 @@ impl Todo {
 }
 
 /// The step that a point's reply to the call of this number asks for, if the point has a link.
-fn confirming(peer: Peer, point: PointId, call: u64) -> Option<Step>
-    ensures step { result ≡ confirming peer point call }
+fn confirming(peer: Peer, point: PointId, call: u64, accepted: bool) -> Option<Step>
+    ensures step { result ≡ confirming peer point call accepted }
     ensures of_text { IfSome result IsOfText }
 {
     match peer {
-        Peer::Point { link: Some(link) } => Some(Step::Confirm { point, link, call }),
+        Peer::Point { link: Some(link) } => Some(Step::Confirm {
+            point,
+            link,
+            call,
+            accepted,
+        }),
         Peer::Point { link: None } | Peer::Operator { .. } => None,
     }
 }

@@ -1,4 +1,4 @@
-//! The calls of a charge point that it hasn't confirmed.
+//! The calls of a charge point that it hasn't confirmed, and how far a call is.
 
 use messages::Call;
 use site_core::Outbox;
@@ -26,4 +26,18 @@ pub fn waiting_calls(alloc: Global, outbox: &Outbox) -> Result<Vec<WaitingCall>,
         is_in_flight = false;
     }
     Ok(calls)
+}
+
+/// How far the call of a number is.
+pub fn state_of_call(outbox: &Outbox, number: u64) -> &'static str {
+    if number < outbox.first_number() {
+        "confirmed"
+    } else {
+        state_name(outbox.is_in_flight() && number == outbox.first_number())
+    }
+}
+
+/// How far a call is that isn't confirmed.
+pub fn state_name(is_in_flight: bool) -> &'static str {
+    if is_in_flight { "in flight" } else { "waiting" }
 }

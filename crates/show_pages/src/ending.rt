@@ -3,19 +3,21 @@
 use crate::trace::{HeldLine, Trace};
 use crate::traced_calls::{AddedCall, PointCalls};
 use crate::words::counted;
+use site_core::Machine;
 use std::alloc::{AllocError, Global};
 
 /// What is left undone after the lines of a script, a sentence a line. These are requests that no
-/// line released, calls that never went out or were never answered, and calls that a point
-/// rejected. Nothing is said of a point that never sent a message and for which only call 0 waits,
-/// which clears what the point has from before.
+/// line released, calls that never went out or were never answered, calls that a point rejected,
+/// and starts that it accepted and never made. Nothing is said of a point that never sent a message
+/// and for which only call 0 waits, which clears what the point has from before.
 pub fn ending_text(alloc: Global, trace: &Trace<'_>) -> Result<String, AllocError> {
     let mut out = String::new(alloc);
     push_held(&mut out, trace)?;
-    let site = trace.playing().machine().site();
+    let machine = trace.playing().machine();
     for (place, calls) in trace.points().iter().enumerate() {
-        if let Some(point) = site.point(place) {
+        if let Some(point) = machine.site().point(place) {
             push_rejected(&mut out, point.id, calls)?;
+            push_starts(&mut out, point.id, machine)?;
             push_unanswered(&mut out, point.id, calls)?;
             push_waiting(alloc, &mut out, point.id, calls)?;
         }
@@ -58,6 +60,25 @@ fn push_rejected(out: &mut String, id: &str, calls: &PointCalls) -> Result<(), A
             out,
             "{id}: call {number} ({what}), which went out after line {sent}, was answered {status} at line {line}\n"
         )?;
+    }
+    Ok(())
+}
+
+/// Appends a sentence for each start that the point accepted and never made.
+fn push_starts(out: &mut String, id: &str, machine: &Machine) -> Result<(), AllocError> {
+    let Some(outbox) = machine.outbox_of(id) else {
+        return Ok(());
+    };
+    for start in machine.waiting_of(id) {
+        let connector = start.connector;
+        let number = start.call;
+        let id_tag = start.id_tag.as_str();
+        if number < outbox.first_number() {
+            write!(
+                out,
+                "{id}: the point accepted call {number}, a start at connector {connector} by idTag {id_tag}, and no transaction began there since\n"
+            )?;
+        }
     }
     Ok(())
 }

@@ -1,7 +1,6 @@
 //! What stands at each charge point, as JSON, in OCPP's field names.
 
-use crate::call_of_point::{WaitingCall, waiting_calls};
-use crate::standing::state_name;
+use crate::call_of_point::{WaitingCall, state_name, state_of_call, waiting_calls};
 use crate::trace::Trace;
 use crate::traced_calls::RejectedCall;
 use crate::words::instant_text;
@@ -11,7 +10,7 @@ use ocpp_scalars::Instant;
 use point_book::PointBook;
 use profile::Row;
 use replay::{Held, Playing};
-use site_core::{Machine, Outbox, PointAudit};
+use site_core::{Machine, Outbox, PointAudit, WaitingStart};
 use std::alloc::{AllocError, Global};
 use transactions::Transaction;
 
@@ -73,6 +72,7 @@ impl Page {
         self.write_profiles(book)?;
         self.write_transactions(book)?;
         self.write_audit(machine.audit_of(id))?;
+        self.write_starts(outbox, machine.waiting_of(id))?;
         self.write_calls(outbox)?;
         self.write_rejected(rejected)?;
         self.json.end_object()
@@ -151,6 +151,36 @@ impl Page {
         self.json.end_object()
     }
 
+    /// The starts that a point was asked for and that wait.
+    fn write_starts(&mut self, outbox: &Outbox, starts: &[WaitingStart]) -> Result<(), AllocError> {
+        self.json.key("waitingStarts")?;
+        self.json.begin_array()?;
+        for start in starts {
+            self.write_start(outbox, start)?;
+        }
+        self.json.end_array()
+    }
+
+    /// A start that waits, with how far its call is.
+    fn write_start(&mut self, outbox: &Outbox, start: &WaitingStart) -> Result<(), AllocError> {
+        self.json.begin_object()?;
+        self.json.key("connectorId")?;
+        self.json.u64(u64::from(start.connector))?;
+        self.json.key("idTag")?;
+        self.json.string(start.id_tag.as_str())?;
+        self.json.key("call")?;
+        self.json.u64(start.call)?;
+        self.json.key("state")?;
+        self.json.string(state_of_call(outbox, start.call))?;
+        if let Some(profile) = &start.profile {
+            self.json.key("chargingProfile")?;
+            let mut fields = String::new(self.alloc);
+            push_profile(&mut fields, profile)?;
+            self.write_text(fields.as_str())?;
+        }
+        self.json.end_object()
+    }
+
     /// Whether a point is linked, how many calls it confirmed, and those that wait.
     fn write_calls(&mut self, outbox: &Outbox) -> Result<(), AllocError> {
         self.json.key("linked")?;
@@ -171,7 +201,7 @@ impl Page {
         self.json.key("number")?;
         self.json.u64(waiting.call.number)?;
         self.json.key("state")?;
-        self.json.string(state_name(waiting))?;
+        self.json.string(state_name(waiting.is_in_flight))?;
         self.json.key("action")?;
         self.json.string(waiting.call.body.action())?;
         let mut fields = String::new(self.alloc);

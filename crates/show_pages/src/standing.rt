@@ -1,6 +1,6 @@
 //! What stands at each charge point, as tables for people.
 
-use crate::call_of_point::{WaitingCall, waiting_calls};
+use crate::call_of_point::{WaitingCall, state_name, state_of_call, waiting_calls};
 use crate::profile_words::{from_text, kind_text, periods_text, until_text};
 use crate::table::Table;
 use crate::trace::Trace;
@@ -9,12 +9,12 @@ use crate::words::{instant_text, text};
 use messages::{CallBody, purpose_name, push_subject};
 use point_book::PointBook;
 use replay::Playing;
-use site_core::{Machine, Outbox, PointAudit};
+use site_core::{Machine, Outbox, PointAudit, WaitingStart};
 use std::alloc::{AllocError, Global};
 
 /// What each point has after a script, in the order of the site file, and which requests are held.
-/// A point has profiles, transactions, its audit, the calls that wait and those that it rejected. A
-/// point with nothing has one line.
+/// A point has profiles, transactions, its audit, the remote starts and the calls that wait, and
+/// the calls that it rejected. A point with nothing has one line.
 pub fn standing_text(alloc: Global, trace: &Trace<'_>) -> Result<String, AllocError> {
     let playing = trace.playing();
     let machine = playing.machine();
@@ -42,8 +42,9 @@ fn push_point(
     let calls = waiting_calls(alloc, outbox)?;
     let transactions = transaction_table(alloc, book)?;
     let audit = machine.audit_of(id);
+    let starts = machine.waiting_of(id);
     let has_nothing = book.view().rows.is_empty() && transactions.is_none() && audit.is_none();
-    if has_nothing && calls.len() <= 1 && rejected.is_empty() {
+    if has_nothing && starts.is_empty() && calls.len() <= 1 && rejected.is_empty() {
         return push_empty_point(alloc, out, id, outbox, &calls);
     }
     write!(out, "{id}\n")?;
@@ -56,6 +57,7 @@ fn push_point(
         None => out.push_str("  no transaction\n")?,
     }
     push_audit(out, audit)?;
+    push_starts(alloc, out, outbox, starts)?;
     let calls_line = calls_text(alloc, outbox, calls.len())?;
     write!(out, "  {calls_line}\n")?;
     if !calls.is_empty() {
@@ -78,6 +80,37 @@ fn push_audit(out: &mut String, audit: Option<&PointAudit>) -> Result<(), AllocE
         "  audit: connector {connector} for {seconds} s, by call {call}: {outcome}\n"
     )?;
     Ok(())
+}
+
+/// Appends the starts that the point was asked for and that wait, if there are any.
+fn push_starts(
+    alloc: Global,
+    out: &mut String,
+    outbox: &Outbox,
+    starts: &[WaitingStart],
+) -> Result<(), AllocError> {
+    if starts.is_empty() {
+        return Ok(());
+    }
+    let mut table = Table::new(
+        alloc,
+        &["connector", "idTag", "profile", "call", "its state"],
+    )?;
+    for start in starts {
+        let profile = match &start.profile {
+            Some(profile) => profile.id.to_string(alloc)?,
+            None => text(alloc, "-")?,
+        };
+        table.push([
+            start.connector.to_string(alloc)?,
+            text(alloc, start.id_tag.as_str())?,
+            profile,
+            start.call.to_string(alloc)?,
+            text(alloc, state_of_call(outbox, start.call))?,
+        ])?;
+    }
+    out.push_str("  remote starts that wait\n")?;
+    table.push_to(out, 4)
 }
 
 /// Appends the calls that the point confirmed without doing them, if there are any.
@@ -116,7 +149,7 @@ fn push_empty_point(
     if let Some(waiting) = calls.first() {
         let number = waiting.call.number;
         let action = waiting.call.body.action();
-        let state = state_name(waiting);
+        let state = state_name(waiting.is_in_flight);
         write!(out, " (call {number}, {action}, {state})")?;
     }
     out.push('\n')?;
@@ -201,26 +234,17 @@ fn call_table(alloc: Global, calls: &[WaitingCall]) -> Result<Table, AllocError>
             waiting.call.number.to_string(alloc)?,
             text(alloc, waiting.call.body.action())?,
             subject_text(alloc, &waiting.call.body)?,
-            text(alloc, state_name(waiting))?,
+            text(alloc, state_name(waiting.is_in_flight))?,
         ])?;
     }
     Ok(table)
 }
 
-/// What a call is about: its profiles, or the schedule that it asks for.
+/// What a call is about: its profiles, the schedule that it asks for, or who is to start.
 fn subject_text(alloc: Global, body: &CallBody) -> Result<String, AllocError> {
     let mut out = String::new(alloc);
     push_subject(&mut out, body)?;
     Ok(out)
-}
-
-/// Whether a call went out.
-pub fn state_name(waiting: &WaitingCall) -> &'static str {
-    if waiting.is_in_flight {
-        "in flight"
-    } else {
-        "waiting"
-    }
 }
 
 /// Appends the requests that are held, if there are any.

@@ -1,3 +1,4 @@
 pub mod TextPieces
 pub mod RunningLemmas
 pub mod StateLemmas
+pub mod StepLemmas

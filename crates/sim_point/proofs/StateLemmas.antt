@@ -44,7 +44,7 @@ answered-ceilings unit book now action = refl
 
 fits-with : (old new : BookState) (call : PointCall) → new.ceilings ≡ old.ceilings → Fits old call → Fits new call
 fits-with old new Heartbeat same fits = fits
-fits-with old new (StartTransaction connector begin) same fits = rw same fits
+fits-with old new (StartTransaction connector begin profile) same fits = rw same fits
 fits-with old new (StopTransaction transaction meter timestamp) same fits = fits
 
 flight-with : (old new : BookState) (call : Option InFlight) → new.ceilings ≡ old.ceilings → IsOf old call → IsOf new call

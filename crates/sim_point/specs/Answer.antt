@@ -99,8 +99,8 @@ schedule_of_ask unit book (Err refusal) = Rejected refusal
 
 -- ---- actions
 
--- What a point with this unit and this book answers to an action at a moment, and its book then.
--- Any other action isn't implemented.
+-- What a point with this unit and this book answers to an action at a moment, and its book then. A
+-- RemoteStartTransaction is none of these (RemoteStart.antt), and any other isn't implemented.
 abbrev pub answered : Unit → BookState → ℕ → Action → Answered
 answered unit book now (actions.SetChargingProfile connector parts) =
     installed_if_made unit book (row_made now connector (profile_of_parts parts))

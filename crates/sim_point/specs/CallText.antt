@@ -11,7 +11,7 @@ use Rattle.sim_point.specs.declared.point_call.PointCall.TheVariants.{Heartbeat,
 
 abbrev pub action_name : PointCall → List ℕ
 action_name Heartbeat = codes "Heartbeat"
-action_name (StartTransaction connector begin) = codes "StartTransaction"
+action_name (StartTransaction connector begin profile) = codes "StartTransaction"
 action_name (StopTransaction transaction meter_stop timestamp) = codes "StopTransaction"
 
 -- StartTransaction.req
@@ -34,7 +34,7 @@ stop_text transaction meter_stop timestamp = object_text (
 -- Heartbeat.req has no fields
 abbrev pub payload_text : PointCall → List ℕ
 payload_text Heartbeat = object_text []
-payload_text (StartTransaction connector begin) = start_text connector begin
+payload_text (StartTransaction connector begin profile) = start_text connector begin
 payload_text (StopTransaction transaction meter_stop timestamp) =
     stop_text transaction meter_stop timestamp
 

@@ -1,10 +1,12 @@
 -- The state of a simulated charge point, what a message of the central system comes to, and which
 -- call comes next.
-use Rattle.std.specs.Prelude.{ℕ, ℤ, ◌+◌, List, [], Option, Some, None, if◌then◌else◌}
+use Rattle.std.specs.Prelude.{ℕ, ℤ, ◌+◌, true, false, List, [], ◌∷◌, Option, Some, None, if◌then◌else◌}
 use Rattle.std.specs.Str.{bytes_eq}
 use Rattle.std.specs.Fmt.{decimal}
 use Rattle.profile.specs.declared.unit.Unit.{Unit}
 use Rattle.point_book.specs.Book.{BookState, empty_book}
+use Rattle.messages.specs.declared.action.Action.{Action}
+use Rattle.messages.specs.declared.action.Action.TheVariants as actions
 use Rattle.messages.specs.ResponseText.{response_text}
 use Rattle.sim_point.specs.declared.sim_step.SimStep.{SimStep}
 use Rattle.sim_point.specs.declared.point_call.PointCall.{PointCall}
@@ -14,6 +16,7 @@ use Rattle.sim_point.specs.declared.request.Request.TheVariants.{Nothing, Respon
 use Rattle.sim_point.specs.Request.{request_of}
 use Rattle.sim_point.specs.Answer.{Answered, answered}
 use Rattle.sim_point.specs.PointCall.{first_call, book_replied}
+use Rattle.sim_point.specs.RemoteStart.{start_kept, status_answer}
 use Rattle.sim_point.specs.CallText.{call_text}
 
 pub record SimState : Type 0 where
@@ -53,6 +56,19 @@ acted old id does =
       after = record old { book = does.book };
     }
 
+-- A start that is accepted is the first of the steps to come.
+abbrev pub heard_start : SimState → List ℕ → Option SimStep → Heard
+heard_start old id None = record { answer = Some (status_answer id false); after = old }
+heard_start old id (Some start) = record {
+  answer = Some (status_answer id true);
+  after = record old { steps = start ∷ old.steps };
+}
+
+abbrev pub heard_action : SimState → ℕ → List ℕ → Action → Heard
+heard_action old now id (actions.RemoteStartTransaction request) =
+    heard_start old id (start_kept old.unit old.book request)
+heard_action old now id action = acted old id (answered old.unit old.book now action)
+
 -- A reply ends the call in flight where its id is that call's number in decimal (OCPP-J 1.6,
 -- 4.1.4); any other is ignored.
 abbrev pub replied_to : SimState → Option InFlight → List ℕ → Option ℤ → SimState
@@ -69,7 +85,7 @@ abbrev pub heard_request : SimState → ℕ → Request → Heard
 heard_request old now Nothing = record { answer = None; after = old }
 heard_request old now (Respond id response) =
     record { answer = Some (response_text id response); after = old }
-heard_request old now (Act id action) = acted old id (answered old.unit old.book now action)
+heard_request old now (Act id action) = heard_action old now id action
 heard_request old now (Reply id transaction) =
     record { answer = None; after = replied old id transaction }
 

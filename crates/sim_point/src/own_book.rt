@@ -1,6 +1,6 @@
 //! The book of a simulated charge point.
 
-ghost use Rattle.std.specs.Prelude.{◌≡◌, ◌<◌, ◌≤◌, IfOk, IfErr, OnOk, length, map, option_map, replicate, None};
+ghost use Rattle.std.specs.Prelude.{◌≡◌, ◌<◌, ◌≤◌, IfOk, IfErr, OnErr, OnOk, length, map, option_map, replicate, None};
 ghost use Rattle.std.specs.List.{list_any};
 ghost use Rattle.profile.specs.Changes.{matches};
 ghost use Rattle.transactions.specs.ActiveTable.{active_at};
@@ -10,7 +10,7 @@ ghost use Rattle.sim_point.specs.ByCases.Running.{running_of, running_at};
 
 use ocpp_scalars::Refusal;
 use point_book::PointBook;
-use profile::{Criteria, Row};
+use profile::{Criteria, Profile, Row};
 use std::alloc::{AllocError, Global};
 use std::marker::Model;
 use transactions::{Began, Begin};
@@ -88,18 +88,33 @@ impl OwnBook {
         let _count = self.book.clear(criteria);
     }
 
-    /// Begins a transaction at a connector (chapter 4.8), and ends the one that is active there. A
-    /// retransmitted start changes nothing. Allocates nothing.
-    pub fn start(&mut self, connector: u32, begin: Begin, id: i32)
+    /// Begins a transaction at a connector (chapter 4.8), and ends the one that is active there. It
+    /// may have a profile, as [`PointBook::start`] says. A retransmitted start changes nothing.
+    /// Only a profile wants memory: without it nothing changes, and both come back.
+    pub fn start(
+        &mut self,
+        connector: u32,
+        begin: Begin,
+        id: i32,
+        profile: Option<Profile>,
+    ) -> Result<(), (Begin, Option<Profile>)>
         requires above { 0 < connector }
         requires has { connector ≤ length self.old.ceilings }
-        ensures { self.new ≡ book_started self.old connector begin id }
+        ensures book { OnOk result (self.new ≡ book_started self.old connector begin id profile) }
+        ensures unchanged { OnErr result (self.new ≡ self.old) }
+        ensures begin_back { IfErr result (λ refused. refused.0 ≡ begin) }
+        ensures profile_back { IfErr result (λ refused. refused.1 ≡ profile) }
     {
         // The book has a slot for each connector.
         let _view = self.book.view();
         let running = running_of(id, &begin);
-        if let Began::Fresh = self.book.start(connector, begin, id) {
-            self.running[connector as usize - 1] = Some(running);
+        match self.book.start(connector, begin, id, profile) {
+            Ok(Began::Fresh) => {
+                self.running[connector as usize - 1] = Some(running);
+                Ok(())
+            }
+            Ok(Began::Repeat(_)) => Ok(()),
+            Err((_, begin, profile)) => Err((begin, profile)),
         }
     }
 

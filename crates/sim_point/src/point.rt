@@ -1,18 +1,20 @@
 //! A simulated charge point.
 
-ghost use Rattle.std.specs.Prelude.{◌≡◌, ◌++◌, ◌∷◌, [], IfOk, IfErr, OnOk, OnErr, IsNone, IsSome, ◌↔◌, IsTrue, option_map, string_bytes};
+ghost use Rattle.std.specs.Prelude.{◌≡◌, ◌++◌, ◌∷◌, [], IfOk, IfErr, OnOk, OnErr, IsNone, IsSome, Some, ◌↔◌, IsTrue, option_map, string_bytes};
 ghost use Rattle.std.specs.Str.{bytes_eq};
 ghost use Rattle.std.specs.Fmt.{decimal};
 ghost use Rattle.ocpp_scalars.specs.declared.refusal.Refusal.{Refusal};
-ghost use Rattle.sim_point.specs.SimPoint.{new_point, replied, heard, heard_request, called};
+ghost use Rattle.sim_point.specs.RemoteStart.{start_kept};
+ghost use Rattle.sim_point.specs.SimPoint.{new_point, replied, heard, heard_action, heard_request, heard_start, called};
 
 use crate::answer::{Answering, answer_action};
 use crate::own_book::OwnBook;
 use crate::point_call::{InFlight, first_call, reply_to};
 use crate::point_call_text::write_call;
+use crate::remote_start::{start_kept, write_status};
 use crate::request::{Request, request_of};
 use crate::sim_step::SimStep;
-use messages::write_response;
+use messages::{Action, RemoteStartTransaction, write_response};
 use ocpp_scalars::{Instant, Refusal};
 use ocppj_frame::ReadingMemory;
 use profile::Unit;
@@ -97,9 +99,10 @@ impl SimPoint {
 
     /// Takes a message of the central system that comes at a moment (OCPP-J 1.6, 4.2), and returns
     /// the answer to it, if it has one. A CALL is answered from the point's own book, which a
-    /// SetChargingProfile or a ClearChargingProfile changes. A reply to the point's call in flight
-    /// ends that call, and with it a transaction begins or ends. The refusal is `OutOfMemory`, and
-    /// then nothing changes.
+    /// SetChargingProfile or a ClearChargingProfile changes. A RemoteStartTransaction that is
+    /// accepted becomes the first of the steps to come. A reply to the point's call in flight ends
+    /// that call, and with it a transaction begins or ends. The refusal is `OutOfMemory`, and then
+    /// nothing changes.
     pub fn on_text(&mut self, now: Instant, text: &str) -> Result<Option<String>, Refusal>
         ensures heard { IfOk result (λ answer. heard self.old now text.now
             ≡ record { answer = option_map string_bytes answer; after = self.new }) }
@@ -121,30 +124,96 @@ impl SimPoint {
             Request::Respond { id, response } => {
                 Ok(Some(write_response(self.alloc, id.as_str(), &response)?))
             }
-            Request::Act { id, action } => {
-                let answering = Answering {
-                    alloc: self.alloc,
-                    unit: self.unit,
-                    now,
-                };
-                Ok(Some(answer_action(answering, &mut self.book, id.as_str(), action)?))
-            }
+            Request::Act { id, action } => self.on_action(now, id.as_str(), action),
             Request::Reply { id, transaction } => {
-                self.on_reply(id.as_str(), transaction);
+                self.on_reply(id.as_str(), transaction)?;
                 Ok(None)
             }
         }
     }
 
+    /// Does an action, and returns the message that answers the CALL of this id.
+    fn on_action(
+        &mut self,
+        now: Instant,
+        id: &str,
+        action: Action,
+    ) -> Result<Option<String>, AllocError>
+        ensures heard { IfOk result (λ answer. heard_action self.old now id.now action
+            ≡ record { answer = option_map string_bytes answer; after = self.new }) }
+        ensures unchanged { OnErr result (self.new ≡ self.old) }
+    {
+        match action {
+            Action::RemoteStartTransaction(request) => Ok(Some(self.on_remote_start(id, request)?)),
+            action => {
+                let answering = Answering {
+                    alloc: self.alloc,
+                    unit: self.unit,
+                    now,
+                };
+                Ok(Some(answer_action(answering, &mut self.book, id, action)?))
+            }
+        }
+    }
+
+    /// Keeps a start that is asked for as the first of the steps to come, or rejects it (chapter
+    /// 5.11). Returns the message that answers the CALL of this id.
+    fn on_remote_start(
+        &mut self,
+        id: &str,
+        request: RemoteStartTransaction,
+    ) -> Result<String, AllocError>
+        ensures heard { IfOk result (λ text.
+            heard_start self.old id.now (start_kept self.old.unit self.old.book request)
+            ≡ record { answer = Some (string_bytes text); after = self.new }) }
+        ensures unchanged { OnErr result (self.new ≡ self.old) }
+    {
+        match start_kept(self.unit, self.book.book(), request) {
+            Some(step) => {
+                // The message first: once the start is kept, nothing can fail.
+                let text = write_status(self.alloc, id, true)?;
+                self.put_first(step)?;
+                Ok(text)
+            }
+            None => write_status(self.alloc, id, false),
+        }
+    }
+
+    /// Puts a step in front of those to come.
+    #[tactic(auto, using(crate::proofs::StepLemmas::drop_insert))]
+    fn put_first(&mut self, step: SimStep) -> Result<(), AllocError>
+        ensures put { OnOk result (self.new ≡ record self.old { steps = step ∷ self.old.steps }) }
+        ensures unchanged { OnErr result (self.new ≡ self.old) }
+    {
+        match self.steps.insert(self.place, step) {
+            Ok(()) => Ok(()),
+            Err(_) => Err(AllocError),
+        }
+    }
+
     /// Ends the call in flight, if a reply of this id is its own.
-    fn on_reply(&mut self, id: &str, transaction: Option<i32>)
-        ensures { self.new ≡ replied self.old id.now transaction }
+    fn on_reply(&mut self, id: &str, transaction: Option<i32>) -> Result<(), AllocError>
+        ensures replied { OnOk result (self.new ≡ replied self.old id.now transaction) }
+        ensures unchanged { OnErr result (self.new ≡ self.old) }
     {
         match self.in_flight.take() {
             Some(in_flight) if is_id_of(in_flight.number, id) => {
-                reply_to(&mut self.book, in_flight.call, transaction);
+                let number = in_flight.number;
+                match reply_to(&mut self.book, in_flight.call, transaction) {
+                    Ok(()) => Ok(()),
+                    Err(unanswered) => {
+                        self.in_flight = Some(InFlight {
+                            number,
+                            call: unanswered,
+                        });
+                        Err(AllocError)
+                    }
+                }
             }
-            other => self.in_flight = other,
+            other => {
+                self.in_flight = other;
+                Ok(())
+            }
         }
     }
 

@@ -1,13 +1,15 @@
 //! The calls that a charge point makes by its steps.
 
-ghost use Rattle.std.specs.Prelude.{◌≡◌, IfOk, IfSome, option_map};
+ghost use Rattle.std.specs.Prelude.{◌≡◌, IfErr, IfOk, IfSome, OnErr, OnOk, option_map};
 ghost use Rattle.transactions.specs.ActiveTable.{active_at};
-ghost use Rattle.sim_point.specs.PointCall.{has_connector, stop_of, call_of, first_call, book_replied};
+ghost use Rattle.sim_point.specs.PointCall.{has_connector, start_of, stop_of, call_of, first_call, book_replied};
 ghost use Rattle.sim_point.specs.ByCases.Steps.{Fits, IsFound, with_later};
 
 use crate::own_book::OwnBook;
 use crate::sim_step::SimStep;
 use ocpp_scalars::{IdTag, Instant};
+use point_book::PointBook;
+use profile::Profile;
 use std::alloc::{AllocError, Global};
 use transactions::Begin;
 
@@ -16,10 +18,11 @@ use transactions::Begin;
 pub enum PointCall {
     /// Heartbeat (chapter 4.6).
     Heartbeat,
-    /// StartTransaction (chapter 4.8).
+    /// StartTransaction (chapter 4.8), with the profile that the transaction is to begin with.
     StartTransaction {
         connector: u32,
         begin: Begin,
+        profile: Option<Profile>,
     },
     /// StopTransaction (chapter 4.10), with meterStop in watt-hours.
     StopTransaction {
@@ -74,22 +77,47 @@ fn call_of(
             tag,
             meter,
         } => {
-            if !has_connector(book, *connector) {
-                return Ok(None);
-            }
-            Ok(Some(PointCall::StartTransaction {
-                connector: *connector,
-                begin: begin_of(alloc, tag, *meter, now)?,
-            }))
+            let begin = begin_of(alloc, tag, *meter, now)?;
+            Ok(start_of(book, *connector, begin, None))
+        }
+        SimStep::RemoteStart {
+            connector,
+            tag,
+            profile,
+        } => {
+            let begin = begin_of(alloc, tag, 0, now)?;
+            let profile = Profile::copy_if_any(profile)?;
+            Ok(start_of(book, *connector, begin, profile))
         }
         SimStep::Stop { connector } => Ok(stop_of(book, *connector, now)),
     }
 }
 
-fn has_connector(book: &OwnBook, connector: u32) -> bool
+/// The start of a transaction with a profile, if the point has its connector.
+fn start_of(
+    book: &OwnBook,
+    connector: u32,
+    begin: Begin,
+    profile: Option<Profile>,
+) -> Option<PointCall>
+    ensures call { result ≡ start_of book.now connector begin profile }
+    ensures fits { IfSome result (Fits book.now) }
+{
+    if !has_connector(book.book(), connector) {
+        return None;
+    }
+    Some(PointCall::StartTransaction {
+        connector,
+        begin,
+        profile,
+    })
+}
+
+/// Whether a point has a connector at which transactions begin.
+pub(crate) fn has_connector(book: &PointBook, connector: u32) -> bool
     ensures { result ≡ has_connector book.now connector }
 {
-    connector > 0 && connector <= book.book().connectors()
+    connector > 0 && connector <= book.connectors()
 }
 
 fn begin_of(alloc: Global, tag: &IdTag, meter: i32, now: Instant) -> Result<Begin, AllocError>
@@ -118,18 +146,39 @@ fn stop_of(book: &OwnBook, connector: u32, now: Instant) -> Option<PointCall>
 }
 
 /// What the reply to a call changes in the point's book, with the transactionId that it brings.
-/// Allocates nothing.
-pub fn reply_to(book: &mut OwnBook, call: PointCall, transaction: Option<i32>)
+/// Only a start with a profile wants memory: without it nothing changes, and the call comes back.
+pub fn reply_to(
+    book: &mut OwnBook,
+    call: PointCall,
+    transaction: Option<i32>,
+) -> Result<(), PointCall>
     requires { Fits book.old call }
-    ensures { book.new ≡ book_replied book.old call transaction }
+    ensures book { OnOk result (book.new ≡ book_replied book.old call transaction) }
+    ensures unchanged { OnErr result (book.new ≡ book.old) }
+    ensures back { IfErr result (λ refused. refused ≡ call) }
 {
     match call {
-        PointCall::Heartbeat => {}
-        PointCall::StartTransaction { connector, begin } => {
-            if let Some(id) = transaction {
-                book.start(connector, begin, id);
+        PointCall::Heartbeat => Ok(()),
+        PointCall::StartTransaction {
+            connector,
+            begin,
+            profile,
+        } => {
+            let Some(id) = transaction else {
+                return Ok(());
+            };
+            match book.start(connector, begin, id, profile) {
+                Ok(()) => Ok(()),
+                Err((begin, profile)) => Err(PointCall::StartTransaction {
+                    connector,
+                    begin,
+                    profile,
+                }),
             }
         }
-        PointCall::StopTransaction { transaction, .. } => book.stop(transaction),
+        PointCall::StopTransaction { transaction, .. } => {
+            book.stop(transaction);
+            Ok(())
+        }
     }
 }

@@ -43,7 +43,11 @@ fn push_payload(out: &mut String, call: &PointCall) -> Result<(), AllocError>
 {
     match call {
         PointCall::Heartbeat => out.push_str("{}"),
-        PointCall::StartTransaction { connector, begin } => push_start(out, *connector, begin),
+        PointCall::StartTransaction {
+            connector,
+            begin,
+            ..
+        } => push_start(out, *connector, begin),
         PointCall::StopTransaction {
             transaction,
             meter_stop,

@@ -8,6 +8,7 @@ use Rattle.ocpp_scalars.specs.ResultSteps.{◌>>=◌}
 use Rattle.ocpp_scalars.specs.declared.refusal.Refusal.{Refusal}
 use Rattle.ocpp_scalars.specs.declared.refusal.Refusal.TheVariants as refusals
 use Rattle.profile.specs.Changes.{matches}
+use Rattle.profile.specs.declared.charging_profile.Profile.{Profile}
 use Rattle.profile.specs.declared.row.Row.{Row}
 use Rattle.profile.specs.declared.unit.Unit.{Unit}
 use Rattle.profile.specs.declared.criteria.Criteria.{Criteria}
@@ -33,7 +34,7 @@ use Rattle.site_core.specs.Equal.{same_request, same_transactions}
 use Rattle.site_core.specs.Outbox.{OutboxState, sendable, is_number_in_flight}
 use Rattle.site_core.specs.ChargePoint.{ChargePointState, Deed, Stops, Audits, Judges, point_with}
 use Rattle.site_core.specs.State.{MachineState, IsMachine, is_this_number, point_at, book_at, outbox_at, audit_at}
-use Rattle.site_core.specs.Step.{Made, Steps, Works, Work, AtPoint, PointStep, work, unless, deed, made_at, made_there, place_for, refusal_to_install, refusal_to_call, refusal_to_start, refusal_to_attach, refusal_to_audit, version_refusal, next_transaction, is_at_no_connector, installs, clears, starts, starts_as, stops, attaches, sends, sends_call, confirms, loses, audits, judges, judges_audit, status_of, tells_status}
+use Rattle.site_core.specs.Step.{Made, Steps, Works, Work, AtPoint, PointStep, work, unless, deed, made_at, made_there, place_for, refusal_to_install, refusal_to_call, refusal_to_start, refusal_to_attach, refusal_to_audit, version_refusal, next_transaction, is_at_no_connector, installs, clears, starts, starts_as, stops, attaches, sends, sends_call, confirms, loses, audits, judges, judges_audit, status_of, tells_status, remote_starts, refusal_to_remote_start}
 use Rattle.site_core.specs.History.{Event, Legal}
 use Rattle.site_core.specs.CallOrder.{names, place_of_work, point_by}
 use Rattle.site_core.specs.Audits.{audit_event, IsBegunIn, IsAuditBefore, AuditsHaveTheirBooks, BringsRight, AllBringRight, IsRightVerdict, IsAuditRight, AreAuditsRight, VerdictsStayRight}
@@ -170,13 +171,14 @@ send_stays site id link point = by (sendable point.outbox)
     by None = left site point (steps.Send id link) replies.Nothing refl
     by (Some call) = left site point (steps.Send id link) (replies.Sent call) refl
 
-confirm_stays : (site : SiteState) (id : List ℕ) (link number : ℕ) (point : ChargePointState)
-    → IfOk (confirms number point) (Stays site point (steps.Confirm id link number))
-confirm_stays site id link number point =
-    either_holds (Stays site point (steps.Confirm id link number))
+confirm_stays : (site : SiteState) (id : List ℕ) (link number : ℕ) (accepted : Bool)
+    (point : ChargePointState)
+    → IfOk (confirms number point) (Stays site point (steps.Confirm id link number accepted))
+confirm_stays site id link number accepted point =
+    either_holds (Stays site point (steps.Confirm id link number accepted))
     (is_number_in_flight point.outbox number) (Ok replies.Confirmed)
     (Err refusals.NothingInFlight)
-    (left site point (steps.Confirm id link number) replies.Confirmed refl) tt
+    (left site point (steps.Confirm id link number accepted) replies.Confirmed refl) tt
 
 audit_stays : (site : SiteState) (id : List ℕ) (connector duration : ℕ) (point : ChargePointState)
     → IfOk (audits site connector duration point)
@@ -275,6 +277,16 @@ judge_stays site id call judged point = by (unjudged call point.audit) refl
     by (Some found) is = go found (unjudged_is call point.audit found is)
         (same_request found.asked judged.audit) refl
 
+remote_start_stays : (site : SiteState) (id : List ℕ) (connector : ℕ) (id_tag : List ℕ)
+    (profile : Option Profile) (point : ChargePointState)
+    → IfOk (remote_starts site connector profile point)
+    (Stays site point (steps.RemoteStart id connector id_tag profile))
+remote_start_stays site id connector id_tag profile point =
+    unless_holds (Stays site point (steps.RemoteStart id connector id_tag profile))
+    (refusal_to_remote_start site connector profile point) (replies.Called point.outbox.next)
+    (left site point (steps.RemoteStart id connector id_tag profile)
+    (replies.Called point.outbox.next) refl)
+
 -- ---- all of them
 
 abbrev WorkStays : Step → Work → Type 0
@@ -292,8 +304,8 @@ stays_there (steps.Start id connector begin) =
 stays_there (steps.Stop id number) = λ site numbers point. stop_stays site numbers id number point
 stays_there (steps.Attach id) = λ site numbers point. attach_stays site numbers id point
 stays_there (steps.Send id link) = λ site numbers point. send_stays site id link point
-stays_there (steps.Confirm id link number) =
-    λ site numbers point. confirm_stays site id link number point
+stays_there (steps.Confirm id link number accepted) =
+    λ site numbers point. confirm_stays site id link number accepted point
 stays_there (steps.Lost id link) =
     λ site numbers point. left site point (steps.Lost id link) replies.LinkLost refl
 stays_there (steps.Audit id connector duration) =
@@ -303,6 +315,8 @@ stays_there (steps.Judge id call judged) =
 stays_there (steps.Status id) =
     λ site numbers point. left site point (steps.Status id)
     (replies.Status (status_of numbers point)) refl
+stays_there (steps.RemoteStart id connector id_tag profile) =
+    λ site numbers point. remote_start_stays site id connector id_tag profile point
 stays_there other = tt
 
 -- ---- at each place

@@ -13,7 +13,7 @@ use Rattle.site_core.specs.Outbox.{numbered, OutboxState, opening_outbox, all_ca
 use Rattle.site_core.specs.ChargePoint.{ChargePointState, Deed, rows_after, call_in, call_of, traffic_of, opening_point, outbox_with, point_with}
 use Rattle.site_core.specs.State.{MachineState, IsMachine, opening_at, no_point, point_at, book_at, outbox_at}
 use Rattle.site_core.specs.OutboxOrder.{AreFrom, GoesOn, sent_at, numbers_sent, number_of, calls_confirmed, added_at, bodies_added, AreInSendingOrder}
-use Rattle.site_core.specs.Obey.{calls_of, last_number, obeyed, lasting, rows_after_call, Obeying, numbers_of}
+use Rattle.site_core.specs.Obey.{BeginsAlone, calls_of, last_number, obeyed, lasting, rows_after_call, Obeying, numbers_of}
 use Rattle.site_core.specs.History.{Event, Legal}
 use Rattle.site_core.specs.CallOrder.{names, events_at, deed_by, deeds_from, deeds_since, deeds_of, traffic_since, traffic_at, point_by, point_by_all, calls_by_event, calls_sent, confirmed_by_event, numbers_of_calls, calls_made, IsOneOf, calls_since, CallsBeginAtZero, CallsStayConsecutive}
 use Rattle.site_core.specs.CallOrder.{PointsFollowHistories, OutboxesFollowHistories, CallsAreSentInOrder, CallsAreSentAsMade, CallsAreLeftUnlessConfirmed, ConfirmationsAreEvents, CallsGoOnInOrder, CallsAreSentAsKept, CallsStayUnlessConfirmed}
@@ -527,14 +527,20 @@ deeds_more point (event ∷ one) other =
     by None all so_far more is = is
     by (Some deed) all so_far more is = ap (λ (ds : List Deed). deed ∷ ds) is
 
+-- what holds of each of a list and another behind it holds of each of the first
+all_of_first : (P : Deed → Type 0) (one more : List Deed) → AllByRecursion P (one ++ more)
+    → AllByRecursion P one
+all_of_first P [] more all = tt
+all_of_first P (deed ∷ one) more all = (all.0, all_of_first P one more all.1)
+
 -- after as many calls as what is done first makes, the lasting rows are those after it
 rows_at_call : (one more : List Deed) (rows : List Row) (number : ℕ)
-    → number ≡ length (filter_map call_of one)
+    → AllByRecursion BeginsAlone one → number ≡ length (filter_map call_of one)
     → lasting (rows_after_call number (one ++ more) rows) ≡ lasting (rows_after_all one rows)
-rows_at_call [] more rows zero is = refl
-rows_at_call [] more rows (suc before) is = absurd (omega arith)
-rows_at_call (deed ∷ one) more rows number is =
-    by (λ n. rows_at_call one more (rows_after rows deed) n) (call_of deed) refl number is
+rows_at_call [] more rows zero alone is = refl
+rows_at_call [] more rows (suc before) alone is = absurd (omega arith)
+rows_at_call (deed ∷ one) more rows number alone is =
+    by (λ n. rows_at_call one more (rows_after rows deed) n alone.1) (call_of deed) refl number is
   where
     next : List Row
     next = rows_after rows deed
@@ -557,7 +563,7 @@ rows_at_call (deed ∷ one) more rows number is =
         (suc before)) (one ++ more) next)) has
         ∙ rest before (omega (arith, count))
     by rest None has zero many =
-        sym (lasting_without_call deed rows (ap (λ (c : Option CallBody). is_some c) has))
+        sym (lasting_without_call deed rows alone.0 (ap (λ (c : Option CallBody). is_some c) has))
         ∙ rest 0 (many ∙ ap count_with has)
     by rest None has (suc before) many =
         ap (λ (c : Option CallBody). lasting (rows_after_call (cond (is_some c) before
@@ -569,12 +575,13 @@ in_step_after : (site : SiteState) (numbers : Numbers) (earlier later : List Eve
     → Legal (opening_at site numbers) earlier middle → Legal middle later state
     → (point : List ℕ) (place : ℕ) → place_of site point ≡ Some place
     → (first : Obeying) (others : List Obeying) (rows : List Row)
+    → AllByRecursion BeginsAlone (deeds_of site place (earlier ++ later))
     → AreInSendingOrder (numbers_of (first ∷ others))
     → last_number first.number others ≡ length (accepted site place earlier)
     → lasting (obeyed (bodies_of site place (earlier ++ later)) (first ∷ others) rows) ≡ lasting
     (book_at middle place).rows
 in_step_after site numbers earlier later middle state legal then_legal point place here first
-    others rows order last =
+    others rows alone order last =
     let opening_state = opening_at site numbers in
     let all = deeds_of site place (earlier ++ later) in
     let so_far = deeds_of site place earlier in
@@ -589,17 +596,20 @@ in_step_after site numbers earlier later middle state legal then_legal point pla
     let count : number ≡ length (filter_map call_of so_far) = last
     ∙ ap (λ (bs : List CallBody). length bs) (sym (calls_are_added so_far)) in
     ap (λ (bs : List CallBody). lasting (obeyed bs (first ∷ others) rows)) (sym calls)
-    ∙ stays_in_step all first others rows order
+    ∙ stays_in_step all first others rows alone order
     ∙ ap (λ (ds : List Deed). lasting (rows_after_call number ds [])) split
-    ∙ rows_at_call so_far more.0 [] number count
+    ∙ rows_at_call so_far more.0 [] number
+    (all_of_first BeginsAlone so_far more.0 (subst (AllByRecursion BeginsAlone) split alone)) count
     ∙ ap lasting (sym (rows_follow site numbers earlier middle legal point place here))
 
 pub stay_in_step : PointsStayInStep
-stay_in_step site numbers history state point place here first others rows order moment =
+stay_in_step site numbers history state point place here first others rows alone order moment =
     ap (λ (events : List Event). lasting (obeyed (bodies_of site place events)
     (first ∷ others) rows)) moment.parts
     ∙ in_step_after site numbers moment.earlier moment.later moment.state state moment.before
-    moment.since point place here first others rows order (sym moment.many)
+    moment.since point place here first others rows
+    (subst (λ (events : List Event). AllByRecursion BeginsAlone (deeds_of site place events))
+    moment.parts alone) order (sym moment.many)
 
 pub obey_in_order : CallsAreObeyedInOrder
 obey_in_order site numbers history state legal point place here are_obeyed each =
@@ -614,11 +624,11 @@ obey_in_order site numbers history state legal point place here are_obeyed each 
 
 pub obeying_stay_in_step : ObeyingPointsStayInStep
 obeying_stay_in_step site numbers history state legal point place here are_obeyed each first others
-    rows is moment =
+    rows is alone moment =
     let order : AreInSendingOrder (numbers_of (first ∷ others)) =
     subst AreInSendingOrder (sym is)
     (obey_in_order site numbers history state legal point place here are_obeyed each) in
-    stay_in_step site numbers history state point place here first others rows order moment
+    stay_in_step site numbers history state point place here first others rows alone order moment
 
 -- ---- the moments of its calls
 

@@ -7,6 +7,7 @@ use Rattle.std.specs.List.{list_any}
 use Rattle.ocpp_scalars.specs.declared.refusal.Refusal.{Refusal}
 use Rattle.ocpp_scalars.specs.declared.refusal.Refusal.TheVariants as refusals
 use Rattle.profile.specs.Changes.{matches}
+use Rattle.profile.specs.declared.charging_profile.Profile.{Profile}
 use Rattle.profile.specs.declared.row.Row.{Row}
 use Rattle.profile.specs.declared.criteria.Criteria.{Criteria}
 use Rattle.transactions.specs.declared.begin.Begin.{Begin}
@@ -30,7 +31,7 @@ use Rattle.site_core.specs.Outbox.{OutboxState, sendable, is_number_in_flight, i
 use Rattle.site_core.specs.OutboxOrder.{confirmed_at}
 use Rattle.site_core.specs.ChargePoint.{ChargePointState, Deed, Stops, traffic_of}
 use Rattle.site_core.specs.State.{MachineState, AreNumbers}
-use Rattle.site_core.specs.Step.{Work, AtPoint, work, unless, facts, deed, drawn, counted, is_event, is_reply_to, refusal_to_install, refusal_to_call, refusal_to_add, refusal_to_start, refusal_to_attach, version_refusal, transaction_number_refusal, next_transaction, is_at_no_connector, installs, clears, starts, starts_as, stops, attaches, sends, sends_call, confirms, loses, audits, refusal_to_audit, judges, judges_audit, status_of, tells_status}
+use Rattle.site_core.specs.Step.{Work, AtPoint, work, unless, facts, deed, drawn, counted, is_event, is_reply_to, refusal_to_install, refusal_to_call, refusal_to_add, refusal_to_start, refusal_to_attach, version_refusal, transaction_number_refusal, next_transaction, is_at_no_connector, installs, clears, starts, starts_as, stops, attaches, sends, sends_call, confirms, loses, audits, refusal_to_audit, judges, judges_audit, status_of, tells_status, remote_starts, refusal_to_remote_start}
 use Rattle.site_core.specs.History.{reply_takes, asks_answer_of}
 use Rattle.site_core.specs.CallOrder.{calls_by, confirmed_by, numbers_of_calls}
 
@@ -310,15 +311,17 @@ first_confirmed outbox number is =
     by true [] h = absurd (cc h)
     by true (call ∷ later) h = ap (λ (n : ℕ). n ∷ []) (eqb-true call.number number h)
 
-confirm_agrees : (numbers : Numbers) (id : List ℕ) (link number : ℕ) (point : ChargePointState)
-    → IfOk (confirms number point) (Agrees numbers point (steps.Confirm id link number))
-confirm_agrees numbers id link number point = by (is_number_in_flight point.outbox number) refl
+confirm_agrees : (numbers : Numbers) (id : List ℕ) (link number : ℕ) (accepted : Bool)
+    (point : ChargePointState)
+    → IfOk (confirms number point) (Agrees numbers point (steps.Confirm id link number accepted))
+confirm_agrees numbers id link number accepted point = by (is_number_in_flight point.outbox number) refl
   where
     by : (flies : Bool) → is_number_in_flight point.outbox number ≡ flies
         → IfOk (cond flies (Ok replies.Confirmed) (Err refusals.NothingInFlight))
-        (Agrees numbers point (steps.Confirm id link number))
+        (Agrees numbers point (steps.Confirm id link number accepted))
     by false is = tt
-    by true is = agrees_so numbers point (steps.Confirm id link number) replies.Confirmed refl
+    by true is = agrees_so numbers point (steps.Confirm id link number accepted) replies.Confirmed
+        refl
         (first_confirmed point.outbox number is) (λ n. refl) (λ n. refl) (λ old. refl)
         (λ none. refl) (same_numbers numbers) (sym (add-zero _)) refl refl refl refl refl
 
@@ -362,6 +365,17 @@ status_agrees numbers id point =
     (λ n. refl) (λ n. refl) (λ old. refl) (λ none. refl) (same_numbers numbers) (sym (add-zero _))
     refl refl refl refl refl
 
+remote_start_agrees : (site : SiteState) (numbers : Numbers) (id : List ℕ) (connector : ℕ)
+    (id_tag : List ℕ) (profile : Option Profile) (point : ChargePointState)
+    → IfOk (remote_starts site connector profile point)
+    (Agrees numbers point (steps.RemoteStart id connector id_tag profile))
+remote_start_agrees site numbers id connector id_tag profile point =
+    unless_holds (Agrees numbers point (steps.RemoteStart id connector id_tag profile))
+    (refusal_to_remote_start site connector profile point) (replies.Called point.outbox.next)
+    (agrees_so numbers point (steps.RemoteStart id connector id_tag profile)
+    (replies.Called point.outbox.next) refl refl (λ n. refl) (λ n. refl) (λ old. refl)
+    (λ none. absurd (cc none)) (same_numbers numbers) (sym (add-zero _)) refl refl refl refl refl)
+
 -- ---- all of them
 
 -- of a step at a point
@@ -379,12 +393,14 @@ agrees (steps.Start id connector begin) =
 agrees (steps.Stop id number) = λ site numbers point. stop_agrees numbers id number point
 agrees (steps.Attach id) = λ site numbers point. attach_agrees numbers id point
 agrees (steps.Send id link) = λ site numbers point. send_agrees numbers id link point
-agrees (steps.Confirm id link number) =
-    λ site numbers point. confirm_agrees numbers id link number point
+agrees (steps.Confirm id link number accepted) =
+    λ site numbers point. confirm_agrees numbers id link number accepted point
 agrees (steps.Lost id link) = λ site numbers point. lose_agrees numbers id link point
 agrees (steps.Audit id connector duration) =
     λ site numbers point. audit_agrees site numbers id connector duration point
 agrees (steps.Judge id call judged) =
     λ site numbers point. judge_agrees numbers id call judged point
 agrees (steps.Status id) = λ site numbers point. status_agrees numbers id point
+agrees (steps.RemoteStart id connector id_tag profile) =
+    λ site numbers point. remote_start_agrees site numbers id connector id_tag profile point
 agrees other = tt

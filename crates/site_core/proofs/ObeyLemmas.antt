@@ -1,7 +1,7 @@
 -- That an obeying point stays in step: a call acts on the lasting rows alone, and again it does
 -- nothing.
 use Rattle.std.proofs.Common.{◌≡◌, ℕ, ◌+◌, zero, suc, Bool, true, false, not, ◌||◌, ◌&&◌, ◌==◌, ◌⊎◌, inl, inr, refl, sym, ◌∙◌, ap, subst, List, [], ◌∷◌, ◌++◌, filter, map, Option, None, Some, is_some, slice_get, cond, append-nil, arith}
-use Rattle.std.specs.List.{filter_map, cons_option}
+use Rattle.std.specs.List.{AllByRecursion, filter_map, cons_option}
 use Rattle.std.specs.Ordering.{int_eq}
 use Rattle.std.proofs.lemmas.Bool.Decides.{Decides-int_eq}
 use Rattle.std.proofs.lemmas.List.Elements.{filter-append}
@@ -12,10 +12,11 @@ use Rattle.profile.specs.Purpose.{is_tx}
 use Rattle.profile.specs.Changes.{installed, cleared, without_transaction_profiles, has_key_of, is_replaced_by, rows_beside, matches, is_tx_profile_at}
 use Rattle.messages.specs.declared.call.CallBody.{CallBody}
 use Rattle.messages.specs.declared.call.CallBody.TheVariants.{Clear, Set}
+use Rattle.point_book.specs.Changes.{rows_started}
 use Rattle.site_core.specs.Outbox.{every_profile}
 use Rattle.site_core.specs.OutboxOrder.{GoesOn}
 use Rattle.site_core.specs.ChargePoint.{Deed, Installs, Clears, Starts, Stops, rows_after, call_of}
-use Rattle.site_core.specs.Obey.{Obeying, at_moment, calls_of, lasting, last_number, numbers_of, obeyed, obeyed_call, rows_after_call, StaysInStep}
+use Rattle.site_core.specs.Obey.{BeginsAlone, Obeying, at_moment, calls_of, lasting, last_number, numbers_of, obeyed, obeyed_call, rows_after_call, StaysInStep}
 
 -- ---- filters
 
@@ -214,35 +215,37 @@ on_lasting_again call rows = refl
 
 -- ---- the central system
 
--- what makes no call leaves the lasting rows
-pub lasting_without_call : (deed : Deed) (rows : List Row) → is_some (call_of deed) ≡ false
-    → lasting (rows_after rows deed) ≡ lasting rows
-lasting_without_call (Installs row) rows none = absurd (cc none)
-lasting_without_call (Clears criteria) rows none = absurd (cc none)
-lasting_without_call (Starts connector begin number) rows none = lasting_end rows connector
-lasting_without_call (Stops connector) rows none = lasting_end rows connector
+-- what makes no call leaves the lasting rows, where no transaction begins with a profile
+pub lasting_without_call : (deed : Deed) (rows : List Row) → BeginsAlone deed
+    → is_some (call_of deed) ≡ false → lasting (rows_after rows deed) ≡ lasting rows
+lasting_without_call (Installs row) rows alone none = absurd (cc none)
+lasting_without_call (Clears criteria) rows alone none = absurd (cc none)
+lasting_without_call (Starts connector begin number profile) rows alone none =
+    ap (λ (p : Option Profile). lasting (rows_started rows connector begin number p)) alone
+    ∙ lasting_end rows connector
+lasting_without_call (Stops connector) rows alone none = lasting_end rows connector
 -- each other deed leaves all rows
-lasting_without_call deed rows none = refl
+lasting_without_call deed rows alone none = refl
 
 -- what makes a call does with them as the call says
 lasting_with_call : (deed : Deed) (rows : List Row) → is_some (call_of deed) ≡ true
     → lasting (rows_after rows deed) ≡ on_lasting (call_of deed) (lasting rows)
 lasting_with_call (Installs row) rows some = lasting_installed rows row
 lasting_with_call (Clears criteria) rows some = lasting_cleared rows criteria
-lasting_with_call (Starts connector begin number) rows some = absurd (cc some)
+lasting_with_call (Starts connector begin number profile) rows some = absurd (cc some)
 lasting_with_call (Stops connector) rows some = absurd (cc some)
 -- each other deed leaves all rows, and so does its call, if there is one
 lasting_with_call deed rows some = refl
 
 -- after its next call the central system has what that call makes of the lasting rows
-next_call : (deeds : List Deed) (before : ℕ) (rows : List Row)
+next_call : (deeds : List Deed) (before : ℕ) (rows : List Row) → AllByRecursion BeginsAlone deeds
     → lasting (rows_after_call (suc before) deeds rows)
     ≡ on_lasting (slice_get (filter_map call_of deeds) before) (lasting
     (rows_after_call before deeds rows))
-next_call [] zero rows = refl
-next_call [] (suc before) rows = refl
-next_call (deed ∷ later) before rows =
-    by (λ n. next_call later n (rows_after rows deed)) (call_of deed) refl before
+next_call [] zero rows alone = refl
+next_call [] (suc before) rows alone = refl
+next_call (deed ∷ later) before rows alone =
+    by (λ n. next_call later n (rows_after rows deed) alone.1) (call_of deed) refl before
   where
     next : List Row
     next = rows_after rows deed
@@ -272,7 +275,7 @@ next_call (deed ∷ later) before rows =
         ap (λ (c : Option CallBody). lasting (rows_after_call (cond (is_some c) 0 1) later next)) has
         ∙ rest 0
         ∙ ap (on_lasting (slice_get calls 0))
-        (lasting_without_call deed rows (ap (λ (c : Option CallBody). is_some c) has))
+        (lasting_without_call deed rows alone.0 (ap (λ (c : Option CallBody). is_some c) has))
         ∙ ap (λ (c : Option CallBody). on_lasting (slice_get (cons_option c calls) 0)
         (lasting rows)) (sym has)
     by rest None has (suc count) =
@@ -290,53 +293,54 @@ cleared_all rows = ap lasting (filter_none rows)
 
 -- the same call again
 obeyed_again : (moment number : ℕ) (deeds : List Deed) (rows : List Row)
-    → lasting rows ≡ lasting (rows_after_call number deeds [])
+    → AllByRecursion BeginsAlone deeds → lasting rows ≡ lasting (rows_after_call number deeds [])
     → lasting (obeyed_call moment (slice_get (calls_of deeds) number) rows) ≡ lasting
     (rows_after_call number deeds [])
-obeyed_again moment zero deeds rows same = cleared_all rows
-obeyed_again moment (suc before) deeds rows same =
+obeyed_again moment zero deeds rows alone same = cleared_all rows
+obeyed_again moment (suc before) deeds rows alone same =
     let call = slice_get (filter_map call_of deeds) before in
-    lasting_obeyed moment call rows ∙ ap (on_lasting call) (same ∙ next_call deeds before [])
+    lasting_obeyed moment call rows ∙ ap (on_lasting call) (same ∙ next_call deeds before [] alone)
     ∙ on_lasting_again call (lasting (rows_after_call before deeds []))
-    ∙ sym (next_call deeds before [])
+    ∙ sym (next_call deeds before [] alone)
 
 -- the next call
 obeyed_next : (moment before : ℕ) (deeds : List Deed) (rows : List Row)
-    → lasting rows ≡ lasting (rows_after_call before deeds [])
+    → AllByRecursion BeginsAlone deeds → lasting rows ≡ lasting (rows_after_call before deeds [])
     → lasting (obeyed_call moment (slice_get (calls_of deeds) (suc before)) rows) ≡ lasting
     (rows_after_call (suc before) deeds [])
-obeyed_next moment before deeds rows same =
+obeyed_next moment before deeds rows alone same =
     let call = slice_get (filter_map call_of deeds) before in
-    lasting_obeyed moment call rows ∙ ap (on_lasting call) same ∙ sym (next_call deeds before [])
+    lasting_obeyed moment call rows ∙ ap (on_lasting call) same
+    ∙ sym (next_call deeds before [] alone)
 
 obeyed_one : (moment before number : ℕ) (deeds : List Deed) (rows : List Row)
-    → (number ≡ before) ⊎ (number ≡ before + 1)
+    → AllByRecursion BeginsAlone deeds → (number ≡ before) ⊎ (number ≡ before + 1)
     → lasting rows ≡ lasting (rows_after_call before deeds [])
     → lasting (obeyed_call moment (slice_get (calls_of deeds) number) rows) ≡ lasting
     (rows_after_call number deeds [])
-obeyed_one moment before number deeds rows (inl e) same =
-    obeyed_again moment number deeds rows (same
+obeyed_one moment before number deeds rows alone (inl e) same =
+    obeyed_again moment number deeds rows alone (same
     ∙ ap (λ (n : ℕ). lasting (rows_after_call n deeds [])) (sym e))
-obeyed_one moment before number deeds rows (inr e) same =
+obeyed_one moment before number deeds rows alone (inr e) same =
     let next : suc before ≡ number = omega arith in
     let P : ℕ → Type 0 = λ n. lasting (obeyed_call moment (slice_get
     (calls_of deeds) n) rows) ≡ lasting (rows_after_call n deeds []) in
-    subst P next (obeyed_next moment before deeds rows same)
+    subst P next (obeyed_next moment before deeds rows alone same)
 
 obeyed_all : (later : List Obeying) (before : ℕ) (deeds : List Deed) (rows : List Row)
-    → GoesOn before (numbers_of later) → lasting rows ≡ lasting (rows_after_call before deeds [])
+    → AllByRecursion BeginsAlone deeds → GoesOn before (numbers_of later) → lasting rows ≡ lasting (rows_after_call before deeds [])
     → lasting (obeyed (calls_of deeds) later rows) ≡ lasting (rows_after_call
     (last_number before later) deeds [])
-obeyed_all [] before deeds rows goes same = same
-obeyed_all (obeying ∷ later) before deeds rows goes same =
+obeyed_all [] before deeds rows alone goes same = same
+obeyed_all (obeying ∷ later) before deeds rows alone goes same =
     obeyed_all later obeying.number deeds (obeyed_call obeying.moment (slice_get
-    (calls_of deeds) obeying.number) rows) goes.1
-    (obeyed_one obeying.moment before obeying.number deeds rows goes.0 same)
+    (calls_of deeds) obeying.number) rows) alone goes.1
+    (obeyed_one obeying.moment before obeying.number deeds rows alone goes.0 same)
 
 pub stays_in_step : StaysInStep
-stays_in_step deeds first later rows order =
+stays_in_step deeds first later rows alone order =
     obeyed_all later first.number deeds (obeyed_call first.moment (slice_get
-    (calls_of deeds) first.number) rows) order.1
+    (calls_of deeds) first.number) rows) alone order.1
     (subst (λ (n : ℕ). lasting (obeyed_call first.moment (slice_get
     (calls_of deeds) n) rows) ≡ lasting (rows_after_call n deeds []))
     (sym order.0) (cleared_all rows))

@@ -15,7 +15,7 @@ use Rattle.site_core.specs.Outbox.{opening_outbox, all_calls, numbered, Traffic,
 use Rattle.site_core.specs.ChargePoint.{ChargePointState, Deed, rows_after, traffic_of, point_with}
 use Rattle.site_core.specs.Step.{Work, AtPoint, Takes, Compiling, Answering, Finishing, work, deed}
 use Rattle.site_core.specs.OutboxOrder.{calls_confirmed, calls_so_far, bodies_added, AreFrom, GoesOn, AreInSendingOrder}
-use Rattle.site_core.specs.Obey.{Obeying, numbers_of, last_number, obeyed, lasting}
+use Rattle.site_core.specs.Obey.{Obeying, numbers_of, last_number, obeyed, lasting, BeginsAlone}
 use Rattle.site_core.specs.ObeyOrder.{obeyed_numbers, IsObeyed}
 use Rattle.site_core.specs.State.{MachineState, IsMachine, opening, opening_at, point_at, book_at, outbox_at, is_this_number}
 use Rattle.site_core.specs.History.{Event, Legal}
@@ -123,7 +123,7 @@ calls_confirmed_at site place history =
 
 -- the numbers of the calls that Confirm takes note of
 abbrev pub confirmed_by : Step → Reply → List ℕ
-confirmed_by (steps.Confirm point link number) replies.Confirmed = number ∷ []
+confirmed_by (steps.Confirm point link number accepted) replies.Confirmed = number ∷ []
 confirmed_by step reply = []
 
 abbrev pub confirmed_by_event : Event → List ℕ
@@ -274,7 +274,8 @@ EachCallHasItsMoment =
     → Moment (opening_at site numbers) history state place number
 
 -- A point has any rows, and then obeys calls in the order of sending. Its lasting rows are then
--- those that the machine had for it at a moment of the last of these calls, whatever came later.
+-- those that the machine had for it at a moment of the last of these calls, whatever came later,
+-- unless a transaction began there with a profile of its own.
 -- The moments of call k begin when the k-th install or clear was accepted, and end at the next one.
 -- Those of call 0 come before the first.
 abbrev pub PointsStayInStep : Type 0
@@ -282,6 +283,7 @@ PointsStayInStep =
     (site : SiteState) (numbers : Numbers) (history : List Event) (state : MachineState)
     (point : List ℕ) (place : ℕ) → place_of site point ≡ Some place
     → (first : Obeying) (others : List Obeying) (rows : List Row)
+    → AllByRecursion BeginsAlone (deeds_of site place history)
     → AreInSendingOrder (numbers_of (first ∷ others))
     → (moment : Moment (opening_at site numbers) history state place
     (last_number first.number others))
@@ -305,7 +307,8 @@ CallsAreObeyedInOrder = OfEachPoint (λ site place history state.
 
 -- The same of a point that obeys what is sent to it, in the order of the sendings. Any of them may
 -- be lost, but it obeys each confirmed call at least once. Its lasting rows are then those that the
--- machine had for it at a moment of the last call that it obeyed.
+-- machine had for it at a moment of the last call that it obeyed, unless a transaction began there
+-- with a profile of its own.
 abbrev pub ObeyingPointsStayInStep : Type 0
 ObeyingPointsStayInStep =
     (site : SiteState) (numbers : Numbers) (history : List Event) (state : MachineState)
@@ -316,6 +319,7 @@ ObeyingPointsStayInStep =
     (calls_confirmed_at site place history)
     → (first : Obeying) (others : List Obeying) (rows : List Row)
     → numbers_of (first ∷ others) ≡ numbers_obeyed_at site place history are_obeyed
+    → AllByRecursion BeginsAlone (deeds_of site place history)
     → (moment : Moment (opening_at site numbers) history state place
     (last_number first.number others))
     → lasting (obeyed (bodies_of site place history) (first ∷ others) rows)

@@ -1,7 +1,8 @@
 -- What the central system keeps of a charge point, and what a step does there. A step of a point
 -- can't see other points or requests. `record old { .. }` is the point with these fields changed
 -- and all else as it was.
-use Rattle.std.specs.Prelude.{ℕ, ℤ, ◌-◌, List, Option, Some, None, slice_set}
+use Rattle.std.specs.Prelude.{ℕ, ℤ, ◌-◌, Bool, List, [], Option, Some, None, slice_set}
+use Rattle.profile.specs.declared.charging_profile.Profile.{Profile}
 use Rattle.profile.specs.declared.row.Row.{Row}
 use Rattle.profile.specs.declared.criteria.Criteria.{Criteria}
 use Rattle.profile.specs.declared.unit.Unit.{Unit}
@@ -12,9 +13,12 @@ use Rattle.messages.specs.declared.call.CallBody.{CallBody}
 use Rattle.messages.specs.declared.call.CallBody.TheVariants as bodies
 use Rattle.site_rules.specs.Site.{PointEntry}
 use Rattle.point_book.specs.Book.{BookState, empty_book}
+use Rattle.point_book.specs.Changes.{rows_started}
 use Rattle.sweep_compiler.specs.declared.verdict.Verdict.{Verdict}
 use Rattle.site_core.specs.Audit.{AuditState, begun_audit, judged_audit}
 use Rattle.site_core.specs.Outbox.{OutboxState, opening_outbox, Traffic, Attach, Lose, Add, Send, Confirm, after}
+use Rattle.site_core.specs.declared.waiting_starts.WaitingStart.{WaitingStart}
+use Rattle.site_core.specs.WaitingStart.{with_waiting, after_reply, ended_start, without_ended}
 
 pub record ChargePointState : Type 0 where
   -- its ceilings, profiles and transactions
@@ -23,6 +27,8 @@ pub record ChargePointState : Type 0 where
   pub outbox : OutboxState
   -- its audit, once it was audited
   pub audit : Option AuditState
+  -- the starts that it was asked for, and that no transaction has ended
+  pub waiting : List WaitingStart
 
 -- a point with nothing installed, no active transaction and no link, to which call 0 is to be sent
 abbrev pub opening_point : PointEntry → ChargePointState
@@ -31,6 +37,7 @@ opening_point point =
       book = empty_book point.ceiling point.ceilings;
       outbox = opening_outbox;
       audit = None;
+      waiting = [];
     }
 
 -- ---- what a step does at a point
@@ -43,8 +50,8 @@ pub data Deed : Type 0 where
   -- the matching profiles are cleared, and the point is called to clear them (OCPP 1.6, 5.5)
   Clears : (criteria : Criteria) → Deed
   -- a transaction of a number begins at a connector (OCPP 1.6, 4.8), and takes the place of the one
-  -- before it, which ends with its TxProfiles (3.13)
-  Starts : (connector : ℕ) (begin : Begin) (number : ℤ) → Deed
+  -- before it, which ends with its TxProfiles (3.13); it may begin with a profile (5.11)
+  Starts : (connector : ℕ) (begin : Begin) (number : ℤ) (profile : Option Profile) → Deed
   -- the transaction at a connector ends (OCPP 1.6, 4.10) with its TxProfiles (3.13)
   Stops : (connector : ℕ) → Deed
   -- the point has a new link
@@ -53,30 +60,35 @@ pub data Deed : Type 0 where
   Loses : Deed
   -- the first call goes out
   Sends : Deed
-  -- the point has replied to the call of a number
-  Confirms : (number : ℕ) → Deed
+  -- the point has replied to the call of a number, and says whether it accepts
+  Confirms : (number : ℕ) (accepted : Bool) → Deed
   -- the point is called for its schedule of a connector over so many seconds (OCPP 1.6, 5.7), and
   -- what it has now is kept
   Audits : (connector duration : ℕ) (unit : Unit) → Deed
   -- its reply to that call is judged so
   Judges : (verdict : Verdict) → Deed
+  -- the point is called to start a transaction of an idTag at a connector, with a profile where one
+  -- is given (OCPP 1.6, 5.11), and that start waits
+  RemoteStarts : (connector : ℕ) (id_tag : List ℕ) (profile : Option Profile) → Deed
 
 -- its profiles then
 abbrev pub rows_after : List Row → Deed → List Row
 rows_after rows (Installs row) = installed rows row
 rows_after rows (Clears criteria) = cleared rows criteria
-rows_after rows (Starts connector begin number) = without_transaction_profiles rows connector
+rows_after rows (Starts connector begin number profile) =
+    rows_started rows connector begin number profile
 rows_after rows (Stops connector) = without_transaction_profiles rows connector
 rows_after rows (Attaches link) = rows
 rows_after rows Loses = rows
 rows_after rows Sends = rows
-rows_after rows (Confirms number) = rows
+rows_after rows (Confirms number accepted) = rows
 rows_after rows (Audits connector duration unit) = rows
 rows_after rows (Judges verdict) = rows
+rows_after rows (RemoteStarts connector id_tag profile) = rows
 
 -- its transactions then
 abbrev pub transactions_after : List (Option Transaction) → Deed → List (Option Transaction)
-transactions_after active (Starts connector begin number) =
+transactions_after active (Starts connector begin number profile) =
     slice_set active (connector - 1) (Some (record { id = number; begin = begin }))
 transactions_after active (Stops connector) = slice_set active (connector - 1) None
 transactions_after active (Installs row) = active
@@ -84,23 +96,26 @@ transactions_after active (Clears criteria) = active
 transactions_after active (Attaches link) = active
 transactions_after active Loses = active
 transactions_after active Sends = active
-transactions_after active (Confirms number) = active
+transactions_after active (Confirms number accepted) = active
 transactions_after active (Audits connector duration unit) = active
 transactions_after active (Judges verdict) = active
+transactions_after active (RemoteStarts connector id_tag profile) = active
 
 -- what comes to its outbox: a call that is added, or what becomes of its link and of the first
 -- call. That a transaction begins or ends, a point knows by itself.
 abbrev pub traffic_of : Deed → Option Traffic
 traffic_of (Installs row) = Some (Add (bodies.Set row.connector row.profile))
 traffic_of (Clears criteria) = Some (Add (bodies.Clear criteria))
-traffic_of (Starts connector begin number) = None
+traffic_of (Starts connector begin number profile) = None
 traffic_of (Stops connector) = None
 traffic_of (Attaches link) = Some (Attach link)
 traffic_of Loses = Some Lose
 traffic_of Sends = Some Send
-traffic_of (Confirms number) = Some (Confirm number)
+traffic_of (Confirms number accepted) = Some (Confirm number)
 traffic_of (Audits connector duration unit) = Some (Add (bodies.Audit connector duration unit))
 traffic_of (Judges verdict) = None
+traffic_of (RemoteStarts connector id_tag profile) =
+    Some (Add (bodies.RemoteStart connector id_tag profile))
 
 -- the call that brings it to the point, if there is one
 abbrev pub call_in : Option Traffic → Option CallBody
@@ -116,6 +131,7 @@ rows_by_call moment (bodies.Set connector profile) rows =
     installed rows (record { connector = connector; moment = moment; profile = profile })
 rows_by_call moment (bodies.Clear criteria) rows = cleared rows criteria
 rows_by_call moment (bodies.Audit connector duration unit) rows = rows
+rows_by_call moment (bodies.RemoteStart connector id_tag profile) rows = rows
 
 -- its audit then: an audit takes the place of the one before it
 abbrev pub audit_after : ChargePointState → Deed → Option AuditState
@@ -124,12 +140,33 @@ audit_after old (Audits connector duration unit) =
 audit_after old (Judges verdict) = judged_audit old.book.transactions verdict old.audit
 audit_after old (Installs row) = old.audit
 audit_after old (Clears criteria) = old.audit
-audit_after old (Starts connector begin number) = old.audit
+audit_after old (Starts connector begin number profile) = old.audit
 audit_after old (Stops connector) = old.audit
 audit_after old (Attaches link) = old.audit
 audit_after old Loses = old.audit
 audit_after old Sends = old.audit
-audit_after old (Confirms number) = old.audit
+audit_after old (Confirms number accepted) = old.audit
+audit_after old (RemoteStarts connector id_tag profile) = old.audit
+
+-- the starts that wait then
+abbrev pub waiting_after : ChargePointState → Deed → List WaitingStart
+waiting_after old (RemoteStarts connector id_tag profile) = with_waiting old.waiting (record {
+  connector = connector;
+  call = old.outbox.next;
+  id_tag = id_tag;
+  profile = profile;
+})
+waiting_after old (Starts connector begin number profile) =
+    without_ended (ended_start old.outbox old.waiting connector) old.waiting
+waiting_after old (Confirms number accepted) = after_reply number accepted old.waiting
+waiting_after old (Installs row) = old.waiting
+waiting_after old (Clears criteria) = old.waiting
+waiting_after old (Stops connector) = old.waiting
+waiting_after old (Attaches link) = old.waiting
+waiting_after old Loses = old.waiting
+waiting_after old Sends = old.waiting
+waiting_after old (Audits connector duration unit) = old.waiting
+waiting_after old (Judges verdict) = old.waiting
 
 -- ---- the point then
 
@@ -148,6 +185,7 @@ point_after old deed = record old {
   book = book_after old.book deed;
   outbox = outbox_with (traffic_of deed) old.outbox;
   audit = audit_after old deed;
+  waiting = waiting_after old deed;
 }
 
 -- after a step that does something there, or nothing

@@ -2,6 +2,7 @@ pub mod Limits
 pub mod Outbox
 pub mod Equal
 pub mod Audit
+pub mod WaitingStart
 pub mod ChargePoint
 pub mod State
 pub mod Right

@@ -1,12 +1,12 @@
 -- That a point which obeys its calls stays in step, whatever is lost or sent again. The profiles
 -- that outlast its transactions are those that the central system has for it.
 use Rattle.std.specs.Prelude.{ℕ, ◌≡◌, not, List, [], ◌∷◌, filter, map, Option, None, Some, is_some, zero, suc, slice_get, if◌then◌else◌}
-use Rattle.std.specs.List.{filter_map}
+use Rattle.std.specs.List.{AllByRecursion, filter_map}
 use Rattle.profile.specs.declared.row.Row.{Row}
 use Rattle.profile.specs.Purpose.{is_tx}
 use Rattle.messages.specs.declared.call.CallBody.{CallBody}
 use Rattle.site_core.specs.Outbox.{all_calls}
-use Rattle.site_core.specs.ChargePoint.{Deed, rows_after, call_of, rows_by_call}
+use Rattle.site_core.specs.ChargePoint.{Deed, Starts, rows_after, call_of, rows_by_call}
 use Rattle.site_core.specs.OutboxOrder.{AreInSendingOrder}
 
 -- ---- the central system
@@ -63,11 +63,18 @@ lasting rows = map (at_moment 0) (filter (λ row. not (is_tx row.profile.purpose
 
 -- ---- the law
 
+-- A transaction begins without a profile of its own. One that begins with a profile (OCPP 1.6,
+-- 5.11) removes the profiles of its id and its level, which the point may have done earlier.
+abbrev pub BeginsAlone : Deed → Type 0
+BeginsAlone (Starts connector begin number profile) = profile ≡ None
+BeginsAlone deed = Unit {0}
+
 -- A point has any rows, and then obeys calls in the order of sending. Its lasting rows are then
 -- those that the central system had, which began with none, after the last of these calls.
 abbrev pub StaysInStep : Type 0
 StaysInStep =
     (deeds : List Deed) (first : Obeying) (later : List Obeying) (rows : List Row)
+    → AllByRecursion BeginsAlone deeds
     → AreInSendingOrder (numbers_of (first ∷ later))
     → lasting (obeyed (calls_of deeds) (first ∷ later) rows)
     ≡ lasting (rows_after_call (last_number first.number later) deeds [])

@@ -8,6 +8,7 @@ use Rattle.sweep_compiler.specs.Verdict.{AuditRequest}
 use Rattle.site_core.specs.declared.numbers.Numbers.{Numbers}
 use Rattle.site_core.specs.Limits.{max_number, max_transaction, max_requests}
 use Rattle.site_core.specs.Outbox.{OutboxState, opening_outbox, sending_link}
+use Rattle.site_core.specs.declared.waiting_starts.WaitingStart.{WaitingStart}
 use Rattle.site_core.specs.Audit.{AuditState, unjudged}
 use Rattle.site_core.specs.ChargePoint.{ChargePointState, opening_point}
 
@@ -54,7 +55,12 @@ opening site = opening_at site no_numbers
 -- What is kept of the point at a place of the site file. Each place has its point, so none is read
 -- as one without connectors.
 abbrev pub no_point : ChargePointState
-no_point = record { book = empty_book 0 []; outbox = opening_outbox; audit = None }
+no_point = record {
+  book = empty_book 0 [];
+  outbox = opening_outbox;
+  audit = None;
+  waiting = [];
+}
 
 abbrev pub point_in : List ChargePointState → ℕ → ChargePointState
 point_in points place = slice_index_or points place no_point
@@ -112,6 +118,14 @@ audit_in state (Some place) = audit_at state place
 
 abbrev pub audit_of : MachineState → List ℕ → Option AuditState
 audit_of state point = audit_in state (place_of state.site point)
+
+-- the starts that wait at the point of an identity; a stranger has none
+abbrev pub waiting_in : MachineState → Option ℕ → List WaitingStart
+waiting_in state None = []
+waiting_in state (Some place) = (point_at state place).waiting
+
+abbrev pub waiting_of : MachineState → List ℕ → List WaitingStart
+waiting_of state point = waiting_in state (place_of state.site point)
 
 -- what the audit of the point at a place, and of an identity, asked, with what the point had then,
 -- while it has no verdict; a stranger has none

@@ -4,11 +4,14 @@ use Rattle.std.specs.Prelude.{ℕ, ℤ, pos, ◌≡◌, ◌≤◌, ◌+◌, not,
 use Rattle.std.specs.List.{list_any}
 use Rattle.ocpp_scalars.specs.ResultSteps.{◌>>=◌}
 use Rattle.ocpp_scalars.specs.declared.refusal.Refusal.{Refusal}
-use Rattle.ocpp_scalars.specs.declared.refusal.Refusal.TheVariants.{UnknownPoint, UnknownConnector, OutboxFull, BadDuration, TooManyOpen, VersionsExhausted, TransactionsExhausted, Behind, OutOfMemory, UnknownRequest, AlreadyAnswered, StrangerInput, Superseded, NothingInFlight, AuditOpen}
+use Rattle.ocpp_scalars.specs.declared.refusal.Refusal.TheVariants.{UnknownPoint, UnknownConnector, OutboxFull, BadDuration, TooManyOpen, VersionsExhausted, TransactionsExhausted, Behind, OutOfMemory, UnknownRequest, AlreadyAnswered, StrangerInput, Superseded, NothingInFlight, AuditOpen, WrongUnit, NotTxProfile}
 use Rattle.ocpp_scalars.specs.declared.refusal.Refusal.TheVariants as refusals
+use Rattle.profile.specs.declared.charging_profile.Profile.{Profile}
 use Rattle.profile.specs.declared.row.Row.{Row}
 use Rattle.profile.specs.declared.criteria.Criteria.{Criteria}
 use Rattle.profile.specs.Changes.{matches}
+use Rattle.profile.specs.Purpose.{is_tx}
+use Rattle.profile.specs.Unit.{unit_eq}
 use Rattle.transactions.specs.declared.begin.Begin.{Begin}
 use Rattle.transactions.specs.declared.active_table.Began.{Began}
 use Rattle.transactions.specs.declared.active_table.Began.TheVariants.{Fresh, Repeat}
@@ -28,7 +31,7 @@ use Rattle.site_core.specs.declared.step.Step.TheVariants as steps
 use Rattle.site_core.specs.declared.step.Take.{Take}
 use Rattle.site_core.specs.declared.reply.Counted.{Counted}
 use Rattle.site_core.specs.declared.reply.Reply.{Reply}
-use Rattle.site_core.specs.declared.reply.Reply.TheVariants.{Accepted, Unknown, Started, Repeated, Ended, NoSuch, Taken, Compiled, Answered, NotYet, Finished, Attached, Sent, Nothing, Confirmed, LinkLost, Audited, VerdictKept, Status}
+use Rattle.site_core.specs.declared.reply.Reply.TheVariants.{Accepted, Unknown, Started, Repeated, Ended, NoSuch, Taken, Compiled, Answered, NotYet, Finished, Attached, Sent, Nothing, Confirmed, LinkLost, Audited, VerdictKept, Status, Called}
 use Rattle.site_core.specs.declared.outcome.Refused.{Refused}
 use Rattle.site_core.specs.declared.via.Via.{Via}
 use Rattle.site_core.specs.declared.via.Via.TheVariants.{Name, Link, Audit}
@@ -36,7 +39,8 @@ use Rattle.site_core.specs.Audit.{AuditState, is_open_among, unjudged, audit_out
 use Rattle.site_core.specs.Equal.{same_request}
 use Rattle.site_core.specs.Limits.{max_number, max_transaction, max_requests}
 use Rattle.site_core.specs.Outbox.{OutboxState, is_full, is_exhausted, sendable, is_number_in_flight}
-use Rattle.site_core.specs.ChargePoint.{ChargePointState, Deed, Installs, Clears, Starts, Stops, Attaches, Loses, Sends, Confirms, Audits, Judges, point_after}
+use Rattle.site_core.specs.ChargePoint.{ChargePointState, Deed, Installs, Clears, Starts, Stops, Attaches, Loses, Sends, Confirms, Audits, Judges, RemoteStarts, point_after}
+use Rattle.site_core.specs.WaitingStart.{ended_start, profile_for}
 use Rattle.site_core.specs.State.{MachineState, Kept, ScheduleAnswer, point_at, book_at, outbox_at, is_this_number}
 use Rattle.site_core.specs.Requests.{request_of, answered, without, all_stopped}
 use Rattle.site_core.specs.Ask.{ask_at}
@@ -118,6 +122,7 @@ facts LinkLost = quiet_event
 facts (Audited call unit) = record quiet_event { wants_memory = true }
 facts VerdictKept = quiet_event
 facts (Status status) = answer_alone
+facts (Called number) = record quiet_event { wants_memory = true }
 
 -- whether a step with its reply is an event
 abbrev pub is_event : MachineState → Reply → Bool
@@ -129,8 +134,8 @@ counted reply = (facts reply).counts
 abbrev pub drawn : Reply → Numbers → Numbers
 drawn reply numbers = (facts reply).drawn numbers
 
--- What wants memory: a profile, a clear and an audit with their calls, a transaction and its end, a
--- request that is kept, and a call that is copied to be sent.
+-- What wants memory: a profile, a clear, an audit and a remote start with their calls, a
+-- transaction and its end, a request that is kept, and a call that is copied to be sent.
 abbrev pub wants_memory : Reply → Bool
 wants_memory reply = (facts reply).wants_memory
 
@@ -156,11 +161,12 @@ is_reply_to steps.Finish Finished = true
 is_reply_to (steps.Attach point) (Attached link) = true
 is_reply_to (steps.Send point link) (Sent call) = true
 is_reply_to (steps.Send point link) Nothing = true
-is_reply_to (steps.Confirm point link number) Confirmed = true
+is_reply_to (steps.Confirm point link number accepted) Confirmed = true
 is_reply_to (steps.Lost point link) LinkLost = true
 is_reply_to (steps.Audit point connector duration) (Audited call unit) = true
 is_reply_to (steps.Judge point number judged) VerdictKept = true
 is_reply_to (steps.Status point) (Status status) = true
+is_reply_to (steps.RemoteStart point connector id_tag profile) (Called number) = true
 is_reply_to step reply = false
 
 -- ---- steps at a point are decided first, from the site, the numbers drawn last and the point
@@ -294,23 +300,51 @@ status_of numbers point = record {
 abbrev pub tells_status : Numbers → ChargePointState → Result Reply Refusal
 tells_status numbers point = Ok (Status (status_of numbers point))
 
+-- RemoteStart (OCPP 1.6, 5.11): the point is asked to start a transaction at a connector, and
+-- connector 0 is none. A profile that comes with it is a TxProfile in the site's unit.
+abbrev pub refusal_of_profile : SiteState → Option Profile → Option Refusal
+refusal_of_profile site None = None
+refusal_of_profile site (Some profile) =
+    if not (unit_eq profile.schedule.unit site.unit) then Some WrongUnit
+    else if not (is_tx profile.purpose) then Some NotTxProfile
+    else None
+
+abbrev pub refusal_to_remote_start : SiteState → ℕ → Option Profile → ChargePointState
+    → Option Refusal
+refusal_to_remote_start site connector profile point =
+    if is_at_no_connector point connector then Some UnknownConnector
+    else first_cause (refusal_of_profile site profile) (refusal_to_add point.outbox)
+
+abbrev pub remote_starts : SiteState → ℕ → Option Profile → ChargePointState
+    → Result Reply Refusal
+remote_starts site connector profile point =
+    unless (refusal_to_remote_start site connector profile point) (Called point.outbox.next)
+
 -- ---- and then done
+
+-- the profile with which a transaction begins at a connector
+abbrev pub profile_at_start : ChargePointState → ℕ → Begin → Option Profile
+profile_at_start point connector begin =
+    profile_for begin.id_tag (ended_start point.outbox point.waiting connector)
 
 -- what a step does at its point, which is read from the point, the step and what is replied: no
 -- other step with its reply does anything at a point
 abbrev pub deed : ChargePointState → Step → Reply → Option Deed
 deed point (steps.Install id row) Accepted = Some (Installs row)
 deed point (steps.Clear id criteria) Accepted = Some (Clears criteria)
-deed point (steps.Start id connector begin) (Started number) = Some (Starts connector begin number)
+deed point (steps.Start id connector begin) (Started number) =
+    Some (Starts connector begin number (profile_at_start point connector begin))
 deed point (steps.Stop id number) Ended =
     option_map Stops (connector_of point.book.transactions number)
 deed point (steps.Attach id) (Attached link) = Some (Attaches link)
 deed point (steps.Send id link) (Sent call) = Some Sends
-deed point (steps.Confirm id link number) Confirmed = Some (Confirms number)
+deed point (steps.Confirm id link number accepted) Confirmed = Some (Confirms number accepted)
 deed point (steps.Lost id link) LinkLost = Some Loses
 deed point (steps.Audit id connector duration) (Audited call unit) =
     Some (Audits connector duration unit)
 deed point (steps.Judge id number judged) VerdictKept = Some (Judges judged.verdict)
+deed point (steps.RemoteStart id connector id_tag profile) (Called number) =
+    Some (RemoteStarts connector id_tag profile)
 deed point step reply = None
 
 -- ---- the whole state
@@ -471,12 +505,15 @@ work (steps.Answer number) = Answering number
 work steps.Finish = Finishing
 work (steps.Attach point) = AtPoint (at_point point (λ site numbers. attaches numbers))
 work (steps.Send point link) = AtPoint (over_link point link sends)
-work (steps.Confirm point link number) = AtPoint (over_link point link (confirms number))
+work (steps.Confirm point link number accepted) =
+    AtPoint (over_link point link (confirms number))
 work (steps.Lost point link) = AtPoint (over_link point link loses)
 work (steps.Audit point connector duration) =
     AtPoint (at_point point (λ site numbers. audits site connector duration))
 work (steps.Judge point number judged) = AtPoint (of_audit point (judges number judged))
 work (steps.Status point) = AtPoint (at_point point (λ site numbers. tells_status numbers))
+work (steps.RemoteStart point connector id_tag profile) =
+    AtPoint (at_point point (λ site numbers. remote_starts site connector profile))
 
 -- a step at a point is decided, and then done
 abbrev pub made_there : MachineState → Step → PointStep → Result Made Refusal

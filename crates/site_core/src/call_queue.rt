@@ -61,6 +61,11 @@ impl CallQueue {
         })
     }
 
+    /// Where its memory comes from.
+    pub fn allocator(&self) -> Global {
+        *self.later.allocator()
+    }
+
     /// How many calls wait.
     pub fn len(&self) -> usize
         ensures value { result ≡ length self.now }
@@ -109,7 +114,7 @@ impl CallQueue {
         if self.later.is_empty() && self.left <= self.gathered.len() - self.left {
             return;
         }
-        let alloc = *self.later.allocator();
+        let alloc = self.allocator();
         let Ok(bodies) = self.bodies(alloc) else {
             return;
         };
@@ -126,26 +131,34 @@ impl CallQueue {
         ensures { IfOk result (λ bodies. bodies.items ≡ self.now) }
     {
         let mut bodies = Vec::with_capacity(alloc, self.len())?;
-        copy_slice(&mut bodies, &self.gathered[self.left..])?;
-        copy_list(&mut bodies, &self.later)?;
+        copy_slice(alloc, &mut bodies, &self.gathered[self.left..])?;
+        copy_list(alloc, &mut bodies, &self.later)?;
         Ok(bodies)
     }
 }
 
-fn copy_slice(copies: &mut Vec<CallBody>, bodies: &[CallBody]) -> Result<(), AllocError>
+fn copy_slice(
+    alloc: Global,
+    copies: &mut Vec<CallBody>,
+    bodies: &[CallBody],
+) -> Result<(), AllocError>
     ensures { OnOk result (copies.new.items ≡ copies.old.items ++ bodies.now) }
 {
     for body in bodies {
-        copies.push(body.copy()?)?;
+        copies.push(body.copy(alloc)?)?;
     }
     Ok(())
 }
 
-fn copy_list(copies: &mut Vec<CallBody>, bodies: &LinkedList<CallBody>) -> Result<(), AllocError>
+fn copy_list(
+    alloc: Global,
+    copies: &mut Vec<CallBody>,
+    bodies: &LinkedList<CallBody>,
+) -> Result<(), AllocError>
     ensures { OnOk result (copies.new.items ≡ copies.old.items ++ bodies.now) }
 {
     for body in bodies.iter() {
-        copies.push(body.copy()?)?;
+        copies.push(body.copy(alloc)?)?;
     }
     Ok(())
 }
@@ -153,9 +166,10 @@ fn copy_list(copies: &mut Vec<CallBody>, bodies: &LinkedList<CallBody>) -> Resul
 fn copy_of_bodies(bodies: &LinkedList<CallBody>) -> Result<LinkedList<CallBody>, AllocError>
     ensures { IfOk result (λ copy. copy ≡ bodies.now) }
 {
-    let mut copies = LinkedList::new(*bodies.allocator());
+    let alloc = *bodies.allocator();
+    let mut copies = LinkedList::new(alloc);
     for body in bodies.iter() {
-        copies.push_back(body.copy()?)?;
+        copies.push_back(body.copy(alloc)?)?;
     }
     Ok(copies)
 }

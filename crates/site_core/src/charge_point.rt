@@ -1,6 +1,7 @@
 //! What the central system keeps of a charge point, and what a step does there: a method sees
 //! neither other points nor requests. A step is decided first, without a change, and then done.
 
+ghost use Rattle.std.specs.Option.{option_copied};
 ghost use Rattle.std.specs.Prelude.{◌≡◌, ◌+◌, ◌<◌, ◌≤◌, ℕ, None, Ok, Err, IfErr, IfNone, IfOk, OnOk, length, option_map};
 ghost use Rattle.site_rules.specs.Site.{HasConnector, point_entry};
 ghost use Rattle.transactions.specs.declared.active_table.Began.{Began};
@@ -16,7 +17,8 @@ ghost use Rattle.site_core.specs.Audit.{is_open_among, judged_audit, unjudged};
 ghost use Rattle.site_core.specs.Audits.{BringsRight};
 ghost use Rattle.sweep_compiler.specs.Judged.{IsJudged};
 ghost use Rattle.site_core.specs.ChargePoint.{opening_point};
-ghost use Rattle.site_core.specs.Step.{refusal_to_add, refusal_to_call, refusal_to_start, installs, clears, starts, stops, attaches, sends, confirms, loses, audits, judges, status_of, next_transaction, work};
+ghost use Rattle.site_core.specs.WaitingStart.{ended_start, has_gone_out, without_ended};
+ghost use Rattle.site_core.specs.Step.{refusal_to_add, refusal_to_call, refusal_to_start, installs, clears, starts, stops, attaches, sends, confirms, loses, audits, judges, status_of, next_transaction, profile_at_start, refusal_of_profile, remote_starts, work};
 ghost use Rattle.site_core.specs.ByCases.Made.{decision_of, ComesTo, OnDoes, IsMadeAt, IsAtPoint, HasConnectorsOf, IsDecided, IsWorked};
 
 use crate::audit::PointAudit;
@@ -27,11 +29,12 @@ use crate::point_id::PointId;
 use crate::reply::Reply;
 use crate::shared_book::SharedBook;
 use crate::step::Step;
+use crate::waiting_starts::{WaitingStart, WaitingStarts};
 use meaning::MAX_DURATION;
 use messages::{AuditOutcome, CallBody, PointStatus};
-use ocpp_scalars::Refusal;
+use ocpp_scalars::{IdTag, Refusal};
 use point_book::PointBook;
-use profile::{Criteria, Row, Unit};
+use profile::{Criteria, Profile, Purpose, Row, Unit};
 use site_rules::{Site, SitePoint, admit};
 use std::alloc::{AllocError, Global};
 use std::marker::Model;
@@ -39,13 +42,14 @@ use sweep_compiler::{AuditJob, Judged, Verdict};
 use transactions::{Began, Begin};
 
 /// What the central system keeps of a charge point: its profiles and transactions, the link to it,
-/// the calls that it hasn't confirmed, and its audit.
+/// the calls that it hasn't confirmed, its audit, and the starts that it was asked for.
 #[derive(Drop)]
 pub(crate) struct ChargePoint {
     alloc: Global,
     book: SharedBook,
     outbox: Outbox,
     audit: Option<PointAudit>,
+    waiting: WaitingStarts,
 }
 
 impl Model for ChargePoint {
@@ -57,6 +61,7 @@ impl Model for ChargePoint {
       book = p.book;
       outbox = p.outbox;
       audit = p.audit;
+      waiting = p.waiting;
     } };
 }
 
@@ -72,6 +77,7 @@ impl ChargePoint {
             book: SharedBook::new(alloc, book)?,
             outbox: Outbox::new(alloc)?,
             audit: None,
+            waiting: WaitingStarts::new(alloc),
         })
     }
 
@@ -84,6 +90,7 @@ impl ChargePoint {
             book: self.book.share()?,
             outbox: self.outbox.copy()?,
             audit: copy_of_audit(&self.audit)?,
+            waiting: self.waiting.copy()?,
         })
     }
 
@@ -144,6 +151,11 @@ impl ChargePoint {
             } => self.decide_audit(site, *connector, *duration),
             Step::Judge { call, judged, .. } => self.decide_judge(*call, judged),
             Step::Status(_) => Ok(Decision::Answers(Reply::Status(self.status(numbers)))),
+            Step::RemoteStart {
+                connector,
+                profile,
+                ..
+            } => self.decide_remote_start(site, *connector, profile),
             Step::Take(_) | Step::Compile(_) | Step::Answer(_) | Step::Finish => unreachable!(),
         }
     }
@@ -169,7 +181,12 @@ impl ChargePoint {
             Step::Stop { point, transaction } => self.stop(numbers, point, *transaction),
             Step::Attach(point) => self.attach(numbers, point),
             Step::Send { point, link } => self.send(point, *link),
-            Step::Confirm { point, link, call } => self.confirm(point, *link, *call),
+            Step::Confirm {
+                point,
+                link,
+                call,
+                accepted,
+            } => self.confirm(point, *link, *call, *accepted),
             Step::Lost { point, link } => Ok(self.lose(point, *link)),
             Step::Audit {
                 point,
@@ -182,6 +199,12 @@ impl ChargePoint {
                 judged,
             } => self.judge(point, *call, judged),
             Step::Status(_) => Ok(Reply::Status(self.status(numbers))),
+            Step::RemoteStart {
+                point,
+                connector,
+                id_tag,
+                profile,
+            } => self.remote_start(site, point, *connector, id_tag, profile),
             Step::Take(_) | Step::Compile(_) | Step::Answer(_) | Step::Finish => unreachable!(),
         }
     }
@@ -313,7 +336,8 @@ impl ChargePoint {
     }
 
     /// Begins a transaction with the next number, with a copy of what began, or answers a
-    /// retransmitted start.
+    /// retransmitted start. A start that waits at the connector ends, and where it is for this
+    /// idTag, the transaction begins with its profile.
     fn start(
         &mut self,
         numbers: &Numbers,
@@ -330,10 +354,54 @@ impl ChargePoint {
             Decision::Does => {
                 let number = numbers.next_transaction();
                 let begin = begin.copy(self.alloc)?;
-                self.book.start(connector, begin, number)?;
+                let profile = self.profile_at_start(connector, &begin)?;
+                self.book.start(connector, begin, number, profile)?;
+                self.end_start(connector);
                 Ok(Reply::Started(number))
             }
         }
+    }
+
+    /// A copy of the profile with which a transaction begins at a connector.
+    fn profile_at_start(&self, connector: u32, begin: &Begin) -> Result<Option<Profile>, AllocError>
+        ensures { IfOk result
+            (λ profile. profile ≡ profile_at_start self.now connector begin.now) }
+    {
+        match self.ended_start(connector) {
+            None => Ok(None),
+            Some(start) => start.profile_for(&begin.id_tag),
+        }
+    }
+
+    /// The start that a transaction at a connector ends: it waits there, and its call has gone out.
+    fn ended_start(&self, connector: u32) -> Option<&WaitingStart>
+        ensures { option_copied result
+            ≡ ended_start self.now.outbox self.now.waiting connector }
+    {
+        match self.waiting.at(connector) {
+            Some(start) if self.has_gone_out(start.call) => Some(start),
+            _ => None,
+        }
+    }
+
+    /// The start that a transaction at a connector ends waits no more.
+    fn end_start(&mut self, connector: u32)
+        ensures { self.new ≡ record self.old {
+          waiting = without_ended (ended_start self.old.outbox self.old.waiting connector)
+              self.old.waiting;
+        } }
+    {
+        if let Some(start) = self.ended_start(connector) {
+            let connector = start.connector;
+            self.waiting.remove(connector);
+        }
+    }
+
+    /// Whether the call of a number is confirmed or in flight.
+    fn has_gone_out(&self, call: u64) -> bool
+        ensures { result ≡ has_gone_out self.now.outbox call }
+    {
+        !self.outbox.is_unconfirmed(call) || self.outbox.is_number_in_flight(call)
     }
 
     // ---- Stop (chapter 4.10)
@@ -433,16 +501,25 @@ impl ChargePoint {
         }
     }
 
-    /// Takes note that the point has answered the call of this number.
-    fn confirm(&mut self, point: &PointId, link: u64, call: u64) -> Result<Reply, Refusal>
-        ensures { IsMadeAt (confirms call self.old) (steps.Confirm point.now link call)
-            self.old result self.new }
+    /// Takes note that the point has answered the call of this number. A start that came with it
+    /// waits no more if it isn't accepted.
+    fn confirm(
+        &mut self,
+        point: &PointId,
+        link: u64,
+        call: u64,
+        accepted: bool,
+    ) -> Result<Reply, Refusal>
+        ensures { IsMadeAt (confirms call self.old)
+            (steps.Confirm point.now link call accepted) self.old result self.new }
     {
-        if self.outbox.confirm(call) {
-            Ok(Reply::Confirmed)
-        } else {
-            Err(Refusal::NothingInFlight)
+        if !self.outbox.confirm(call) {
+            return Err(Refusal::NothingInFlight);
         }
+        if !accepted {
+            self.waiting.reject(call);
+        }
+        Ok(Reply::Confirmed)
     }
 
     // ---- audits
@@ -546,6 +623,7 @@ impl ChargePoint {
             ≡ judged_audit self.old.book.transactions verdict self.old.audit }
         ensures book { self.new.book ≡ self.old.book }
         ensures outbox { self.new.outbox ≡ self.old.outbox }
+        ensures waiting { self.new.waiting ≡ self.old.waiting }
     {
         if let Some(audit) = &mut self.audit {
             audit.verdict = Some(audit.kept_verdict(self.book.book(), verdict));
@@ -592,6 +670,73 @@ impl ChargePoint {
             _ => None,
         }
     }
+
+    // ---- remote starts (chapter 5.11)
+
+    fn decide_remote_start(
+        &self,
+        site: &Site,
+        connector: u32,
+        profile: &Option<Profile>,
+    ) -> Result<Decision, Refusal>
+        ensures decision { result
+            ≡ decision_of (remote_starts site.now connector profile.now self.now) }
+        ensures comes { ComesTo (remote_starts site.now connector profile.now self.now)
+            (Reply.Called self.now.outbox.next) result }
+        ensures room { OnDoes result (length self.now.outbox.calls < max_calls) }
+        ensures number { OnDoes result (self.now.outbox.next ≤ max_number) }
+    {
+        if connector == 0 || connector > self.book().connectors() {
+            return Err(Refusal::UnknownConnector);
+        }
+        if let Some(refusal) = refusal_of_profile(site, profile) {
+            return Err(refusal);
+        }
+        match self.refusal_to_add() {
+            Some(refusal) => Err(refusal),
+            None => Ok(Decision::Does),
+        }
+    }
+
+    /// Asks the point to start a transaction. The start waits, in place of one at its connector.
+    fn remote_start(
+        &mut self,
+        site: &Site,
+        point: &PointId,
+        connector: u32,
+        id_tag: &IdTag,
+        profile: &Option<Profile>,
+    ) -> Result<Reply, Refusal>
+        ensures { IsMadeAt (remote_starts site.now connector profile.now self.old)
+            (steps.RemoteStart point.now connector id_tag.now profile.now)
+            self.old result self.new }
+    {
+        match self.decide_remote_start(site, connector, profile)? {
+            Decision::Answers(reply) => Ok(reply),
+            Decision::Does => {
+                let number = self.outbox.next_number();
+                let start = WaitingStart {
+                    connector,
+                    call: number,
+                    id_tag: id_tag.copy(self.alloc)?,
+                    profile: Profile::copy_if_any(profile)?,
+                };
+                let call = remote_start_call(self.alloc, connector, id_tag, profile)?;
+                self.waiting.add(start)?;
+                self.outbox.add(call);
+                Ok(Reply::Called(number))
+            }
+        }
+    }
+
+    /// The starts that wait, in the order in which they were asked for.
+    pub fn waiting_starts(&self) -> &[WaitingStart]
+        ensures { result.now ≡ self.now.waiting }
+    {
+        self.waiting.as_slice()
+    }
+
+    // ---- all calls
 
     /// Why no call is added to those that wait for the point.
     fn refusal_to_add(&self) -> Option<Refusal>
@@ -652,6 +797,39 @@ fn audit_call(
     match PreparedCall::new(alloc, body) {
         Ok(call) => Ok(call),
         Err((error, _)) => Err(error),
+    }
+}
+
+/// The call that asks a point to start a transaction.
+fn remote_start_call(
+    alloc: Global,
+    connector: u32,
+    id_tag: &IdTag,
+    profile: &Option<Profile>,
+) -> Result<PreparedCall, AllocError>
+    ensures { IfOk result
+        (λ call. call ≡ CallBody.RemoteStart connector id_tag.now profile.now) }
+{
+    let body = CallBody::RemoteStart {
+        connector,
+        id_tag: id_tag.copy(alloc)?,
+        profile: Profile::copy_if_any(profile)?,
+    };
+    match PreparedCall::new(alloc, body) {
+        Ok(call) => Ok(call),
+        Err((error, _)) => Err(error),
+    }
+}
+
+/// Why no transaction begins with a profile: `WrongUnit`, and then `NotTxProfile`.
+fn refusal_of_profile(site: &Site, profile: &Option<Profile>) -> Option<Refusal>
+    ensures { result ≡ refusal_of_profile site.now profile.now }
+{
+    match profile {
+        None => None,
+        Some(profile) if profile.schedule.unit != site.unit() => Some(Refusal::WrongUnit),
+        Some(profile) if profile.purpose != Purpose::TxProfile => Some(Refusal::NotTxProfile),
+        Some(_) => None,
     }
 }
 

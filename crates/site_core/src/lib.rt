@@ -27,6 +27,7 @@ mod requests;
 mod shared_book;
 mod step;
 mod via;
+mod waiting_starts;
 
 pub use audit::PointAudit;
 pub use audit_laws::{audits_have_their_books, equal_books_are_one, verdicts_stay_right};
@@ -52,3 +53,4 @@ pub use reply::{Counted, Reply};
 pub use request::MAX_REQUESTS;
 pub use shared_book::SharedBook;
 pub use step::{Step, Take};
+pub use waiting_starts::WaitingStart;

@@ -3,7 +3,7 @@
 ghost use Rattle.std.specs.Prelude.{◌≡◌, ◌<◌, ◌≤◌, Some, IfOk, IfErr, MatchResult, OnOk, Ok, Err, length, option_map};
 ghost use Rattle.ocpp_scalars.specs.declared.refusal.Refusal.TheVariants.{OutOfMemory};
 ghost use Rattle.site_rules.specs.Site.{place_of};
-ghost use Rattle.site_core.specs.State.{AreNumbers, Kept, audit_job, audit_of, book_at, link_of, link_to_send, opening, opening_at, outbox_at, outbox_len};
+ghost use Rattle.site_core.specs.State.{AreNumbers, Kept, audit_job, audit_of, book_at, link_of, link_to_send, opening, opening_at, outbox_at, outbox_len, waiting_of};
 ghost use Rattle.site_core.specs.Requests.{request_of};
 ghost use Rattle.site_core.specs.State.{IsMachine};
 ghost use Rattle.site_core.specs.Step.{HasAskedConnector, Steps, IsRefused, IsRefusalOf, outlook, place_for, stepped, no_answer, work};
@@ -26,6 +26,7 @@ use crate::request::Request;
 use crate::requests::{compile_outlook, copy_of_requests, hand_out_outlook, request_asked};
 use crate::step::Step;
 use crate::via::Via;
+use crate::waiting_starts::WaitingStart;
 use meaning::Ask;
 use ocpp_scalars::Refusal;
 use point_book::PointBook;
@@ -212,6 +213,17 @@ impl Machine {
     {
         let place = self.site.place_of(point)?;
         point_at(&self.points, place).audit()
+    }
+
+    /// The starts that the point of an identity was asked for, and that wait. None where the site
+    /// has no such point.
+    pub fn waiting_of(&self, point: &str) -> &[WaitingStart]
+        ensures { result.now ≡ waiting_of self.now point.now }
+    {
+        match self.site.place_of(point) {
+            Some(place) => point_at(&self.points, place).waiting_starts(),
+            None => &[],
+        }
     }
 
     /// The present link of the point of an identity, if it has one.

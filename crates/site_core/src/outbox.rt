@@ -223,7 +223,7 @@ impl Outbox {
         let Some(body) = self.bodies.front() else {
             return Ok(None);
         };
-        let body = body.copy()?;
+        let body = body.copy(self.bodies.allocator())?;
         self.is_in_flight = true;
         Ok(Some(Call { number, body }))
     }

@@ -64,6 +64,8 @@ pub enum Reply {
     VerdictKept,
     /// What is told of a point.
     Status(PointStatus),
+    /// The point is asked by the call of this number.
+    Called(u64),
 }
 
 /// How many changes, Takes and answers a reply counts.
@@ -100,7 +102,8 @@ impl Reply {
             | Reply::Confirmed
             | Reply::LinkLost
             | Reply::Audited { .. }
-            | Reply::VerdictKept => true,
+            | Reply::VerdictKept
+            | Reply::Called(_) => true,
             Reply::Unknown
             | Reply::Repeated(_)
             | Reply::NoSuch

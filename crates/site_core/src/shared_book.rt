@@ -4,7 +4,7 @@ ghost use Rattle.std.specs.Prelude.{◌≡◌, ◌≤◌, ◌<◌, None, IfOk, O
 ghost use Rattle.point_book.specs.Changes.{install_refusal, book_installed, book_cleared, book_started, book_stopped};
 
 use point_book::PointBook;
-use profile::{Criteria, Row};
+use profile::{Criteria, Profile, Row};
 use std::alloc::{AllocError, Global};
 use std::marker::Model;
 use std::sync::Arc;
@@ -84,20 +84,25 @@ impl SharedBook {
         Ok(())
     }
 
-    /// Begins a transaction of this number at a connector (chapter 4.8).
+    /// Begins a transaction of this number at a connector (chapter 4.8), with a profile where one
+    /// is given (chapter 5.11).
     pub(crate) fn start(
         &mut self,
         connector: u32,
         begin: Begin,
         number: i32,
+        profile: Option<Profile>,
     ) -> Result<(), AllocError>
         requires above { 0 < connector }
         requires has { connector ≤ length self.old.ceilings }
-        ensures book { OnOk result (self.new ≡ book_started self.old connector begin number) }
+        ensures book { OnOk result
+            (self.new ≡ book_started self.old connector begin number profile) }
         ensures kept { OnErr result (self.new ≡ self.old) }
     {
-        Arc::make_mut(&mut self.book)?.start(connector, begin, number);
-        Ok(())
+        match Arc::make_mut(&mut self.book)?.start(connector, begin, number, profile) {
+            Ok(_) => Ok(()),
+            Err(_) => Err(AllocError),
+        }
     }
 
     /// Ends the transaction of this number, if it is active (chapter 4.10).

@@ -6,8 +6,8 @@ ghost use Rattle.site_core.specs.ByCases.Made.{IsAtPoint, IsFor};
 
 use crate::point_id::PointId;
 use crate::via::Via;
-use ocpp_scalars::Instant;
-use profile::{Criteria, Row, Unit};
+use ocpp_scalars::{IdTag, Instant};
+use profile::{Criteria, Profile, Row, Unit};
 use std::alloc::{AllocError, Global};
 use sweep_compiler::Judged;
 use transactions::Begin;
@@ -56,6 +56,8 @@ pub enum Step {
         point: PointId,
         link: u64,
         call: u64,
+        /// Whether its reply has the status Accepted.
+        accepted: bool,
     },
     /// To take note that a link to a point is lost.
     Lost {
@@ -77,6 +79,14 @@ pub enum Step {
     },
     /// To tell the version of the store, the calls of a point that wait, and its audit.
     Status(PointId),
+    /// To ask a point to start a transaction at a connector (chapter 5.11).
+    RemoteStart {
+        point: PointId,
+        connector: u32,
+        id_tag: IdTag,
+        /// The TxProfile with which that transaction begins.
+        profile: Option<Profile>,
+    },
 }
 
 /// A request for the composite schedule of a connector, 0 being the whole point.
@@ -107,7 +117,8 @@ impl Step {
             | Step::Stop { point, .. }
             | Step::Attach(point)
             | Step::Audit { point, .. }
-            | Step::Status(point) => (point, Via::Name),
+            | Step::Status(point)
+            | Step::RemoteStart { point, .. } => (point, Via::Name),
             Step::Send { point, link }
             | Step::Confirm { point, link, .. }
             | Step::Lost { point, link } => (point, Via::Link(*link)),
@@ -151,10 +162,16 @@ impl Step {
                 point: point.copy(alloc)?,
                 link: *link,
             },
-            Step::Confirm { point, link, call } => Step::Confirm {
+            Step::Confirm {
+                point,
+                link,
+                call,
+                accepted,
+            } => Step::Confirm {
                 point: point.copy(alloc)?,
                 link: *link,
                 call: *call,
+                accepted: *accepted,
             },
             Step::Lost { point, link } => Step::Lost {
                 point: point.copy(alloc)?,
@@ -179,6 +196,17 @@ impl Step {
                 judged: judged.share()?,
             },
             Step::Status(point) => Step::Status(point.copy(alloc)?),
+            Step::RemoteStart {
+                point,
+                connector,
+                id_tag,
+                profile,
+            } => Step::RemoteStart {
+                point: point.copy(alloc)?,
+                connector: *connector,
+                id_tag: id_tag.copy(alloc)?,
+                profile: Profile::copy_if_any(profile)?,
+            },
         })
     }
 }

@@ -7,3 +7,8 @@ pub mod ReadingSteps
 pub mod SiteFiles
 pub mod ReadingFaults
 pub mod SiteFaults
+pub mod Conversion
+pub mod GlanceTrees
+pub mod TokenTrees
+pub mod PartsRead
+pub mod PartsKept

@@ -1,2 +1,3 @@
 -- Forms by cases, with which proofs compute.
 pub mod SiteReading
+pub mod Parts

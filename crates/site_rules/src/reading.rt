@@ -6,22 +6,30 @@ ghost use Rattle.ocppj_frame.specs.Payload.{entries_in, tree_at};
 ghost use Rattle.ocpp_scalars.specs.Reading.{ReadsUnless};
 ghost use Rattle.site_rules.specs.ByCases.SiteReading.{with_points, site_of_tree, site_by, site_of, is_memory};
 
+mod connectors;
+mod entries;
+mod entry;
+mod glance;
+mod part_fault;
 mod point;
 mod steps;
+mod whole;
 
 use crate::fault::SiteFault;
 use crate::site::Site;
 use ocppj_frame::{Entries, FrameFault, Node, ReadingMemory, list_field, read_tree, text_field};
+use part_fault::PartFault;
 use point::read_point;
 use profile::{Named, Unit};
 use std::alloc::Global;
 use steps::{few_or, object_or, or_fault, some_or};
+use whole::read_parts;
 
 /// The most bytes of a site file.
 pub const MAX_SITE_BYTES: usize = 16_777_216;
 
 /// The most charge points of a site.
-const MAX_POINTS: usize = 1_000;
+pub(crate) const MAX_POINTS: usize = 1_000;
 
 /// Reads a site file, or names its first fault, in the order of `SiteFault`. A fault of a point is found
 /// before those of the points after it.
@@ -39,6 +47,17 @@ pub fn read_site(alloc: Global, bytes: &[u8]) -> Result<Site, SiteFault>
 }
 
 fn read_site_text(alloc: Global, text: &str) -> Result<Site, SiteFault>
+    ensures { ReadsUnless is_memory (λ site. site) result (site_by (tree_of_text text.now)) }
+{
+    match read_parts(alloc, text) {
+        Ok(site) => site,
+        Err(PartFault::OutOfMemory) => Err(SiteFault::OutOfMemory),
+        Err(PartFault::Unsure) => read_text_whole(alloc, text),
+    }
+}
+
+/// Reads the text as a tree first, in many times its size.
+fn read_text_whole(alloc: Global, text: &str) -> Result<Site, SiteFault>
     ensures { ReadsUnless is_memory (λ site. site) result (site_by (tree_of_text text.now)) }
 {
     let mut memory = ReadingMemory::new(alloc);

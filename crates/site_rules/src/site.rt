@@ -49,6 +49,16 @@ impl Site {
         Ok(())
     }
 
+    /// The same points in another unit.
+    pub(crate) fn with_unit(self, unit: Unit) -> Site
+        ensures { result ≡ record { unit = unit; points = self.points } }
+    {
+        Site {
+            unit,
+            points: self.points,
+        }
+    }
+
     /// The unit of the site's limits.
     pub fn unit(&self) -> Unit
         ensures { result ≡ self.now.unit }

@@ -1,10 +1,12 @@
 -- What the rows of a charge point are, and when a new one is refused.
-use Rattle.std.specs.Prelude.{ℕ, ◌<◌, ◌≤◌, ◌≡◌, false, List, [], ◌∷◌, length}
+use Rattle.std.specs.Prelude.{ℕ, ℤ, ◌<◌, ◌≤◌, ◌≡◌, nat_le, false, List, [], ◌∷◌, length, Option, Some, None, if◌then◌else◌}
 use Rattle.std.specs.List.{AllByRecursion}
 use Rattle.ocpp_scalars.specs.declared.refusal.Refusal.{Refusal}
 use Rattle.ocpp_scalars.specs.declared.refusal.Refusal.TheVariants.{TooManyProfiles, OutOfMemory}
+use Rattle.profile.specs.declared.charging_profile.Profile.{Profile}
 use Rattle.profile.specs.declared.row.Row.{Row}
-use Rattle.profile.specs.Changes.{is_replaced_by, installed}
+use Rattle.profile.specs.ChargingProfile.{with_transaction}
+use Rattle.profile.specs.Changes.{is_replaced_by, installed, without_transaction_profiles}
 use Rattle.stacking.specs.Limits.{max_rows}
 
 -- no row would take the place of another: no two have one chargingProfileId (OCPP 1.6, 5.16), and no two
@@ -29,3 +31,23 @@ pub record IsRefused (old : List Row) (row : Row) (refused : Refusal × Row) (ne
   pub cause : IsCause (length (installed old row)) refused.0
   pub unchanged : new ≡ old
   pub back : refused.1 ≡ row
+
+-- ---- where a transaction begins
+
+-- The row of the profile with which it begins (OCPP 1.6, 5.11): for the transaction of this number,
+-- from the moment at which that begins.
+abbrev pub transaction_row : ℕ → ℕ → ℤ → Profile → Row
+transaction_row connector moment id profile =
+    record { connector = connector; moment = moment; profile = with_transaction profile id }
+
+-- a row is given up where more rows than the limit would stand
+abbrev pub installed_if_room : List Row → Row → List Row
+installed_if_room rows row =
+    if nat_le (length (installed rows row)) max_rows then installed rows row else rows
+
+-- the rows then: the TxProfiles of the transaction before it at the connector have gone (3.13)
+abbrev pub rows_begun : List Row → ℕ → ℕ → ℤ → Option Profile → List Row
+rows_begun rows connector moment id None = without_transaction_profiles rows connector
+rows_begun rows connector moment id (Some profile) =
+    installed_if_room (without_transaction_profiles rows connector)
+    (transaction_row connector moment id profile)

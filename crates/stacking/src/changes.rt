@@ -41,6 +41,7 @@ pub(crate) fn drop_cleared(rows: &mut Vec<Row>, criteria: &Criteria)
 pub(crate) fn drop_transaction_profiles(rows: &mut Vec<Row>, connector: u32)
     ensures rows { rows.new.items ≡ without_transaction_profiles rows.old.items connector }
     ensures bound { vec_len rows.new ≤ vec_len rows.old }
+    ensures capacity { vec_capacity rows.new ≡ vec_capacity rows.old }
 {
     rows.retain(|row| !is_tx_profile_at(connector, row));
 }
@@ -60,7 +61,8 @@ fn has_key_of(new: &Row, row: &Row) -> bool
         && row.profile.stack_level == new.profile.stack_level
 }
 
-fn is_purpose(purpose: Purpose, other: Purpose) -> bool
+/// Whether two purposes are equal.
+pub(crate) fn is_purpose(purpose: Purpose, other: Purpose) -> bool
     ensures { result ≡ is_purpose purpose other }
 {
     purpose == other

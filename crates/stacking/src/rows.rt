@@ -1,18 +1,19 @@
 //! The rows of a charge point.
 
-ghost use Rattle.std.specs.Prelude.{◌≡◌, ◌↔◌, ◌+◌, ◌≤◌, nat_le, [], IsTrue, IfErr, IfOk, OnOk, length, slice_index_or};
+ghost use Rattle.std.specs.Prelude.{◌≡◌, ◌↔◌, ◌+◌, ◌≤◌, nat_le, [], None, IsOk, IsTrue, IfErr, IfOk, OnErr, OnOk, length, slice_index_or};
 ghost use Rattle.profile.specs.Candidates.{candidates};
 ghost use Rattle.std.specs.List.{list_any};
 ghost use Rattle.profile.specs.Changes.{matches, installed, cleared, without_transaction_profiles};
 ghost use Rattle.stacking.specs.Limits.{max_rows};
 ghost use Rattle.stacking.specs.Candidates.{AreByFallingLevel};
 ghost use Rattle.stacking.specs.ByCases.Candidates.{candidates_left};
-ghost use Rattle.stacking.specs.Rows.{AreRows, IsRefused};
+ghost use Rattle.stacking.specs.Rows.{AreRows, IsRefused, rows_begun};
 
-use crate::candidates::{Candidates, level_above};
+use crate::candidates::Candidates;
 use crate::changes::{drop_cleared, drop_replaced, drop_transaction_profiles, has_match, staying};
-use ocpp_scalars::Refusal;
-use profile::{Criteria, Purpose, Row};
+use crate::levels::{first_places, level_above, own_connector, shared_connector};
+use ocpp_scalars::{Instant, Refusal};
+use profile::{Criteria, Profile, Purpose, Row};
 use std::alloc::{AllocError, Global};
 use std::marker::Model;
 
@@ -113,6 +114,43 @@ impl Rows {
         before - self.items.len()
     }
 
+    /// A transaction of a number begins at a connector at a moment, and the TxProfile rows of the
+    /// one before it are removed. Its own profile (chapter 5.11), where it has one, is installed.
+    /// Where more than `MAX_ROWS` would stand, the profile is given up. Only a profile wants memory:
+    /// where there is none, nothing changes and the profile comes back.
+    pub fn begin(
+        &mut self,
+        connector: u32,
+        moment: Instant,
+        id: i32,
+        profile: Option<Profile>,
+    ) -> Result<(), Option<Profile>>
+        ensures rows { OnOk result (self.new ≡ rows_begun self.old connector moment id profile) }
+        ensures unchanged { OnErr result (self.new ≡ self.old) }
+        ensures back { IfErr result (λ refused. refused ≡ profile) }
+        ensures certain { profile ≡ None → IsOk result }
+    {
+        let Some(profile) = profile else {
+            drop_transaction_profiles(&mut self.items, connector);
+            return Ok(());
+        };
+        // Memory comes first, so that a refusal leaves all rows.
+        if self.items.reserve(1).is_err() {
+            return Err(Some(profile));
+        }
+        drop_transaction_profiles(&mut self.items, connector);
+        let row = Row {
+            connector,
+            moment,
+            profile: profile.with_transaction(id),
+        };
+        if staying(self.items.as_slice(), &row) < MAX_ROWS {
+            drop_replaced(&mut self.items, &row);
+            self.items.push(row).unwrap();
+        }
+        Ok(())
+    }
+
     /// The rows of a purpose that speak for a connector (chapter 3.13), by strictly falling stack
     /// level, each once. A TxProfile row is one whether or not a transaction is active.
     pub fn candidates(&self, purpose: Purpose, connector: u32) -> Candidates<'_>
@@ -123,8 +161,8 @@ impl Rows {
         let rows = self.items.as_slice();
         Candidates {
             rows,
-            purpose,
-            connector,
+            own: first_places(rows, purpose, own_connector(purpose, connector)),
+            shared: first_places(rows, purpose, shared_connector(purpose, connector)),
             below: level_above(rows),
         }
     }

@@ -13,6 +13,11 @@ const LIMITS: &str = r#""ceiling":16.1,"connectors":[32.0,0.1]"#;
 
 /// Site files, each after its fault.
 const FAULTS: &str = r#"NotJson {
+NotJson {"unit":"kW","points":[7]
+NotJson {"unit":"kW","points":[]} 1
+NotJson {"unit":"kW","points":[],"model":01}
+NotJson {"unit":"kW","points":[],1:2}
+BadUnit {"unit":"kW","points":[],"model":01,"model":1}
 NotAnObject []
 NotAnObject null
 BadUnit {}
@@ -20,6 +25,8 @@ BadUnit {"unit":null,"points":[]}
 BadUnit {"unit":"kW","points":[]}
 BadUnit {"unit":"a","points":[]}
 BadUnit {"unit":1,"points":[]}
+BadUnit {"points":[{"id":"1 ",@}],"unit":"A","unit":7}
+BadPoints {"unit":"A","points":[{"id":"1",@}],"points":[]}
 BadPoints {"unit":"W"}
 BadPoints {"unit":"W","points":null}
 BadPoints {"unit":"W","points":{"id":"1",@}}
@@ -28,6 +35,8 @@ BadPoints {"unit":"A","points":[7]}
 BadPoints {"unit":"A","points":[null]}
 BadPoints {"unit":"A","points":[{"id":"1",@},{"id":"2",@},7]}
 BadCeiling {"unit":"A","points":[{"id":"1",@},{"id":"2"},7]}
+BadId {"points":[{"id":"1 ",@}],"unit":"A"}
+BadId {"unit":"A","points":[{"id":"1",@,"id":[{"id":"1"}]}]}
 BadId {"unit":"A","points":[{@}]}
 BadId {"unit":"A","points":[{"id":null,@}]}
 BadId {"unit":"A","points":[{"id":1,@}]}
@@ -49,11 +58,14 @@ BadConnectors {"unit":"A","points":[{"id":"1","ceiling":1,"connectors":1}]}
 BadConnectors {"unit":"A","points":[{"id":"1","ceiling":1,"connectors":[]}]}
 BadConnectors {"unit":"A","points":[{"id":"1","ceiling":1,"connectors":["1"]}]}
 BadConnectors {"unit":"A","points":[{"id":"1","ceiling":1,"connectors":[1,-1]}]}
+BadConnectors {"unit":"A","points":[{"id":"1","ceiling":1,"connectors":[1,[1]]}]}
+BadConnectors {"unit":"A","points":[{"id":"1","ceiling":1,"connectors":{"1":1}}]}
 BadConnectors {"unit":"A","points":[{"id":"1",@,"connectors":[]}]}"#;
 
-/// A site file whose identities are `b`, `B`, `a` and one of each kind of character.
+/// A site file whose identities are `b`, `B`, `a` and one of each kind of character. Of two fields of
+/// one name the last counts.
 const SITE: &str =
-    r#"{"unit":"A","model":[],"points":[{"id":"b",@},{"id":"B",@,"model":1},{"id":"a",@},{"id":"AZaz09._-~",@}]}"#;
+    r#"{"points":[7],"unit":"W","model":[{"a":[1]}],"unit":"A","points":[{"id":"b",@},{"id":"B",@,"model":1},{"id":"a",@},{"id":"AZaz09._-~",@}]}"#;
 
 fn fault_of(alloc: Global, text: &[u8]) -> Option<SiteFault> {
     read_site(alloc, text).err()

@@ -11,7 +11,7 @@ use crate::runs::{SITE, opening};
 use crate::same::{holds, same, same_outcome};
 use crate::scripted_calls::Desk;
 use crate::scripted_steps::{parts_of, run};
-use crate::stored_histories::attach_until;
+use crate::stored_histories::{attach_until, kept};
 use meaning::{CompositePeriod, Said, SaidPeriods};
 use ocpp_scalars::Refusal;
 use profile::Unit;
@@ -40,7 +40,7 @@ struct Audits<C: Ledger, A: Ledger> {
 pub(crate) fn schedule(rt: &impl Abort, alloc: Global, limit: u32) -> Said {
     let mut periods = Vec::new(alloc);
     let period = CompositePeriod { start: 0, limit };
-    periods.push(period).ok().expect(rt, "error");
+    periods.push(period).expect(rt, "error");
     Said::Schedule {
         start: instant_at(0).expect(rt, "error"),
         duration: None,
@@ -61,7 +61,7 @@ fn said_of(rt: &impl Abort, alloc: Global, name: &str, limit: &str) -> Said {
 /// A job is judged.
 pub(crate) fn judged(rt: &impl Abort, alloc: Global, job: &AuditJob, said: Said) -> Judged {
     let judged = Judged::make(alloc, job.share().expect(rt, "error"), said);
-    holds(rt, !judged.short(), "error");
+    holds(rt, !judged.short(), "error: OutOfMemory");
     judged
 }
 
@@ -444,7 +444,13 @@ const OF_OTHERS: [(&str, &str, u64); 5] = [
 ];
 
 /// What an audit of the first point asked at another machine.
-fn elsewhere(rt: &impl Abort, alloc: Global, site: &str, lines: &str, call: u64) -> AuditJob {
+pub(crate) fn elsewhere(
+    rt: &impl Abort,
+    alloc: Global,
+    site: &str,
+    lines: &str,
+    call: u64,
+) -> AuditJob {
     let site = read_site(alloc, site.as_bytes()).expect(rt, "error");
     let mut machine = Machine::new(alloc, site).expect(rt, "error");
     run(rt, alloc, &mut machine, lines);
@@ -534,13 +540,12 @@ fn audit_again<C: Ledger, A: Ledger>(
     desk: &mut Desk<C, A>,
     (first, again): (PointId, PointId),
 ) {
-    let before = (desk.book.stored(), counts(desk));
+    let before = kept(desk);
     match desk.audit(first, 1, 60) {
         Ok(said) => same_outcome(rt, said, ("Audited", 1), "an audit"),
         Err(refusal) => {
             holds(rt, refusal == Refusal::OutOfMemory, refusal.name());
-            let after = (desk.book.stored(), counts(desk));
-            holds(rt, after == before, "what a refusal leaves");
+            holds(rt, kept(desk) == before, "what a refusal leaves");
             holds(rt, desk.audit(again, 1, 60).is_ok(), "an audit again");
         }
     }
@@ -553,12 +558,12 @@ fn judge_again<C: Ledger, A: Ledger>(
     (first, again): (PointId, PointId),
     verdict: Judged,
 ) {
-    let stored = desk.book.stored();
+    let before = kept(desk);
     match desk.book.judge(first, 1, verdict) {
         Ok(()) => {}
         Err((refusal, verdict)) => {
             holds(rt, refusal == Refusal::OutOfMemory, refusal.name());
-            holds(rt, desk.book.stored() == stored, "what a refusal leaves");
+            holds(rt, kept(desk) == before, "what a refusal leaves");
             let is_kept = desk.book.judge(again, 1, verdict).is_ok();
             holds(rt, is_kept, "a verdict again");
         }

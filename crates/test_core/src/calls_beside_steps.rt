@@ -19,7 +19,7 @@ use version_store::StoredEvent;
 
 /// What can be read of a machine.
 #[derive(Clone, Copy, Debug, PartialEq, Eq)]
-struct Readings {
+pub(crate) struct Readings {
     version: u64,
     open_requests: usize,
     outboxes: (usize, usize),
@@ -27,7 +27,7 @@ struct Readings {
     is_stopped: bool,
 }
 
-fn read_machine(machine: &Machine) -> Readings {
+pub(crate) fn read_machine(machine: &Machine) -> Readings {
     Readings {
         version: machine.version(),
         open_requests: machine.open_requests(),
@@ -38,7 +38,7 @@ fn read_machine(machine: &Machine) -> Readings {
 }
 
 /// The same of a book, by its own readers.
-fn read_book<C: Ledger, A: Ledger>(desk: &Desk<C, A>) -> Readings {
+pub(crate) fn read_book<C: Ledger, A: Ledger>(desk: &Desk<C, A>) -> Readings {
     let book = &desk.book;
     Readings {
         version: book.version(),

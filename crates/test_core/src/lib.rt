@@ -21,6 +21,10 @@ mod posted_answers;
 #[cfg(test)]
 mod random_run;
 #[cfg(test)]
+mod refused_memory;
+#[cfg(test)]
+mod remote_starts;
+#[cfg(test)]
 mod runs;
 #[cfg(test)]
 mod same;

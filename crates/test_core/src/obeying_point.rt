@@ -100,7 +100,7 @@ pub(crate) fn obey(rows: &mut Vec<Keys>, body: &CallBody) -> Result<(), AllocErr
             rows.retain(|keys| !keys.is_replaced(new));
             push_lasting(rows, new)
         }
-        CallBody::Audit { .. } => Ok(()),
+        CallBody::Audit { .. } | CallBody::RemoteStart { .. } => Ok(()),
     }
 }
 

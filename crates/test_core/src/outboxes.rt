@@ -36,7 +36,7 @@ fn id_of(body: &CallBody) -> Option<i32> {
             connector: _,
             profile,
         } => Some(profile.id),
-        CallBody::Audit { .. } => None,
+        CallBody::Audit { .. } | CallBody::RemoteStart { .. } => None,
     }
 }
 

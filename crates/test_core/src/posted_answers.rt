@@ -11,10 +11,11 @@ use std::alloc::Global;
 use std::process::Abort;
 use std::sync::Arc;
 use sweep_compiler::Compiled;
+use test_books::instant_at;
 
-/// A request's number, and its own answer, compiled outside the machine.
-fn take(rt: &impl Abort, alloc: Global, machine: &mut Machine) -> (u64, Compiled) {
-    match machine.step(step_of(rt, alloc, "CP1 take")) {
+/// The number of the request of these words, and its own answer, compiled outside the machine.
+fn take(rt: &impl Abort, alloc: Global, machine: &mut Machine, words: &str) -> (u64, Compiled) {
+    match machine.step(step_of(rt, alloc, words)) {
         Ok(Reply::Taken { number, book, ask }) => {
             (number, Compiled::make(alloc, book.into_arc(), ask))
         }
@@ -52,9 +53,9 @@ fn posts(rt: &impl Abort, machine: &mut Machine, number: u64, brought: Compiled,
 #[test]
 fn a_request_takes_its_own_answer(rt: HostRuntime) {
     let mut machine = opening(&rt, rt.alloc());
-    let (first, own) = take(&rt, rt.alloc(), &mut machine);
+    let (first, own) = take(&rt, rt.alloc(), &mut machine, "CP1 take");
     run(&rt, rt.alloc(), &mut machine, "CP1 install 70 = Accepted");
-    let (second, newer) = take(&rt, rt.alloc(), &mut machine);
+    let (second, newer) = take(&rt, rt.alloc(), &mut machine, "CP1 take");
     let newer = refused(&rt, &mut machine, (first, newer), Refusal::StrangerInput);
     let own = refused(&rt, &mut machine, (9, own), Refusal::UnknownRequest);
     posts(&rt, &mut machine, first, own, 160);
@@ -64,20 +65,44 @@ fn a_request_takes_its_own_answer(rt: HostRuntime) {
     run(&rt, rt.alloc(), &mut machine, answers);
 }
 
-/// The answer to another ask of the same book.
-fn answer_to_another_ask(rt: &impl Abort, alloc: Global, brought: &Compiled) -> Compiled {
+/// Of two points whose books differ, each takes the answer of its own alone.
+#[test]
+fn an_answer_is_of_its_points_book(rt: HostRuntime) {
+    let mut machine = opening(&rt, rt.alloc());
+    let (first, own) = take(&rt, rt.alloc(), &mut machine, "CP1 take");
+    let (second, other) = take(&rt, rt.alloc(), &mut machine, "CP2 take");
+    holds(&rt, *own.ask() == *other.ask(), "one ask");
+    let other = refused(&rt, &mut machine, (first, other), Refusal::StrangerInput);
+    let own = refused(&rt, &mut machine, (second, own), Refusal::StrangerInput);
+    run(
+        &rt,
+        rt.alloc(),
+        &mut machine,
+        "- answer 1 = NotYet\n- answer 2 = NotYet",
+    );
+    posts(&rt, &mut machine, first, own, 160);
+    posts(&rt, &mut machine, second, other, 160);
+}
+
+/// The answer to an ask of connector 0 of the same book, from a second after midnight on.
+pub(crate) fn answer_at_connector_0(
+    rt: &impl Abort,
+    alloc: Global,
+    brought: &Compiled,
+    (second, duration): (u64, u32),
+) -> Compiled {
     let copy = brought.book().copy().expect(rt, "error");
     let book = Arc::new(alloc, copy).expect(rt, "error");
-    let asked = *brought.ask();
-    let ask = Ask::try_new(0, asked.start, asked.duration).expect(rt, "error");
+    let start = instant_at(second).expect(rt, "no instant");
+    let ask = Ask::try_new(0, start, duration).expect(rt, "no ask");
     Compiled::make(alloc, book, ask)
 }
 
 #[test]
 fn an_answer_is_for_one_ask(rt: HostRuntime) {
     let mut machine = opening(&rt, rt.alloc());
-    let (number, own) = take(&rt, rt.alloc(), &mut machine);
-    let other = answer_to_another_ask(&rt, rt.alloc(), &own);
+    let (number, own) = take(&rt, rt.alloc(), &mut machine, "CP1 take");
+    let other = answer_at_connector_0(&rt, rt.alloc(), &own, (0, 60));
     let other = refused(&rt, &mut machine, (number, other), Refusal::StrangerInput);
     same(&rt, u64::from(other.ask().connector), 0, "the connector");
     let compiled = "- answer 1 = NotYet\n- compile 1 = Compiled";
@@ -85,12 +110,25 @@ fn an_answer_is_for_one_ask(rt: HostRuntime) {
     refused(&rt, &mut machine, (number, other), Refusal::AlreadyAnswered);
 }
 
+/// An answer from another second on, or for another time, isn't the one that was asked for.
+#[test]
+fn an_answer_is_for_one_interval(rt: HostRuntime) {
+    let mut machine = opening(&rt, rt.alloc());
+    let (number, own) = take(&rt, rt.alloc(), &mut machine, "CP1 ask 0 10 60");
+    for interval in [(11, 60), (9, 60), (10, 61), (10, 59)] {
+        let other = answer_at_connector_0(&rt, rt.alloc(), &own, interval);
+        refused(&rt, &mut machine, (number, other), Refusal::StrangerInput);
+    }
+    run(&rt, rt.alloc(), &mut machine, "- answer 1 = NotYet");
+    posts(&rt, &mut machine, number, own, 0);
+}
+
 /// What comes too late is refused: the request was answered `Stopped`, and then it is kept no
 /// longer.
 #[test]
 fn a_late_answer_is_refused(rt: HostRuntime) {
     let mut machine = opening(&rt, rt.alloc());
-    let (number, own) = take(&rt, rt.alloc(), &mut machine);
+    let (number, own) = take(&rt, rt.alloc(), &mut machine, "CP1 take");
     run(&rt, rt.alloc(), &mut machine, "- finish = Finished");
     let own = refused(&rt, &mut machine, (number, own), Refusal::AlreadyAnswered);
     run(&rt, rt.alloc(), &mut machine, "- answer 1 = Stopped 1");

@@ -173,7 +173,13 @@ impl Trial {
 
     fn is_confirmed(&mut self, rt: &impl Abort, link: u64, call: u64) -> bool {
         let point = id(rt, self.alloc);
-        let reply = self.made(Step::Confirm { point, link, call });
+        let step = Step::Confirm {
+            point,
+            link,
+            call,
+            accepted: true,
+        };
+        let reply = self.made(step);
         matches!(reply, Some(Reply::Confirmed))
     }
 }

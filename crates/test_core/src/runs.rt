@@ -1,6 +1,7 @@
 //! Runs of steps with what comes of each, steps at the last numbers, and steps to which memory is
 //! refused.
 
+use crate::calls_beside_steps::read_machine;
 use crate::same::{holds, same, same_outcome, same_text};
 use crate::scripted_steps::{parts_of, reply_words, run, step_of, steps_of};
 use ocpp_scalars::Refusal;
@@ -301,12 +302,12 @@ fn reply(rt: &impl Abort, machine: &mut Machine, step: Step, words: &str) -> (&'
 /// The reply to a step. Where memory is refused to it, nothing has changed, and the step that comes
 /// back is made again.
 fn made(rt: &impl Abort, machine: &mut Machine, step: Step) -> (&'static str, u64) {
-    let before = (machine.version(), machine.open_requests());
+    let before = read_machine(machine);
     match machine.step(step) {
         Ok(reply) => reply_words(&reply),
         Err(refused) => {
             holds(rt, refused.refusal == Refusal::OutOfMemory, "a refusal");
-            let now = (machine.version(), machine.open_requests());
+            let now = read_machine(machine);
             holds(rt, now == before, "what a refusal leaves");
             reply(rt, machine, refused.step, "made again")
         }
@@ -417,7 +418,7 @@ fn make_way(rt: &impl Abort, alloc: Global, machine: &mut Machine) {
 }
 
 /// What came of a step.
-fn comes_to(machine: &mut Machine, step: Step) -> (&'static str, u64) {
+pub(crate) fn comes_to(machine: &mut Machine, step: Step) -> (&'static str, u64) {
     match machine.step(step) {
         Ok(reply) => reply_words(&reply),
         Err(refused) => (refused.refusal.name(), 0),

@@ -3,19 +3,21 @@
 
 ghost use Rattle.std.specs.Prelude.{◌≡◌};
 
+use crate::remote_starts::OF_A_REMOTE_START;
 use crate::runs::{opening, site};
 use crate::same::{same, same_outcome};
-use crate::scripted_steps::{answer_words, parts_of, status_words, step_of};
-use ocpp_scalars::Refusal;
+use crate::scripted_steps::{answer_words, parts_of, status_words, step_of, with_memory};
+use ocpp_scalars::{IdTag, Refusal};
 use profile::{Criteria, Profile, Row};
 use site_core::{PointId, Reply, Step, Take};
+use site_rules::Site;
 use std::alloc::Global;
 use std::marker::Brand;
 use std::process::Abort;
 use std::sync::ledger::{Blank, Ledger};
 use sweep_compiler::{Compiled, Judged};
 use transactions::Begin;
-use version_store::{Book, Job, Pass};
+use version_store::{Answer, Book, Job, Pass};
 
 /// What a refused call gives back.
 #[derive(Drop)]
@@ -24,6 +26,7 @@ pub(crate) enum Back {
     Profile(Profile),
     Begin(Begin),
     Judged(Judged),
+    RemoteStart(IdTag, Option<Profile>),
 }
 
 /// What comes of a call that gives nothing back, with its number, 0 where it has none.
@@ -41,6 +44,8 @@ pub(crate) struct Desk<C: Ledger, A: Ledger> {
     pub(crate) jobs: Vec<Job>,
     /// What is brought for a request without a job: what was compiled for another one.
     stranger: Option<Compiled>,
+    /// The answer that was handed out last.
+    pub(crate) answered: Option<Answer>,
 }
 
 /// An answer of another store.
@@ -58,17 +63,32 @@ impl<C: Ledger, A: Ledger> Desk<C, A> {
         requires changes { (changes.name ≡ C.name) × (changes.parts ≡ C.parts) × (changes.parts ≡ 1) }
         requires answers { (answers.name ≡ A.name) × (answers.parts ≡ A.parts) × (answers.parts ≡ 1) }
     {
+        Desk::of_site(rt, alloc, changes, answers, site(rt, alloc))
+    }
+
+    /// The same on a book of another site.
+    pub(crate) fn of_site(
+        rt: &impl Abort,
+        alloc: Global,
+        changes: Blank,
+        answers: Blank,
+        site: Site,
+    ) -> Desk<C, A>
+        requires changes { (changes.name ≡ C.name) × (changes.parts ≡ C.parts)
+            × (changes.parts ≡ 1) }
+        requires answers { (answers.name ≡ A.name) × (answers.parts ≡ A.parts)
+            × (answers.parts ≡ 1) }
+    {
         let stranger = Some(stranger(rt, alloc));
         let jobs = Vec::with_capacity(alloc, 64).expect(rt, "error");
-        let (book, mut passes) = Book::make(alloc, changes, answers, site(rt, alloc), 1).expect(
-            rt, "error",
-        );
+        let (book, mut passes) = Book::make(alloc, changes, answers, site, 1).expect(rt, "error");
         Desk {
             alloc,
             book,
             pass: passes.pop().expect(rt, "no pass"),
             jobs,
             stranger,
+            answered: None,
         }
     }
 
@@ -87,6 +107,12 @@ impl<C: Ledger, A: Ledger> Desk<C, A> {
                 call,
                 judged,
             } => self.judge(point, call, judged),
+            Step::RemoteStart {
+                point,
+                connector,
+                id_tag,
+                profile,
+            } => self.remote_start(point, connector, id_tag, profile),
             Step::Finish => {
                 self.book.finish();
                 Ok(("Finished", 0))
@@ -114,10 +140,12 @@ impl<C: Ledger, A: Ledger> Desk<C, A> {
         match step {
             Step::Attach(point) => self.attach(point),
             Step::Send { point, link } => self.send(point, link),
-            Step::Confirm { point, link, call } => match self.book.confirm(point, link, call) {
-                Ok(()) => Ok(("Confirmed", 0)),
-                Err(refusal) => Err(refusal),
-            },
+            Step::Confirm {
+                point,
+                link,
+                call,
+                accepted,
+            } => self.confirm(point, link, call, accepted),
             Step::Lost { point, link } => match self.book.lost(point, link) {
                 Ok(()) => Ok(("LinkLost", 0)),
                 Err(refusal) => Err(refusal),
@@ -157,7 +185,11 @@ impl<C: Ledger, A: Ledger> Desk<C, A> {
 
     fn answer(&mut self, number: u64) -> Called {
         match self.book.collect(&mut self.pass, number) {
-            Ok(Some(answer)) => Ok(answer_words(answer.answer())),
+            Ok(Some(answer)) => {
+                let said = answer_words(answer.answer());
+                self.answered = Some(answer);
+                Ok(said)
+            }
             Ok(None) => Ok(("NotYet", 0)),
             Err(refusal) => Err(refusal),
         }
@@ -178,6 +210,13 @@ impl<C: Ledger, A: Ledger> Desk<C, A> {
         }
     }
 
+    fn confirm(&mut self, point: PointId, link: u64, call: u64, accepted: bool) -> Called {
+        match self.book.confirm(point, link, call, accepted) {
+            Ok(()) => Ok(("Confirmed", 0)),
+            Err(refusal) => Err(refusal),
+        }
+    }
+
     pub(crate) fn audit(&mut self, point: PointId, connector: u32, duration: u32) -> Called {
         match self.book.audit(&mut self.pass, point, connector, duration) {
             Ok(call) => Ok(("Audited", call)),
@@ -189,6 +228,24 @@ impl<C: Ledger, A: Ledger> Desk<C, A> {
         match self.book.status(&mut self.pass, point) {
             Ok(status) => Ok(status_words(status)),
             Err(refusal) => Err(refusal),
+        }
+    }
+
+    fn remote_start(
+        &mut self,
+        point: PointId,
+        connector: u32,
+        id_tag: IdTag,
+        profile: Option<Profile>,
+    ) -> Made {
+        match self
+            .book
+            .remote_start(&mut self.pass, point, connector, id_tag, profile)
+        {
+            Ok(call) => Ok(("Called", call)),
+            Err((refusal, id_tag, profile)) => {
+                Err((refusal, Back::RemoteStart(id_tag, profile)))
+            }
         }
     }
 
@@ -276,7 +333,8 @@ impl<C: Ledger, A: Ledger> Desk<C, A> {
     fn run_line(&mut self, rt: &impl Abort, line: &str) {
         let (step, wanted) = parts_of(rt, line);
         let step = step_of(rt, self.alloc, step);
-        same_outcome(rt, self.comes_to(step), wanted, line);
+        let said = with_memory(rt, self.comes_to(step));
+        same_outcome(rt, said, wanted, line);
     }
 
     /// Makes the calls of lines, each with what has to come of it.
@@ -293,6 +351,7 @@ enum Play {
     OfTheTakenBook,
     OfLinks,
     OfTheEnd,
+    OfARemoteStart,
 }
 
 impl Play {
@@ -301,6 +360,7 @@ impl Play {
             Play::OfTheTakenBook => OF_THE_TAKEN_BOOK,
             Play::OfLinks => OF_LINKS,
             Play::OfTheEnd => OF_THE_END,
+            Play::OfARemoteStart => OF_A_REMOTE_START,
         }
     }
 
@@ -308,6 +368,7 @@ impl Play {
     fn version(self) -> u64 {
         match self {
             Play::OfTheTakenBook => 5,
+            Play::OfARemoteStart => 1,
             Play::OfLinks | Play::OfTheEnd => 0,
         }
     }
@@ -382,6 +443,12 @@ CP9 send 5 = Superseded";
 #[test]
 fn a_session_sends_over_the_present_link(rt: HostRuntime) {
     run_on_a_book(&rt, rt.alloc(), Play::OfLinks);
+}
+
+/// A remote start is no change. The start that it leads to is one.
+#[test]
+fn a_session_asks_for_a_start(rt: HostRuntime) {
+    run_on_a_book(&rt, rt.alloc(), Play::OfARemoteStart);
 }
 
 const OF_THE_END: &str = "\

@@ -4,14 +4,20 @@
 //! its numbers, and its outcome with its number, where there is one. The number is that of a
 //! transaction, a request, a link or a call, or the tenths of the first limit that is answered. Of
 //! a status it is how many calls wait, with the version as thousands; its name is what came of the
-//! audit. A row is a TxDefaultProfile of the whole point with one limit, and its id is the limit's number of
-//! tenths. A start is by `ann` at midnight. A request is of connector 1 for a minute from midnight
-//! on.
+//! audit. A row is a TxDefaultProfile of the whole point with one limit, and its id is the limit's
+//! number of tenths. A start is by `ann` at midnight. A request is of connector 1 for a minute from
+//! midnight on.
+//!
+//! `CP1 ask 1 30 200 = Taken 1` is a request of any connector, from a second after midnight on, for
+//! so many seconds. `CP1 row id=1 kind=Relative = Accepted` installs a row of `row_of`'s words.
+//! `CP1 begin bob 1 10 = Started 1` is a start of an idTag, at a connector and a second. `CP1 remote
+//! ann 1 id=5 purpose=TxProfile = Called 1` asks for one, without words without a profile.
 
-use crate::same::{same, same_outcome};
+use crate::same::{holds, same, same_outcome};
 use meaning::Composite;
 use messages::PointStatus;
 use ocpp_scalars::Refusal;
+use profile::Profile;
 use site_core::{Machine, Outcome, PointId, Reply, Step, Take};
 use std::alloc::Global;
 use std::process::Abort;
@@ -41,6 +47,49 @@ fn start(rt: &impl Abort, alloc: Global, point: PointId, connector: u64) -> Step
     }
 }
 
+/// A request of words: its connector, its start and its duration.
+fn ask(rt: &impl Abort, point: PointId, mut words: Words<'_>) -> Step {
+    Step::Take(Take {
+        point,
+        connector: words.number().expect(rt, "no connector"),
+        start: words.instant().expect(rt, "no instant"),
+        duration: words.number().expect(rt, "no duration"),
+        unit: None,
+        seen: 0,
+    })
+}
+
+/// A start of words: its idTag, its connector, and its second.
+fn begin(rt: &impl Abort, alloc: Global, point: &str, mut words: Words<'_>) -> Step {
+    let tag = words.word();
+    let connector = words.number().expect(rt, "no connector");
+    let second = number(rt, &mut words);
+    Step::Start {
+        point: PointId::copied(alloc, point).expect(rt, "error"),
+        connector,
+        begin: begin_of(alloc, tag, 0, second).expect(rt, "error"),
+    }
+}
+
+/// A remote start of words: its idTag, its connector, and those of its profile, if there are some.
+fn remote_start(rt: &impl Abort, alloc: Global, point: &str, mut words: Words<'_>) -> Step {
+    let tag = words.word();
+    let connector = words.number().expect(rt, "no connector");
+    Step::RemoteStart {
+        point: PointId::copied(alloc, point).expect(rt, "error"),
+        connector,
+        id_tag: begin_of(alloc, tag, 0, 0).expect(rt, "error").id_tag,
+        profile: profile_of(rt, alloc, words.rest()),
+    }
+}
+
+fn profile_of(rt: &impl Abort, alloc: Global, words: &str) -> Option<Profile> {
+    if words.is_empty() {
+        return None;
+    }
+    Some(row_of(alloc, words).expect(rt, "error").profile)
+}
+
 fn take(rt: &impl Abort, point: PointId, seen: u64) -> Step {
     Step::Take(Take {
         point,
@@ -64,7 +113,26 @@ fn audit(rt: &impl Abort, point: PointId, connector: u64, duration: u64) -> Step
 pub(crate) fn step_of(rt: &impl Abort, alloc: Global, text: &str) -> Step {
     let mut words = Words::of(text);
     let point = words.word();
-    let name = words.word();
+    match words.word() {
+        "row" => Step::Install {
+            point: PointId::copied(alloc, point).expect(rt, "error"),
+            row: row_of(alloc, words.rest()).expect(rt, "error"),
+        },
+        "ask" => ask(rt, PointId::copied(alloc, point).expect(rt, "error"), words),
+        "begin" => begin(rt, alloc, point, words),
+        "remote" => remote_start(rt, alloc, point, words),
+        name => numbered_step(rt, alloc, point, name, words),
+    }
+}
+
+/// A step whose words are numbers.
+fn numbered_step(
+    rt: &impl Abort,
+    alloc: Global,
+    point: &str,
+    name: &str,
+    mut words: Words<'_>,
+) -> Step {
     let first = number(rt, &mut words);
     match name {
         "compile" => Step::Compile(first),
@@ -108,9 +176,19 @@ fn link_step(rt: &impl Abort, point: PointId, name: &str, link: u64, call: u64) 
     match name {
         "attach" => Step::Attach(point),
         "send" => Step::Send { point, link },
-        "confirm" => Step::Confirm { point, link, call },
+        "confirm" => confirm(point, link, call, true),
+        "reject" => confirm(point, link, call, false),
         "lost" => Step::Lost { point, link },
         name => rt.panic(name),
+    }
+}
+
+fn confirm(point: PointId, link: u64, call: u64, accepted: bool) -> Step {
+    Step::Confirm {
+        point,
+        link,
+        call,
+        accepted,
     }
 }
 
@@ -156,10 +234,11 @@ pub(crate) fn reply_words(reply: &Reply) -> (&'static str, u64) {
         Reply::Audited { call, .. } => ("Audited", *call),
         Reply::VerdictKept => ("VerdictKept", 0),
         Reply::Status(status) => status_words(*status),
+        Reply::Called(call) => ("Called", *call),
     }
 }
 
-pub(crate) fn outcome_words(outcome: &Outcome) -> (&'static str, u64) {
+fn outcome_words(outcome: &Outcome) -> (&'static str, u64) {
     match outcome {
         Outcome::Done(reply) => reply_words(reply),
         Outcome::Refused(refused) => (refused.refusal.name(), 0),
@@ -185,10 +264,21 @@ pub(crate) fn steps_of(rt: &impl Abort, alloc: Global, lines: &str) -> Vec<Step>
     steps
 }
 
+/// What came of a step that prepares a test. Where memory was refused to it, the test ends so.
+pub(crate) fn with_memory(rt: &impl Abort, said: (&'static str, u64)) -> (&'static str, u64) {
+    holds(
+        rt,
+        said.0 != Refusal::OutOfMemory.name(),
+        "error: OutOfMemory",
+    );
+    said
+}
+
 /// Runs the steps of lines, each with what has to come of it.
 pub(crate) fn run(rt: &impl Abort, alloc: Global, machine: &mut Machine, lines: &str) {
     let steps = steps_of(rt, alloc, lines);
-    let outcomes = machine.run(steps).ok().expect(rt, "no memory");
+    let outcomes = machine.run(steps).ok();
+    let outcomes = outcomes.expect(rt, "error: OutOfMemory");
     same(
         rt,
         outcomes.len() as u64,
@@ -197,6 +287,7 @@ pub(crate) fn run(rt: &impl Abort, alloc: Global, machine: &mut Machine, lines: 
     );
     for (line, outcome) in lines.lines().zip(outcomes.iter()) {
         let (_, wanted) = parts_of(rt, line);
-        same_outcome(rt, outcome_words(outcome), wanted, line);
+        let said = with_memory(rt, outcome_words(outcome));
+        same_outcome(rt, said, wanted, line);
     }
 }

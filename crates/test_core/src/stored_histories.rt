@@ -2,6 +2,8 @@
 
 ghost use Rattle.std.specs.Prelude.{◌≡◌};
 
+use crate::calls_beside_steps::{Readings, read_book};
+use crate::posted_answers::answer_at_connector_0;
 use crate::same::{holds, same, same_outcome};
 use crate::scripted_calls::{Back, Desk};
 use crate::scripted_steps::{parts_of, step_of, steps_of};
@@ -19,6 +21,7 @@ use version_store::Totals;
 #[derive(Clone, Copy)]
 enum Story {
     Posts,
+    Strangers,
     Starts,
     StartsAfterATake,
     ChangesAtTheFold,
@@ -46,6 +49,7 @@ fn play_at<C: Ledger, A: Ledger>(
 fn tell<C: Ledger, A: Ledger>(rt: &impl Abort, desk: &mut Desk<C, A>, story: Story) {
     match story {
         Story::Posts => posts(rt, desk),
+        Story::Strangers => strangers(rt, desk),
         Story::Starts => starts(rt, desk),
         Story::StartsAfterATake => starts_after_a_take(rt, desk),
         Story::ChangesAtTheFold => changes_at_the_fold(rt, desk),
@@ -78,23 +82,34 @@ fn compiled<C: Ledger, A: Ledger>(rt: &impl Abort, desk: &mut Desk<C, A>, number
     desk.compiled(number).expect(rt, "no job")
 }
 
-/// A post is refused. What was brought comes back: of a book of so many rows, for connector 1.
-fn refused_post<C: Ledger, A: Ledger>(
+/// A post is refused. What was brought comes back.
+fn sent_back<C: Ledger, A: Ledger>(
     rt: &impl Abort,
     desk: &mut Desk<C, A>,
     (number, brought): (u64, Compiled),
     wanted: Refusal,
-    rows: usize,
 ) -> Compiled {
     match desk.book.post(number, brought) {
         Ok(()) => rt.panic("posted"),
         Err((refusal, back)) => {
             holds(rt, refusal == wanted, wanted.name());
-            holds(rt, back.book().view().rows.len() == rows, "rows");
-            holds(rt, back.ask().connector == 1, "the connector");
             back
         }
     }
+}
+
+/// The same, and it is of a book of so many rows, for connector 1.
+fn refused_post<C: Ledger, A: Ledger>(
+    rt: &impl Abort,
+    desk: &mut Desk<C, A>,
+    numbered: (u64, Compiled),
+    wanted: Refusal,
+    rows: usize,
+) -> Compiled {
+    let back = sent_back(rt, desk, numbered, wanted);
+    holds(rt, back.book().view().rows.len() == rows, "rows");
+    holds(rt, back.ask().connector == 1, "the connector");
+    back
 }
 
 fn post<C: Ledger, A: Ledger>(
@@ -129,6 +144,57 @@ fn posts<C: Ledger, A: Ledger>(rt: &impl Abort, desk: &mut Desk<C, A>) {
 #[test]
 fn an_answer_is_posted_once(rt: HostRuntime) {
     play(&rt, rt.alloc(), Story::Posts);
+}
+
+const OF_TWO_POINTS: &str = "\
+CP1 take = Taken 1
+CP2 take = Taken 2
+CP1 ask 0 10 60 = Taken 3";
+
+const STILL_OPEN: &str = "\
+- answer 1 = NotYet
+- answer 2 = NotYet
+- answer 3 = NotYet";
+
+const OF_THEIR_OWN: &str = "\
+- answer 2 = limit 160
+- answer 1 = limit 160
+- answer 3 = limit 0";
+
+/// What was compiled for one request is brought for another: of another point, whose book differs,
+/// and of the same point, which was asked for something else.
+fn strangers<C: Ledger, A: Ledger>(rt: &impl Abort, desk: &mut Desk<C, A>) {
+    desk.run(rt, OF_TWO_POINTS);
+    let own = compiled(rt, desk, 1);
+    let of_another_point = compiled(rt, desk, 2);
+    let of_connector_0 = compiled(rt, desk, 3);
+    let of_another_point = sent_back(rt, desk, (1, of_another_point), Refusal::StrangerInput);
+    let of_connector_0 = sent_back(rt, desk, (1, of_connector_0), Refusal::StrangerInput);
+    let own = sent_back(rt, desk, (2, own), Refusal::StrangerInput);
+    let own = sent_back(rt, desk, (3, own), Refusal::StrangerInput);
+    other_intervals(rt, desk, &of_connector_0);
+    stored(rt, desk, 3, "after strangers");
+    desk.run(rt, STILL_OPEN);
+    post(rt, desk, 1, own);
+    post(rt, desk, 2, of_another_point);
+    post(rt, desk, 3, of_connector_0);
+    desk.run(rt, OF_THEIR_OWN);
+    stored(rt, desk, 9, "after answers");
+    counted(rt, desk, 0, 3);
+}
+
+/// Answers from another second on, or for another time, than was asked.
+fn other_intervals<C: Ledger, A: Ledger>(rt: &impl Abort, desk: &mut Desk<C, A>, own: &Compiled) {
+    for interval in [(11, 60), (9, 60), (10, 61), (10, 59)] {
+        let other = answer_at_connector_0(rt, desk.alloc, own, interval);
+        sent_back(rt, desk, (3, other), Refusal::StrangerInput);
+    }
+}
+
+/// A request takes no answer of another point or to another ask.
+#[test]
+fn a_strangers_answer_is_refused(rt: HostRuntime) {
+    play(&rt, rt.alloc(), Story::Strangers);
 }
 
 /// A start with a meter of its own.
@@ -353,9 +419,12 @@ fn all_requests_outlast_a_fold(rt: HostRuntime) {
 }
 
 /// What a refused call leaves as it was.
-fn kept<C: Ledger, A: Ledger>(desk: &Desk<C, A>) -> ((usize, u64, Totals), (Totals, u64)) {
-    let book = (desk.book.stored(), desk.book.version(), desk.book.totals());
-    (book, (desk.pass.totals(), desk.pass.seen()))
+pub(crate) fn kept<C: Ledger, A: Ledger>(
+    desk: &Desk<C, A>,
+) -> (Readings, (usize, Totals), (Totals, u64)) {
+    let book = (desk.book.stored(), desk.book.totals());
+    let pass = (desk.pass.totals(), desk.pass.seen());
+    (read_book(desk), book, pass)
 }
 
 /// A step once more, with what came back of the first one.
@@ -381,8 +450,9 @@ fn with_back(step: Step, back: Back) -> Step {
     }
 }
 
-/// What comes of a call. Where memory is refused to it, nothing has changed, and it is made again.
-fn made<C: Ledger, A: Ledger>(
+/// What comes of a call. A refused one changes nothing, and where that is for lack of memory, it is
+/// made again.
+pub(crate) fn made<C: Ledger, A: Ledger>(
     rt: &impl Abort,
     desk: &mut Desk<C, A>,
     step: Step,
@@ -392,8 +462,10 @@ fn made<C: Ledger, A: Ledger>(
     match desk.call(step) {
         Ok(said) => said,
         Err((refusal, back)) => {
-            holds(rt, refusal == Refusal::OutOfMemory, refusal.name());
             holds(rt, kept(desk) == before, "what a refusal leaves");
+            if refusal != Refusal::OutOfMemory {
+                return (refusal.name(), 0);
+            }
             let again = with_back(step_of(rt, desk.alloc, words), back);
             desk.comes_to(again)
         }

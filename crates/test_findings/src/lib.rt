@@ -7,6 +7,8 @@ mod failing_devices;
 #[cfg(test)]
 mod pieces;
 #[cfg(test)]
+mod remote_starts;
+#[cfg(test)]
 mod same;
 #[cfg(test)]
 mod scripts;

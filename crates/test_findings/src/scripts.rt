@@ -144,7 +144,7 @@ pub(crate) fn test_site(rt: &impl Abort, alloc: Global) -> Site {
 }
 
 /// What is found in a script has these pieces.
-fn finds(rt: &impl Abort, alloc: Global, script: &str, wanted: &str) {
+pub(crate) fn finds(rt: &impl Abort, alloc: Global, script: &str, wanted: &str) {
     let site = test_site(rt, alloc);
     let findings = check_script(alloc, site, script.as_bytes()).expect(rt, "error");
     are(rt, alloc, &findings, wanted, script);
@@ -376,6 +376,7 @@ fn replies_to_audits(rt: HostRuntime) {
 const ANSWERS: &str = r#"[3,"a",{"status":"Accepted"}] => -
 [3,"a",{"status":"Unknown"}] => -
 [3,"a",{"status":"Rejected","reason":"WrongUnit"}] => WrongUnit: chargingRateUnit isn't the unit
+[3,"a",{"status":"Rejected","reason":"NotTxProfile"}] => NotTxProfile: the profile of a remote start isn't a TxProfile
 [3,"a",{"status":"Rejected","reason":"NoSuchReason"}] => -
 [4,"a","NotImplemented","",{}] => NotImplemented: the action isn't known here
 [4,"a","TypeConstraintViolation","duration",{}] => TypeConstraintViolation: duration: the field is of another kind

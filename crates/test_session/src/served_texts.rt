@@ -14,6 +14,17 @@ pub(crate) const ASK: &str = r#"[2,"b","GetCompositeSchedule",{"connectorId":1,"
 pub(crate) const SCHEDULE: &str =
     r#"[3,"b",{"status":"Accepted","connectorId":1,"scheduleStart":"2025-01-01T00:00:10Z","chargingSchedule":{"duration":60,"chargingRateUnit":"A","chargingSchedulePeriod":[{"startPeriod":0,"limit":16.0}]}}]"#;
 
+/// The same where nothing is installed.
+pub(crate) const SCHEDULE_WITHOUT: &str =
+    r#"[3,"b",{"status":"Accepted","connectorId":1,"scheduleStart":"2025-01-01T00:00:10Z","chargingSchedule":{"duration":60,"chargingRateUnit":"A","chargingSchedulePeriod":[{"startPeriod":0,"limit":32.0}]}}]"#;
+
+/// What an install, an ask and a Heartbeat are answered for lack of memory.
+pub(crate) const INSTALL_SHORT: &str = r#"[4,"a","InternalError","OutOfMemory",{}]"#;
+
+pub(crate) const ASK_SHORT: &str = r#"[4,"b","InternalError","OutOfMemory",{}]"#;
+
+pub(crate) const HEARTBEAT_SHORT: &str = r#"[4,"1","InternalError","OutOfMemory",{}]"#;
+
 /// The call that the install becomes.
 pub(crate) const SET: &str =
     r#"[2,"1","SetChargingProfile",{"connectorId":0,"csChargingProfiles":{"chargingProfileId":1,"stackLevel":0,"chargingProfilePurpose":"TxDefaultProfile","chargingProfileKind":"Absolute","chargingSchedule":{"startSchedule":"2025-01-01T00:00:00Z","chargingRateUnit":"A","chargingSchedulePeriod":[{"startPeriod":0,"limit":16.0}]}}}]"#;

@@ -4,9 +4,9 @@ ghost use Rattle.std.specs.Prelude.{◌≡◌};
 
 use crate::same::{holds, same, same_text};
 use crate::served_texts::{
-    ACCEPTED, ASK, AUDIT, AUDIT_AGREES, AUDIT_CALL, AUDIT_DIFFERS, AUDIT_FAULT, AUDITED, CLEAR,
-    CLEARED, HEARTBEAT, INSTALL, MOMENT, NOTED_OF_OPERATOR, NOTED_OF_POINT, SCHEDULE, SET,
-    SET_ACCEPTED, SITE, START, STARTED, STATUS,
+    ACCEPTED, ASK, ASK_SHORT, AUDIT, AUDIT_AGREES, AUDIT_CALL, AUDIT_DIFFERS, AUDIT_FAULT, AUDITED,
+    CLEAR, CLEARED, HEARTBEAT, HEARTBEAT_SHORT, INSTALL, INSTALL_SHORT, MOMENT, NOTED_OF_OPERATOR,
+    NOTED_OF_POINT, SCHEDULE, SCHEDULE_WITHOUT, SET, SET_ACCEPTED, SITE, START, STARTED, STATUS,
 };
 use crate::streams::{client_bytes, client_texts, messages_of, socket_of};
 use crossbeam_channel::{Sender, bounded};
@@ -58,6 +58,8 @@ struct Served {
     is_closed: bool,
     changes: u64,
     answers: u64,
+    /// The version that it saw last.
+    seen: u64,
 }
 
 impl Served {
@@ -66,6 +68,14 @@ impl Served {
         holds(rt, self.ended == Ended::Closed, "it ended by a close");
         holds(rt, self.is_closed, "its client was said the close");
         same(rt, self.texts.len() as u64, wanted.len() as u64, "texts");
+        for (text, wanted) in self.texts.iter().zip(wanted) {
+            same_text(rt, text.as_str(), wanted, "a text");
+        }
+    }
+
+    /// Its client read these messages, or the first of them.
+    fn begins(&self, rt: &impl Abort, wanted: &[&str]) {
+        holds(rt, self.texts.len() <= wanted.len(), "how many texts");
         for (text, wanted) in self.texts.iter().zip(wanted) {
             same_text(rt, text.as_str(), wanted, "a text");
         }
@@ -83,9 +93,20 @@ impl<C: Ledger, A: Ledger> Desk<C, A> {
         calls: usize,
     ) -> Served {
         let input = client_bytes(rt, self.alloc, messages);
-        let mut output = Vec::new(self.alloc);
+        self.serve_bytes(rt, core, input.as_slice(), calls)
+    }
+
+    /// The same over a client's bytes.
+    fn serve_bytes<R: Abort + Wait>(
+        &mut self,
+        rt: &R,
+        core: SessionCore,
+        input: &[u8],
+        calls: usize,
+    ) -> Served {
+        let mut output = Vec::with_capacity(self.alloc, 4_096).expect(rt, "error");
         let pass = self.passes.pop().expect(rt, "no pass");
-        let socket = socket_of(self.alloc, input.as_slice(), &mut output, calls);
+        let socket = socket_of(self.alloc, input, &mut output, calls);
         let (ended, pass) = serve_socket(
             rt,
             self.alloc,
@@ -96,8 +117,8 @@ impl<C: Ledger, A: Ledger> Desk<C, A> {
             pass,
             &self.clock,
         );
-        let (texts, is_closed) = client_texts(rt, self.alloc, output.as_slice());
-        let totals = pass.totals();
+        let (texts, is_closed) = client_texts(self.alloc, output.as_slice());
+        let (totals, seen) = (pass.totals(), pass.seen());
         self.passes.push(pass).ok().expect(rt, "error");
         Served {
             ended,
@@ -105,6 +126,7 @@ impl<C: Ledger, A: Ledger> Desk<C, A> {
             is_closed,
             changes: totals.changes,
             answers: totals.answers,
+            seen,
         }
     }
 
@@ -119,6 +141,18 @@ impl<C: Ledger, A: Ledger> Desk<C, A> {
         let messages = messages_of(rt, self.alloc, texts, true);
         let core = SessionCore::point(self.alloc, "CP1").expect(rt, "error");
         self.serve(rt, core, messages, calls)
+    }
+
+    /// The pass came back with all that the book counts, and no request is kept.
+    fn is_left(&self, rt: &(impl Abort + Wait), served: &Served) {
+        let book = self.shared.lock(rt);
+        let (totals, version) = (book.totals(), book.version());
+        let requests = book.open_requests();
+        drop(book);
+        same(rt, served.changes, totals.changes, "changes");
+        same(rt, served.answers, totals.answers, "answers");
+        same(rt, served.seen, version, "the version that was seen");
+        same(rt, requests as u64, 0, "open requests");
     }
 
     /// The point has no link, and so many calls wait for it.
@@ -143,7 +177,7 @@ fn desk_of<C: Ledger, A: Ledger>(
         × (blanks.1.parts ≡ 2) }
 {
     let (changes, answers) = blanks;
-    let site = read_site(alloc, SITE.as_bytes()).expect(rt, "no site");
+    let site = read_site(alloc, SITE.as_bytes()).expect(rt, "error");
     let (shared, passes): (Shared<C, A>, _) = Shared::make(alloc, changes, answers, site, 2).expect(
         rt, "error",
     );
@@ -330,6 +364,7 @@ fn failing<C: Ledger, A: Ledger, R: Abort + Wait>(
 {
     let mut desk: Desk<C, A> = desk_of(rt, alloc, blanks, ten_past_midnight(rt));
     let served = desk.serve_point(rt, &[HEARTBEAT, HEARTBEAT], calls);
+    desk.is_left(rt, &served);
     desk.has_lost_its_link(rt, 1);
     let again = desk.serve_point(rt, &[HEARTBEAT], 100);
     again.tells(rt, &[MOMENT, CLEAR]);
@@ -357,6 +392,208 @@ fn a_socket_that_fails_leaves_its_call_waiting(rt: HostRuntime) {
         is_closed = ends_by_close(&rt, ended, is_closed);
     }
     holds(&rt, is_closed, "the last one closes");
+}
+
+/// Where the socket of a session fails: at which of its calls, or behind how many of its client's
+/// bytes.
+#[derive(Clone, Copy)]
+enum Cut {
+    Call(usize),
+    Bytes(usize),
+}
+
+/// Serves an operator that installs and asks, over a socket that fails there.
+fn serve_cut<C: Ledger, A: Ledger, R: Abort + Wait>(
+    rt: &R,
+    desk: &mut Desk<C, A>,
+    cut: Cut,
+) -> Served {
+    let messages = messages_of(rt, desk.alloc, &[INSTALL, ASK], true);
+    let input = client_bytes(rt, desk.alloc, messages);
+    let (count, calls) = match cut {
+        Cut::Call(calls) => (input.len(), calls),
+        Cut::Bytes(count) => (count.min(input.len()), 100),
+    };
+    let input = input.as_slice().split_at(count).0;
+    let core = SessionCore::operator(desk.alloc, "CP1", Unit::A).expect(rt, "error");
+    desk.serve_bytes(rt, core, input, calls)
+}
+
+/// An operator's session whose socket fails leaves no request, and its answers are right as far as
+/// they came. The next one has both, and counts on.
+fn cut_operator<C: Ledger, A: Ledger, R: Abort + Wait>(
+    rt: &R,
+    alloc: Global,
+    blanks: (Blank, Blank),
+    cut: Cut,
+) -> Served
+    requires changes { (blanks.0.name ≡ C.name) × (blanks.0.parts ≡ C.parts)
+        × (blanks.0.parts ≡ 2) }
+    requires answers { (blanks.1.name ≡ A.name) × (blanks.1.parts ≡ A.parts)
+        × (blanks.1.parts ≡ 2) }
+{
+    let mut desk: Desk<C, A> = desk_of(rt, alloc, blanks, ten_past_midnight(rt));
+    let served = serve_cut(rt, &mut desk, cut);
+    served.begins(rt, &[ACCEPTED, SCHEDULE]);
+    desk.is_left(rt, &served);
+    let again = serve_cut(rt, &mut desk, Cut::Call(100));
+    again.tells(rt, &[ACCEPTED, SCHEDULE]);
+    desk.is_left(rt, &again);
+    same(
+        rt,
+        again.changes,
+        served.changes.saturating_add(1),
+        "changes",
+    );
+    same(
+        rt,
+        again.answers,
+        served.answers.saturating_add(1),
+        "answers",
+    );
+    served
+}
+
+/// Whether its answer was counted, and its client didn't read it.
+fn is_unread(served: &Served) -> bool {
+    served.answers == 1 && served.texts.len() < 2
+}
+
+#[test]
+fn an_operators_socket_that_fails_leaves_no_request(rt: HostRuntime) {
+    let (mut is_closed, mut is_unanswered) = (false, false);
+    for calls in 0..12usize {
+        let (blanks, cut) = ((Blank::new(2), Blank::new(2)), Cut::Call(calls));
+        let served = cut_operator::<Brand, Brand, HostRuntime>(&rt, rt.alloc(), blanks, cut);
+        is_closed = ends_by_close(&rt, served.ended, is_closed);
+        is_unanswered = is_unanswered || is_unread(&served);
+    }
+    holds(&rt, is_closed, "the last one closes");
+    holds(&rt, is_unanswered, "an answer is counted and not read");
+}
+
+/// The bytes of both messages and of the close are fewer than these.
+#[test]
+fn an_operators_bytes_may_end_anywhere(rt: HostRuntime) {
+    let mut is_closed = false;
+    for count in 0..450usize {
+        let (blanks, cut) = ((Blank::new(2), Blank::new(2)), Cut::Bytes(count));
+        let served = cut_operator::<Brand, Brand, HostRuntime>(&rt, rt.alloc(), blanks, cut);
+        is_closed = ends_by_close(&rt, served.ended, is_closed);
+    }
+    holds(&rt, is_closed, "the last one closes");
+}
+
+/// What clients may be told where one allocation of their session is refused.
+const OF_OPERATORS: [[&str; 2]; 3] = [
+    [ACCEPTED, SCHEDULE],
+    [ACCEPTED, ASK_SHORT],
+    [INSTALL_SHORT, SCHEDULE_WITHOUT],
+];
+
+const OF_POINTS: [[&str; 2]; 2] = [[MOMENT, CLEAR], [HEARTBEAT_SHORT, CLEAR]];
+
+/// Who is served.
+#[derive(Clone, Copy)]
+enum Client {
+    Operator,
+    Point,
+}
+
+impl Client {
+    fn core(self, rt: &impl Abort, alloc: Global) -> SessionCore {
+        let core = match self {
+            Client::Operator => SessionCore::operator(alloc, "CP1", Unit::A),
+            Client::Point => SessionCore::point(alloc, "CP1"),
+        };
+        core.expect(rt, "error")
+    }
+
+    fn bytes(self, rt: &impl Abort, alloc: Global) -> Vec<u8> {
+        let messages = match self {
+            Client::Operator => messages_of(rt, alloc, &[INSTALL, ASK], true),
+            Client::Point => messages_of(rt, alloc, &[HEARTBEAT], true),
+        };
+        client_bytes(rt, alloc, messages)
+    }
+
+    /// Whether its texts are these, or begin so.
+    fn may_be_told(self, served: &Served) -> bool {
+        match self {
+            Client::Operator => OF_OPERATORS.iter().any(|texts| begin_with(served, texts)),
+            Client::Point => OF_POINTS.iter().any(|texts| begin_with(served, texts)),
+        }
+    }
+}
+
+/// Whether the texts of a client are the first of these.
+fn begin_with(served: &Served, wanted: &[&str; 2]) -> bool {
+    for (text, wanted) in served.texts.iter().zip(wanted.iter()) {
+        if text.as_str() != *wanted {
+            return false;
+        }
+    }
+    served.texts.len() <= 2
+}
+
+/// Whether nothing was refused to a session: all was told, and it closed.
+fn is_whole(served: &Served, wanted: &[&str; 2]) -> bool {
+    served.ended == Ended::Closed && served.texts.len() == 2 && begin_with(served, wanted)
+}
+
+/// A session that was refused memory says so to its client, or ends.
+fn is_short(rt: &impl Abort, client: Client, served: &Served) {
+    holds(rt, client.may_be_told(served), "what its client is told");
+    match served.ended {
+        Ended::Closed => same(rt, served.texts.len() as u64, 2, "texts"),
+        Ended::OutOfMemory => {}
+        Ended::Broken => rt.panic("broken"),
+    }
+}
+
+/// A session of which `tests/program.py` refuses an allocation. No request is left, and a point's
+/// call waits again. The next session isn't short of anything.
+fn refused<C: Ledger, A: Ledger, R: Abort + Wait>(
+    rt: &R,
+    alloc: Global,
+    blanks: (Blank, Blank),
+    client: Client,
+)
+    requires changes { (blanks.0.name ≡ C.name) × (blanks.0.parts ≡ C.parts)
+        × (blanks.0.parts ≡ 2) }
+    requires answers { (blanks.1.name ≡ A.name) × (blanks.1.parts ≡ A.parts)
+        × (blanks.1.parts ≡ 2) }
+{
+    let mut desk: Desk<C, A> = desk_of(rt, alloc, blanks, ten_past_midnight(rt));
+    let wanted = match client {
+        Client::Operator => [ACCEPTED, SCHEDULE],
+        Client::Point => [MOMENT, CLEAR],
+    };
+    let input = client.bytes(rt, alloc);
+    let served = desk.serve_bytes(rt, client.core(rt, alloc), input.as_slice(), 100);
+    desk.is_left(rt, &served);
+    if matches!(client, Client::Point) {
+        desk.has_lost_its_link(rt, 1);
+    }
+    if is_whole(&served, &wanted) {
+        return;
+    }
+    is_short(rt, client, &served);
+    let again = desk.serve_bytes(rt, client.core(rt, alloc), input.as_slice(), 100);
+    again.tells(rt, &wanted);
+    desk.is_left(rt, &again);
+}
+
+#[test]
+fn an_operators_session_is_refused_memory(rt: HostRuntime) {
+    let (blanks, client) = ((Blank::new(2), Blank::new(2)), Client::Operator);
+    refused::<Brand, Brand, HostRuntime>(&rt, rt.alloc(), blanks, client);
+}
+
+#[test]
+fn a_points_session_is_refused_memory(rt: HostRuntime) {
+    let (blanks, client) = ((Blank::new(2), Blank::new(2)), Client::Point);
+    refused::<Brand, Brand, HostRuntime>(&rt, rt.alloc(), blanks, client);
 }
 
 /// A Heartbeat with so many bytes, blanks behind it.

@@ -30,8 +30,19 @@ pub(crate) fn client_bytes(rt: &impl Abort, alloc: Global, messages: Vec<Message
     socket.into_inner().writer
 }
 
-/// The messages that a client reads from a server's bytes, and whether the server closed.
-pub(crate) fn client_texts(rt: &impl Abort, alloc: Global, bytes: &[u8]) -> (Vec<String>, bool) {
+/// The messages that a client reads from a server's bytes, and whether the server closed. They are
+/// read once more, in case memory was refused to the first reading.
+pub(crate) fn client_texts(alloc: Global, bytes: &[u8]) -> (Vec<String>, bool) {
+    let (texts, is_closed) = texts_once(alloc, bytes);
+    let (texts_again, is_closed_again) = texts_once(alloc, bytes);
+    let is_closed = is_closed || is_closed_again;
+    if texts.len() < texts_again.len() {
+        return (texts_again, is_closed);
+    }
+    (texts, is_closed)
+}
+
+fn texts_once(alloc: Global, bytes: &[u8]) -> (Vec<String>, bool) {
     let stream = Duplex {
         reader: bytes,
         writer: Vec::new(alloc),
@@ -40,7 +51,7 @@ pub(crate) fn client_texts(rt: &impl Abort, alloc: Global, bytes: &[u8]) -> (Vec
     let (mut texts, mut is_closed) = (Vec::new(alloc), false);
     for _message in 0..1_000u32 {
         match socket.read() {
-            Ok(Message::Text(text)) => push_text(rt, alloc, &mut texts, text.as_str()),
+            Ok(Message::Text(text)) => push_text(alloc, &mut texts, text.as_str()),
             Ok(message) => is_closed = message.is_close(),
             Err(_) => break,
         }
@@ -48,9 +59,11 @@ pub(crate) fn client_texts(rt: &impl Abort, alloc: Global, bytes: &[u8]) -> (Vec
     (texts, is_closed)
 }
 
-fn push_text(rt: &impl Abort, alloc: Global, texts: &mut Vec<String>, text: &str) {
-    let text = String::from_str(alloc, text).expect(rt, "error");
-    texts.push(text).ok().expect(rt, "error");
+/// Adds a text, if there is memory for it.
+fn push_text(alloc: Global, texts: &mut Vec<String>, text: &str) {
+    if let Ok(text) = String::from_str(alloc, text) {
+        let _ = texts.push(text);
+    }
 }
 
 /// A client's messages, with a close frame behind them where it closes.
@@ -63,10 +76,13 @@ pub(crate) fn messages_of(
     let mut messages = Vec::new(alloc);
     for text in texts {
         let message = Message::text(alloc, text).expect(rt, "error");
-        messages.push(message).ok().expect(rt, "error");
+        messages.push(message).ok().expect(rt, "error: OutOfMemory");
     }
     if closes {
-        messages.push(Message::Close(None)).ok().expect(rt, "error");
+        messages
+            .push(Message::Close(None))
+            .ok()
+            .expect(rt, "error: OutOfMemory");
     }
     messages
 }

@@ -3,6 +3,7 @@
 mod audited;
 mod left_undone;
 mod ordinary_day;
+mod remote_starts;
 mod two_points;
 mod validity;
 

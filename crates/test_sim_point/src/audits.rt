@@ -17,18 +17,18 @@ const SITE: &str =
 const INSTALL: &str =
     r#"[2,"a","SetChargingProfile",{"connectorId":0,"csChargingProfiles":{"chargingProfileId":1,"stackLevel":0,"chargingProfilePurpose":"TxDefaultProfile","chargingProfileKind":"Absolute","chargingSchedule":{"startSchedule":"2025-01-01T00:00:00Z","chargingRateUnit":"A","chargingSchedulePeriod":[{"startPeriod":0,"limit":10},{"startPeriod":30,"limit":9}]}}}]"#;
 
-const AUDIT: &str = r#"[2,"a","AuditPoint",{"connectorId":1,"duration":60}]"#;
+pub(crate) const AUDIT: &str = r#"[2,"a","AuditPoint",{"connectorId":1,"duration":60}]"#;
 
-const STATUS: &str = r#"[2,"a","PointStatus",{}]"#;
+pub(crate) const STATUS: &str = r#"[2,"a","PointStatus",{}]"#;
 
-const ACCEPTED: &str = "> [3,\"a\",{\"status\":\"Accepted\"}]\n";
+pub(crate) const ACCEPTED: &str = "> [3,\"a\",{\"status\":\"Accepted\"}]\n";
 
 const OPEN: &str = "> [3,\"a\",{\"status\":\"Rejected\",\"reason\":\"AuditOpen\"}]\n";
 
 const WAITING: &str =
     "> [3,\"a\",{\"status\":\"Accepted\",\"version\":1,\"outbox\":3,\"audit\":\"Waiting\"}]\n";
 
-const AGREES: &str =
+pub(crate) const AGREES: &str =
     "> [3,\"a\",{\"status\":\"Accepted\",\"version\":1,\"outbox\":0,\"audit\":\"Agrees\"}]\n";
 
 const DIFFERS: &str =
@@ -42,7 +42,7 @@ const UNSETTLED: &str =
 
 /// A central system: the script so far, and how much of its output was seen.
 #[derive(Drop)]
-struct Central {
+pub(crate) struct Central {
     alloc: Global,
     script: String,
     seen: usize,
@@ -51,7 +51,7 @@ struct Central {
 }
 
 impl Central {
-    fn new(alloc: Global) -> Central {
+    pub(crate) fn new(alloc: Global) -> Central {
         Central {
             alloc,
             script: String::new(alloc),
@@ -75,13 +75,13 @@ impl Central {
     }
 
     /// An operator's message is answered so.
-    fn answers(&mut self, rt: &impl Abort, text: &str, wanted: &str) {
+    pub(crate) fn answers(&mut self, rt: &impl Abort, text: &str, wanted: &str) {
         let printed = self.printed(rt, "operator", text);
         same_text(rt, printed.as_str(), wanted, text);
     }
 
     /// A point says this, and answers each call that follows.
-    fn hears(&mut self, rt: &impl Abort, point: &mut SimPoint, text: &str) {
+    pub(crate) fn hears(&mut self, rt: &impl Abort, point: &mut SimPoint, text: &str) {
         let mut printed = self.printed(rt, "point", text);
         for _call in 0..10u32 {
             let Some(answer) = self.answer_to(rt, point, printed.as_str()) else {
@@ -120,7 +120,7 @@ fn auditing(rt: &impl Abort, alloc: Global) -> Central {
     central
 }
 
-const HEARTBEAT: &str = r#"[2,"h","Heartbeat",{}]"#;
+pub(crate) const HEARTBEAT: &str = r#"[2,"h","Heartbeat",{}]"#;
 
 #[test]
 fn a_point_in_step_agrees(rt: HostRuntime) {
@@ -162,7 +162,7 @@ fn a_point_of_another_unit_rejects(rt: HostRuntime) {
 }
 
 /// Sends the point's next call, and gives it the answer.
-fn calls(rt: &impl Abort, central: &mut Central, point: &mut SimPoint) {
+pub(crate) fn calls(rt: &impl Abort, central: &mut Central, point: &mut SimPoint) {
     let now = instant_at(rt, central.seconds);
     let call = point.next_call(now).expect(rt, "error");
     let call = call.expect(rt, "no call");

@@ -97,7 +97,7 @@ impl Day {
 }
 
 /// Plays a day of a point with these steps.
-fn plays(rt: &impl Abort, alloc: Global, steps: &str, day: &str) {
+pub(crate) fn plays(rt: &impl Abort, alloc: Global, steps: &str, day: &str) {
     let mut played = Day {
         point: point_with(rt, alloc, steps),
         now: instant_at(rt, 0),
@@ -248,13 +248,13 @@ fn default_text(
 }
 
 /// What a message at midnight is answered.
-fn answer_of(rt: &impl Abort, point: &mut SimPoint, text: &str) -> String {
+pub(crate) fn answer_of(rt: &impl Abort, point: &mut SimPoint, text: &str) -> String {
     let answer = point.on_text(instant_at(rt, 0), text).expect(rt, "error");
     answer.expect(rt, "no answer")
 }
 
 /// Sends such a SetChargingProfile, which is answered so.
-fn set_default(
+pub(crate) fn set_default(
     rt: &impl Abort,
     alloc: Global,
     point: &mut SimPoint,
@@ -266,7 +266,7 @@ fn set_default(
     same_text(rt, answer.as_str(), wanted, "an install");
 }
 
-const ACCEPTED: &str = r#"[3,"x",{"status":"Accepted"}]"#;
+pub(crate) const ACCEPTED: &str = r#"[3,"x",{"status":"Accepted"}]"#;
 
 #[test]
 fn a_point_has_at_most_200_profiles(rt: HostRuntime) {

@@ -129,20 +129,46 @@ fn are_texts(rt: &impl Abort, alloc: Global, bytes: &[u8], texts: &str) {
     holds(rt, last.is_close(), "a close");
 }
 
-#[test]
-fn a_day_at_a_socket(rt: HostRuntime) {
-    let alloc = rt.alloc();
-    let bytes = sent_by_central(&rt, alloc, CENTRAL, true);
+/// A point is sent these messages and a close, and sends those and a close.
+fn sends<R: Abort + Wait>(rt: &R, alloc: Global, point: SimPoint, central: &str, wanted: &str) {
+    let bytes = sent_by_central(rt, alloc, central, true);
     let mut output = Vec::new(alloc);
     let stream = Duplex {
         reader: bytes.as_slice(),
         writer: &mut output,
     };
     let socket = WebSocket::from_raw_socket(alloc, stream, OneKey, Role::Client, None);
-    let clock = Fixed(Some(instant_at(&rt, 0)));
-    let ended = run_client(&rt, alloc, socket, simulated(&rt, alloc), &clock);
-    holds(&rt, ended == Ended::Closed, "closed");
-    are_texts(&rt, alloc, output.as_slice(), POINT);
+    let clock = Fixed(Some(instant_at(rt, 0)));
+    let ended = run_client(rt, alloc, socket, point, &clock);
+    holds(rt, ended == Ended::Closed, "closed");
+    are_texts(rt, alloc, output.as_slice(), wanted);
+}
+
+#[test]
+fn a_day_at_a_socket(rt: HostRuntime) {
+    let alloc = rt.alloc();
+    sends(&rt, alloc, simulated(&rt, alloc), CENTRAL, POINT);
+}
+
+/// A start is asked for while the last step's call is in flight.
+const REMOTE_START: &str = r#"[2,"a","RemoteStartTransaction",{"connectorId":1,"idTag":"b"}]
+[3,"0",{"currentTime":"2025-01-01T00:00:00Z"}]
+[3,"1",{"idTagInfo":{"status":"Accepted"},"transactionId":7}]"#;
+
+const STARTED: &str = r#"[2,"0","Heartbeat",{}]
+[3,"a",{"status":"Accepted"}]
+[2,"1","StartTransaction",{"connectorId":1,"idTag":"b","meterStart":0,"timestamp":"2025-01-01T00:00:00Z"}]"#;
+
+#[test]
+fn a_start_that_is_asked_for_is_a_step(rt: HostRuntime) {
+    let alloc = rt.alloc();
+    sends(
+        &rt,
+        alloc,
+        point_with(&rt, alloc, "heartbeat"),
+        REMOTE_START,
+        STARTED,
+    );
 }
 
 /// How a point ends at these bytes, with a device that fails at the call of a number.

@@ -14,6 +14,14 @@ const CALLS: &str =
 [2,"7","GetCompositeSchedule",{"connectorId":1,"duration":60,"chargingRateUnit":"A"}]
 [2,"a","GetCompositeSchedule",{"chargingRateUnit":"W","duration":2147483647,"connectorId":0}]
 [2,"7","GetCompositeSchedule",{"connectorId":0,"duration":2147483647,"chargingRateUnit":"W"}]
+[2,"a","RemoteStartTransaction",{"idTag":"T1","connectorId":1}]
+[2,"7","RemoteStartTransaction",{"connectorId":1,"idTag":"T1"}]
+[2,"a","RemoteStartTransaction",{"idTag":"\"a\\b\/\u0001\n\u00e9<'","connectorId":64}]
+[2,"7","RemoteStartTransaction",{"connectorId":64,"idTag":"\"a\\b/\u0001\né<'"}]
+[2,"a","RemoteStartTransaction",{"chargingProfile":null,"idTag":"","connectorId":0}]
+[2,"7","RemoteStartTransaction",{"connectorId":0,"idTag":""}]
+[2,"a","RemoteStartTransaction",{"chargingProfile":{"chargingSchedule":{"chargingSchedulePeriod":[{"limit":6,"startPeriod":0}],"chargingRateUnit":"A"},"chargingProfileKind":"Relative","chargingProfilePurpose":"TxProfile","stackLevel":0,"chargingProfileId":5},"idTag":"T1","connectorId":1}]
+[2,"7","RemoteStartTransaction",{"connectorId":1,"idTag":"T1","chargingProfile":{"chargingProfileId":5,"stackLevel":0,"chargingProfilePurpose":"TxProfile","chargingProfileKind":"Relative","chargingSchedule":{"chargingRateUnit":"A","chargingSchedulePeriod":[{"startPeriod":0,"limit":6.0}]}}}]
 [2,"a","ClearChargingProfile",{}]
 [2,"7","ClearChargingProfile",{}]
 [2,"a","ClearChargingProfile",{"stackLevel":3,"chargingProfilePurpose":"ChargePointMaxProfile","connectorId":0,"id":-5}]
@@ -40,6 +48,13 @@ fn profile(rt: &impl Abort, parts: ProfileParts) -> Profile {
     }
 }
 
+fn profile_if_given(rt: &impl Abort, parts: Option<ProfileParts>) -> Option<Profile> {
+    match parts {
+        Some(parts) => Some(profile(rt, parts)),
+        None => None,
+    }
+}
+
 fn body_of(rt: &impl Abort, alloc: Global, text: &str) -> CallBody {
     let mut memory = ReadingMemory::new(alloc);
     let frame = read_frame(&mut memory, text).ok().expect(rt, text);
@@ -49,6 +64,11 @@ fn body_of(rt: &impl Abort, alloc: Global, text: &str) -> CallBody {
             connector: request.connector,
             duration: request.duration,
             unit: request.unit.expect(rt, text),
+        },
+        Ok(Action::RemoteStartTransaction(start)) => CallBody::RemoteStart {
+            connector: start.connector,
+            id_tag: start.id_tag,
+            profile: profile_if_given(rt, start.profile),
         },
         Ok(
             Action::SetChargingProfile {
@@ -76,7 +96,7 @@ fn assert_call(rt: &impl Abort, alloc: Global, number: u64, asked: &str, wanted:
     let body = body_of(rt, alloc, asked);
     let call = Call { number, body };
     assert_text(rt, alloc, &call, wanted);
-    let copy = call.copy().expect(rt, "error");
+    let copy = call.copy(alloc).expect(rt, "error");
     assert_text(rt, alloc, &copy, wanted);
 }
 
@@ -92,6 +112,9 @@ fn calls_are_written(rt: HostRuntime) {
 /// On each line what a call is about, and what an operator asks for.
 const SUBJECTS: &str =
     r#"connector 1 for 60 s = [2,"a","GetCompositeSchedule",{"chargingRateUnit":"A","duration":60,"connectorId":1}]
+idTag T1 at connector 1 = [2,"a","RemoteStartTransaction",{"idTag":"T1","connectorId":1}]
+idTag a"b\c at connector 64 = [2,"a","RemoteStartTransaction",{"idTag":"a\"b\\c","connectorId":64}]
+idTag T1 at connector 1 with TxProfile 5 = [2,"a","RemoteStartTransaction",{"chargingProfile":{"chargingSchedule":{"chargingSchedulePeriod":[{"limit":6,"startPeriod":0}],"chargingRateUnit":"A"},"chargingProfileKind":"Relative","chargingProfilePurpose":"TxProfile","stackLevel":0,"chargingProfileId":5},"idTag":"T1","connectorId":1}]
 every profile = [2,"a","ClearChargingProfile",{}]
 id -5, connector 0, ChargePointMaxProfile, stack level 3 = [2,"a","ClearChargingProfile",{"stackLevel":3,"chargingProfilePurpose":"ChargePointMaxProfile","connectorId":0,"id":-5}]
 connector 64, stack level 0 = [2,"a","ClearChargingProfile",{"stackLevel":0,"id":null,"connectorId":64}]

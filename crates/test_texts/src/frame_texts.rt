@@ -3,9 +3,10 @@
 //! texts of JSON conformance suites.
 use crate::same::{holds, same_text};
 use ocppj_frame::{
-    Field, Frame, FrameFault, Node, ReadingMemory, instant_field, list_field, object_field,
-    push_call_head, push_error, push_frame_end, push_result_head, read_frame, read_tree,
-    tenths_field, text_field, whole_field, write_call, write_error, write_result,
+    Field, Frame, FrameFault, Node, ReadingMemory, after_mark, instant_field, list_field,
+    mark_text, object_field, push_call_head, push_error, push_frame_end, push_result_head,
+    read_frame, read_tree, tenths_field, text_field, whole_field, write_call, write_error,
+    write_result,
 };
 use std::alloc::Global;
 use std::process::Abort;
@@ -333,6 +334,20 @@ fn lists_have_their_entries(rt: HostRuntime) {
     let tree = read_tree(&mut memory, "{\"list\":[{},1]}");
     let payload = tree.ok().expect(&rt, "no tree");
     holds(&rt, counts(payload.root(), "list") == (2, 1), "the list");
+}
+
+#[test]
+fn numbers_are_marked_as_strings(rt: HostRuntime) {
+    let mut room = Vec::new(rt.alloc());
+    let marked = mark_text(r#"{"a":[-1.50,"n\"2"], "1":1e}"#, &mut room).expect(&rt, "error");
+    same_text(
+        &rt,
+        marked,
+        r#"{"sa":["n-1.50","sn\"2"], "s1":"n1e"}"#,
+        "a marked text",
+    );
+    holds(&rt, after_mark("n-1", b'n') == Some("-1"), "a number");
+    holds(&rt, after_mark("sn", b'n').is_none(), "a text");
 }
 
 #[test]

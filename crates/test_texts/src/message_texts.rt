@@ -30,6 +30,10 @@ NotACall = [7]
 tag éééééééééééééééééééé, connector 1, meter -2, second 1735689600 = [2,"s","StartTransaction",{"timestamp":"2025-01-01T00:00:00Z","meterStart":-2,"idTag":"éééééééééééééééééééé","connectorId":1}]
 transaction 2 = [2,"e","StopTransaction",{"transactionId":2.0,"timestamp":"never"}]
 connector 1, duration 60, unit Some(A) = [2,"g","GetCompositeSchedule",{"duration":60,"connectorId":1,"chargingRateUnit":"A"}]
+start by T1 at connector 1, None = [2,"r","RemoteStartTransaction",{"idTag":"T1","connectorId":1}]
+start by  at connector 0, None = [2,"r","RemoteStartTransaction",{"chargingProfile":null,"idTag":"","connectorId":0,"csChargingProfiles":7}]
+start by éééééééééééééééééééé at connector 64, None = [2,"r","RemoteStartTransaction",{"connectorId":64.0,"idTag":"éééééééééééééééééééé"}]
+start by "\/é at connector 2, None = [2,"r","RemoteStartTransaction",{"connectorId":2,"idTag":"\"\\\/\u00e9"}]
 audit of connector 1, duration 60 = [2,"p","AuditPoint",{"duration":60,"chargingRateUnit":7,"connectorId":1}]
 status = [2,"p","PointStatus",{"connectorId":"1"}]
 status = [2,"p","PointStatus"]
@@ -48,6 +52,16 @@ PropertyConstraintViolation chargingProfilePurpose [2,"d","ClearChargingProfile"
 OccurenceConstraintViolation csChargingProfiles [2,"d","SetChargingProfile",{"connectorId":0,"csChargingProfiles":null}]
 TypeConstraintViolation csChargingProfiles [2,"d","SetChargingProfile",{"connectorId":0,"csChargingProfiles":[]}]
 OccurenceConstraintViolation chargingProfileId [2,"d","SetChargingProfile",{"connectorId":0,"csChargingProfiles":{"stackLevel":"0"}}]
+OccurenceConstraintViolation connectorId [2,"d","RemoteStartTransaction",{"idTag":7}]
+TypeConstraintViolation connectorId [2,"d","RemoteStartTransaction",{"chargingProfile":7,"connectorId":"1"}]
+PropertyConstraintViolation connectorId [2,"d","RemoteStartTransaction",{"chargingProfile":7,"idTag":7,"connectorId":-1}]
+OccurenceConstraintViolation idTag [2,"d","RemoteStartTransaction",{"chargingProfile":7,"connectorId":1}]
+TypeConstraintViolation idTag [2,"d","RemoteStartTransaction",{"chargingProfile":7,"idTag":20,"connectorId":1}]
+PropertyConstraintViolation idTag [2,"d","RemoteStartTransaction",{"chargingProfile":7,"idTag":"ééééééééééééééééééééé","connectorId":1}]
+TypeConstraintViolation chargingProfile [2,"d","RemoteStartTransaction",{"chargingProfile":[],"idTag":"T1","connectorId":1}]
+OccurenceConstraintViolation chargingProfileId [2,"d","RemoteStartTransaction",{"chargingProfile":{"transactionId":"7"},"idTag":"T1","connectorId":1}]
+TypeConstraintViolation transactionId [2,"d","RemoteStartTransaction",{"chargingProfile":{"stackLevel":-1,"transactionId":"7","chargingProfileId":5},"idTag":"T1","connectorId":1}]
+PropertyConstraintViolation limit [2,"d","RemoteStartTransaction",{"chargingProfile":{"chargingProfileId":5,"stackLevel":0,"chargingProfilePurpose":"TxProfile","chargingProfileKind":"Relative","chargingSchedule":{"chargingRateUnit":"A","chargingSchedulePeriod":[{"startPeriod":0,"limit":6.05}]}},"idTag":"T1","connectorId":1}]
 OccurenceConstraintViolation connectorId [2,"d","AuditPoint",{"duration":"60"}]
 PropertyConstraintViolation connectorId [2,"d","AuditPoint",{"duration":-1,"connectorId":-1}]
 OccurenceConstraintViolation duration [2,"d","AuditPoint",{"connectorId":0}]
@@ -64,10 +78,11 @@ PropertyConstraintViolation transactionId [2,"d","StopTransaction",{"transaction
 NotImplemented  [2,"d","heartbeat",{}]
 NotImplemented  [2,"d","",{}]"#;
 
-/// A SetChargingProfile with every field, up to its periods, and what follows them.
+/// A SetChargingProfile with every field, up to its periods.
 const PROFILE_HEAD: &str =
     r#"[2,"i","SetChargingProfile",{"csChargingProfiles":{"chargingSchedule":{"minChargingRate":6.5,"chargingRateUnit":"W","startSchedule":"2025-01-01T00:01:00Z","duration":3600,"chargingSchedulePeriod":["#;
 
+/// What follows the periods.
 const PROFILE_TAIL: &str =
     r#"]},"validTo":"2025-01-02T00:00:00Z","validFrom":"2025-01-01T00:00:00Z","recurrencyKind":"Weekly","chargingProfileKind":"Recurring","chargingProfilePurpose":"TxProfile","stackLevel":5,"transactionId":-7,"chargingProfileId":-1},"connectorId":2}]"#;
 
@@ -95,6 +110,13 @@ fn described(alloc: Global, action: &Action) -> Result<String, AllocError> {
             format!(in alloc;
                 "connector {connector}, duration {duration}, unit {:?}",
                 ask.unit
+            )
+        }
+        Action::RemoteStartTransaction(start) => {
+            let (tag, connector) = (start.id_tag.as_str(), start.connector);
+            format!(in alloc;
+                "start by {tag} at connector {connector}, {:?}",
+                start.profile
             )
         }
         Action::AuditPoint {
@@ -138,9 +160,9 @@ fn the_first_fault_is_named(rt: HostRuntime) {
     }
 }
 
-/// A SetChargingProfile with a number of periods, which start a second apart.
-fn profile_text(rt: &impl Abort, alloc: Global, periods: u32) -> String {
-    let mut text = String::from_str(alloc, PROFILE_HEAD).expect(rt, "error");
+/// A text that ends with a profile, of a number of periods that start a second apart.
+fn text_with_periods(rt: &impl Abort, alloc: Global, head: &str, periods: u32) -> String {
+    let mut text = String::from_str(alloc, head).expect(rt, "error");
     for start in 0..periods {
         let comma = if start > 0 { "," } else { "" };
         write!(&mut text, r#"{comma}{{"limit":8.1,"startPeriod":{start}}}"#).expect(rt, "error");
@@ -151,7 +173,7 @@ fn profile_text(rt: &impl Abort, alloc: Global, periods: u32) -> String {
 
 /// Its fields.
 fn profile_of(rt: &impl Abort, alloc: Global, periods: u32) -> ProfileParts {
-    let text = profile_text(rt, alloc, periods);
+    let text = text_with_periods(rt, alloc, PROFILE_HEAD, periods);
     match read(rt, alloc, text.as_str()) {
         Ok(Action::SetChargingProfile { profile, .. }) => profile,
         _ => rt.panic("no profile"),
@@ -167,6 +189,18 @@ fn a_profile_has_its_fields(rt: HostRuntime) {
     let profile = profile_of(&rt, rt.alloc(), 2);
     let found = format!(in rt.alloc(); "{profile:?}").expect(&rt, "error");
     same_text(&rt, found.as_str(), PROFILE, "a profile");
+}
+
+/// A RemoteStartTransaction with the same profile, up to its periods.
+const REMOTE_START_HEAD: &str =
+    r#"[2,"r","RemoteStartTransaction",{"idTag":"T1","chargingProfile":{"chargingSchedule":{"minChargingRate":6.5,"chargingRateUnit":"W","startSchedule":"2025-01-01T00:01:00Z","duration":3600,"chargingSchedulePeriod":["#;
+
+#[test]
+fn a_remote_start_has_its_profile(rt: HostRuntime) {
+    let text = text_with_periods(&rt, rt.alloc(), REMOTE_START_HEAD, 2);
+    let wanted = format!(in rt.alloc(); "start by T1 at connector 2, Some({PROFILE})");
+    let wanted = wanted.expect(&rt, "error");
+    assert_action(&rt, rt.alloc(), text.as_str(), wanted.as_str());
 }
 
 fn refusal_of(rt: &impl Abort, alloc: Global, periods: u32) -> Option<Refusal> {
@@ -187,12 +221,13 @@ fn too_many_periods_are_not_out_of_memory(rt: HostRuntime) {
 }
 
 /// Actions, each with who sends it.
-const SIDES: [(&str, Option<Side>); 5] = [
+const SIDES: [(&str, Option<Side>); 6] = [
     ("GetCompositeSchedule", Some(Side::Operator)),
+    ("RemoteStartTransaction", Some(Side::Operator)),
     ("AuditPoint", Some(Side::Operator)),
     ("PointStatus", Some(Side::Operator)),
     ("DataTransfer", Some(Side::Point)),
-    ("RemoteStartTransaction", None),
+    ("RemoteStopTransaction", None),
 ];
 
 #[test]
@@ -205,8 +240,9 @@ fn an_action_comes_from_one_side(rt: HostRuntime) {
 }
 
 /// How many fields an action has, those of its objects left out.
-const FIELD_COUNTS: [(&str, usize); 5] = [
+const FIELD_COUNTS: [(&str, usize); 6] = [
     ("ClearChargingProfile", 4),
+    ("RemoteStartTransaction", 3),
     ("AuditPoint", 2),
     ("PointStatus", 0),
     ("StopTransaction", 1),

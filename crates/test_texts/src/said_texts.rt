@@ -1,8 +1,8 @@
-//! What no clause says: what worked replies to a GetCompositeSchedule say, and that memory suffices for
-//! one with more periods than an answer may have.
+//! What no clause says: which worked replies accept, what those to a GetCompositeSchedule say, and that
+//! memory suffices for one with more periods than an answer may have.
 use crate::same::{holds, same_text};
 use meaning::Said;
-use messages::read_said;
+use messages::{is_accepted, read_said};
 use ocppj_frame::{ReadingMemory, read_frame};
 use std::alloc::Global;
 use std::process::Abort;
@@ -40,6 +40,44 @@ Unread = [3,"2",{"status":"Accepted","scheduleStart":"2025-01-01T00:00:08Z","cha
 Unread = [3,"2",{"status":"Accepted","scheduleStart":"2025-01-01T00:00:08Z","chargingSchedule":{"chargingRateUnit":"A","chargingSchedulePeriod":[{"startPeriod":0,"limit":16,"numberPhases":1.5}]}}]
 Schedule { start: Instant { seconds: 1735689608 }, duration: Some(60), unit: A, periods: SaidPeriods { items: [CompositePeriod { start: 0, limit: 160 }] } } = [3,"2",{"status":"Accepted","connectorId":1,"scheduleStart":"2025-01-01T00:00:08Z","chargingSchedule":{"duration":60,"chargingRateUnit":"A","chargingSchedulePeriod":[{"startPeriod":0,"limit":16.0}]}}]
 Schedule { start: Instant { seconds: 1735689608 }, duration: None, unit: W, periods: SaidPeriods { items: [CompositePeriod { start: 9, limit: 159 }, CompositePeriod { start: 0, limit: 1 }] } } = [3,"2",{"chargingSchedule":{"minChargingRate":6,"chargingSchedulePeriod":[{"limit":15.9,"numberPhases":3,"startPeriod":9},{"startPeriod":0,"limit":0.1}],"startSchedule":"2030-01-01T00:00:00Z","chargingRateUnit":"W"},"scheduleStart":"2025-01-01T01:00:08+01:00","connectorId":7,"status":"Accepted"}]"#;
+
+/// On each line whether a message accepts what was asked, and its text.
+const ACCEPTED: &str = r#"yes [3,"2",{"status":"Accepted"}]
+yes [3,"2",{"listVersion":7,"status":"\u0041ccepted"}]
+yes [3,"2",{"status":"Rejected","status":"Accepted"}]
+no [3,"2",{"status":"Accepted","status":"Rejected"}]
+no [3,"2",{"status":"Rejected"}]
+no [3,"2",{}]
+no [3,"2",{"idTagInfo":{"status":"Accepted"}}]
+no [3,"2",{"Status":"Accepted"}]
+no [3,"2",{"status":"accepted"}]
+no [3,"2",{"status":"Accepted "}]
+no [3,"2",{"status":"Accept"}]
+no [3,"2",{"status":""}]
+no [3,"2",{"status":true}]
+no [3,"2",{"status":["Accepted"]}]
+no [3,"2",{"status":null}]
+no [3,"2","Accepted"]
+no [3,"2"]
+no [4,"2","NotSupported","",{"status":"Accepted"}]
+no [4,"2","Accepted","Accepted",{}]
+no [2,"2","Heartbeat",{"status":"Accepted"}]
+no [7]"#;
+
+fn assert_accepted(rt: &impl Abort, alloc: Global, text: &str, wanted: &str) {
+    let mut memory = ReadingMemory::new(alloc);
+    let frame = read_frame(&mut memory, text).ok().expect(rt, text);
+    let found = if is_accepted(&frame) { "yes" } else { "no" };
+    same_text(rt, found, wanted, text);
+}
+
+#[test]
+fn a_reply_accepts_by_its_status(rt: HostRuntime) {
+    for line in ACCEPTED.lines() {
+        let (wanted, text) = line.split_once(' ').expect(&rt, line);
+        assert_accepted(&rt, rt.alloc(), text, wanted);
+    }
+}
 
 fn said(rt: &impl Abort, alloc: Global, text: &str) -> Said {
     let mut memory = ReadingMemory::new(alloc);

@@ -8,11 +8,13 @@ use Rattle.ocppj_frame.specs.Tree.{Tree}
 use Rattle.ocppj_frame.specs.Message.{Message, call, call_result, call_error, other}
 use Rattle.ocppj_frame.specs.ByCases.Message.{message_of_text}
 use Rattle.profile.specs.declared.charging_profile.Profile.{Profile}
+use Rattle.profile.specs.declared.parts.ProfileParts.{ProfileParts}
 use Rattle.profile.specs.Parts.{profile_of_parts}
 use Rattle.transactions.specs.declared.begin.Begin.{Begin}
 use Rattle.messages.specs.declared.side.Side.{Side}
 use Rattle.messages.specs.declared.side.Side.TheVariants.{Operator, Point}
 use Rattle.messages.specs.declared.action.Action.{Action}
+use Rattle.messages.specs.declared.action.RemoteStartTransaction.{RemoteStartTransaction}
 use Rattle.messages.specs.declared.action.ScheduleRequest.{ScheduleRequest}
 use Rattle.messages.specs.declared.action.StartTransaction.{StartTransaction}
 use Rattle.messages.specs.declared.action.Action.TheVariants as actions
@@ -25,6 +27,7 @@ use Rattle.messages.specs.declared.action_kind.ActionKind.TheVariants as kinds
 use Rattle.messages.specs.ActionKind.{action_named, kind_of_sender}
 use Rattle.messages.specs.Action.{action_of_kind}
 use Rattle.messages.specs.FixedAnswer.{fixed_response}
+use Rattle.messages.specs.Said.{is_accepted_reply}
 use Rattle.texts.specs.declared.asked.Asked.{Asked}
 use Rattle.texts.specs.declared.asked.Asked.TheVariants as asked
 use Rattle.texts.specs.declared.asked.Wanted.{Wanted}
@@ -46,6 +49,26 @@ abbrev pub wanted_by_making : Sent → ℕ → Result Profile Refusal → Wanted
 wanted_by_making text connector (Ok profile) = wanted.Step (steps.Install text.point
     (record { connector = connector; moment = text.moment; profile = profile }))
 wanted_by_making text connector (Err refusal) = wanted.Response (Rejected refusal)
+
+-- A remote start's profile names no transaction: it comes into force with the one that the start
+-- begins.
+abbrev pub without_transaction : ProfileParts → ProfileParts
+without_transaction parts = record parts { transaction = None }
+
+abbrev pub profile_made : Result Profile Refusal → Result (Option Profile) Refusal
+profile_made (Ok profile) = Ok (Some profile)
+profile_made (Err refusal) = Err refusal
+
+-- the profile that a remote start's fields make, if they have one, or why they make none
+abbrev pub remote_profile : Option ProfileParts → Result (Option Profile) Refusal
+remote_profile None = Ok None
+remote_profile (Some parts) = profile_made (profile_of_parts (without_transaction parts))
+
+abbrev pub wanted_by_remote_start : Sent → RemoteStartTransaction → Result (Option Profile) Refusal
+    → Wanted
+wanted_by_remote_start text start (Ok profile) =
+    wanted.Step (steps.RemoteStart text.point start.connector start.id_tag profile)
+wanted_by_remote_start text start (Err refusal) = wanted.Response (Rejected refusal)
 
 -- how the transaction began: as the CALL tells
 abbrev pub begin_of : StartTransaction → Begin
@@ -70,6 +93,8 @@ wanted_by text (actions.ClearChargingProfile criteria) =
     wanted.Step (steps.Clear text.point criteria)
 wanted_by text (actions.GetCompositeSchedule request) =
     wanted.Step (steps.Take (take_of text request))
+wanted_by text (actions.RemoteStartTransaction start) =
+    wanted_by_remote_start text start (remote_profile start.profile)
 wanted_by text (actions.StartTransaction start) =
     wanted.Step (steps.Start text.point start.connector (begin_of start))
 wanted_by text (actions.StopTransaction transaction) =
@@ -108,22 +133,24 @@ asked_of_call text id name payload =
 abbrev pub call_numbered : List ℕ → Option ℕ
 call_numbered id = if bytes_eq id (codes "0") then Some 0 else number_of id
 
-abbrev pub asked_confirm : List ℕ → Option ℕ → Asked
-asked_confirm point None = asked.Nothing
-asked_confirm point (Some number) = asked.Confirm point number
+abbrev pub asked_confirm : List ℕ → Bool → Option ℕ → Asked
+asked_confirm point accepted None = asked.Nothing
+asked_confirm point accepted (Some number) = asked.Confirm point number accepted
 
--- a point's reply confirms the call of its id, whatever it says; an operator is sent no calls
-abbrev pub asked_of_reply : Side → List ℕ → List ℕ → Asked
-asked_of_reply Operator point id = asked.Nothing
-asked_of_reply Point point id = asked_confirm point (call_numbered id)
+-- A point's reply confirms the call of its id, and tells whether it accepts. An operator is sent no
+-- calls.
+abbrev pub asked_of_reply : Side → List ℕ → List ℕ → Bool → Asked
+asked_of_reply Operator point id accepted = asked.Nothing
+asked_of_reply Point point id accepted = asked_confirm point accepted (call_numbered id)
 
 -- ---- messages
 
 -- only a CALL is answered, a malformed one too where it has an id
 abbrev pub asked_of_message : Sent → Result Message FrameFault → Asked
 asked_of_message text (Ok (call id name payload)) = asked_of_call text id name payload
-asked_of_message text (Ok (call_result id payload)) = asked_of_reply text.sender text.point id
-asked_of_message text (Ok (call_error id)) = asked_of_reply text.sender text.point id
+asked_of_message text (Ok (call_result id payload)) =
+    asked_of_reply text.sender text.point id (is_accepted_reply (call_result id payload))
+asked_of_message text (Ok (call_error id)) = asked_of_reply text.sender text.point id false
 asked_of_message text (Ok other) = asked.Nothing
 asked_of_message text (Err (Formation id)) = asked.Respond id (Error FormationViolation)
 asked_of_message text (Err _) = asked.Nothing
@@ -143,6 +170,7 @@ IsOfCall (steps.Stop point number) = Unit {0}
 IsOfCall (steps.Take take) = Unit {0}
 IsOfCall (steps.Audit point connector duration) = Unit {0}
 IsOfCall (steps.Status point) = Unit {0}
+IsOfCall (steps.RemoteStart point connector id_tag profile) = Unit {0}
 IsOfCall step = ⊥
 
 abbrev pub is_schedule : Response → Bool

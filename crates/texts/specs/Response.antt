@@ -9,14 +9,15 @@ use Rattle.messages.specs.declared.call_fault.CallFault.TheVariants as faults
 use Rattle.messages.specs.declared.response.Response.{Response}
 use Rattle.messages.specs.declared.response.Response.TheVariants as responses
 use Rattle.site_core.specs.declared.reply.Reply.{Reply}
-use Rattle.site_core.specs.declared.reply.Reply.TheVariants.{Accepted, Unknown, Started, Repeated, Ended, NoSuch, Taken, Compiled, Answered, NotYet, Finished, Attached, Sent, Nothing, Confirmed, LinkLost, Audited, VerdictKept, Status}
+use Rattle.site_core.specs.declared.reply.Reply.TheVariants.{Accepted, Unknown, Started, Repeated, Ended, NoSuch, Taken, Compiled, Answered, NotYet, Finished, Attached, Sent, Nothing, Confirmed, LinkLost, Audited, VerdictKept, Status, Called}
 use Rattle.site_core.specs.State.{ScheduleAnswer}
 
--- a refused SetChargingProfile, GetCompositeSchedule, AuditPoint or PointStatus is answered by its
--- .conf, any other refused CALL by a CALLERROR
+-- a refused SetChargingProfile, GetCompositeSchedule, RemoteStartTransaction, AuditPoint or
+-- PointStatus is answered by its .conf, any other refused CALL by a CALLERROR
 abbrev pub refused_response : ActionKind → Refusal → Response
 refused_response kinds.SetChargingProfile refusal = responses.Rejected refusal
 refused_response kinds.GetCompositeSchedule refusal = responses.Rejected refusal
+refused_response kinds.RemoteStartTransaction refusal = responses.Rejected refusal
 refused_response kinds.AuditPoint refusal = responses.Rejected refusal
 refused_response kinds.PointStatus refusal = responses.Rejected refusal
 refused_response _ refusal = responses.Error (faults.Refused refusal)
@@ -50,6 +51,7 @@ reply_response unit kind LinkLost = None
 reply_response unit kind (Audited call asked) = Some responses.Accepted
 reply_response unit kind VerdictKept = None
 reply_response unit kind (Status status) = Some (responses.PointStatus status)
+reply_response unit kind (Called call) = Some responses.Accepted
 
 -- what came of a step as a response to a CALL of this kind
 abbrev pub response_of : Unit → ActionKind → Result Reply Refusal → Option Response

@@ -6,14 +6,16 @@ ghost use Rattle.ocppj_frame.specs.ByCases.Message.{message_of_text};
 ghost use Rattle.ocppj_frame.specs.Payload.{tree_at};
 ghost use Rattle.profile.specs.Parts.{profile_of_parts};
 ghost use Rattle.messages.specs.Action.{action_of_kind};
+ghost use Rattle.messages.specs.Said.{is_accepted_reply};
 ghost use Rattle.texts.specs.Unread.{IsIdIn};
-ghost use Rattle.texts.specs.Asked.{begin_of, take_of, wanted_by, wanted_by_making, wanted_by_reading, call_numbered, asked_confirm, asked_of_reply, asked_of_message, asked_of, asked_with, asks_schedule, is_schedule_kind, hold_of, AsksByCall};
+ghost use Rattle.texts.specs.Asked.{begin_of, take_of, remote_profile, wanted_by, wanted_by_making, wanted_by_reading, wanted_by_remote_start, call_numbered, asked_confirm, asked_of_reply, asked_of_message, asked_of, asked_with, asks_schedule, is_schedule_kind, hold_of, AsksByCall};
 
 use crate::number::number_of;
 use crate::sent_text::SentText;
 use crate::unread::Unread;
 use messages::{
-    Action, ActionKind, CallFault, Response, ScheduleRequest, Side, StartTransaction, read_fields,
+    Action, ActionKind, CallFault, RemoteStartTransaction, Response, ScheduleRequest, Side,
+    StartTransaction, is_accepted, read_fields,
 };
 use ocpp_scalars::Refusal;
 use ocppj_frame::{Frame, FrameFault, MessageId, Node, ReadingMemory, read_frame};
@@ -41,10 +43,11 @@ pub enum Asked {
         kind: ActionKind,
         step: Step,
     },
-    /// The message is the point's reply to the call of this number.
+    /// The message is the point's reply to the call of this number, and accepts it or doesn't.
     Confirm {
         point: PointId,
         call: u64,
+        accepted: bool,
     },
 }
 
@@ -69,7 +72,10 @@ pub fn asked_of(
     ensures call { IfErr result (λ unread. IsIdIn (message_of_text text.now.frame) unread.call) }
 {
     match read_frame(memory, text.frame()) {
-        Ok(frame) => asked_of_message(alloc, text, frame),
+        Ok(frame) => {
+            let accepted = is_accepted(&frame);
+            asked_of_message(alloc, text, frame, accepted)
+        }
         Err(FrameFault::Formation { id }) => Ok(Asked::Respond {
             id,
             response: Response::Error(CallFault::FormationViolation),
@@ -95,7 +101,8 @@ pub fn hold_of(
             if !asks_schedule(&frame) {
                 return Ok(None);
             }
-            Ok(Some(asked_of_message(alloc, text, frame)?))
+            let accepted = is_accepted(&frame);
+            Ok(Some(asked_of_message(alloc, text, frame, accepted)?))
         }
         Err(FrameFault::Formation { .. } | FrameFault::Dropped) => Ok(None),
         Err(FrameFault::OutOfMemory) => Err(Unread { call: None }),
@@ -119,7 +126,13 @@ fn is_schedule_kind(kind: Option<ActionKind>) -> bool
 }
 
 /// What a message asks for: only a CALL is answered, and a reply may confirm a call.
-fn asked_of_message(alloc: Global, text: &SentText<'_>, frame: Frame<'_>) -> Result<Asked, Unread>
+fn asked_of_message(
+    alloc: Global,
+    text: &SentText<'_>,
+    frame: Frame<'_>,
+    accepted: bool,
+) -> Result<Asked, Unread>
+    requires { accepted ≡ is_accepted_reply (message_in frame) }
     ensures asked { IfOk result
         (λ asked. asked ≡ asked_of_message text.now (Ok (message_in frame.entry))) }
     ensures call { IfErr result (λ unread. IsIdIn (Ok (message_in frame.entry)) unread.call) }
@@ -141,34 +154,48 @@ fn asked_of_message(alloc: Global, text: &SentText<'_>, frame: Frame<'_>) -> Res
                 Err(AllocError) => Err(Unread { call: Some(id) }),
             }
         }
-        Frame::Reply { id, .. } => asked_of_reply(alloc, text, id.as_str()),
-        Frame::Fault { id } => asked_of_reply(alloc, text, id.as_str()),
+        Frame::Reply { id, .. } => asked_of_reply(alloc, text, id.as_str(), accepted),
+        Frame::Fault { id } => asked_of_reply(alloc, text, id.as_str(), accepted),
         Frame::Other => Ok(Asked::Nothing),
     }
 }
 
 /// What a reply of this id asks for: a point's confirms the call of that number.
-fn asked_of_reply(alloc: Global, text: &SentText<'_>, id: &str) -> Result<Asked, Unread>
+fn asked_of_reply(
+    alloc: Global,
+    text: &SentText<'_>,
+    id: &str,
+    accepted: bool,
+) -> Result<Asked, Unread>
     ensures asked { IfOk result
-        (λ asked. asked ≡ asked_of_reply text.now.sender text.now.point id.now) }
+        (λ asked. asked ≡ asked_of_reply text.now.sender text.now.point id.now accepted) }
     ensures call { IfErr result (λ unread. unread.call ≡ None) }
 {
     match text.sender() {
         Side::Operator => Ok(Asked::Nothing),
-        Side::Point => asked_confirm(alloc, text.point(), call_numbered(id)),
+        Side::Point => asked_confirm(alloc, text.point(), accepted, call_numbered(id)),
     }
 }
 
 /// The confirmation of a point's call of this number, if there is one.
-fn asked_confirm(alloc: Global, point: &str, call: Option<u64>) -> Result<Asked, Unread>
-    ensures asked { IfOk result (λ asked. asked ≡ asked_confirm point.now call) }
+fn asked_confirm(
+    alloc: Global,
+    point: &str,
+    accepted: bool,
+    call: Option<u64>,
+) -> Result<Asked, Unread>
+    ensures asked { IfOk result (λ asked. asked ≡ asked_confirm point.now accepted call) }
     ensures call { IfErr result (λ unread. unread.call ≡ None) }
 {
     let Some(call) = call else {
         return Ok(Asked::Nothing);
     };
     match PointId::copied(alloc, point) {
-        Ok(point) => Ok(Asked::Confirm { point, call }),
+        Ok(point) => Ok(Asked::Confirm {
+            point,
+            call,
+            accepted,
+        }),
         Err(AllocError) => Err(Unread { call: None }),
     }
 }
@@ -221,6 +248,9 @@ fn wanted_by(alloc: Global, text: &SentText<'_>, action: Action) -> Result<Wante
         }
         Action::GetCompositeSchedule(request) => {
             return Ok(Wanted::Step(step_of_ask(alloc, text, &request)?));
+        }
+        Action::RemoteStartTransaction(start) => {
+            return wanted_by_remote_start(alloc, text, start);
         }
         Action::StartTransaction(start) => {
             return Ok(Wanted::Step(step_of_start(alloc, text, start)?));
@@ -321,5 +351,41 @@ fn wanted_by_parts(
             Ok(Wanted::Step(Step::Install { point, row }))
         }
         Err((refusal, _)) => Ok(Wanted::Response(Response::Rejected(refusal))),
+    }
+}
+
+/// The remote start that these fields make, or that their profile is none.
+fn wanted_by_remote_start(
+    alloc: Global,
+    text: &SentText<'_>,
+    start: RemoteStartTransaction,
+) -> Result<Wanted, AllocError>
+    ensures { IfOk result (λ wanted. wanted
+        ≡ wanted_by_remote_start text.now start (remote_profile start.profile)) }
+{
+    match remote_profile(start.profile) {
+        Ok(profile) => Ok(Wanted::Step(Step::RemoteStart {
+            point: PointId::copied(alloc, text.point())?,
+            connector: start.connector,
+            id_tag: start.id_tag,
+            profile,
+        })),
+        Err(refusal) => Ok(Wanted::Response(Response::Rejected(refusal))),
+    }
+}
+
+/// The profile of a remote start, if it has one, or why its fields make none. The transactionId is
+/// dropped: the profile comes into force with the transaction that the start begins.
+fn remote_profile(parts: Option<ProfileParts>) -> Result<Option<Profile>, Refusal>
+    ensures { result ≡ remote_profile parts }
+{
+    let Some(parts) = parts else {
+        return Ok(None);
+    };
+    let mut parts = parts;
+    parts.transaction = None;
+    match Profile::try_new(parts) {
+        Ok(profile) => Ok(Some(profile)),
+        Err((refusal, _)) => Err(refusal),
     }
 }

@@ -29,7 +29,7 @@ pub fn reply_response(unit: Unit, kind: ActionKind, reply: Reply) -> Option<Resp
     ensures { result ≡ reply_response unit kind reply }
 {
     match reply {
-        Reply::Accepted | Reply::Audited { .. } => Some(Response::Accepted),
+        Reply::Accepted | Reply::Audited { .. } | Reply::Called(_) => Some(Response::Accepted),
         Reply::Unknown => Some(Response::Unknown),
         Reply::Started(transaction) => Some(Response::StartTransaction { transaction }),
         Reply::Repeated(transaction) => Some(Response::StartTransaction { transaction }),
@@ -69,14 +69,15 @@ pub fn schedule_response(
     }
 }
 
-/// A refused SetChargingProfile, GetCompositeSchedule, AuditPoint or PointStatus is answered by its
-/// .conf, any other refused CALL by a CALLERROR.
+/// A refused SetChargingProfile, GetCompositeSchedule, RemoteStartTransaction, AuditPoint or
+/// PointStatus is answered by its .conf, any other refused CALL by a CALLERROR.
 pub fn refused_response(kind: ActionKind, refusal: Refusal) -> Response
     ensures { result ≡ refused_response kind refusal }
 {
     match kind {
         ActionKind::SetChargingProfile
         | ActionKind::GetCompositeSchedule
+        | ActionKind::RemoteStartTransaction
         | ActionKind::AuditPoint
         | ActionKind::PointStatus => Response::Rejected(refusal),
         _ => Response::Error(CallFault::Refused(refusal)),

@@ -11,6 +11,7 @@ ghost use Rattle.version_store.specs.Calls.{Calls, IsRefusalOf};
 mod audits;
 mod changes;
 mod links;
+mod remote_starts;
 mod requests;
 
 use crate::folded::{EventRoom, Folded};

@@ -1,11 +1,11 @@
 //! The job of `central call`.
 
-use crate::program::command_line::Calling;
+use crate::program::command_line::{Calling, Starting};
 use crate::program::payload_file::read_payload_file;
 use crate::program::program_fault::ProgramFault;
 use client::{
     Address, CallEnd, ClientFault, Lines, OperatorClient, ask_call, audit_call, clear_call,
-    connect, set_profile_call, status_call,
+    connect, remote_start_call, set_profile_call, status_call,
 };
 use findings::{SentCheck, Severity, answer_sentence, check_sent, json_break};
 use std::alloc::AllocGlobal;
@@ -28,6 +28,23 @@ struct Caller<'a, R: RandomSource> {
     all_accepted: bool,
 }
 
+/// What the options' files hold.
+#[derive(Drop)]
+struct GivenFiles {
+    /// A SetChargingProfile's payload.
+    set_profile: Option<String>,
+    remote_start: Option<RemoteStart>,
+}
+
+/// A RemoteStartTransaction that an option gives.
+#[derive(Drop)]
+struct RemoteStart {
+    /// Its frame.
+    text: String,
+    /// The text of its profile, where that is given.
+    profile: Option<String>,
+}
+
 /// Sends what the options say, or the lines of standard input. Returns the exit status.
 pub fn call_site<
     R: Files
@@ -42,10 +59,7 @@ pub fn call_site<
         + Drop,
 >(rt: &R, calling: Calling<'_>) -> Result<u8, ProgramFault> {
     let address = Address::of_operator(rt.alloc(), calling.url)?;
-    let payload = match calling.set_profile {
-        Some(path) => Some(read_payload_file(rt, path)?),
-        None => None,
-    };
+    let files = read_files(rt, calling)?;
     let socket = connect(rt, rt.alloc(), address)?;
     let mut caller = Caller {
         rt,
@@ -53,7 +67,7 @@ pub fn call_site<
         all_accepted: true,
     };
     if calling.gives_calls() {
-        caller.send_given(payload, calling)?;
+        caller.send_given(&files, calling)?;
     } else {
         caller.send_lines()?;
     }
@@ -61,21 +75,73 @@ pub fn call_site<
     Ok(if caller.all_accepted { 0 } else { REFUSED })
 }
 
+/// Reads the files of the options. A connector that is no number is a fault before them.
+fn read_files<R: Files + Eprint + AllocGlobal>(
+    rt: &R,
+    calling: Calling<'_>,
+) -> Result<GivenFiles, ProgramFault> {
+    let connector = match calling.remote_start {
+        Some(starting) => Some((connector_of(starting)?, starting)),
+        None => None,
+    };
+    let set_profile = match calling.set_profile {
+        Some(path) => Some(read_payload_file(rt, path)?),
+        None => None,
+    };
+    let remote_start = match connector {
+        Some((connector, starting)) => Some(read_remote_start(rt, connector, starting)?),
+        None => None,
+    };
+    Ok(GivenFiles {
+        set_profile,
+        remote_start,
+    })
+}
+
+/// The number of the connector at which a transaction is to start.
+fn connector_of(starting: Starting<'_>) -> Result<u32, ProgramFault> {
+    match starting.connector.parse::<u32>() {
+        Ok(connector) => Ok(connector),
+        Err(_) => Err(ProgramFault::NoNumber),
+    }
+}
+
+/// The RemoteStartTransaction at a connector, with the profile of its file, where one is given.
+fn read_remote_start<R: Files + Eprint + AllocGlobal>(
+    rt: &R,
+    connector: u32,
+    starting: Starting<'_>,
+) -> Result<RemoteStart, ProgramFault> {
+    let alloc = rt.alloc();
+    let Some(path) = starting.profile else {
+        let text = remote_start_call(alloc, connector, starting.id_tag, None)?;
+        return Ok(RemoteStart {
+            text,
+            profile: None,
+        });
+    };
+    let profile = read_payload_file(rt, path)?;
+    let text = remote_start_call(alloc, connector, starting.id_tag, Some(profile.as_str()))?;
+    Ok(RemoteStart {
+        text,
+        profile: Some(profile),
+    })
+}
+
 impl<R: Input + Print + Eprint + AllocGlobal + RandomSource + Wait + Drop> Caller<'_, R> {
-    /// Sends the calls of the options.
-    fn send_given(
-        &mut self,
-        payload: Option<String>,
-        calling: Calling<'_>,
-    ) -> Result<(), ProgramFault> {
+    /// Sends the calls of the options, in their order.
+    fn send_given(&mut self, files: &GivenFiles, calling: Calling<'_>) -> Result<(), ProgramFault> {
         let alloc = self.rt.alloc();
-        if let Some(payload) = payload {
+        if let Some(payload) = &files.set_profile {
             let text = set_profile_call(alloc, payload.as_str())?;
             self.send_with(payload.as_str(), "set-profile", text.as_str())?;
         }
         if let Some(payload) = calling.clear {
             let text = clear_call(alloc, payload)?;
             self.send_with(payload, "clear", text.as_str())?;
+        }
+        if let Some(start) = &files.remote_start {
+            self.send_start(start)?;
         }
         if let Some(asking) = calling.ask {
             let text = ask_call(alloc, asking.connector, asking.seconds)?;
@@ -90,6 +156,14 @@ impl<R: Input + Print + Eprint + AllocGlobal + RandomSource + Wait + Drop> Calle
             self.send("status", text.as_str())?;
         }
         Ok(())
+    }
+
+    /// Sends a RemoteStartTransaction, once its profile is JSON.
+    fn send_start(&mut self, start: &RemoteStart) -> Result<(), ProgramFault> {
+        match &start.profile {
+            Some(profile) => self.send_with(profile.as_str(), "remote-start", start.text.as_str()),
+            None => self.send("remote-start", start.text.as_str()),
+        }
     }
 
     /// Sends the lines of standard input.
@@ -107,9 +181,9 @@ impl<R: Input + Print + Eprint + AllocGlobal + RandomSource + Wait + Drop> Calle
         unreachable!()
     }
 
-    /// Sends the CALL of an option with its payload, once that is JSON.
-    fn send_with(&mut self, payload: &str, name: &str, text: &str) -> Result<(), ProgramFault> {
-        if let Some(fault) = json_break(self.rt.alloc(), payload)? {
+    /// Sends the CALL of an option that is given a JSON text, once that is JSON.
+    fn send_with(&mut self, given: &str, name: &str, text: &str) -> Result<(), ProgramFault> {
+        if let Some(fault) = json_break(self.rt.alloc(), given)? {
             self.say(format!(in self.rt.alloc(); "{name}: {fault}")?);
             return self.report(name, "NotACall");
         }

@@ -1,8 +1,8 @@
 //! The command line, by clap's own definition of how words are read.
 
-ghost use Rattle.std.specs.Prelude.{◌≡◌, IfOk, IfSome, IsSomeAnd, map, option_map, string_bytes};
+ghost use Rattle.std.specs.Prelude.{◌≡◌, IfOk, IfSome, IsSomeAnd, codes, map, option_map, string_bytes};
 ghost use Rattle.clap.specs.Words.{FailsBy, all_of, first_of, found_of, rows_of};
-ghost use Rattle.central.specs.CommandLine.{IsAsking, IsCalling, IsChecking, IsExplaining, IsFlag, IsJob, IsNumber, IsOptionalNumber, IsPointing, IsServing, IsShowing, line_faults, subcommand_named};
+ghost use Rattle.central.specs.CommandLine.{IsAsking, IsCalling, IsChecking, IsExplaining, IsFlag, IsJob, IsNumber, IsOptionalNumber, IsPointing, IsServing, IsShowing, IsStarting, line_faults, subcommand_named};
 
 use crate::program::commands::central_command;
 use clap::{ArgMatches, Error};
@@ -51,6 +51,8 @@ pub struct Calling<'a> {
     pub set_profile: Option<&'a str>,
     /// A ClearChargingProfile's payload.
     pub clear: Option<&'a str>,
+    /// A RemoteStartTransaction.
+    pub remote_start: Option<Starting<'a>>,
     /// A GetCompositeSchedule.
     pub ask: Option<Asking<'a>>,
     /// An AuditPoint.
@@ -64,6 +66,16 @@ pub struct Calling<'a> {
 pub struct Asking<'a> {
     pub connector: &'a str,
     pub seconds: &'a str,
+}
+
+/// What is to be started: a transaction at a connector, by an idTag.
+#[derive(Clone, Copy, Debug)]
+pub struct Starting<'a> {
+    /// The text of the connector.
+    pub connector: &'a str,
+    pub id_tag: &'a str,
+    /// The file of its TxProfile.
+    pub profile: Option<&'a str>,
 }
 
 /// A simulated charge point.
@@ -123,6 +135,7 @@ impl Calling<'_> {
     pub fn gives_calls(&self) -> bool {
         self.set_profile.is_some()
             || self.clear.is_some()
+            || self.remote_start.is_some()
             || self.ask.is_some()
             || self.audit.is_some()
             || self.status
@@ -215,6 +228,7 @@ fn calling_of<'a>(given: &ArgMatches<'a>) -> Option<Calling<'a>>
     let url = text_of(given, "url")?;
     let set_profile = text_of(given, "set-profile");
     let clear = text_of(given, "clear");
+    let remote_start = starting_of(given)?;
     let ask = asking_of(given, "ask")?;
     let audit = asking_of(given, "audit")?;
     let status = is_given(given, "status");
@@ -222,10 +236,32 @@ fn calling_of<'a>(given: &ArgMatches<'a>) -> Option<Calling<'a>>
         url,
         set_profile,
         clear,
+        remote_start,
         ask,
         audit,
         status,
     })
+}
+
+/// What is to be started, where it is given. None where its values are neither two nor three.
+fn starting_of<'a>(given: &ArgMatches<'a>) -> Option<Option<Starting<'a>>>
+    ensures { IfSome result (λ starting.
+        IsStarting (all_of (codes "remote-start") (rows_of (found_of given.now))) starting) }
+{
+    match texts_of(given, "remote-start") {
+        Some(&[connector, id_tag]) => Some(Some(Starting {
+            connector,
+            id_tag,
+            profile: None,
+        })),
+        Some(&[connector, id_tag, profile]) => Some(Some(Starting {
+            connector,
+            id_tag,
+            profile: Some(profile),
+        })),
+        Some(_) => None,
+        None => Some(None),
+    }
 }
 
 /// What is asked for by the two values of an option, where it is given. None where they aren't two.

@@ -2,15 +2,15 @@
 
 ghost use Rattle.std.specs.Prelude.{◌≡◌, false, IfOk};
 ghost use Rattle.clap.specs.Words.{App, app_of, rule_of};
-ghost use Rattle.central.specs.CommandLine.{needed, numbered, option, optional, optional_numbers, flag, central_app, replay_command, serve_command, call_command, point_command, explain_command, check_command, show_command};
+ghost use Rattle.central.specs.CommandLine.{needed, numbered, option, optional, optional_numbers, optional_values, flag, central_app, replay_command, serve_command, call_command, point_command, explain_command, check_command, show_command};
 
 use crate::program::help_text::{
     ABOUT, ASK_HELP, ASK_VALUES, AT_HELP, AUDIT_HELP, CALL_ABOUT, CALL_NOTES, CHECK_ABOUT,
     CHECK_NOTES, CLEAR_HELP, CONNECTOR_HELP, DURATION_HELP, EXPLAIN_ABOUT, EXPLAIN_NOTES, ID_HELP,
     JOURNAL_HELP, JSON_HELP, LISTEN_HELP, OPERATOR_URL_HELP, PICTURE_HELP, POINT_ABOUT, POINT_HELP,
-    POINT_NOTES, POINT_URL_HELP, REPLAY_ABOUT, REPLAY_EXAMPLE, SERVE_ABOUT, SERVE_NOTES,
-    SESSIONS_HELP, SET_PROFILE_HELP, SHOW_ABOUT, SHOW_NOTES, SITE_HELP, START_HELP, STATUS_HELP,
-    STATUSES, TRACE_HELP, VERSION, WORKERS_HELP,
+    POINT_NOTES, POINT_URL_HELP, REMOTE_START_HELP, REPLAY_ABOUT, REPLAY_EXAMPLE, SERVE_ABOUT,
+    SERVE_NOTES, SESSIONS_HELP, SET_PROFILE_HELP, SHOW_ABOUT, SHOW_NOTES, SITE_HELP, START_HELP,
+    START_VALUES, STATUS_HELP, STATUSES, TRACE_HELP, VERSION, WORKERS_HELP,
 };
 use clap::builder::ValueParser;
 use clap::{Arg, ArgAction, Command};
@@ -80,8 +80,8 @@ fn serve<'a>(alloc: Global) -> Result<Command<'a>, AllocError>
         .arg(optional(alloc, "journal", "FILE", JOURNAL_HELP))
 }
 
-/// `call --url U [--set-profile FILE] [--clear CRITERIA] [--ask CONNECTOR SECONDS]
-/// [--audit CONNECTOR SECONDS] [--status]`.
+/// `call --url U [--set-profile FILE] [--clear CRITERIA] [--remote-start CONNECTOR TAG [FILE]]
+/// [--ask CONNECTOR SECONDS] [--audit CONNECTOR SECONDS] [--status]`.
 fn call<'a>(alloc: Global) -> Result<Command<'a>, AllocError>
     ensures { IfOk result (λ command. app_of command ≡ call_command) }
 {
@@ -91,6 +91,7 @@ fn call<'a>(alloc: Global) -> Result<Command<'a>, AllocError>
         .arg(needed(alloc, "url", "U", OPERATOR_URL_HELP))?
         .arg(optional(alloc, "set-profile", "FILE", SET_PROFILE_HELP))?
         .arg(optional(alloc, "clear", "CRITERIA", CLEAR_HELP))?
+        .arg(starting(alloc, "remote-start"))?
         .arg(asking(alloc, "ask", ASK_HELP))?
         .arg(asking(alloc, "audit", AUDIT_HELP))?
         .arg(flag(alloc, "status", STATUS_HELP))
@@ -157,6 +158,17 @@ fn show<'a>(alloc: Global) -> Result<Command<'a>, AllocError>
             MAX_SCRIPT_BYTES as u64,
         ))?
         .arg(flag(alloc, "json", JSON_HELP))
+}
+
+/// An option that takes CONNECTOR and TAG, and perhaps FILE.
+fn starting<'a>(alloc: Global, name: &'a str) -> Arg<'a>
+    ensures rule { rule_of result ≡ optional_values name.now }
+    ensures global { result.global ≡ false }
+{
+    option(alloc, name)
+        .num_args(2usize..=3usize)
+        .value_names(START_VALUES.as_slice())
+        .help(REMOTE_START_HELP)
 }
 
 /// An option that takes CONNECTOR and SECONDS.

@@ -75,6 +75,13 @@ pub const SET_PROFILE_HELP: &str = "Sends SetChargingProfile with the payload th
 pub const CLEAR_HELP: &str =
     "Sends ClearChargingProfile with this payload; {} clears all, fuse limits too";
 
+/// What the values of `--remote-start` are.
+pub static START_VALUES: [&str; 3] = ["CONNECTOR", "TAG", "FILE"];
+
+/// What `--remote-start` says.
+pub const REMOTE_START_HELP: &str =
+    "Sends RemoteStartTransaction, with the TxProfile that FILE holds if it is given";
+
 /// What the values of `--ask` and of `--audit` are.
 pub static ASK_VALUES: [&str; 2] = ["CONNECTOR", "SECONDS"];
 
@@ -97,6 +104,7 @@ Examples:
   central call --url ws://127.0.0.1:9000/operator/CP1 --ask 1 86400
   central call --url ws://127.0.0.1:9000/operator/CP1 --set-profile night.json --ask 0 3600
   central call --url ws://127.0.0.1:9000/operator/CP1 --clear '{\"id\":5}'
+  central call --url ws://127.0.0.1:9000/operator/CP1 --remote-start 1 ANN slow.json
   central call --url ws://127.0.0.1:9000/operator/CP1 --audit 1 86400
   central call --url ws://127.0.0.1:9000/operator/CP1 --status
 where night.json is, say,
@@ -104,6 +112,9 @@ where night.json is, say,
    \"chargingProfilePurpose\":\"TxDefaultProfile\",\"chargingProfileKind\":\"Recurring\",\"recurrencyKind\":\"Daily\",
    \"chargingSchedule\":{\"startSchedule\":\"2025-01-01T22:00:00Z\",\"duration\":28800,\"chargingRateUnit\":\"A\",
     \"chargingSchedulePeriod\":[{\"startPeriod\":0,\"limit\":10}]}}}
+and slow.json a profile by itself:
+  {\"chargingProfileId\":6,\"stackLevel\":0,\"chargingProfilePurpose\":\"TxProfile\",\"chargingProfileKind\":\"Relative\",
+   \"chargingSchedule\":{\"chargingRateUnit\":\"A\",\"chargingSchedulePeriod\":[{\"startPeriod\":0,\"limit\":6}]}}
 
 Exit statuses: 0 all was accepted; 2 an answer was an error or Rejected, or a line is no CALL; 3 nobody
 listens there in OCPP 1.6, the connection failed, a file or a device did, or memory ran out; 4 the
@@ -127,8 +138,9 @@ pub const POINT_NOTES: &str =
   stop CONNECTOR                 sends the StopTransaction of the connector's transaction
   pause SECONDS                  waits, and answers what comes meanwhile
 and disconnects behind the last one. It answers the central system's calls from its own profiles and
-transactions. The central system sends the next one after each message of the point, so that a step or two
-may be needed until all have come. Standard output has a line
+transactions, and a start that it is asked for comes before its next line. The central system sends the
+next call after each message of the point, so that a step or two may be needed until all have come.
+Standard output has a line
   sent FRAME                     for each message that it sends
   got FRAME                      for each that comes
   ! LINE NAME                    for each line that says none of this (BadLine, BadText), or a step
@@ -201,7 +213,8 @@ pub const SHOW_ABOUT: &str = "Shows what each point of a site has after a script
 /// What `show` reads and prints.
 pub const SHOW_NOTES: &str =
     "The script is standard input, as of 'central replay'; its lines are played and not printed. Then the
-profiles, transactions, audit and waiting calls of each point are printed, and the requests that are held.
+profiles, transactions, audit, remote starts and waiting calls of each point are printed, and the requests
+that are held.
 
 Example:
   central show --site site.json < script

@@ -10,11 +10,21 @@ use std::rt::Files;
 /// The most bytes of a payload's file: no message may have more.
 const MAX_PAYLOAD_BYTES: usize = 1_048_576;
 
-/// Reads the text of a file.
-pub fn read_payload_file<R: Files + AllocGlobal>(
+/// Reads the text of a file. One that can't be read is named on standard error.
+pub fn read_payload_file<R: Files + Eprint + AllocGlobal>(
     rt: &R,
     path: &str,
 ) -> Result<String, ProgramFault> {
+    let read = read_text_file(rt, path);
+    if let Err(ProgramFault::File) = &read {
+        let _ = eprintln!(rt;
+            "central: {path}: it isn't there, may not be read, isn't UTF-8, or is longer than a message may be"
+        );
+    }
+    read
+}
+
+fn read_text_file<R: Files + AllocGlobal>(rt: &R, path: &str) -> Result<String, ProgramFault> {
     let mut file = match fs::open(rt, path) {
         Ok(file) => file,
         Err(error) if error.kind() == ErrorKind::OutOfMemory => return Err(

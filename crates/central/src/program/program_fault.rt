@@ -39,7 +39,8 @@ pub enum ProgramFault {
     /// A client stopped.
     #[error("central: {0}")]
     Client(ClientFault),
-    /// The file of a payload can't be read, isn't UTF-8, or is longer than a message may be.
+    /// The file of a payload or a profile can't be read, isn't UTF-8, or is longer than a message
+    /// may be.
     #[error("central: device: read")]
     File,
     /// The site has no point of the identity that the command line names.
@@ -51,6 +52,9 @@ pub enum ProgramFault {
     /// The command line names no instant.
     #[error("central: command line: --start is no instant, such as 2025-01-01T12:00:00Z")]
     NoInstant,
+    /// The connector of a remote start is no number.
+    #[error("central: command line: the CONNECTOR of --remote-start is no whole number from 0 on")]
+    NoNumber,
     /// What the command line asks for ends past the last instant.
     #[error("central: command line: it would end past the year 9999")]
     PastCalendar,
@@ -77,7 +81,7 @@ impl ProgramFault {
             ProgramFault::Client(_) => 3,
             ProgramFault::Words | ProgramFault::NoSuchPoint | ProgramFault::NoSuchConnector => 4,
             ProgramFault::NoInstant | ProgramFault::PastCalendar | ProgramFault::NoPicture => 4,
-            ProgramFault::JournalExists => 4,
+            ProgramFault::JournalExists | ProgramFault::NoNumber => 4,
         }
     }
 }

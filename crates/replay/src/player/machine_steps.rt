@@ -168,14 +168,21 @@ pub fn confirm_call(
     machine: &mut Machine,
     point: PointId,
     call: u64,
+    accepted: bool,
 ) -> Result<StepOutcome, AllocError>
-    ensures { IfOk result (λ outcome. confirmed_by machine.old point call
+    ensures { IfOk result (λ outcome. confirmed_by machine.old point call accepted
         ≡ record { outcome = outcome; after = machine.new }) }
 {
-    match machine.link_of(point.as_str()) {
-        Some(link) => step_exactly(machine, Step::Confirm { point, link, call }),
-        None => Ok(Err(Refusal::NothingInFlight)),
-    }
+    let Some(link) = machine.link_of(point.as_str()) else {
+        return Ok(Err(Refusal::NothingInFlight));
+    };
+    let step = Step::Confirm {
+        point,
+        link,
+        call,
+        accepted,
+    };
+    step_exactly(machine, step)
 }
 
 /// Judges an audit by what its point said. A verdict that is short of memory is none.

@@ -171,18 +171,19 @@ impl Player {
         text: &SentText<'_>,
         point: PointId,
         call: u64,
+        accepted: bool,
     ) -> Result<StepOutcome, AllocError>
-        ensures { IfOk result (λ outcome.
-            ComesTo self.old (replied_by self.old.machine text.now point call) outcome self.new) }
+        ensures { IfOk result (λ outcome. ComesTo self.old
+            (replied_by self.old.machine text.now point call accepted) outcome self.new) }
     {
         match self.machine.audit_job(point.as_str(), call) {
             Ok(None) => {
-                let outcome = confirm_call(&mut self.machine, point, call)?;
+                let outcome = confirm_call(&mut self.machine, point, call, accepted)?;
                 Ok(outcome)
             }
             Ok(Some(job)) => {
                 let audited = point.copy(self.alloc)?;
-                let outcome = confirm_call(&mut self.machine, point, call)?;
+                let outcome = confirm_call(&mut self.machine, point, call, accepted)?;
                 if outcome.is_ok() {
                     self.judge_reply(text, audited, call, job)?;
                 }

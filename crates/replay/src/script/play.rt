@@ -232,8 +232,12 @@ pub fn asked_outcome(
             let outcome = player.step_at_once(step)?;
             step_outcome(player.alloc(), unit, id, kind, outcome)
         }
-        Asked::Confirm { point, call } => {
-            let outcome = player.reply_to_call(text, point, call)?;
+        Asked::Confirm {
+            point,
+            call,
+            accepted,
+        } => {
+            let outcome = player.reply_to_call(text, point, call, accepted)?;
             Ok(without_lines(player.alloc(), change_of(&outcome)))
         }
     }

@@ -14,10 +14,12 @@ pub enum PointChange {
     Nothing,
     /// Profiles were installed or removed, and a call that tells the point so was added.
     Profiles,
-    /// A transaction began or ended, and TxProfiles may be gone with it.
+    /// A transaction began or ended. TxProfiles may be gone with it, or one may be installed.
     Transaction,
     /// An audit began, and the call that asks the point was added.
     Audit,
+    /// The point was asked to start a transaction, and the call that asks so was added.
+    RemoteStart,
     /// The point answered the call in flight, which is done with. An answer to its audit is judged.
     Confirmed,
 }
@@ -40,6 +42,7 @@ fn change_by(reply: &Reply) -> PointChange
         Reply::Accepted => PointChange::Profiles,
         Reply::Started(_) | Reply::Ended => PointChange::Transaction,
         Reply::Audited { .. } => PointChange::Audit,
+        Reply::Called(_) => PointChange::RemoteStart,
         Reply::Confirmed => PointChange::Confirmed,
         Reply::Unknown
         | Reply::Repeated(_)

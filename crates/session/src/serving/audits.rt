@@ -78,7 +78,7 @@ pub(crate) fn audit_to_judge(performed: &Performed, audit: Option<OpenAudit>) ->
 /// - An Install or a Clear, or a new link, changes nothing: the book of the audit is kept.
 /// - A Finish stopped the store. Then the verdict is refused.
 ///
-/// A refused verdict is dropped, for want of memory too: the audit then has none. The journal notes
+/// A refused verdict is dropped, for lack of memory too: the audit then has none. The journal notes
 /// the message where its call is confirmed, and a replay judges it there. So its verdict may be
 /// another one, if a Start, a Stop or an AuditPoint is noted in between. A PointStatus in between is
 /// answered Waiting, but by a replay with the verdict.
@@ -111,7 +111,7 @@ fn bring_verdict<C: Ledger, A: Ledger>(
     }
 }
 
-/// The verdict on what a message says. What can't be read for want of memory is judged as unread.
+/// The verdict on what a message says. What can't be read for lack of memory is judged as unread.
 fn judged_by(
     alloc: Global,
     memory: &mut ReadingMemory,

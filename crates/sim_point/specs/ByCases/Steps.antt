@@ -8,7 +8,7 @@ use Rattle.sim_point.specs.declared.point_call.InFlight.{InFlight}
 
 -- a start is made at a connector that the point has
 abbrev pub Fits : BookState → PointCall → Type 0
-Fits book (StartTransaction connector begin) = (0 < connector) × (connector ≤ length book.ceilings)
+Fits book (StartTransaction connector begin profile) = (0 < connector) × (connector ≤ length book.ceilings)
 Fits book call = Unit {0}
 
 abbrev pub IsOf : BookState → Option InFlight → Type 0

@@ -1,4 +1,4 @@
--- What a method makes of a step: what the step does, or nothing, for the first cause or for want of
+-- What a method makes of a step: what the step does, or nothing, for the first cause or for lack of
 -- memory. Of private clauses.
 use Rattle.std.specs.Prelude.{◌≡◌, ◌≤◌, ℕ, Bool, true, false, List, length, Option, Result, Ok, Err, MatchResult, if◌then◌else◌}
 use Rattle.ocpp_scalars.specs.declared.refusal.Refusal.{Refusal}

@@ -19,7 +19,7 @@ use ocppj_frame::{Entries, Field, Node, list_field, tenths_field, text_field};
 use std::alloc::Global;
 
 /// The most connectors of a point.
-const MAX_CONNECTORS: usize = 64;
+pub(crate) const MAX_CONNECTORS: usize = 64;
 
 /// The most characters of a point's identity.
 const MAX_ID_CHARACTERS: usize = 48;
@@ -44,7 +44,7 @@ pub(crate) fn read_point(
     Ok((id, PointLimits { ceiling, ceilings }))
 }
 
-fn id_or_wrong(field: Field<&str>) -> Field<&str>
+pub(crate) fn id_or_wrong(field: Field<&str>) -> Field<&str>
     ensures { field_map (λ id. id.now) result ≡ id_or_wrong (field_map (λ id. id.now) field.entry) }
 {
     match field {
@@ -73,7 +73,7 @@ fn is_id_byte(b: u8) -> bool
 }
 
 /// The identity, where no earlier point has it.
-fn unused_id<'a>(site: &Site, id: &'a str) -> Result<&'a str, SiteFault>
+pub(crate) fn unused_id<'a>(site: &Site, id: &'a str) -> Result<&'a str, SiteFault>
     ensures id { MatchResult result
         (λ unused. unused_id site.now id.now ≡ Ok unused.now)
         (λ fault. unused_id site.now id.now ≡ Err fault) }

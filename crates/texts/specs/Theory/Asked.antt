@@ -11,6 +11,7 @@ use Rattle.profile.specs.declared.charging_profile.Profile.{Profile}
 use Rattle.profile.specs.Parts.{profile_of_parts}
 use Rattle.messages.specs.declared.action.Action.{Action}
 use Rattle.messages.specs.declared.action.Action.TheVariants as actions
+use Rattle.messages.specs.declared.action.RemoteStartTransaction.{RemoteStartTransaction}
 use Rattle.messages.specs.declared.action_kind.ActionKind.{ActionKind}
 use Rattle.messages.specs.declared.call_fault.CallFault.{CallFault}
 use Rattle.messages.specs.declared.response.Response.{Response}
@@ -20,6 +21,7 @@ use Rattle.messages.specs.declared.fixed_answer.FixedAnswer.{FixedAnswer}
 use Rattle.messages.specs.declared.fixed_answer.FixedAnswer.TheVariants as answers
 use Rattle.messages.specs.ActionKind.{action_named, kind_of_sender}
 use Rattle.messages.specs.FixedAnswer.{fixed_response}
+use Rattle.messages.specs.Said.{is_accepted_reply}
 use Rattle.messages.specs.Action.{action_of_kind}
 use Rattle.site_core.specs.declared.step.Step.{Step}
 use Rattle.site_core.specs.declared.step.Step.TheVariants as acts
@@ -27,7 +29,7 @@ use Rattle.texts.specs.declared.asked.Asked.{Asked}
 use Rattle.texts.specs.declared.asked.Wanted.{Wanted}
 use Rattle.texts.specs.declared.asked.Wanted.TheVariants as wants
 use Rattle.texts.specs.SentText.{Sent}
-use Rattle.texts.specs.Asked.{wanted_by_making, wanted_by, wanted_by_reading, asked_with, asked_of_kind, call_numbered, asked_confirm, asked_of_reply, asked_of_message, asked_of, asks_schedule, hold_of, IsOfCall, is_schedule, AsksByCall}
+use Rattle.texts.specs.Asked.{wanted_by_making, remote_profile, wanted_by_remote_start, wanted_by, wanted_by_reading, asked_with, asked_of_kind, call_numbered, asked_confirm, asked_of_reply, asked_of_message, asked_of, asks_schedule, hold_of, IsOfCall, is_schedule, AsksByCall}
 
 abbrev IsOfAction : Wanted → Type 0
 IsOfAction (wants.Step step) = IsOfCall step
@@ -37,6 +39,12 @@ made : (text : Sent) (connector : ℕ) (profile : Result Profile Refusal)
     → IsOfAction (wanted_by_making text connector profile)
 made text connector (Ok profile) = tt
 made text connector (Err refusal) = refl
+
+remotely : (text : Sent) (start : RemoteStartTransaction)
+    (profile : Result (Option Profile) Refusal)
+    → IsOfAction (wanted_by_remote_start text start profile)
+remotely text start (Ok profile) = tt
+remotely text start (Err refusal) = refl
 
 fixed : (answer : FixedAnswer) (now : ℕ) → is_schedule (fixed_response answer now) ≡ false
 fixed answers.BootNotification now = refl
@@ -48,6 +56,8 @@ fixed answers.UnknownVendorId now = refl
 wanted : (text : Sent) (action : Action) → IsOfAction (wanted_by text action)
 wanted text (actions.SetChargingProfile connector parts) =
     made text connector (profile_of_parts parts)
+wanted text (actions.RemoteStartTransaction start) =
+    remotely text start (remote_profile start.profile)
 wanted text (actions.Answered answer) = fixed answer text.moment
 wanted text actions.NotACall = refl
 -- each other action is a step
@@ -70,20 +80,23 @@ of_kind text id (Some kind) payload =
     with_wanted id kind (wanted_by_reading text (action_of_kind kind payload))
     (read text (action_of_kind kind payload))
 
-confirm : (point : List ℕ) (number : Option ℕ) → AsksByCall (asked_confirm point number)
-confirm point None = tt
-confirm point (Some number) = tt
+confirm : (point : List ℕ) (accepted : Bool) (number : Option ℕ)
+    → AsksByCall (asked_confirm point accepted number)
+confirm point accepted None = tt
+confirm point accepted (Some number) = tt
 
-of_reply : (sender : Side) (point id : List ℕ) → AsksByCall (asked_of_reply sender point id)
-of_reply Operator point id = tt
-of_reply Point point id = confirm point (call_numbered id)
+of_reply : (sender : Side) (point id : List ℕ) (accepted : Bool)
+    → AsksByCall (asked_of_reply sender point id accepted)
+of_reply Operator point id accepted = tt
+of_reply Point point id accepted = confirm point accepted (call_numbered id)
 
 of_message : (text : Sent) (message : Result Message FrameFault)
     → AsksByCall (asked_of_message text message)
 of_message text (Ok (messages.call id name payload)) =
     of_kind text id (kind_of_sender text.sender (action_named name)) payload
-of_message text (Ok (messages.call_result id payload)) = of_reply text.sender text.point id
-of_message text (Ok (messages.call_error id)) = of_reply text.sender text.point id
+of_message text (Ok (messages.call_result id payload)) =
+    of_reply text.sender text.point id (is_accepted_reply (messages.call_result id payload))
+of_message text (Ok (messages.call_error id)) = of_reply text.sender text.point id false
 of_message text (Ok messages.other) = tt
 of_message text (Err (faults.Formation id)) = refl
 of_message text (Err fault) = tt

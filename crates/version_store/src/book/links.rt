@@ -46,15 +46,28 @@ impl<C: Ledger, A: Ledger> Book<C, A> {
         }
     }
 
-    /// Takes note that a point has answered the call of this number, which was in flight.
-    pub fn confirm(&mut self, point: PointId, link: u64, call: u64) -> Result<(), Refusal>
-        ensures makes { IfOk result (λ _. Makes self.old (steps.Confirm point link call)
-            Reply.Confirmed self.new) }
+    /// Takes note that a point has answered the call of this number, which was in flight, and
+    /// whether its reply has the status Accepted.
+    pub fn confirm(
+        &mut self,
+        point: PointId,
+        link: u64,
+        call: u64,
+        accepted: bool,
+    ) -> Result<(), Refusal>
+        ensures makes { IfOk result (λ _. Makes self.old
+            (steps.Confirm point link call accepted) Reply.Confirmed self.new) }
         ensures refusal { IfErr result (λ refusal.
-            IsRefusalOf self.old (steps.Confirm point link call) refusal) }
+            IsRefusalOf self.old (steps.Confirm point link call accepted) refusal) }
         ensures kept { IfErr result (λ refusal. self.new ≡ self.old) }
     {
-        match self.history.make(Step::Confirm { point, link, call }) {
+        let step = Step::Confirm {
+            point,
+            link,
+            call,
+            accepted,
+        };
+        match self.history.make(step) {
             Ok(Reply::Confirmed) => Ok(()),
             Ok(_) => unreachable!(),
             Err(refused) => Err(refused.refusal),

@@ -1,5 +1,7 @@
 -- That the slot of the transaction that begins is its own.
-use Rattle.std.proofs.Common.{◌-◌, length, Some, ap, arith}
+use Rattle.std.proofs.Common.{◌≡◌, ◌-◌, length, Some, ap, arith, rules}
+use Rattle.transactions.specs.ActiveTable.{began}
+use Rattle.transactions.specs.declared.active_table.Began.TheVariants.{Fresh}
 use Rattle.point_book.specs.Book.{BookState}
 use Rattle.sim_point.proofs.RunningLemmas.{slots-set, length-running}
 use Rattle.sim_point.proofs.own_book.OwnBook.start.Goals as goal
@@ -13,5 +15,6 @@ index_mut-requires c =
 
 pub invariant_of-self : goal.invariant_of-self
 invariant_of-self c =
-    rw (c.start.ensures.book, ← c.in-Fresh.ensures.answer, c.running_of-running.ensures)
+    let fresh : began c.self.inside.book.transactions c.args.connector c.args.begin ≡ Fresh = search rules in
+    rw (c.in-Ok-Fresh.ensures.book, fresh, c.running_of-running.ensures)
     (slots-set c.self.inside.book.transactions c.self.inside.running.items (c.args.connector - 1) (Some _) c.self.invariant)

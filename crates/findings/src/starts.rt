@@ -1,0 +1,179 @@
+//! The remote starts that wait at each point, followed line by line: once a start ends, the machine
+//! tells no more of it.
+
+use messages::CallBody;
+use ocpp_scalars::IdTag;
+use point_book::PointBook;
+use profile::Purpose;
+use replay::{PlayedLine, Playing, PointChange, PrintedLine};
+use std::alloc::{AllocError, Global};
+
+/// A start that waits.
+#[derive(Drop)]
+struct KnownStart {
+    connector: u32,
+    /// The number of its call.
+    call: u64,
+    id_tag: IdTag,
+    /// The id of its profile.
+    profile: Option<i32>,
+}
+
+/// What is known of a point.
+#[derive(Drop)]
+struct PointStarts {
+    /// Whether the call in flight asks for a start.
+    is_asked: bool,
+    waiting: Vec<KnownStart>,
+}
+
+/// A start that a transaction ended, without the profile that had come with it.
+#[derive(Drop)]
+pub(crate) struct EndedStart {
+    pub id_tag: IdTag,
+    /// The profile's id.
+    pub profile: i32,
+    /// Whether the transaction is of its idTag.
+    pub is_same_tag: bool,
+}
+
+/// What a line did to the remote starts of its point.
+#[derive(Drop)]
+pub(crate) struct StartsChange {
+    /// Whether it confirmed a call that asks for a start.
+    pub is_reply: bool,
+    pub ended: Option<EndedStart>,
+}
+
+/// The starts that wait at the points.
+#[derive(Drop)]
+pub(crate) struct Starts {
+    alloc: Global,
+    /// Each at its place in the site file, as far as they are known.
+    points: Vec<PointStarts>,
+}
+
+impl Starts {
+    /// Before the first line there is none.
+    pub(crate) fn new(alloc: Global) -> Starts {
+        Starts {
+            alloc,
+            points: Vec::new(alloc),
+        }
+    }
+
+    /// Takes in a line that was played just now, of the point of an identity.
+    pub(crate) fn follow(
+        &mut self,
+        playing: &Playing<'_>,
+        played: &PlayedLine<'_>,
+        point: &str,
+    ) -> Result<StartsChange, AllocError> {
+        let mut change = StartsChange {
+            is_reply: false,
+            ended: None,
+        };
+        let Some(place) = playing.machine().site().place_of(point) else {
+            return Ok(change);
+        };
+        let alloc = self.alloc;
+        let Some(known) = self.known(place)? else {
+            return Ok(change);
+        };
+        match played.outcome.change {
+            PointChange::Confirmed => {
+                change.is_reply = known.is_asked;
+                known.is_asked = false;
+                known.waiting = known_starts(alloc, playing, point)?;
+            }
+            PointChange::Transaction => {
+                change.ended = ended_start(alloc, known, playing, point)?;
+                known.waiting = known_starts(alloc, playing, point)?;
+            }
+            PointChange::RemoteStart => known.waiting = known_starts(alloc, playing, point)?,
+            PointChange::Nothing | PointChange::Profiles | PointChange::Audit => {}
+        }
+        known.follow_calls(played);
+        Ok(change)
+    }
+
+    /// What is known of the point at a place.
+    fn known(&mut self, place: usize) -> Result<Option<&mut PointStarts>, AllocError> {
+        for _place in self.points.len()..place.saturating_add(1) {
+            self.points.push(PointStarts {
+                is_asked: false,
+                waiting: Vec::new(self.alloc),
+            })?;
+        }
+        Ok(self.points.get_mut(place))
+    }
+}
+
+impl PointStarts {
+    /// Takes in the calls that a line sent.
+    fn follow_calls(&mut self, played: &PlayedLine<'_>) {
+        for line in &played.outcome.printed {
+            if let PrintedLine::Call { call, .. } = line {
+                self.is_asked = matches!(call.body, CallBody::RemoteStart { .. });
+            }
+        }
+    }
+}
+
+/// The starts that wait at a point now.
+fn known_starts(
+    alloc: Global,
+    playing: &Playing<'_>,
+    point: &str,
+) -> Result<Vec<KnownStart>, AllocError> {
+    let mut starts = Vec::new(alloc);
+    for start in playing.machine().waiting_of(point) {
+        starts.push(KnownStart {
+            connector: start.connector,
+            call: start.call,
+            id_tag: start.id_tag.copy(alloc)?,
+            profile: start.profile.as_ref().map(|profile| profile.id),
+        })?;
+    }
+    Ok(starts)
+}
+
+/// The start that waits no more, if it had a profile and that isn't installed.
+fn ended_start(
+    alloc: Global,
+    known: &PointStarts,
+    playing: &Playing<'_>,
+    point: &str,
+) -> Result<Option<EndedStart>, AllocError> {
+    let machine = playing.machine();
+    let waiting = machine.waiting_of(point);
+    let gone = known.waiting.iter().find(|start| !waiting
+        .iter()
+        .any(|left| left.call == start.call));
+    let (Some(start), Some(book)) = (gone, machine.book_of(point)) else {
+        return Ok(None);
+    };
+    match (start.profile, book.transaction_at(start.connector)) {
+        (Some(profile), Some(active)) if !has_tx_profile(book, start.connector, profile) => {
+            let id_tag = start.id_tag.copy(alloc)?;
+            let is_same_tag = id_tag
+                .as_str()
+                .eq_ignore_ascii_case(active.begin.id_tag.as_str());
+            Ok(Some(EndedStart {
+                id_tag,
+                profile,
+                is_same_tag,
+            }))
+        }
+        _ => Ok(None),
+    }
+}
+
+/// Whether a TxProfile of this id stands at a connector.
+fn has_tx_profile(book: &PointBook, connector: u32, id: i32) -> bool {
+    book.view().rows.iter().any(|row| {
+        row.connector == connector
+            && row.profile.purpose == Purpose::TxProfile
+            && row.profile.id == id
+    })
+}

@@ -1,0 +1,164 @@
+//! Starts that an operator asked a charge point for.
+
+ghost use Rattle.std.specs.Prelude.{◌≡◌, ◌≤◌, [], Some, false, IfOk, OnErr, OnOk, vec_capacity, vec_len};
+ghost use Rattle.std.specs.Option.{option_copied};
+ghost use Rattle.std.specs.List.{position};
+ghost use Rattle.site_core.specs.WaitingStart.{after_reply, is_at_connector, is_of_call, profile_for, waiting_at, with_waiting, without_waiting};
+
+use ocpp_scalars::IdTag;
+use profile::Profile;
+use std::alloc::{AllocError, Global};
+use std::marker::Model;
+
+/// A start that an operator asked a charge point for (chapter 5.11), until a transaction begins at
+/// its connector.
+#[derive(Debug, Drop)]
+pub struct WaitingStart {
+    pub connector: u32,
+    /// The number of the call that asked the point.
+    pub call: u64,
+    /// Who is to start it.
+    pub id_tag: IdTag,
+    /// The profile that is for its transaction, from when that begins.
+    pub profile: Option<Profile>,
+}
+
+impl WaitingStart {
+    /// A copy.
+    pub(crate) fn copy(&self, alloc: Global) -> Result<WaitingStart, AllocError>
+        ensures { IfOk result (λ copy. copy ≡ self.now) }
+    {
+        Ok(WaitingStart {
+            connector: self.connector,
+            call: self.call,
+            id_tag: self.id_tag.copy(alloc)?,
+            profile: Profile::copy_if_any(&self.profile)?,
+        })
+    }
+
+    /// A copy of the profile with which a transaction of an idTag begins.
+    pub(crate) fn profile_for(&self, id_tag: &IdTag) -> Result<Option<Profile>, AllocError>
+        ensures { IfOk result (λ profile. profile ≡ profile_for id_tag.now (Some self.now)) }
+    {
+        if self.id_tag.as_str().eq_ignore_ascii_case(id_tag.as_str()) {
+            Profile::copy_if_any(&self.profile)
+        } else {
+            Ok(None)
+        }
+    }
+}
+
+/// The starts that wait at a point, at most one at each connector.
+#[derive(Debug, Drop)]
+pub(crate) struct WaitingStarts {
+    starts: Vec<WaitingStart>,
+}
+
+impl Model for WaitingStarts {
+    ghost use Rattle.std.specs.Prelude.{List};
+    ghost use Rattle.site_core.specs.declared.waiting_starts.WaitingStart.{WaitingStart};
+
+    ghost Value = { List WaitingStart };
+
+    ghost view = { λ w. w.starts.items };
+}
+
+impl WaitingStarts {
+    /// None. Allocates nothing.
+    pub fn new(alloc: Global) -> WaitingStarts
+        ensures { result ≡ [] }
+    {
+        WaitingStarts {
+            starts: Vec::new(alloc),
+        }
+    }
+
+    /// A copy.
+    pub fn copy(&self) -> Result<WaitingStarts, AllocError>
+        ensures { IfOk result (λ copy. copy ≡ self.now) }
+    {
+        let starts = copy_of_starts(*self.starts.allocator(), self.starts.as_slice())?;
+        Ok(WaitingStarts { starts })
+    }
+
+    /// All, in the order in which they were asked for.
+    pub fn as_slice(&self) -> &[WaitingStart]
+        ensures { result.now ≡ self.now }
+    {
+        self.starts.as_slice()
+    }
+
+    /// The one at a connector.
+    pub fn at(&self, connector: u32) -> Option<&WaitingStart>
+        ensures { option_copied result ≡ waiting_at self.now connector }
+    {
+        let place = place_of(self.starts.as_slice(), connector)?;
+        Some(&self.starts[place])
+    }
+
+    /// Adds one, in place of the one at its connector. Out of memory nothing changes.
+    pub fn add(&mut self, new: WaitingStart) -> Result<(), AllocError>
+        ensures starts { OnOk result (self.new ≡ with_waiting self.old new) }
+        ensures kept { OnErr result (self.new ≡ self.old) }
+    {
+        // Memory comes first, so that a refusal leaves all.
+        self.starts.reserve(1)?;
+        drop_at(&mut self.starts, new.connector);
+        self.starts.push(new).unwrap();
+        Ok(())
+    }
+
+    /// Removes the one at a connector.
+    pub fn remove(&mut self, connector: u32)
+        ensures { self.new ≡ without_waiting self.old connector }
+    {
+        drop_at(&mut self.starts, connector);
+    }
+
+    /// Removes the one that came with the call of a number, which the point didn't accept.
+    pub fn reject(&mut self, call: u64)
+        ensures { self.new ≡ after_reply call false self.old }
+    {
+        self.starts.retain(|start| !is_of_call(call, start));
+    }
+}
+
+/// Removes the start at a connector.
+fn drop_at(starts: &mut Vec<WaitingStart>, connector: u32)
+    ensures starts { starts.new.items ≡ without_waiting starts.old.items connector }
+    ensures bound { vec_len starts.new ≤ vec_len starts.old }
+    ensures capacity { vec_capacity starts.new ≡ vec_capacity starts.old }
+{
+    starts.retain(|start| !is_at_connector(connector, start));
+}
+
+fn is_at_connector(connector: u32, start: &WaitingStart) -> bool
+    ensures { result ≡ is_at_connector connector start.now }
+{
+    start.connector == connector
+}
+
+fn is_of_call(call: u64, start: &WaitingStart) -> bool
+    ensures { result ≡ is_of_call call start.now }
+{
+    start.call == call
+}
+
+/// The place of the start at a connector.
+fn place_of(starts: &[WaitingStart], connector: u32) -> Option<usize>
+    ensures { result ≡ position (is_at_connector connector) starts.now }
+{
+    starts
+        .iter()
+        .position(|start| is_at_connector(connector, start))
+}
+
+fn copy_of_starts(alloc: Global, starts: &[WaitingStart]) -> Result<Vec<WaitingStart>, AllocError>
+    ensures { IfOk result (λ copies. copies.items ≡ starts.now) }
+{
+    let mut copies = Vec::with_capacity(alloc, starts.len())?;
+    for start in starts {
+        copies.push(start.copy(alloc)?)?;
+    }
+    Ok(copies)
+}

@@ -1,0 +1,147 @@
+//! A value from outside. It is read and passed, whatever it holds, and takes no memory.
+
+ghost use Rattle.std.specs.Prelude.{◌≡◌, ◌<◌, ◌≤◌, ◌∷◌, Some, IfOk, OnOk, length};
+ghost use Rattle.json.specs.Reads.{token_of};
+ghost use Rattle.serde_json.specs.Data.{no_members};
+ghost use Rattle.ocpp_scalars.specs.ByCases.Number.{tenths_of};
+ghost use Rattle.ocppj_frame.specs.Field.{field_map, of_kind, of_scalar, unless_null};
+ghost use Rattle.ocppj_frame.specs.Read.{name_of_key, tree_of_string};
+ghost use Rattle.ocppj_frame.specs.Tree.{as_number, as_text, Trees, Fields};
+ghost use Rattle.site_rules.specs.ByCases.Parts.{IsGlanceAt, glance_tree, trees_at, fields_at};
+
+use super::part_fault::PartFault;
+use json::{Reader, Token};
+use ocpp_scalars::{is_number_text, read_tenths};
+use ocppj_frame::{Field, after_mark};
+
+/// How a value looks from outside.
+#[derive(Clone, Copy)]
+pub(crate) enum Glance<'a> {
+    Null,
+    Bool,
+    Text(&'a str),
+    Number(&'a str),
+    List,
+    Object,
+}
+
+/// Reads the next value.
+#[cycle(glance)]
+pub(crate) fn read_glance<'a>(
+    reader: &mut Reader<'a>,
+    depth: usize,
+) -> Result<Glance<'a>, PartFault>
+    ensures glance { IfOk result (λ glance. IsGlanceAt depth reader.old reader.new glance) }
+    ensures shorter { OnOk result (length reader.new < length reader.old) }
+{
+    let token = reader.next().ok_or(PartFault::Unsure)?;
+    glance_from(token, reader, depth)
+}
+
+/// Reads the value that begins with this token, which was read.
+#[cycle(glance)]
+pub(crate) fn glance_from<'a>(
+    token: Token<'a>,
+    reader: &mut Reader<'a>,
+    depth: usize,
+) -> Result<Glance<'a>, PartFault>
+    ensures glance { IfOk result
+        (λ glance. IsGlanceAt depth (token_of token.entry ∷ reader.old) reader.new glance) }
+    ensures shorter { OnOk result (length reader.new ≤ length reader.old) }
+{
+    match token {
+        Token::String(marked) => glance_of_string(marked),
+        Token::Bool(_) => Ok(Glance::Bool),
+        Token::Null => Ok(Glance::Null),
+        Token::BeginArray => {
+            if depth == 0 {
+                return Err(PartFault::Unsure);
+            }
+            pass_items(reader, depth - 1)?;
+            Ok(Glance::List)
+        }
+        Token::BeginObject => {
+            if depth == 0 {
+                return Err(PartFault::Unsure);
+            }
+            pass_members(reader, depth - 1)?;
+            Ok(Glance::Object)
+        }
+        Token::EndObject | Token::EndArray | Token::Key(_) | Token::Number(_) | Token::Bad => {
+            Err(PartFault::Unsure)
+        }
+    }
+}
+
+/// Passes the items of a list.
+#[cycle(glance)]
+fn pass_items(reader: &mut Reader<'_>, depth: usize) -> Result<(), PartFault>
+    ensures items { OnOk result ((list : Trees)
+        × (trees_at depth (length reader.old) reader.old ≡ Some (list, reader.new))) }
+    ensures shorter { OnOk result (length reader.new < length reader.old) }
+{
+    'items: while !reader.take_end_array() {
+        read_glance(reader, depth)?;
+    }
+    Ok(())
+}
+
+/// Passes the members of an object.
+#[cycle(glance)]
+fn pass_members(reader: &mut Reader<'_>, depth: usize) -> Result<(), PartFault>
+    ensures members { OnOk result ((fields : Fields)
+        × (fields_at depth (length reader.old) no_members reader.old ≡ Some (fields, reader.new))) }
+    ensures shorter { OnOk result (length reader.new < length reader.old) }
+{
+    'members: while let Some(key) = reader.next_key()? {
+        name_of(key)?;
+        read_glance(reader, depth)?;
+    }
+    Ok(())
+}
+
+/// The name that a key stands for.
+pub(crate) fn name_of(key: &str) -> Result<&str, PartFault>
+    ensures { IfOk result (λ name. name_of_key key.now ≡ Some name.now) }
+{
+    after_mark(key, b's').ok_or(PartFault::Unsure)
+}
+
+/// The text or the number that a marked string stands for.
+fn glance_of_string(marked: &str) -> Result<Glance<'_>, PartFault>
+    ensures { IfOk result (λ glance. tree_of_string marked.now ≡ Some (glance_tree glance)) }
+{
+    if let Some(text) = after_mark(marked, b's') {
+        return Ok(Glance::Text(text));
+    }
+    match after_mark(marked, b'n') {
+        Some(number) if is_number_text(number) => Ok(Glance::Number(number)),
+        _ => Err(PartFault::Unsure),
+    }
+}
+
+/// The field of this value, which is to be a text.
+pub(crate) fn text_in(glance: Glance<'_>) -> Field<&str>
+    ensures { field_map (λ t. t.now) result
+        ≡ of_kind as_text (unless_null (glance_tree glance.entry)) }
+{
+    match glance {
+        Glance::Null => Field::Absent,
+        Glance::Text(text) => Field::Value(text),
+        _ => Field::WrongKind,
+    }
+}
+
+/// The field of this value, which is to be a number of tenths.
+pub(crate) fn tenths_in(glance: Glance<'_>) -> Field<u32>
+    ensures { result ≡ of_scalar as_number tenths_of (unless_null (glance_tree glance.entry)) }
+{
+    match glance {
+        Glance::Null => Field::Absent,
+        Glance::Number(digits) => match read_tenths(digits) {
+            Ok(tenths) => Field::Value(tenths),
+            Err(_) => Field::WrongValue,
+        },
+        _ => Field::WrongKind,
+    }
+}
