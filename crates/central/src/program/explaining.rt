@@ -6,7 +6,7 @@ use crate::program::command_line::Explaining;
 use crate::program::pages::{Screen, note_refused_lines, print_page, write_file};
 use crate::program::picture_name::{PictureForm, picture_form};
 use crate::program::program_fault::ProgramFault;
-use crate::program::script_input::read_script;
+use crate::program::script_input::read_shown_script;
 use crate::program::site_file::read_site_file;
 use explain_pages::{
     ExplainedAsk, not_counted, write_json, write_page, write_picture, write_table,
@@ -18,12 +18,13 @@ use profile::Unit;
 use replay::play_quietly;
 use site_rules::Site;
 use std::alloc::AllocGlobal;
+use std::fs::File;
 use std::rt::Files;
 use sweep_compiler::{Turns, explain};
 
 /// Says why the limits of a connector are what they are after a script. Faults of a picture's name,
 /// the instants and the site file, and what isn't in it, are reported before the script is read.
-pub fn explain_file<R: Files + Input + Print + Eprint + AllocGlobal>(
+pub fn explain_file<R: Files<File = File> + Input + Print + Eprint + AllocGlobal>(
     rt: &R,
     screen: Screen,
     explaining: Explaining<'_>,
@@ -33,7 +34,7 @@ pub fn explain_file<R: Files + Input + Print + Eprint + AllocGlobal>(
     let site = read_site_file(rt, explaining.site)?;
     check_connector(&site, explaining.point, ask.connector)?;
     let unit = site.unit();
-    let script = read_script(rt)?;
+    let script = read_shown_script(rt, explaining.data)?;
     let played = play_quietly(rt.alloc(), script.as_slice(), site, explaining.last_line)?;
     let Some(book) = played.machine().book_of(explaining.point) else {
         return Err(ProgramFault::NoSuchPoint);
