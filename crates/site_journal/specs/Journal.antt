@@ -23,6 +23,17 @@ pub record AreLinesOf (text : List ℕ) (lines : List (List ℕ)) (torn : List �
   pub each : AllByRecursion HasNoLineFeed lines
   pub last : HasNoLineFeed torn
 
+-- the first line of a text, without its line feed, and what follows that
+pub record SplitsAtFeed (text line rest : List ℕ) : Type 0 where
+  pub is : text ≡ with_feed line ++ rest
+  pub first : HasNoLineFeed line
+
+-- whole lines, or none, and a rest without a line feed
+pub record SplitsAtLastFeed (text whole torn : List ℕ) : Type 0 where
+  pub lines : List (List ℕ)
+  pub are : AreLinesOf text lines torn
+  pub whole_is : whole ≡ flat_map with_feed lines
+
 -- ---- states
 
 abbrev pub line_or_fault : Result LineState LineFault → Result LineState RestoreFault

@@ -87,26 +87,35 @@ number_drawn (replies.Attached link) version = Some link
 number_drawn (replies.Sent call) version = Some call.number
 number_drawn other version = None
 
--- Where a number is written, it is the one that is drawn.
-abbrev pub compared : MachineState → Option ℕ → Option ℕ → Result MachineState RestoreFault
-compared after None drawn = Ok after
-compared after (Some written) None = Err Unchanged
-compared after (Some written) (Some drawn) =
-    if written == drawn then Ok after else Err (OtherNumber written drawn)
+-- where a number is written, it is the one that is drawn
+abbrev pub number_fault : Option ℕ → Option ℕ → Option RestoreFault
+number_fault None drawn = None
+number_fault (Some written) None = Some Unchanged
+number_fault (Some written) (Some drawn) =
+    if written == drawn then None else Some (OtherNumber written drawn)
 
 -- ---- the whole line
+
+abbrev pub unless_fault : {X : Type 0} → Option RestoreFault → X → Result X RestoreFault
+unless_fault (Some fault) x = Err fault
+unless_fault None x = Ok x
 
 abbrev pub made_or_refused : Result Made Refusal → Result Made RestoreFault
 made_or_refused (Ok made) = Ok made
 made_or_refused (Err refusal) = Err (Refused refusal)
 
+-- a step is made, and draws the number that is written
+abbrev pub made_with : MachineState → Option ℕ → Step → Result MachineState RestoreFault
+made_with state written step = do
+  made ← made_or_refused (stepped no_answer state step)
+  unless_fault
+      (number_fault written (number_drawn made.reply made.after.numbers.version)) made.after
+
 -- the state after a line, where memory lasts
 unfoldable pub restored : MachineState → LineState → Result MachineState RestoreFault
 restored state line = do
   step ← step_noted state line line.noted
-  made ← made_or_refused (stepped no_answer state step)
-  compared made.after (number_written line.noted)
-      (number_drawn made.reply made.after.numbers.version)
+  made_with state (number_written line.noted) step
 
 -- why a line isn't restored: its fault, or memory ran out
 abbrev pub IsFaultOf : {A : Type 0} → Result A RestoreFault → RestoreFault → Type 0

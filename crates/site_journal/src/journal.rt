@@ -1,7 +1,9 @@
 //! The lines of a journal after its first one, and the book that is restored from them.
 
-ghost use Rattle.std.specs.Prelude.{◌≡◌, ◌++◌, ◌<◌, IfErr, OnOk, OnSome, length};
-ghost use Rattle.site_journal.specs.Journal.{IsRestored, IsUnrestored};
+ghost use Rattle.std.specs.Prelude.{IfErr, IfNone, IfSome, OnOk};
+ghost use Rattle.site_journal.specs.Line.{HasNoLineFeed};
+ghost use Rattle.site_journal.specs.ByCases.Restore.{Leads};
+ghost use Rattle.site_journal.specs.Journal.{IsRestored, IsUnrestored, SplitsAtFeed, SplitsAtLastFeed, restored_bytes};
 ghost use Rattle.site_journal.specs.Restore.{KeepsPass};
 
 use crate::reading::read_bytes;
@@ -77,6 +79,8 @@ fn restore_bytes<C: Ledger, A: Ledger>(
     pass: &mut Pass<C, A>,
     bytes: &[u8],
 ) -> Result<Instant, RestoreFault>
+    ensures leads { Leads (restored_bytes book.old.present bytes.now)
+        book.old.present result book.new.present }
     ensures pass { KeepsPass pass.old pass.new }
 {
     match read_bytes(bytes) {
@@ -91,7 +95,8 @@ fn restore_bytes<C: Ledger, A: Ledger>(
 /// The first line of a text, without its line feed, and what follows it. None where no line feed is
 /// left: then what is left is torn, or nothing.
 pub fn split_line(text: &[u8]) -> Option<(&[u8], &[u8])>
-    ensures shorter { OnSome result (0 < length text.now) }
+    ensures split { IfSome result (λ parts. SplitsAtFeed text.now parts.0.now parts.1.now) }
+    ensures torn { IfNone result (HasNoLineFeed text.now) }
 {
     let end = text.iter().position(|byte| *byte == b'\n')?;
     let (line, rest) = text.split_at(end);
@@ -101,7 +106,7 @@ pub fn split_line(text: &[u8]) -> Option<(&[u8], &[u8])>
 /// The whole lines of a text, and what stands behind its last line feed: a line that is torn, or
 /// nothing.
 pub fn whole_lines(text: &[u8]) -> (&[u8], &[u8])
-    ensures { text.now ≡ result.0.now ++ result.1.now }
+    ensures { SplitsAtLastFeed text.now result.0.now result.1.now }
 {
     match text.iter().rposition(|byte| *byte == b'\n') {
         Some(end) => text.split_at(end + 1),

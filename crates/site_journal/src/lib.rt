@@ -25,4 +25,4 @@ pub use line_laws::lines_read_back;
 pub use lost_links::lose_links;
 pub use reading::{read_bytes, read_line};
 pub use restore_fault::RestoreFault;
-pub use restoring::{number_drawn, restore_line};
+pub use restoring::{UNREAD_REPLY, number_drawn, restore_line};

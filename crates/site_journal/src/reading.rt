@@ -1,7 +1,8 @@
 //! How a line of a journal is read.
 
-ghost use Rattle.std.specs.Prelude.{◌≡◌, option_map};
-ghost use Rattle.site_journal.specs.ByCases.Line.{line_in, line_of, noted_in, number_at, number_or_fault, word_at};
+ghost use Rattle.std.specs.Prelude.{◌≡◌};
+ghost use Rattle.std.specs.Result.{result_map_both};
+ghost use Rattle.site_journal.specs.ByCases.Line.{line_in, line_of, message_in, noted_in, number_at, number_or_fault, word_at, words_of, words_view};
 ghost use Rattle.site_journal.specs.Line.{noted_state};
 
 use crate::line::{Line, Noted};
@@ -36,8 +37,9 @@ pub fn read_bytes(line: &[u8]) -> Result<Line<'_>, LineFault>
 pub fn read_line(text: &str) -> Result<Line<'_>, LineFault>
     ensures { result ≡ line_of text.entry.now }
 {
-    let Some(words) = split_words(text) else {
-        return Err(LineFault::Form);
+    let words = match split_words(text) {
+        Ok(words) => words,
+        Err(fault) => return Err(fault),
     };
     let Ok(moment) = read_instant(words.instant) else {
         return Err(LineFault::Moment);
@@ -52,22 +54,28 @@ pub fn read_line(text: &str) -> Result<Line<'_>, LineFault>
     }
 }
 
-/// The words of a line, if it has them.
-fn split_words(text: &str) -> Option<Words<'_>> {
+/// The words of a line.
+fn split_words(text: &str) -> Result<Words<'_>, LineFault>
+    ensures { result_map_both words_view (λ fault. fault) result ≡ words_of text.entry.now }
+{
     let (instant, text) = split_word(text)?;
     let (word, text) = split_word(text)?;
     let (point, rest) = split_word(text)?;
-    let word = LineWord::named(word)?;
-    Some(Words {
-        instant,
-        word,
-        point,
-        rest,
-    })
+    match LineWord::named(word) {
+        Some(word) => Ok(Words {
+            instant,
+            word,
+            point,
+            rest,
+        }),
+        None => Err(LineFault::Form),
+    }
 }
 
 /// What is noted by a line with this second word, by what stands behind its point.
-fn read_noted(word: LineWord, text: &str) -> Result<Noted<'_>, LineFault> {
+fn read_noted(word: LineWord, text: &str) -> Result<Noted<'_>, LineFault>
+    ensures { result_map_both noted_state (λ fault. fault) result ≡ noted_in word text.entry.now }
+{
     match word {
         LineWord::Operator => read_message(Side::Operator, text),
         LineWord::Point => read_message(Side::Point, text),
@@ -94,7 +102,10 @@ fn read_noted(word: LineWord, text: &str) -> Result<Noted<'_>, LineFault> {
 }
 
 /// A message from this side.
-fn read_message(sender: Side, text: &str) -> Result<Noted<'_>, LineFault> {
+fn read_message(sender: Side, text: &str) -> Result<Noted<'_>, LineFault>
+    ensures { result_map_both noted_state (λ fault. fault) result
+        ≡ message_in sender text.entry.now }
+{
     let (number, frame) = split_number(text)?;
     Ok(Noted::Message {
         sender,
@@ -104,10 +115,11 @@ fn read_message(sender: Side, text: &str) -> Result<Noted<'_>, LineFault> {
 }
 
 /// The number that a text begins with, and what follows the one space after it.
-fn split_number(text: &str) -> Result<(u64, &str), LineFault> {
-    let Some((word, rest)) = split_word(text) else {
-        return Err(LineFault::Form);
-    };
+fn split_number(text: &str) -> Result<(u64, &str), LineFault>
+    ensures { result_map_both (λ parts. (parts.0, parts.1.now)) (λ fault. fault) result
+        ≡ number_at text.now }
+{
+    let (word, rest) = split_word(text)?;
     Ok((read_number(word)?, rest))
 }
 
@@ -125,12 +137,12 @@ fn read_number(word: &str) -> Result<u64, LineFault>
 }
 
 /// The word that a text begins with, and what follows the one space after it.
-fn split_word(text: &str) -> Option<(&str, &str)>
-    ensures { option_map (λ parts. (parts.0.now, parts.1.now)) result ≡ word_at text.now }
+fn split_word(text: &str) -> Result<(&str, &str), LineFault>
+    ensures { result_map_both (λ parts. (parts.0.now, parts.1.now)) (λ fault. fault) result
+        ≡ word_at text.now }
 {
-    let (word, rest) = text.split_once(' ')?;
-    if word.is_empty() {
-        return None;
+    match text.split_once(' ') {
+        Some((word, rest)) if !word.is_empty() => Ok((word, rest)),
+        _ => Err(LineFault::Form),
     }
-    Some((word, rest))
 }

@@ -24,10 +24,7 @@ pub enum RestoreFault {
     Unchanged,
     /// Its step was made, and drew another number.
     #[error("its step draws {drawn}, and {written} is written")]
-    OtherNumber {
-        written: u64,
-        drawn: u64,
-    },
+    OtherNumber { written: u64, drawn: u64 },
     /// Memory ran out.
     #[error("OutOfMemory")]
     OutOfMemory,

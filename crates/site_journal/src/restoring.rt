@@ -1,8 +1,13 @@
 //! A line of a journal, restored: its step made once more by the book's own call, and the number
 //! that it draws compared with the one that is written.
 
-ghost use Rattle.std.specs.Prelude.{◌≡◌, false, true, IfErr, IfOk, OnOk};
-ghost use Rattle.site_journal.specs.Restore.{IsFaultOf, KeepsPass, is_change, is_made, number_drawn, restored};
+ghost use Rattle.std.specs.Prelude.{◌≡◌, Ok, None, Some, false, true, IfErr, IfOk, OnOk};
+ghost use Rattle.ocpp_scalars.specs.ResultSteps.{◌>>=◌};
+ghost use Rattle.site_core.specs.State.{audit_job};
+ghost use Rattle.texts.specs.Asked.{asked_of};
+ghost use Rattle.texts.specs.Said.{said_of};
+ghost use Rattle.site_journal.specs.ByCases.Restore.{Leads};
+ghost use Rattle.site_journal.specs.Restore.{IsFaultOf, KeepsPass, change_asked, confirm_asked, is_change, is_made, judge_asked, judged_exactly, made_with, number_drawn, number_fault, restored, unless_fault};
 
 use crate::line::{Line, Noted};
 use crate::restore_fault::RestoreFault;
@@ -15,6 +20,10 @@ use std::sync::ledger::Ledger;
 use sweep_compiler::{AuditJob, Judged, verdicts_are_computed};
 use texts::{Asked, SentText, asked_of, said_of};
 use version_store::{Book, Pass};
+
+/// A reply that stands on a `verdict` line in place of one that was judged short of memory: read
+/// again, that might come to another verdict, and this one comes to Unsettled as it did.
+pub const UNREAD_REPLY: &str = r#"[3,"",{"status":"Accepted"}]"#;
 
 /// Makes the step of a line, where it is made and draws the number that is written. Only after
 /// `OtherNumber` it was made all the same.
@@ -72,7 +81,11 @@ fn change_asked(
     alloc: Global,
     memory: &mut ReadingMemory,
     text: &SentText<'_>,
-) -> Result<Step, RestoreFault> {
+) -> Result<Step, RestoreFault>
+    ensures step { IfOk result (λ step. change_asked (asked_of text.now) ≡ Ok step) }
+    ensures change { IfOk result (λ step. is_change step ≡ true) }
+    ensures fault { IfErr result (IsFaultOf (change_asked (asked_of text.now))) }
+{
     match asked_of(alloc, memory, text) {
         Ok(Asked::Step { step, .. }) => {
             if is_change(&step) {
@@ -120,6 +133,8 @@ fn make_change<C: Ledger, A: Ledger>(
     number: u64,
 ) -> Result<(), RestoreFault>
     requires { is_change step ≡ true }
+    ensures leads { Leads (made_with book.old.present (Some number) step)
+        book.old.present result book.new.present }
     ensures pass { KeepsPass pass.old pass.new }
 {
     match book.make_step(pass, step) {
@@ -157,7 +172,9 @@ pub fn number_drawn(reply: &Reply, version: u64) -> Option<u64>
 }
 
 /// Compares the number that is written with the one that was drawn.
-fn compare(written: u64, drawn: Option<u64>) -> Result<(), RestoreFault> {
+fn compare(written: u64, drawn: Option<u64>) -> Result<(), RestoreFault>
+    ensures { result ≡ unless_fault (number_fault (Some written) drawn) tt }
+{
     match drawn {
         None => Err(RestoreFault::Unchanged),
         Some(drawn) if drawn == written => Ok(()),
@@ -172,7 +189,11 @@ fn confirm_call<C: Ledger, A: Ledger>(
     book: &mut Book<C, A>,
     text: &SentText<'_>,
     link: u64,
-) -> Result<(), RestoreFault> {
+) -> Result<(), RestoreFault>
+    ensures { Leads
+        (confirm_asked link (asked_of text.now) >>= made_with book.old.present None)
+        book.old.present result book.new.present }
+{
     match asked_of(alloc, memory, text) {
         Ok(
             Asked::Confirm {
@@ -198,7 +219,12 @@ fn judge_audit<C: Ledger, A: Ledger>(
     book: &mut Book<C, A>,
     text: &SentText<'_>,
     call: u64,
-) -> Result<(), RestoreFault> {
+) -> Result<(), RestoreFault>
+    ensures { Leads
+        (judge_asked text.now.point call (said_of text.now)
+        (audit_job book.old.present text.now.point call) >>= made_with book.old.present None)
+        book.old.present result book.new.present }
+{
     let Some(job) = book.audit_job(text.point(), call)? else {
         return Err(RestoreFault::Refused(Refusal::UnknownRequest));
     };
@@ -216,7 +242,9 @@ fn judged_by(
     memory: &mut ReadingMemory,
     text: &SentText<'_>,
     job: AuditJob,
-) -> Result<Judged, AllocError> {
+) -> Result<Judged, AllocError>
+    ensures { IfOk result (λ judged. judged ≡ judged_exactly job (said_of text.now)) }
+{
     // A law: nothing runs.
     verdicts_are_computed();
     let said = said_of(alloc, memory, text)?;

@@ -95,7 +95,9 @@ fn frame_written(rt: &impl Abort, alloc: Global, frame: &str, wanted: &str) {
     let mut text = String::new(alloc);
     let line = line_of(rt, Noted::Reply { link: 1, frame });
     push_line(&mut text, &line).expect(rt, "error");
-    let text = text.as_str().strip_prefix("2025-01-01T00:00:05Z reply CP1 1 ");
+    let text = text
+        .as_str()
+        .strip_prefix("2025-01-01T00:00:05Z reply CP1 1 ");
     same_text(rt, text.unwrap_or("-"), wanted, "a message");
 }
 
@@ -184,8 +186,18 @@ fn the_largest_are_read(rt: HostRuntime) {
 /// A text is cut behind its last line feed.
 fn cut(rt: &impl Abort, text: &str, wanted: &str, torn: &str) {
     let (whole, rest) = whole_lines(text.as_bytes());
-    same_text(rt, std::str::from_utf8(whole).expect(rt, "UTF-8"), wanted, text);
-    same_text(rt, std::str::from_utf8(rest).expect(rt, "UTF-8"), torn, text);
+    same_text(
+        rt,
+        std::str::from_utf8(whole).expect(rt, "UTF-8"),
+        wanted,
+        text,
+    );
+    same_text(
+        rt,
+        std::str::from_utf8(rest).expect(rt, "UTF-8"),
+        torn,
+        text,
+    );
 }
 
 #[test]

@@ -4,8 +4,9 @@ ghost use Rattle.std.specs.Prelude.{◌≡◌};
 
 use crate::journal_texts::{CHANGED, JOURNAL, SITE, STATES};
 use crate::same::{same, same_text};
+use messages::AuditOutcome;
 use site_core::PointId;
-use site_journal::{lose_links, restore};
+use site_journal::{Line, Noted, RestoreFault, UNREAD_REPLY, lose_links, push_line, restore};
 use site_rules::read_site;
 use std::alloc::Global;
 use std::marker::Brand;
@@ -34,6 +35,12 @@ enum Story {
     Changed(usize),
     /// The journal is restored, and all links are lost.
     LostLinks,
+    /// The reply to the audit was judged short of memory.
+    ShortVerdict,
+    /// A message has line breaks.
+    Breaks,
+    /// So many links came and went.
+    Links(u64),
 }
 
 impl<C: Ledger, A: Ledger> Desk<C, A> {
@@ -46,6 +53,7 @@ impl<C: Ledger, A: Ledger> Desk<C, A> {
             journal.as_bytes(),
         ) {
             Ok(restored) => said_of_restored(rt, self.alloc, restored.lines),
+            Err(unrestored) if unrestored.fault == RestoreFault::OutOfMemory => rt.panic("error"),
             Err(unrestored) => format!(in self.alloc; "{unrestored}").expect(rt, "error"),
         }
     }
@@ -59,15 +67,15 @@ impl<C: Ledger, A: Ledger> Desk<C, A> {
         format!(in self.alloc; "{version} {waiting} {link} {sending}").expect(rt, "error")
     }
 
-    /// The audit of CP1 agrees.
-    fn has_audited(&mut self, rt: &impl Abort) {
+    /// The audit of CP1 came to this.
+    fn has_audited(&mut self, rt: &impl Abort, wanted: AuditOutcome) {
         let point = PointId::copied(self.alloc, "CP1").expect(rt, "error");
         let status = self
             .book
             .status(&mut self.pass, point)
             .ok()
             .expect(rt, "no status");
-        same_text(rt, status.audit.name(), "Agrees", "the audit");
+        same_text(rt, status.audit.name(), wanted.name(), "the audit");
     }
 }
 
@@ -110,6 +118,9 @@ fn play<C: Ledger, A: Ledger, R: Abort>(
         Story::Cut(lines) => cut_after(rt, &mut desk, lines),
         Story::Changed(index) => changed(rt, &mut desk, index),
         Story::LostLinks => links_lost(rt, &mut desk),
+        Story::ShortVerdict => short_verdict(rt, &mut desk),
+        Story::Breaks => breaks(rt, &mut desk),
+        Story::Links(links) => links_came_and_went(rt, &mut desk, links),
     }
 }
 
@@ -139,7 +150,7 @@ fn cut_after<C: Ledger, A: Ledger>(rt: &impl Abort, desk: &mut Desk<C, A>, lines
     let state = desk.state(rt);
     same_text(rt, state.as_str(), wanted, journal.as_str());
     if lines == LINES {
-        desk.has_audited(rt);
+        desk.has_audited(rt, AuditOutcome::Agrees);
         same(rt, desk.book.totals().changes, 4, "changes");
         same(rt, desk.pass.totals().changes, 4, "changes of the pass");
     }
@@ -180,6 +191,58 @@ fn links_lost<C: Ledger, A: Ledger>(rt: &impl Abort, desk: &mut Desk<C, A>) {
     );
 }
 
+/// A verdict that was short of memory is Unsettled again.
+fn short_verdict<C: Ledger, A: Ledger>(rt: &impl Abort, desk: &mut Desk<C, A>) {
+    let line = format!(in desk.alloc; "2025-01-01T00:00:09Z verdict CP1 2 {UNREAD_REPLY}");
+    let line = line.expect(rt, "error");
+    let journal = journal_of(rt, desk.alloc, LINES, 11, line.as_str());
+    let said = desk.restore(rt, journal.as_str());
+    same_text(rt, said.as_str(), "21 lines", "a short verdict");
+    desk.has_audited(rt, AuditOutcome::Unsettled);
+}
+
+/// A reply with line breaks confirms its call as it did.
+fn breaks<C: Ledger, A: Ledger>(rt: &impl Abort, desk: &mut Desk<C, A>) {
+    let mut journal = journal_of(rt, desk.alloc, 2, 0, "");
+    let line = Line {
+        moment: instant_at(2).expect(rt, "no instant"),
+        point: "CP1",
+        noted: Noted::Reply {
+            link: 1,
+            frame: "[3,\r\n\"0\",{\n\"status\":\r\"Unknown\"}]\n",
+        },
+    };
+    push_line(&mut journal, &line).expect(rt, "error");
+    let said = desk.restore(rt, journal.as_str());
+    same_text(rt, said.as_str(), "4 lines", "a message with line breaks");
+    let state = desk.state(rt);
+    same_text(rt, state.as_str(), "0 0 1 0", "a confirmed call");
+}
+
+/// A book whose history is folded on the way goes on with the next link.
+fn links_came_and_went<C: Ledger, A: Ledger>(rt: &impl Abort, desk: &mut Desk<C, A>, links: u64) {
+    let mut journal = String::new(desk.alloc);
+    for link in 1..=links {
+        push_links(rt, desk.alloc, &mut journal, link);
+    }
+    let said = desk.restore(rt, journal.as_str());
+    let wanted = said_of_restored(rt, desk.alloc, 2 * links + 1);
+    same_text(rt, said.as_str(), wanted.as_str(), "many links");
+    let next = format!(in desk.alloc; "2025-01-01T00:00:00Z attached CP2 {}\n", links + 1);
+    let said = desk.restore(rt, next.expect(rt, "error").as_str());
+    same_text(rt, said.as_str(), "2 lines", "one link more");
+}
+
+/// A link of CP1 comes and goes.
+fn push_links(rt: &impl Abort, alloc: Global, journal: &mut String, link: u64) {
+    let lines = format!(in alloc;
+        "2025-01-01T00:00:00Z attached CP1 {link}\n2025-01-01T00:00:00Z lost CP1 {link}\n"
+    );
+    journal
+        .push_str(lines.expect(rt, "error").as_str())
+        .expect(rt, "error");
+}
+
 #[test]
 fn a_journal_is_restored_after_each_line(rt: HostRuntime) {
     for lines in 0..LINES + 1 {
@@ -201,4 +264,22 @@ fn a_changed_line_is_named(rt: HostRuntime) {
 fn links_are_lost_after_a_restore(rt: HostRuntime) {
     let (changes, answers) = (Blank::new(1), Blank::new(1));
     play::<Brand, Brand, HostRuntime>(&rt, rt.alloc(), changes, answers, Story::LostLinks);
+}
+
+#[test]
+fn a_short_verdict_is_unsettled(rt: HostRuntime) {
+    let (changes, answers) = (Blank::new(1), Blank::new(1));
+    play::<Brand, Brand, HostRuntime>(&rt, rt.alloc(), changes, answers, Story::ShortVerdict);
+}
+
+#[test]
+fn a_message_with_line_breaks_is_restored(rt: HostRuntime) {
+    let (changes, answers) = (Blank::new(1), Blank::new(1));
+    play::<Brand, Brand, HostRuntime>(&rt, rt.alloc(), changes, answers, Story::Breaks);
+}
+
+#[test]
+fn a_long_journal_is_restored(rt: HostRuntime) {
+    let (changes, answers) = (Blank::new(1), Blank::new(1));
+    play::<Brand, Brand, HostRuntime>(&rt, rt.alloc(), changes, answers, Story::Links(2_000));
 }
