@@ -71,8 +71,8 @@ pub fn restore<C: Ledger, A: Ledger>(
     })
 }
 
-/// Restores a line, without its line feed, and returns its moment.
-fn restore_bytes<C: Ledger, A: Ledger>(
+/// Restores a line, without its line feed, that may be no text, and returns its moment.
+pub fn restore_bytes<C: Ledger, A: Ledger>(
     alloc: Global,
     memory: &mut ReadingMemory,
     book: &mut Book<C, A>,

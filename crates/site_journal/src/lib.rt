@@ -18,7 +18,7 @@ mod restoring;
 
 pub use entry::Entry;
 pub use header::{HeaderFault, push_header, read_header};
-pub use journal::{Restored, Unrestored, restore, split_line, whole_lines};
+pub use journal::{Restored, Unrestored, restore, restore_bytes, split_line, whole_lines};
 pub use line::{Line, Noted, push_line};
 pub use line_fault::LineFault;
 pub use line_laws::lines_read_back;
