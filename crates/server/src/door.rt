@@ -8,11 +8,12 @@ use std::sync::{Mutex, Wait};
 use std::thread;
 use std::time::{Duration, Instant};
 
-/// How long it waits where a connection couldn't be accepted, as without a file descriptor.
-const PAUSE: Duration = Duration::from_millis(100);
+/// So many milliseconds it waits where a connection couldn't be accepted, as without a file
+/// descriptor.
+const PAUSE: u64 = 100;
 
-/// That all seats are taken is said no more often.
-const SAY_FULL_EACH: Duration = Duration::from_secs(60);
+/// That all seats are taken is said no more often than each so many seconds.
+const SAY_FULL_EACH: u64 = 60;
 
 /// The answer to a connection for which there is no seat.
 const NO_SEAT: &[u8] =
@@ -60,7 +61,7 @@ pub(crate) fn keep_door<R: Wait + Clock + Eprint>(
     let mut said = None;
     for _ in rt.forever() {
         let Ok((stream, _)) = listener.accept() else {
-            thread::sleep(rt, PAUSE);
+            thread::sleep(rt, Duration::from_millis(PAUSE));
             continue;
         };
         if !door.take_seat(rt) {
@@ -93,7 +94,7 @@ fn say_full<R: Clock + Eprint>(rt: &R, said: &mut Option<Instant>) {
     };
     let is_due = match *said {
         Some(before) => match now.checked_duration_since(before) {
-            Some(since) => since >= SAY_FULL_EACH,
+            Some(since) => since.as_secs() >= SAY_FULL_EACH,
             None => false,
         },
         None => true,

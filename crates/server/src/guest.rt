@@ -9,11 +9,11 @@ use std::rt::Clock;
 use std::sync::Arc;
 use std::time::{Duration, Instant};
 
-/// A handshake as a whole takes no longer.
-const LONGEST_HANDSHAKE: Duration = Duration::from_secs(10);
+/// A handshake as a whole takes no more seconds.
+const LONGEST_HANDSHAKE: u64 = 10;
 
-/// No write waits longer for a client that doesn't read.
-const LONGEST_WRITE: Duration = Duration::from_secs(10);
+/// No write waits more seconds for a client that doesn't read.
+const LONGEST_WRITE: u64 = 10;
 
 /// A stream that whoever has a share of it may shut.
 pub(crate) type SharedStream = Arc<TcpStream, Global>;
@@ -31,10 +31,11 @@ impl<'a, R: Clock> Guest<'a, R> {
     /// A connection whose handshake begins now. None where the system can't bound it.
     pub(crate) fn arriving(rt: &'a R, alloc: Global, stream: TcpStream) -> Option<Guest<'a, R>> {
         let now = Instant::now(rt).ok()?;
-        let deadline = now.checked_add(LONGEST_HANDSHAKE)?;
+        let deadline = now.checked_add(Duration::from_secs(LONGEST_HANDSHAKE))?;
         // An answer leaves at once. Where that can't be set, it leaves later.
         let _ = stream.set_nodelay(true);
-        stream.set_write_timeout(Some(LONGEST_WRITE)).ok()?;
+        let longest_write = Duration::from_secs(LONGEST_WRITE);
+        stream.set_write_timeout(Some(longest_write)).ok()?;
         let stream = Arc::new(alloc, stream).ok()?;
         Some(Guest {
             rt,

@@ -45,7 +45,9 @@ pub struct House<C: Ledger, A: Ledger, R, M, J> {
     door: Door,
 }
 
-impl<C: Ledger, A: Ledger, R: Wait + Clock, M: Moments, J: Journal> House<C, A, R, M, J> {
+impl<C: Ledger, A: Ledger, R: Wait + Clock + Drop, M: Moments + Drop, J: Journal + Drop>
+    House<C, A, R, M, J>
+{
     /// What threads share that serve this book, by this clock and with this journal.
     pub fn make(
         rt: R,
@@ -93,9 +95,7 @@ pub fn run_seats<
     requires workers { 1 ≤ workers }
 {
     let jobs = begin_workers(house, workers)?;
-    let Ok((guests, queue)) = bounded(house.alloc, passes.len()) else {
-        return Err(ServeFault::OutOfMemory);
-    };
+    let (guests, queue) = bounded(house.alloc, passes.len())?;
     let mut seats = 0u64;
     for pass in passes {
         if begin_seat(house, &jobs, &queue, pass)? {
@@ -105,7 +105,7 @@ pub fn run_seats<
     if seats == 0 {
         return Err(ServeFault::OutOfMemory);
     }
-    let own = share(house)?;
+    let own = Arc::try_clone(house)?;
     let door = thread::Builder::new().spawn(&house.rt, move || {
         keep_door(&own.rt, &own.door, &listener, &guests)
     });
@@ -129,10 +129,8 @@ fn begin_workers<
 ) -> Result<Sender<Job>, ServeFault>
     requires { 1 ≤ workers }
 {
-    let Ok((jobs, queue)) = bounded(house.alloc, MAX_JOBS) else {
-        return Err(ServeFault::OutOfMemory);
-    };
-    let own = share(house)?;
+    let (jobs, queue) = bounded(house.alloc, MAX_JOBS)?;
+    let own = Arc::try_clone(house)?;
     let pool = thread::Builder::new().spawn(
         &house.rt,
         move || -> usize
@@ -156,22 +154,12 @@ fn begin_seat<
     queue: &Receiver<TcpStream>,
     pass: Pass<C, A>,
 ) -> Result<bool, ServeFault> {
-    let own = share(house)?;
-    let (jobs, queue) = (jobs.clone(), queue.clone());
+    let own = Arc::try_clone(house)?;
+    let (jobs, queue) = (jobs.clone()?, queue.clone()?);
     let seat = thread::Builder::new()
         .stack_size(SEAT_STACK)
         .spawn(&house.rt, move || keep_seat(&own, &jobs, &queue, pass));
     Ok(seat.is_ok())
-}
-
-/// A share of what all threads share.
-fn share<C: Ledger, A: Ledger, R, M, J>(
-    house: &Arc<House<C, A, R, M, J>, Global>,
-) -> Result<Arc<House<C, A, R, M, J>, Global>, ServeFault> {
-    match Arc::try_clone(house) {
-        Ok(own) => Ok(own),
-        Err(AllocError) => Err(ServeFault::OutOfMemory),
-    }
 }
 
 /// A seat: serves one connection after another, each with the seat's pass.

@@ -34,6 +34,12 @@ pub enum ServeFault {
     OutOfMemory,
 }
 
+impl From<AllocError> for ServeFault {
+    fn from(_: AllocError) -> ServeFault {
+        ServeFault::OutOfMemory
+    }
+}
+
 /// Serves a site: accepts N connections, each served on a thread of its own, and ends when all have
 /// ended. Workers on other threads compile. After the last one the listener is closed. Gives how
 /// many changes were made and answers handed out in all sessions.

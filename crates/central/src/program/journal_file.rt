@@ -19,8 +19,8 @@ const FREE_ENTRIES: usize = 2_048;
 /// A text of lines that grew longer isn't kept for the next lines.
 const LONGEST_KEPT_TEXT: usize = 1_048_576;
 
-/// How often it is tried again to write where the device was full.
-const RETRY: Duration = Duration::from_secs(1);
+/// After so many seconds it is tried again to write where the device was full.
+const RETRY_SECONDS: u64 = 1;
 
 /// A journal that sessions share. Each notes what it changes while it has the book. Whoever waits
 /// for it writes and syncs for all that wait. Where the device is full nothing is noted any more,
@@ -106,7 +106,7 @@ impl From<AllocError> for KeepFault {
     }
 }
 
-impl<R: Wait + Clock + Eprint + AllocGlobal> JournalFile<R> {
+impl<R: Wait + Clock + Eprint + AllocGlobal + Drop> JournalFile<R> {
     /// The journal in an open file, to which these lines are to be added.
     pub fn make(
         rt: R,
@@ -179,7 +179,7 @@ impl<R: Wait + Clock + Eprint + AllocGlobal> JournalFile<R> {
             let (noted, _) = self.broken.wait_timeout_while(
                 &self.rt,
                 noted,
-                RETRY,
+                Duration::from_secs(RETRY_SECONDS),
                 |noted| noted.state != JournalState::Broken,
             );
             let state = noted.state;
@@ -347,7 +347,7 @@ fn fault_of_write(error: io::Error) -> KeepFault {
     }
 }
 
-impl<R: Wait + Clock + Eprint + AllocGlobal> Journal for JournalFile<R> {
+impl<R: Wait + Clock + Eprint + AllocGlobal + Drop> Journal for JournalFile<R> {
     fn prepare(
         &self,
         moment: Instant,

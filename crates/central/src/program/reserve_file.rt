@@ -27,13 +27,16 @@ impl ReserveFile {
     pub fn make<R: Files<File = File>>(rt: &R, path: &str) -> ReserveFile {
         let mut options = OpenOptions::new();
         let opened = options.write(true).create(true).open(rt, path);
-        let file = match opened {
-            Ok(mut file) if fill(&mut file) => Some(file),
-            _ => None,
+        let Ok(mut file) = opened else {
+            return ReserveFile {
+                file: None,
+                is_filled: false,
+            };
         };
+        let is_filled = fill(&mut file);
         ReserveFile {
-            is_filled: file.is_some(),
-            file,
+            file: if is_filled { Some(file) } else { None },
+            is_filled,
         }
     }
 

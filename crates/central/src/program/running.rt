@@ -142,7 +142,7 @@ fn run_counted<
 fn restore_shared<
     C: Ledger,
     A: Ledger,
-    R: Files<File = File> + Print + Eprint + AllocGlobal + Clock + Wait + Copy,
+    R: Files<File = File> + Print + Eprint + AllocGlobal + Clock + Wait + Copy + Drop,
 >(
     rt: &R,
     opened: OpenJournal,
