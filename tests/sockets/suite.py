@@ -13,13 +13,13 @@ import crowds
 import days
 import endings
 import handshakes
-import journals
 import messages
 import node_clients
 import programs
 import reconnects
 import refusals
 import replays
+import runs
 from node_client import NodeClient
 
 SUBJECTS = {
@@ -32,7 +32,7 @@ SUBJECTS = {
     "node_clients": node_clients,
     "endings": endings,
     "programs": programs,
-    "journals": journals,
+    "runs": runs,
     "audits": audits,
     "refusals": refusals,
 }

@@ -19,6 +19,7 @@ pub mod replaying;
 pub mod reserve_file;
 pub mod restoring;
 pub mod running;
+pub mod script_end;
 pub mod script_input;
 pub mod serving;
 pub mod showing;

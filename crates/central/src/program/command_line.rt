@@ -130,8 +130,8 @@ pub struct Explaining<'a> {
     pub duration: u64,
     /// The folder whose journal is the script, or else that is standard input.
     pub data: Option<&'a str>,
-    /// So many lines of the script are played, or all.
-    pub last_line: Option<u64>,
+    /// The text of how far the script is played: a number of lines, or an instant. Or all is.
+    pub at: Option<&'a str>,
     /// The file of the picture to write.
     pub picture: Option<&'a str>,
     /// Whether for programs.
@@ -156,8 +156,8 @@ pub struct Showing<'a> {
     pub site: &'a str,
     /// The folder whose journal is the script, or else that is standard input.
     pub data: Option<&'a str>,
-    /// So many lines of the script are played, or all.
-    pub last_line: Option<u64>,
+    /// The text of how far the script is played: a number of lines, or an instant. Or all is.
+    pub at: Option<&'a str>,
     /// Whether for programs.
     pub json: bool,
 }
@@ -373,7 +373,7 @@ fn explaining_of<'a>(given: &ArgMatches<'a>) -> Option<Explaining<'a>>
     let start = text_of(given, "start")?;
     let duration = number_of(given, "duration")?;
     let data = text_of(given, "data");
-    let last_line = optional_number_of(given, "at");
+    let at = text_of(given, "at");
     let picture = text_of(given, "picture");
     let json = is_given(given, "json");
     Some(Explaining {
@@ -383,7 +383,7 @@ fn explaining_of<'a>(given: &ArgMatches<'a>) -> Option<Explaining<'a>>
         start,
         duration,
         data,
-        last_line,
+        at,
         picture,
         json,
     })
@@ -407,7 +407,7 @@ fn showing_of<'a>(given: &ArgMatches<'a>) -> Option<Showing<'a>>
     Some(Showing {
         site,
         data,
-        last_line: optional_number_of(given, "at"),
+        at: text_of(given, "at"),
         json,
     })
 }

@@ -17,7 +17,6 @@ use crate::program::help_text::{
 use clap::builder::ValueParser;
 use clap::{Arg, ArgAction, Command};
 use meaning::MAX_DURATION;
-use replay::MAX_SCRIPT_BYTES;
 use server::{MAX_SEATS, MAX_SESSIONS, MAX_WORKERS};
 use std::alloc::{AllocError, Global};
 
@@ -142,7 +141,7 @@ fn point<'a>(alloc: Global) -> Result<Command<'a>, AllocError>
 }
 
 /// `explain --site F --point ID --connector C --start INSTANT --duration D
-/// [--data DIR] [--at N] [--picture FILE] [--json]`.
+/// [--data DIR] [--at PLACE] [--picture FILE] [--json]`.
 fn explain<'a>(alloc: Global) -> Result<Command<'a>, AllocError>
     ensures { IfOk result (λ command. app_of command ≡ explain_command) }
 {
@@ -157,11 +156,7 @@ fn explain<'a>(alloc: Global) -> Result<Command<'a>, AllocError>
         .arg(needed(alloc, "start", "INSTANT", START_HELP))?
         .arg(numbered(duration, 1, MAX_DURATION as u64))?
         .arg(optional(alloc, "data", "DIR", DATA_HELP))?
-        .arg(numbered(
-            optional(alloc, "at", "N", AT_HELP),
-            0,
-            MAX_SCRIPT_BYTES as u64,
-        ))?
+        .arg(optional(alloc, "at", "PLACE", AT_HELP))?
         .arg(optional(alloc, "picture", "FILE", PICTURE_HELP))?
         .arg(flag(alloc, "json", JSON_HELP))
 }
@@ -178,7 +173,7 @@ fn check<'a>(alloc: Global) -> Result<Command<'a>, AllocError>
         .arg(flag(alloc, "trace", TRACE_HELP))
 }
 
-/// `show --site F [--data DIR] [--at N] [--json]`.
+/// `show --site F [--data DIR] [--at PLACE] [--json]`.
 fn show<'a>(alloc: Global) -> Result<Command<'a>, AllocError>
     ensures { IfOk result (λ command. app_of command ≡ show_command) }
 {
@@ -187,11 +182,7 @@ fn show<'a>(alloc: Global) -> Result<Command<'a>, AllocError>
         .after_help(SHOW_NOTES)
         .arg(needed(alloc, "site", "F", SITE_HELP))?
         .arg(optional(alloc, "data", "DIR", DATA_HELP))?
-        .arg(numbered(
-            optional(alloc, "at", "N", AT_HELP),
-            0,
-            MAX_SCRIPT_BYTES as u64,
-        ))?
+        .arg(optional(alloc, "at", "PLACE", AT_HELP))?
         .arg(flag(alloc, "json", JSON_HELP))
 }
 

@@ -6,13 +6,14 @@ use crate::program::command_line::Explaining;
 use crate::program::pages::{Screen, note_refused_lines, print_page, write_file};
 use crate::program::picture_name::{PictureForm, picture_form};
 use crate::program::program_fault::ProgramFault;
+use crate::program::script_end::{changes_after, script_end};
 use crate::program::script_input::read_shown_script;
 use crate::program::site_file::read_site_file;
 use explain_pages::{
     ExplainedAsk, not_counted, write_json, write_page, write_picture, write_table,
 };
 use meaning::Ask;
-use ocpp_scalars::read_instant;
+use ocpp_scalars::{Instant, read_instant};
 use point_book::PointBook;
 use profile::Unit;
 use replay::play_quietly;
@@ -31,11 +32,13 @@ pub fn explain_file<R: Files<File = File> + Input + Print + Eprint + AllocGlobal
 ) -> Result<(), ProgramFault> {
     let picture = picture_of(&explaining)?;
     let ask = ask_of(&explaining)?;
+    let end = script_end(explaining.at)?;
     let site = read_site_file(rt, explaining.site)?;
     check_connector(&site, explaining.point, ask.connector)?;
     let unit = site.unit();
     let script = read_shown_script(rt, explaining.data)?;
-    let played = play_quietly(rt.alloc(), script.as_slice(), site, explaining.last_line)?;
+    let last_line = end.last_line(script.as_slice());
+    let played = play_quietly(rt.alloc(), script.as_slice(), site, last_line)?;
     let Some(book) = played.machine().book_of(explaining.point) else {
         return Err(ProgramFault::NoSuchPoint);
     };
@@ -45,12 +48,34 @@ pub fn explain_file<R: Files<File = File> + Input + Print + Eprint + AllocGlobal
         return Err(ProgramFault::NoSuchConnector);
     }
     note_refused_lines(rt, &played);
+    note_later_changes(rt, &explaining, script.as_slice(), last_line, ask.start);
     let presentation = Presentation {
         explaining: &explaining,
         unit,
         picture,
     };
     print_explained(rt, screen, presentation, book, &ask)
+}
+
+/// Says where a journal has changes at the point that are later than the first instant: what is
+/// explained isn't what the point had then.
+fn note_later_changes<R: Eprint>(
+    rt: &R,
+    explaining: &Explaining<'_>,
+    script: &[u8],
+    last_line: Option<u64>,
+    start: Instant,
+) {
+    if explaining.data.is_none() {
+        return;
+    }
+    let later = changes_after(script, last_line, explaining.point, start);
+    if later > 0 {
+        let (point, start) = (explaining.point, explaining.start);
+        let _ = eprintln!(rt;
+            "central: {later} changes at {point} are later than --start: --at {start} is without them"
+        );
+    }
 }
 
 /// A picture that is wanted.

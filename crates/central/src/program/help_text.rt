@@ -217,7 +217,8 @@ pub const START_HELP: &str = "From when on, such as 2025-01-03T12:00:00Z";
 pub const DURATION_HELP: &str = "For how many seconds, from 1 to 2678400";
 
 /// What `--at` counts.
-pub const AT_HELP: &str = "After this number of lines of the script, not after all";
+pub const AT_HELP: &str =
+    "After this number of lines of the script, or at this instant, not after all";
 
 /// What `--picture` names.
 pub const PICTURE_HELP: &str = "Write a picture too: FILE.svg, or a page with it: FILE.html";

@@ -16,7 +16,7 @@ use std::fs::File;
 use std::rt::Files;
 
 /// A message that the point of a call may have sent before it. It changes nothing.
-const BEFORE_A_CALL: &str = "[2,\"\",\"Heartbeat\",{}]";
+pub const BEFORE_A_CALL: &str = "[2,\"\",\"Heartbeat\",{}]";
 
 /// A longer message has no room on a line of a script.
 const LONGEST_FRAME: usize = 1_048_576 - 128;

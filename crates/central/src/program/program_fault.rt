@@ -65,6 +65,9 @@ pub enum ProgramFault {
     /// The command line names no instant.
     #[error("central: command line: --start is no instant, such as 2025-01-01T12:00:00Z")]
     NoInstant,
+    /// The command line names neither a number of lines nor an instant.
+    #[error("central: command line: --at is no number of lines, and no instant")]
+    NoScriptEnd,
     /// The connector of a remote start is no number.
     #[error("central: command line: the CONNECTOR of --remote-start is no whole number from 0 on")]
     NoNumber,
@@ -102,7 +105,7 @@ impl ProgramFault {
             ProgramFault::Client(_) => 3,
             ProgramFault::Words | ProgramFault::NoSuchPoint | ProgramFault::NoSuchConnector => 4,
             ProgramFault::NoInstant | ProgramFault::PastCalendar | ProgramFault::NoPicture => 4,
-            ProgramFault::DataInUse | ProgramFault::NoNumber => 4,
+            ProgramFault::DataInUse | ProgramFault::NoNumber | ProgramFault::NoScriptEnd => 4,
         }
     }
 }
