@@ -4,6 +4,7 @@ import json
 import os
 import re
 import resource
+import shutil
 import socket
 import subprocess
 import tempfile
@@ -11,7 +12,7 @@ import time
 
 from days import Day, charging, compare, evening, morning, replay
 from python_client import PythonClient
-from raw_client import TEXT, RawClient, frame_bytes
+from raw_client import CONTINUATION, PING, PONG, TEXT, RawClient, frame_bytes
 from serving import ENVIRONMENT, PATIENCE, Running, Unexpected, expect, limit, until
 from texts import (
     CALL_0, OCPP, accepted, ask, call, clear, error, heartbeat, install, install_call, plain_site, profile, site, start,
@@ -66,14 +67,14 @@ def once(program, data, of=SITE, limits=None):
 
 
 def read(program, data, *command, of=SITE):
-    """What a command says that reads the journal."""
+    """What a command says that reads the journal. The site file is called F."""
     with tempfile.NamedTemporaryFile("w", suffix=".json") as file:
         file.write(of)
         file.flush()
         named = [] if command[0] == "journal" else ["--site", file.name]
         words = [program, command[0], *named, "--data", data.path, *command[1:]]
         done = subprocess.run(words, capture_output=True, timeout=PATIENCE, check=False, env=ENVIRONMENT)
-    return done.returncode, done.stdout.decode(), done.stderr.decode()
+    return done.returncode, done.stdout.decode().replace(file.name, "F"), done.stderr.decode()
 
 
 def transaction_of(text):
@@ -90,11 +91,10 @@ def what_is_noted(program):
     with Data() as data, Running(program, SITE, data.path) as running:
         noted = []
         with RawClient.connected(running, "/operator/P1") as operator, RawClient.connected(running, "/P1") as point:
-            until("the point has its link", lambda: data.lines() == ["attached P1 1"] or point.texts_now())
-            noted.append("attached P1 1")
+            point.texts_now()  # it has its link
             started = start("s")
             for client, text, lines in (
-                (operator, heartbeat("h"), []),
+                (operator, heartbeat("h"), ["attached P1 1"]),
                 (operator, pretty, ["operator P1 1 " + pretty.replace("\r", "\t").replace("\n", "\t")]),
                 (operator, install("l", profile(1, [9], level=100)), []),
                 (operator, ask("größer €"), []),
@@ -106,8 +106,8 @@ def what_is_noted(program):
                 (point, started, ["point P1 1 " + started]),
                 (point, started, []),
                 (point, stop("x", 7), []),
-                (point, accepted("1"), ["reply P1 1 " + accepted("1")]),
-                (operator, clear("all"), ["operator P1 3 " + clear("all")]),
+                (point, accepted("1"), []),  # nothing leaves that depends on it
+                (operator, clear("all"), ["reply P1 1 " + accepted("1"), "operator P1 3 " + clear("all")]),
                 (point, stop("e", 1), ["point P1 4 " + stop("e", 1), "sent P1 1 2"]),
             ):
                 client.texts_of(text)
@@ -128,13 +128,12 @@ async def a_day_over_restarts(program):
                 day.point, day.operators = point, operators
                 await part(day, 3)
                 expect("what it says", await asyncio.to_thread(running.kill), b"")
-        expect("the last start", once(program, data, limits={resource.RLIMIT_NOFILE: 3})[0] != 0, True)
         status, script, said = read(program, data, "journal")
         expect("how the journal is printed", (status, said), (0, ""))
     compare(program, SITE, day.told)
-    answers = {told.brought[0] for told in day.told if told.brought and "Transaction" in told.text}
-    printed = {line[2:] for line in replay(program, SITE, script).splitlines() if line.startswith("> ")}
-    expect("what the journal's replay doesn't tell of changes", [text for text in answers if '"transactionId"' in text and text not in printed], [])
+    begun = {told.brought[0] for told in day.told if told.started() and '"again"' not in told.text}
+    printed = {line[2:] for line in replay(program, SITE, script).splitlines()}
+    expect("the transactions that a replay of the journal doesn't tell", begun - printed, set())
 
 
 def a_call_in_flight(program):
@@ -195,9 +194,9 @@ def audits_and_remote_starts(program):
 
 def journal_of_a_day(program, data):
     """A journal with each kind of line."""
-    with Running(program, SITE, data.path) as running:
-        with RawClient.connected(running, "/operator/P1") as operator, RawClient.connected(running, "/P1") as point:
-            operator.texts_of(install("a", profile(1, [7])))
+    with Running(program, SITE, data.path) as running, RawClient.connected(running, "/operator/P1") as operator:
+        operator.texts_of(install("a", profile(1, [7])))
+        with RawClient.connected(running, "/P1") as point:
             point.texts_of(heartbeat("h"))
             point.texts_of(accepted("0"))
             point.texts_of(start("s"))
@@ -223,7 +222,7 @@ def torn_anywhere(program):
         whole = journal_of_a_day(program, data)
     ends = [place + 1 for place, byte in enumerate(whole) if byte == 10]
     for number, end in enumerate(ends):
-        for extra in (0, 1, 12):
+        for extra in (0, 1 + number):
             with Data() as data:
                 data.write(whole[:end + extra])
                 torn = min(extra, len(whole) - end)
@@ -305,7 +304,7 @@ def no_more_than_the_seats(program):
         until("a seat is free", lambda: is_served(running))
         for _ in range(40):
             is_served(running)
-        expect("the other seat", second.texts_of(heartbeat("h"))[0][:7], '[3,"h",')
+        expect("the other seat", second.texts_of(heartbeat("h"))[0][:7], '[4,"h",')
         second.close()
         said = running.kill()
         expect("what is said, once", said.count(b"\n"), 1)
@@ -326,15 +325,13 @@ def silent_handshakes(program):
     with Data() as data, Running(program, SITE, data.path, seats=2) as running:
         began = time.monotonic()
         silent, slow = RawClient(running), RawClient(running)
-        while time.monotonic() < began + 9:
-            try:
-                slow.send_bytes(b"G")
-            except OSError:
-                break
+        slow.send_bytes(b"GET /P1 HTTP/1.1\r\nX-Slow: ")
+        while time.monotonic() < began + 6:
+            slow.send_bytes(b"x")
             time.sleep(0.5)
         expect("whether one is served meanwhile", is_served(running), False)
         until("both seats are free", lambda: is_served(running))
-        expect("how long it took", 9 < time.monotonic() - began < 60, True)
+        expect("whether it took the time of a handshake", time.monotonic() - began > 9, True)
         expect("the end of the silent one", silent.read_response(), None)
         silent.socket.close()
         slow.socket.close()
@@ -376,39 +373,102 @@ def points_that_reconnect(program):
             expect("what goes on", again.resumed, (5, 0, 0, 5))
 
 
+def the_longest_message(program):
+    """It is read whole, in one frame or in two, and one byte more in two isn't."""
+    with Data() as data, Running(program, SITE, data.path) as running:
+        with RawClient.connected(running, "/operator/P1") as operator:
+            text = heartbeat("h").ljust(1_048_576).encode()
+            operator.send_frame(TEXT, text)
+            expect("an answer", operator.texts_now()[0][:7], '[4,"h",')
+            operator.send_frame(TEXT, text[:100], is_final=False)
+            operator.send_frame(CONTINUATION, text[100:])
+            expect("an answer", operator.texts_now()[0][:7], '[4,"h",')
+            operator.send_frame(TEXT, text[:100], is_final=False)
+            operator.send_frame(CONTINUATION, text[99:])
+            operator.is_ended_for_a_breach()
+
+
 def a_message_that_is_too_long(program):
     """It is refused before it has come."""
     with Data() as data, Running(program, SITE, data.path) as running:
         with RawClient.connected(running, "/operator/P1") as operator:
-            text = heartbeat("h").ljust(1_048_576)
-            expect("the longest", operator.texts_of(text)[0][:7], '[3,"h",')
             operator.send_bytes(frame_bytes(TEXT, b"", length=b"\x7f" + (1_048_577).to_bytes(8, "big")))
             operator.is_ended_for_a_breach()
-        with RawClient.connected(running, "/operator/P1") as operator:
-            operator.send_frame(TEXT, b" " * 900_000, is_final=False)
-            operator.send_bytes(frame_bytes(0, b"", length=b"\x7f" + (900_000).to_bytes(8, "big")))
-            operator.is_ended_for_a_breach()
+
+
+def told(running, text):
+    """What an operator is told, or None where the session ends without an answer."""
+    with RawClient.connected(running, "/operator/P1") as operator:
+        operator.send_text(text)
+        frame = operator.read_frame()
+        return None if frame is None else frame.payload.decode()
 
 
 def a_file_that_is_full(program):
-    """What isn't on the disk isn't answered, and is there once there is room; until then nothing is changed."""
+    """What isn't on the disk isn't answered, and nothing that may depend on it."""
     with Data() as data:
         limits = {resource.RLIMIT_FSIZE: 1_000}
         with Running(program, SITE, data.path, limits=limits) as running:
-            answered = []
-            for number in range(1, 9):
-                with RawClient.connected(running, "/operator/P1") as operator:
-                    operator.send_text(install("short", profile(number, [9 + number], number)))
-                    frame = operator.read_frame()
-                    answered.append(None if frame is None else frame.payload.decode())
-            count = answered.index(None)
-            expect("the answers before", answered[:count], [accepted("short")] * count)
-            expect("the answers behind", answered[count + 1:], [SHORT] * (7 - count))
+            answers = [told(running, install("short", profile(number, [9 + number], number))) for number in range(1, 9)]
+            count = answers.index(None)
+            expect("the answers before", answers[:count], [accepted("short")] * count)
+            expect("the answers behind", answers[count:], [None] * (8 - count))
             expect("what is written", len(data.bytes()), 1_000)
             said = running.kill().decode()
         expect("what is said", said, f"central: {data.journal}: File too large (os error 27)\n")
         with Running(program, SITE, data.path) as running:
             expect("what is kept", running.resumed, (2, count, 0, 2 + count))
+
+
+class SmallDevice(Data):
+    """The name of a folder on a device of 3 MiB, which can be filled; None where none can be made."""
+
+    def __enter__(self):
+        super().__enter__()
+        made = subprocess.run(["mount", "-t", "tmpfs", "-o", "size=3m", "tmpfs", self.folder.name], capture_output=True, check=False)
+        self.filler = os.path.join(self.folder.name, "filler")
+        return self if made.returncode == 0 else None
+
+    def __exit__(self, *problem):
+        subprocess.run(["umount", self.folder.name], capture_output=True, check=False)
+        super().__exit__(*problem)
+
+    def fill(self):
+        file = os.open(self.filler, os.O_CREAT | os.O_WRONLY)
+        try:
+            while True:
+                os.write(file, bytes(4_096))
+        except OSError:
+            os.close(file)
+
+
+def a_full_device(program):
+    """What was noted is written into the reserve. Then changes are answered InternalError, and asks are answered."""
+    with SmallDevice() as data:
+        if data is None:
+            return
+        with Running(program, SITE, data.path) as running:
+            data.fill()
+            answers = []
+            while SHORT not in answers[-1:]:
+                number = len(answers) + 1
+                answers.append(told(running, install("short", profile(number, [9] * 24, number))))
+                expect("an end", len(answers) < 20, True)
+            count = len(answers) - 1
+            expect("the answers before", answers[:count], [accepted("short")] * count)
+            expect("an ask", told(running, ask("a"))[:28], '[3,"a",{"status":"Accepted",')
+            expect("a clear", told(running, clear("short")), SHORT)
+            os.remove(data.filler)
+            until("there is room", lambda: told(running, install("short", profile(50, [9], 50))) == accepted("short"))
+            said = running.kill().decode()
+        wanted = [f"central: {data.journal}: {what}" for what in ("No space left on device (os error 28)", "there is room again")]
+        expect("what is said", said.splitlines(), wanted)
+        with Running(program, SITE, data.path) as running:
+            expect("what is kept", running.resumed, (2, count + 1, 0, 3 + count))
+
+
+# What `explain` says of an install and a start.
+LATER = r"central: 2 changes at P1 are later than --start: --at 2025-01-01T00:00:00Z is without them\n"
 
 
 def readers(program):
@@ -423,11 +483,11 @@ def readers(program):
             status, script, said = read(program, data, "journal")
             expect("how it is printed", (status, said), (0, ""))
             count = len(data.lines()) + 1
-            for command, notes in ((("replay",), ""), (("check",), ""), (("check", "--trace"), ""), (("show",), "r"), (("explain", *explained), "r")):
+            for command, notes in ((("replay",), ""), (("check",), ""), (("check", "--trace"), ""), (("show",), ""), (("explain", *explained), LATER), (("explain", *explained, "--at", explained[5]), LATER[:0])):
                 status, out, said = read(program, data, *command)
-                wanted = of_script(program, script, *command)
-                expect(f"what {command[0]} prints", (status, out), wanted)
-                expect(f"what {command[0]} says", bool(re.fullmatch(rf"central: journal: {count} lines, the last one of \S+\n", said)), bool(notes))
+                expect(f"what {command[0]} prints", (status, out), of_script(program, script, *command))
+                wanted = rf"central: journal: {count} lines, the last one of \S+\n{notes}" if command[0] in ("show", "explain") else notes
+                expect(f"what {command[0]} says", bool(re.fullmatch(wanted, said)), True)
 
 
 def of_script(program, script, *command):
@@ -436,7 +496,80 @@ def of_script(program, script, *command):
         file.flush()
         words = [program, command[0], "--site", file.name, *command[1:]]
         done = subprocess.run(words, input=script.encode(), capture_output=True, timeout=PATIENCE, check=False, env=ENVIRONMENT)
-    return done.returncode, done.stdout.decode()
+    return done.returncode, done.stdout.decode().replace(file.name, "F")
+
+
+class Answered:
+    """What a point and its operator do until the program is killed, and what of it was answered."""
+
+    def __init__(self):
+        self.installs, self.transactions, self.calls, self.confirmed = [], [], [], []
+
+    def play(self, running):
+        with RawClient.connected(running, "/operator/P1") as operator, RawClient.connected(running, "/P1") as point:
+            point.socket.settimeout(20)
+            operator.socket.settimeout(20)
+            self._see(self._told(point, heartbeat("h")))
+            for number in range(1, 4):
+                if accepted(f"i{number}") in self._told(operator, install(f"i{number}", profile(number, [6 + number], number))):
+                    self.installs.append(number)
+                for text in self._told(point, start(f"s{number}", 1, f"T{number}")):
+                    if text.startswith("[3,"):
+                        self.transactions.append(transaction_of(text))
+                    self._see([text])
+                self._see(self._told(point, accepted(str(self.calls[-1] if self.calls else 0))))
+
+    def _told(self, client, text):
+        """The texts that follow a text, up to the end of the stream."""
+        client.send_text(text)
+        client.pings += 1
+        client.send_frame(PING, b"p%d" % client.pings)
+        texts = []
+        while True:
+            frame = client.read_frame()
+            if frame is None:
+                raise ConnectionResetError
+            if frame.opcode == PONG:
+                return texts
+            texts.append(frame.payload.decode())
+
+    def _see(self, texts):
+        self.calls += [int(json.loads(text)[1]) for text in texts if text.startswith("[2,")]
+
+
+def killed_anywhere(program):
+    """Killed at the k-th write, send or sync: after the restart no answered change is missing, and no call is out of turn."""
+    if not shutil.which("strace"):
+        return
+    for name in ("write", "sendto", "fdatasync"):
+        for count in range(1, 8 if "UNPROVED" in os.environ else 25):
+            killed_at(program, name, count)
+
+
+def killed_at(program, name, count):
+    where = f"killed at {name} {count}"
+    under = ("strace", "-f", "-qq", "-o", "/dev/null", "-e", f"inject={name}:signal=SIGKILL:when={count}")
+    answered = Answered()
+    with Data() as data:
+        try:
+            with Running(program, SITE, data.path, under=under, environment=NO_LEAKS) as running:
+                answered.play(running)
+        except (OSError, Unexpected):
+            pass  # it was killed there, perhaps before it listened
+        with Running(program, SITE, data.path, environment=NO_LEAKS) as running:
+            profiles, transactions = running.resumed[1:3]
+            expect(f"{where}: installs", len(answered.installs) <= profiles <= len(answered.installs) + 1, True)
+            expect(f"{where}: active transactions", transactions in ({1} if answered.transactions else {0, 1}), True)
+            with RawClient.connected(running, "/P1") as point:
+                calls = [int(json.loads(text)[1]) for text in point.texts_of(heartbeat("h")) if text.startswith("[2,")]
+                last = max(answered.calls, default=0)
+                expect(f"{where}: the next call after {last}", not calls or calls[0] in (last, last + 1), True)
+                number = transaction_of(point.texts_of(start("n", 2, "N"))[0])
+                expect(f"{where}: the next transaction", number > max(answered.transactions, default=0), True)
+
+
+# The unproved program looks for leaks when it ends, which it can't below strace.
+NO_LEAKS = {"ASAN_OPTIONS": ENVIRONMENT["ASAN_OPTIONS"] + ":detect_leaks=0"}
 
 
 def tests():
@@ -452,6 +585,9 @@ def tests():
     yield "silent handshakes", silent_handshakes
     yield "the newest connection", the_newest_connection
     yield "points that reconnect", points_that_reconnect
+    yield "the longest message", the_longest_message
     yield "a message that is too long", a_message_that_is_too_long
     yield "a file that is full", a_file_that_is_full
+    yield "a full device", a_full_device
     yield "readers", readers
+    yield "killed anywhere", killed_anywhere

@@ -181,6 +181,17 @@ class Running(Serving):
         self.resumed = tuple(map(int, found.groups()))
         return self.process.stdout.readline()
 
+    def __exit__(self, *problem):
+        self._kill_children()
+        super().__exit__(*problem)
+
+    def _kill_children(self):
+        """Kills what it runs below, if it does: that wouldn't take it along."""
+        if self.under and self.process.poll() is None:
+            with open(f"/proc/{self.process.pid}/task/{self.process.pid}/children", encoding="ascii") as file:
+                for child in file.read().split():
+                    os.kill(int(child), signal.SIGKILL)
+
     def kill(self):
         """Kills it, at whatever it does. What it said on standard error."""
         self.process.kill()

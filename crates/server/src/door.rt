@@ -101,6 +101,8 @@ fn say_full<R: Clock + Eprint>(rt: &R, said: &mut Option<Instant>) {
     };
     if is_due {
         *said = Some(now);
-        let _ = eprintln!(rt; "central: all seats are taken: connections are turned away (HTTP 503)");
+        let _ = eprintln!(rt;
+            "central: all seats are taken: connections are turned away (HTTP 503)"
+        );
     }
 }

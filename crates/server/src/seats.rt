@@ -45,9 +45,13 @@ pub struct House<C: Ledger, A: Ledger, R, M, J> {
     door: Door,
 }
 
-impl<C: Ledger, A: Ledger, R: Wait + Clock + Drop, M: Moments + Drop, J: Journal + Drop>
-    House<C, A, R, M, J>
-{
+impl<C: Ledger, A: Ledger, R: Wait + Clock + Drop, M: Moments + Drop, J: Journal + Drop> House<
+    C,
+    A,
+    R,
+    M,
+    J,
+> {
     /// What threads share that serve this book, by this clock and with this journal.
     pub fn make(
         rt: R,
@@ -123,10 +127,7 @@ fn begin_workers<
     R: Threads + Wait + Copy + Send + Sync + Drop + 'static,
     M: Send + Sync + Drop + 'static,
     J: Send + Sync + Drop + 'static,
->(
-    house: &Arc<House<C, A, R, M, J>, Global>,
-    workers: usize,
-) -> Result<Sender<Job>, ServeFault>
+>(house: &Arc<House<C, A, R, M, J>, Global>, workers: usize) -> Result<Sender<Job>, ServeFault>
     requires { 1 ≤ workers }
 {
     let (jobs, queue) = bounded(house.alloc, MAX_JOBS)?;

@@ -15,8 +15,8 @@ pub use context::Context;
 pub use journal::{Journal, JournalFault, NoJournal};
 pub use outcome::{Outcome, Performed};
 pub use serving::{
-    Ended, Served, attach_session, serve_attached, serve_noted_socket, serve_sent_text, serve_session,
-    serve_socket,
+    Ended, Served, attach_session, serve_attached, serve_noted_socket, serve_sent_text,
+    serve_session, serve_socket,
 };
 pub use session_core::{Peer, SessionCore};
 pub use site_journal::{Entry, Noted};

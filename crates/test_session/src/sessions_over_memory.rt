@@ -797,7 +797,10 @@ fn failing_journal<C: Ledger, A: Ledger, R: Abort + Wait>(
 
 #[test]
 fn what_cant_be_noted_isnt_made(rt: HostRuntime) {
-    let (blanks, wanted) = ((Blank::new(2), Blank::new(2)), [INSTALL_SHORT, SCHEDULE_WITHOUT]);
+    let (blanks, wanted) = (
+        (Blank::new(2), Blank::new(2)),
+        [INSTALL_SHORT, SCHEDULE_WITHOUT],
+    );
     let failing = Fails::Noting;
     failing_journal::<Brand, Brand, HostRuntime>(&rt, rt.alloc(), blanks, failing, &wanted, 0);
 }

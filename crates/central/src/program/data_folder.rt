@@ -3,11 +3,10 @@
 use crate::program::program_fault::ProgramFault;
 use crate::program::reserve_file::ReserveFile;
 use std::alloc::{AllocError, AllocGlobal, Global};
-use std::fs;
 use std::fs::{File, OpenOptions, TryLockError};
-use std::io;
 use std::io::ErrorKind;
 use std::rt::Files;
+use std::{fs, io};
 
 /// The journal of a folder, open and locked: no other process runs on it.
 #[derive(Drop)]

@@ -62,14 +62,15 @@ pub const RUN_ABOUT: &str =
     "Runs a site over WebSocket, and goes on where it stopped when it is started again.";
 
 /// What `--data` of `run` names.
-pub const RUN_DATA_HELP: &str = "The folder that keeps what the site has; made where it isn't there";
+pub const RUN_DATA_HELP: &str =
+    "The folder that keeps what the site has; made where it isn't there";
 
 /// What `--seats` counts.
-pub const SEATS_HELP: &str = "It serves so many connections at a time, from 1 to 1000; 256 if not said";
+pub const SEATS_HELP: &str =
+    "It serves so many connections at a time, from 1 to 1000; 256 if not said";
 
 /// What `--workers` of `run` counts.
-pub const RUN_WORKERS_HELP: &str =
-    "How many workers compile schedules, from 1 to 8; 2 if not said";
+pub const RUN_WORKERS_HELP: &str = "How many workers compile schedules, from 1 to 8; 2 if not said";
 
 /// What `run` prints and keeps, and a call of it.
 pub const RUN_NOTES: &str = "F is a site file; 'central replay --help' shows one. It prints

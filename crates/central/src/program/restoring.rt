@@ -25,11 +25,7 @@ pub struct Resumed {
 /// Restores a book from its journal, each step with what it drew, and takes the links from all
 /// points. A new journal gets its first line, and a last line that is torn is cut: nothing that it
 /// says was answered. Returns the lines that are to be added to the journal.
-pub fn restore_book<
-    C: Ledger,
-    A: Ledger,
-    R: Files<File = File> + AllocGlobal + Eprint,
->(
+pub fn restore_book<C: Ledger, A: Ledger, R: Files<File = File> + AllocGlobal + Eprint>(
     rt: &R,
     opened: &mut OpenJournal,
     digest: &[u8; 32],
@@ -58,11 +54,7 @@ pub fn restore_book<
 }
 
 /// Restores a book from the lines that follow the first one.
-fn restore_lines<
-    C: Ledger,
-    A: Ledger,
-    R: Files<File = File> + AllocGlobal,
->(
+fn restore_lines<C: Ledger, A: Ledger, R: Files<File = File> + AllocGlobal>(
     rt: &R,
     opened: &mut OpenJournal,
     journal: &mut JournalLines,
@@ -108,7 +100,8 @@ fn cut_torn<R: Files<File = File> + Eprint>(
         return Err(ProgramFault::Journal);
     }
     let _ = eprintln!(rt;
-        "central: {}: its last line is torn, and was cut: {torn} bytes", opened.path
+        "central: {}: its last line is torn, and was cut: {torn} bytes",
+        opened.path
     );
     Ok(())
 }
@@ -139,16 +132,12 @@ pub fn resumed(machine: &Machine) -> Resumed {
 impl Resumed {
     /// Adds what the point of an identity has.
     fn add_point(&mut self, machine: &Machine, point: &str) {
-        self.calls = self
-            .calls
-            .saturating_add(machine.outbox_len(point) as u64);
+        self.calls = self.calls.saturating_add(machine.outbox_len(point) as u64);
         let Some(book) = machine.book_of(point) else {
             return;
         };
         let view = book.view();
-        self.profiles = self
-            .profiles
-            .saturating_add(view.rows.len() as u64);
+        self.profiles = self.profiles.saturating_add(view.rows.len() as u64);
         for start in view.starts {
             if start.is_some() {
                 self.transactions = self.transactions.saturating_add(1);

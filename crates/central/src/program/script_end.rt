@@ -54,12 +54,7 @@ fn lines_until(script: &[u8], moment: Instant) -> u64 {
 
 /// How many of the first lines of a script of a journal are messages at a point, later than a moment,
 /// that ask for a change.
-pub fn changes_after(
-    script: &[u8],
-    last_line: Option<u64>,
-    point: &str,
-    moment: Instant,
-) -> u64 {
+pub fn changes_after(script: &[u8], last_line: Option<u64>, point: &str, moment: Instant) -> u64 {
     let (mut number, mut later) = (0u64, 0u64);
     for line in script.split(|byte| *byte == b'\n') {
         number = number.saturating_add(1);

@@ -48,12 +48,7 @@ fn serve_listening<
         + Threads
         + Wait
         + Sync,
->(
-    rt: &R,
-    serving: Serving<'_>,
-    site: Site,
-    listener: TcpListener,
-) -> Result<Totals, ProgramFault>
+>(rt: &R, serving: Serving<'_>, site: Site, listener: TcpListener) -> Result<Totals, ProgramFault>
     requires workers { 1 ≤ serving.workers }
     requires sessions { 1 ≤ serving.sessions }
 {

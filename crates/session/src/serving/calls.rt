@@ -84,7 +84,11 @@ pub(crate) fn send_call<
         return Ok(());
     };
     match text_of_call(context.alloc, &call) {
-        Ok(text) => send_text(context.alloc, socket, clear_to_leave(context, text.as_str())?),
+        Ok(text) => send_text(
+            context.alloc,
+            socket,
+            clear_to_leave(context, text.as_str())?,
+        ),
         Err(AllocError) => Err(Ended::OutOfMemory),
     }
 }

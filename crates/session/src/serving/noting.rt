@@ -28,9 +28,7 @@ pub(crate) fn prepare_message<C: Ledger, A: Ledger, R: Wait, M: Moments, J: Jour
             frame,
         },
     };
-    context
-        .journal
-        .prepare(sent.moment(), sent.point(), noted)
+    context.journal.prepare(sent.moment(), sent.point(), noted)
 }
 
 /// Makes the entry of what becomes of a point's link.

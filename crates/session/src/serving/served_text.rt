@@ -56,7 +56,11 @@ pub(crate) fn serve_text<
     let sent = SentText::new(now, core.side(), core.point_id().as_str(), text.as_str());
     let Served { answer } = serve_sent_text(context, core, memory, pass, &sent)?;
     if let Some(answer) = &answer {
-        send_text(context.alloc, socket, clear_to_leave(context, answer.as_str())?)?;
+        send_text(
+            context.alloc,
+            socket,
+            clear_to_leave(context, answer.as_str())?,
+        )?;
     }
     send_call(context, socket, core, &sent)
 }
