@@ -8,7 +8,7 @@ use messages::Side;
 use ocpp_scalars::Instant;
 use ocppj_frame::ReadingMemory;
 use site_core::{Machine, PointId, Step};
-use site_journal::{Entry, Line, Noted, number_drawn, restore};
+use site_journal::{Entry, Line, Noted, noted_by, number_drawn, restore};
 use site_rules::read_site;
 use std::alloc::Global;
 use std::marker::Brand;
@@ -89,15 +89,11 @@ impl<C: Ledger, A: Ledger> Desk<C, A> {
 
     /// Makes a change, and notes it if it changed something.
     fn change(&mut self, rt: &impl Abort, text: &SentText<'_>, step: Step) {
+        let noted = noted_by(&step, text.sender(), text.frame()).expect(rt, "a change");
         let Ok(reply) = self.book.make_step(&mut self.pass, step) else {
             return;
         };
         if let Some(number) = number_drawn(&reply, self.book.version()) {
-            let noted = Noted::Message {
-                sender: text.sender(),
-                number: 0,
-                frame: text.frame(),
-            };
             self.note(rt, text.point(), noted, number);
         }
     }
