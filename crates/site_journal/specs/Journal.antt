@@ -7,6 +7,7 @@ use Rattle.site_core.specs.State.{MachineState}
 use Rattle.site_journal.specs.declared.line_fault.LineFault.{LineFault}
 use Rattle.site_journal.specs.declared.restore_fault.RestoreFault.{RestoreFault}
 use Rattle.site_journal.specs.declared.restore_fault.RestoreFault.TheVariants.{Line}
+use Rattle.site_journal.specs.declared.journal.Restored.{Restored}
 use Rattle.site_journal.specs.declared.journal.Unrestored.{Unrestored}
 use Rattle.site_journal.specs.ByCases.Line.{line_in}
 use Rattle.site_journal.specs.Line.{LineState, HasNoLineFeed}
@@ -54,12 +55,14 @@ pub data Restores : MachineState → List (List ℕ) → MachineState → Type 0
       (new : MachineState) → Restores old lines state → restored_bytes state line ≡ Ok new
       → Restores old (lines ++ line ∷ []) new
 
--- a text was restored whole, but for what is torn
-pub record IsRestored (old : MachineState) (text : List ℕ) (new : MachineState) : Type 0 where
+-- a text was restored whole, but for what is torn; its lines are counted with the header
+pub record IsRestored (old : MachineState) (text : List ℕ) (restored : Restored)
+    (new : MachineState) : Type 0 where
   pub lines : List (List ℕ)
   pub torn : List ℕ
   pub are : AreLinesOf text lines torn
   pub restores : Restores old lines new
+  pub number : restored.lines ≡ length lines + 1
 
 -- The first line of a text that can't be restored, counted from 1 with the header, and why: the
 -- lines before it can, and lead to a state of which it makes nothing.

@@ -3,6 +3,7 @@ pub mod Entry
 pub mod Header
 pub mod RestoreFault
 pub mod Restore
+pub mod NotedStep
 pub mod Journal
 pub mod LostLinks
 pub mod ByCases

@@ -1,6 +1,6 @@
 //! The lines of a journal after its first one, and the book that is restored from them.
 
-ghost use Rattle.std.specs.Prelude.{IfErr, IfNone, IfSome, OnOk};
+ghost use Rattle.std.specs.Prelude.{IfErr, IfNone, IfOk, IfSome};
 ghost use Rattle.site_journal.specs.Line.{HasNoLineFeed};
 ghost use Rattle.site_journal.specs.ByCases.Restore.{Leads};
 ghost use Rattle.site_journal.specs.Journal.{IsRestored, IsUnrestored, SplitsAtFeed, SplitsAtLastFeed, restored_bytes};
@@ -45,7 +45,8 @@ pub fn restore<C: Ledger, A: Ledger>(
     pass: &mut Pass<C, A>,
     text: &[u8],
 ) -> Result<Restored, Unrestored>
-    ensures restored { OnOk result (IsRestored book.old.present text.now book.new.present) }
+    ensures restored { IfOk result
+        (λ restored. IsRestored book.old.present text.now restored book.new.present) }
     ensures fault { IfErr result (IsUnrestored book.old.present text.now) }
     ensures pass { KeepsPass pass.old pass.new }
 {

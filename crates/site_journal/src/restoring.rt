@@ -102,7 +102,7 @@ fn change_asked(
 }
 
 /// Whether a step changes what a point has, or asks the point for something.
-fn is_change(step: &Step) -> bool
+pub(crate) fn is_change(step: &Step) -> bool
     ensures { result ≡ is_change step.now }
 {
     match step {

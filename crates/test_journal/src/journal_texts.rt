@@ -87,6 +87,11 @@ pub(crate) const CHANGED: &[(usize, &str, &str)] = &[
     ),
     (
         5,
+        r#"2025-01-01T00:00:03Z operator CP1 2 [2,"a","SetChargingProfile",{"connectorId":0,"csChargingProfiles":{"chargingProfileId":1,"stackLevel":0,"chargingProfilePurpose":"TxDefaultProfile","chargingProfileKind":"Absolute","chargingSchedule":{"startSchedule":"2025-01-01T00:00:00Z","chargingRateUnit":"A","chargingSchedulePeriod":[{"startPeriod":0,"limit":16}]}}}]"#,
+        "line 5: its step draws 1, and 2 is written",
+    ),
+    (
+        5,
         r#"2025-01-01T00:00:03Z operator CP1 1 [2,"b","AuditPoint",{"connectorId":1,"duration":60}]"#,
         "line 19: its step changes nothing",
     ),

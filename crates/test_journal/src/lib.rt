@@ -9,6 +9,8 @@ mod journal_texts;
 #[cfg(test)]
 mod lines;
 #[cfg(test)]
+mod noted_histories;
+#[cfg(test)]
 mod restored_books;
 #[cfg(test)]
 mod same;
