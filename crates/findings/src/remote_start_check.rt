@@ -45,7 +45,8 @@ pub(crate) fn check_sent_start(
     report: &mut Report,
     start: RemoteStartTransaction,
 ) -> Result<(), AllocError> {
-    let Some(parts) = start.profile else {
+    let RemoteStartTransaction { profile, .. } = start;
+    let Some(parts) = profile else {
         return Ok(());
     };
     match check_start_profile(report, parts)? {

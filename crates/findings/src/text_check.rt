@@ -75,16 +75,26 @@ fn check_frame(
             check_call(report, &call)
         }
         _ if text.sender == Sender::Hold => not_composite(report, text, "it is no CALL"),
-        Frame::Reply { id, payload } if text.replies_to_start => {
-            check_reply(report, text, id.as_str(), status_of_start(payload.root()))
-        }
         Frame::Reply { id, payload } => {
-            check_reply(report, text, id.as_str(), reply_status(payload.root()))
+            let status = unaccepted_status(text.replies_to_start, payload.root());
+            check_reply(report, text, id.as_str(), status)
         }
         Frame::Fault { id } => check_reply(report, text, id.as_str(), Some("an error")),
         Frame::Other => report.warn_text(
             "the first element of the frame is none of 2 (CALL), 3 (CALLRESULT) and 4 (CALLERROR): the frame is discarded without an answer",
         ),
+    }
+}
+
+/// The status of a reply, to a remote start or another call, where it isn't well.
+fn unaccepted_status<'memory>(
+    is_of_start: bool,
+    payload: Node<'_, 'memory>,
+) -> Option<&'memory str> {
+    if is_of_start {
+        status_of_start(payload)
+    } else {
+        reply_status(payload)
     }
 }
 

@@ -273,12 +273,12 @@ attached_part laws old point = unless (link_of old point)
     unless (Some link) = nothing old
     unless None = quiet_step laws old (acts.Attach point) [] tt tt refl refl
 
-confirmed_part : Laws → (old : MachineState) (point : List ℕ) (number : ℕ)
-    → Part old (confirmed_by old point number).after []
-confirmed_part laws old point number = over (link_of old point)
+confirmed_part : Laws → (old : MachineState) (point : List ℕ) (number : ℕ) (accepted : Bool)
+    → Part old (confirmed_by old point number accepted).after []
+confirmed_part laws old point number accepted = over (link_of old point)
   where
-    over : (link : Option ℕ) → Part old (confirmed_over link old point number).after []
-    over (Some link) = quiet_step laws old (acts.Confirm point link number) [] tt tt refl refl
+    over : (link : Option ℕ) → Part old (confirmed_over link old point number accepted).after []
+    over (Some link) = quiet_step laws old (acts.Confirm point link number accepted) [] tt tt refl refl
     over None = nothing old
 
 kept_part : Laws → (old : MachineState) (point : List ℕ) (number : ℕ) (judged : Judgement)
@@ -287,28 +287,30 @@ kept_part laws old point number judged =
     quiet_step laws old (acts.Judge point number judged) [] tt tt refl refl
 
 -- a reply to an audit is judged, once its call is confirmed
-judged_part : Laws → (old : MachineState) (point : List ℕ) (number : ℕ)
+judged_part : Laws → (old : MachineState) (point : List ℕ) (number : ℕ) (accepted : Bool)
     (audit : Option AuditRequest) (said : Said)
-    → Part old (reply_judged point number audit said (confirmed_by old point number)) []
-judged_part laws old point number None said = confirmed_part laws old point number
-judged_part laws old point number (Some asked) said = go (confirmed_by old point number).outcome
+    → Part old (reply_judged point number audit said (confirmed_by old point number accepted)) []
+judged_part laws old point number accepted None said =
+    confirmed_part laws old point number accepted
+judged_part laws old point number accepted (Some asked) said =
+    go (confirmed_by old point number accepted).outcome
   where
     confirmed : MachineState
-    confirmed = (confirmed_by old point number).after
+    confirmed = (confirmed_by old point number accepted).after
 
     kept : MachineState
     kept = verdict_kept confirmed point number (judged_exactly asked said)
 
     go : (outcome : Result Reply Refusal) → Part old (if_made outcome kept confirmed) []
     go (Ok reply) =
-        join laws old confirmed kept [] [] (confirmed_part laws old point number)
+        join laws old confirmed kept [] [] (confirmed_part laws old point number accepted)
         (kept_part laws confirmed point number (judged_exactly asked said))
-    go (Err refusal) = confirmed_part laws old point number
+    go (Err refusal) = confirmed_part laws old point number accepted
 
 replied_part : Laws → (old : MachineState) (text : texts.Sent) (point : List ℕ) (number : ℕ)
-    → Part old (replied_by old text point number).after []
-replied_part laws old text point number =
-    judged_part laws old point number (audit_job old point number) (said_of text)
+    (accepted : Bool) → Part old (replied_by old text point number accepted).after []
+replied_part laws old text point number accepted =
+    judged_part laws old point number accepted (audit_job old point number) (said_of text)
 
 no_schedules_sent : (point : List ℕ) (call : Option Call)
     → schedules_printed (call_lines point call) ≡ []
@@ -349,8 +351,8 @@ asked_part laws old text (asked.Respond id response) is =
     no_step old.machine (lines.Answer id response ∷ []) (ap (λ l. l ++ []) (no_schedule id response is)) refl
 asked_part laws old text (asked.Step id kind step) is =
     at_once_part laws old.machine id kind step is
-asked_part laws old text (asked.Confirm point number) is =
-    replied_part laws old.machine text point number
+asked_part laws old text (asked.Confirm point number accepted) is =
+    replied_part laws old.machine text point number accepted
 
 point_part : Laws → (old : PlayerState) (text : texts.Sent)
     → HandledPart old (point_handled old text)
@@ -394,8 +396,8 @@ hold_part laws old text (asked.Step id kind step) is = hold_step_part laws old i
 hold_part laws old text asked.Nothing is = asked_part laws old text asked.Nothing is
 hold_part laws old text (asked.Respond id response) is =
     asked_part laws old text (asked.Respond id response) is
-hold_part laws old text (asked.Confirm point number) is =
-    asked_part laws old text (asked.Confirm point number) is
+hold_part laws old text (asked.Confirm point number accepted) is =
+    asked_part laws old text (asked.Confirm point number accepted) is
 
 -- ---- lines
 

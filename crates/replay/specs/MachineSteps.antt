@@ -1,6 +1,6 @@
 -- What comes of the steps that a message asks for, where each compile gives the exact schedule or
 -- ResultTooLong, and of those that its point's link and calls are for.
-use Rattle.std.specs.Prelude.{ℕ, List, false, Option, Some, None, Result, Ok, Err}
+use Rattle.std.specs.Prelude.{Bool, ℕ, List, false, Option, Some, None, Result, Ok, Err}
 use Rattle.ocpp_scalars.specs.declared.refusal.Refusal.{Refusal}
 use Rattle.ocpp_scalars.specs.declared.refusal.Refusal.TheVariants.{NothingInFlight}
 use Rattle.messages.specs.declared.call.Call.{Call}

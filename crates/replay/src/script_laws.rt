@@ -20,7 +20,7 @@ use site_core::{
 /// point have the numbers 0, 1, .., each perhaps several times before the next. A point may obey
 /// what is printed for it, and each confirmed call at least once. Then it has the
 /// ChargePointMaxProfiles and TxDefaultProfiles that the central system had for it after that call,
-/// but for when they were installed.
+/// but for when they were installed, unless a transaction began there with a profile of its own.
 pub fn scripts_are_runs()
     ensures runs { (site : SiteState) (script : List ℕ) → ScriptRun site script }
     ensures right { (site : SiteState) (script : List ℕ) (run : ScriptRun site script)

@@ -1,5 +1,5 @@
 -- The calls that a charge point makes by its steps, and what their replies change in its book.
-use Rattle.std.specs.Prelude.{ℕ, ℤ, nat_lt, nat_le, ◌&&◌, Bool, List, [], ◌∷◌, length, Option, Some, None, option_map, if◌then◌else◌}
+use Rattle.std.specs.Prelude.{ℕ, ℤ, pos, nat_lt, nat_le, ◌&&◌, Bool, List, [], ◌∷◌, length, Option, Some, None, option_map, if◌then◌else◌}
 use Rattle.profile.specs.declared.charging_profile.Profile.{Profile}
 use Rattle.transactions.specs.declared.begin.Begin.{Begin}
 use Rattle.transactions.specs.declared.transaction.Transaction.{Transaction}
@@ -33,7 +33,7 @@ call_of book now steps.Heartbeat = Some Heartbeat
 call_of book now (steps.Start connector tag meter) =
     start_of book connector (record { id_tag = tag; meter_start = meter; timestamp = now }) None
 call_of book now (steps.RemoteStart connector tag profile) =
-    start_of book connector (record { id_tag = tag; meter_start = 0; timestamp = now }) profile
+    start_of book connector (record { id_tag = tag; meter_start = pos 0; timestamp = now }) profile
 call_of book now (steps.Stop connector) =
     option_map (stop_of now) (active_at book.transactions connector)
 

@@ -158,7 +158,6 @@ impl SimPoint {
 
     /// Keeps a start that is asked for as the first of the steps to come, or rejects it (chapter
     /// 5.11). Returns the message that answers the CALL of this id.
-    #[tactic(auto, using(crate::proofs::StepLemmas::drop_insert))]
     fn on_remote_start(
         &mut self,
         id: &str,
@@ -169,14 +168,25 @@ impl SimPoint {
             ≡ record { answer = Some (string_bytes text); after = self.new }) }
         ensures unchanged { OnErr result (self.new ≡ self.old) }
     {
-        let step = start_kept(self.unit, self.book.book(), request);
-        let text = write_status(self.alloc, id, step.is_some())?;
-        let Some(step) = step else {
-            return Ok(text);
-        };
-        // The message is there: once the start is kept, nothing can fail.
+        match start_kept(self.unit, self.book.book(), request) {
+            Some(step) => {
+                // The message first: once the start is kept, nothing can fail.
+                let text = write_status(self.alloc, id, true)?;
+                self.put_first(step)?;
+                Ok(text)
+            }
+            None => write_status(self.alloc, id, false),
+        }
+    }
+
+    /// Puts a step in front of those to come.
+    #[tactic(auto, using(crate::proofs::StepLemmas::drop_insert))]
+    fn put_first(&mut self, step: SimStep) -> Result<(), AllocError>
+        ensures put { OnOk result (self.new ≡ record self.old { steps = step ∷ self.old.steps }) }
+        ensures unchanged { OnErr result (self.new ≡ self.old) }
+    {
         match self.steps.insert(self.place, step) {
-            Ok(()) => Ok(text),
+            Ok(()) => Ok(()),
             Err(_) => Err(AllocError),
         }
     }

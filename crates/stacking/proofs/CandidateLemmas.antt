@@ -1,5 +1,5 @@
 -- That the candidates level by level are the candidates by falling level.
-use Rattle.std.proofs.Common.{◌≡◌, ℕ, ◌-◌, ◌<◌, ◌≤◌, ◌==◌, zero, suc, Bool, true, false, not, ◌&&◌, ◌||◌, ◌⊎◌, inl, inr, cond, refl, ap, sym, subst, ◌∙◌, List, [], ◌∷◌, filter, Option, Some, None, arith}
+use Rattle.std.proofs.Common.{◌≡◌, ℕ, ◌<◌, ◌≤◌, ◌==◌, zero, suc, Bool, true, false, not, ◌&&◌, ◌||◌, ◌⊎◌, inl, inr, cond, refl, ap, sym, subst, ◌∙◌, List, [], ◌∷◌, filter, Option, Some, None, arith}
 use Rattle.std.specs.List.{AllByRecursion, find, cons_option, list_any}
 use Rattle.std.proofs.lemmas.Bool.{eqb-true, cases_lt}
 use Rattle.std.proofs.lemmas.Bool.Decides.{nat_tests}
@@ -34,11 +34,11 @@ is_purpose-same ChargePointMaxProfile = refl
 is_purpose-same TxDefaultProfile = refl
 is_purpose-same TxProfile = refl
 
-all-of : {X : Type 0} (P : X → Type 0) → ((x : X) → P x) → (xs : List X) → AllByRecursion P xs
+pub all-of : {X : Type 0} (P : X → Type 0) → ((x : X) → P x) → (xs : List X) → AllByRecursion P xs
 all-of P each [] = tt
 all-of P each (x ∷ xs) = (each x, all-of P each xs)
 
-none-passes : {X : Type 0} (P : X → Type 0) (test : X → Bool) → ((x : X) → test x ≡ false → P x) → (xs : List X) → list_any test xs ≡ false → AllByRecursion P xs
+pub none-passes : {X : Type 0} (P : X → Type 0) (test : X → Bool) → ((x : X) → test x ≡ false → P x) → (xs : List X) → list_any test xs ≡ false → AllByRecursion P xs
 none-passes P test each [] none = tt
 none-passes {X = X} P test each (x ∷ xs) none = go (test x) refl none (none-passes P test each xs)
   where
@@ -174,23 +174,6 @@ level-one TxDefaultProfile rows connector level apart = go (is_replaced_at rows 
     go false none = one-passes _ 0 TxDefaultProfile level rows (none-passes _ _ (point-keys rows connector level) rows none) apart
 
 -- the candidates level by level
-
-pub below_next : (purpose : Purpose) (rows : List Row) (connector below : ℕ) → 0 < below
-    → candidates_below purpose rows connector below ≡ cons_option (candidate_at purpose rows connector (below - 1)) (candidates_below purpose rows connector (below - 1))
-unfolding candidates_below
-below_next purpose rows connector zero some = absurd (go some)
-  where
-    go : 0 < zero → ⊥
-    go some = omega arith
-below_next purpose rows connector (suc level) some = let e : suc level - 1 ≡ level = omega arith in rw e refl
-
-pub below_none : (purpose : Purpose) (rows : List Row) (connector below : ℕ) → below ≤ 0 → candidates_below purpose rows connector below ≡ []
-unfolding candidates_below
-below_none purpose rows connector zero none = refl
-below_none purpose rows connector (suc level) none = absurd (go none)
-  where
-    go : suc level ≤ 0 → ⊥
-    go none = omega arith
 
 find-passes : {X : Type 0} (test : X → Bool) (xs : List X) (x : X) → find test xs ≡ Some x → test x ≡ true
 find-passes test [] x found = cc

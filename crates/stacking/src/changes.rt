@@ -61,7 +61,8 @@ fn has_key_of(new: &Row, row: &Row) -> bool
         && row.profile.stack_level == new.profile.stack_level
 }
 
-fn is_purpose(purpose: Purpose, other: Purpose) -> bool
+/// Whether two purposes are equal.
+pub(crate) fn is_purpose(purpose: Purpose, other: Purpose) -> bool
     ensures { result ≡ is_purpose purpose other }
 {
     purpose == other

@@ -7,6 +7,7 @@
 mod candidates;
 mod changes;
 mod in_force;
+mod levels;
 mod rows;
 
 pub use candidates::Candidates;

@@ -90,6 +90,43 @@ fn drops_profiles_where_another_starts(rt: HostRuntime) {
     play(&rt, rt.alloc(), STARTS);
 }
 
+/// Transactions that begin with a profile of their own: the book has it from then on, until the next
+/// one begins at its connector. A retransmitted start brings none.
+const OWN_PROFILES: &str = "\
+point 320 2 160
+row id=3 connector=1
+start 1 ann 0 1 id=5 purpose=TxProfile = 1
+rows = 3 5
+start 1 ANN 0 2 id=6 purpose=TxProfile = again 1
+rows = 3 5
+start 1 bob 10 2 id=6 purpose=TxProfile level=1 = 2
+rows = 3 6
+start 2 cat 20 3 id=3 purpose=TxProfile = 3
+rows = 6 3
+start 1 dan 30 4 = 4
+rows = 3";
+
+#[test]
+fn begins_with_own_profiles(rt: HostRuntime) {
+    play(&rt, rt.alloc(), OWN_PROFILES);
+}
+
+/// In a book of 200 rows a transaction's own profile is given up, unless it takes the place of a row
+/// or there is room by then.
+const OWN_PROFILES_OF_A_FULL_BOOK: &str = "\
+start 64 ann 0 9 id=201 purpose=TxProfile = 9
+clear id=201 = 0
+start 63 bob 0 10 id=7 purpose=TxProfile = 10
+clear id=7 connector=63 = 1
+start 62 cat 0 11 id=201 purpose=TxProfile = 11
+clear id=201 connector=62 = 1";
+
+#[test]
+fn gives_own_profiles_up_where_none_has_room(rt: HostRuntime) {
+    let mut book = full(&rt, rt.alloc());
+    play_on(&rt, rt.alloc(), &mut book, OWN_PROFILES_OF_A_FULL_BOOK);
+}
+
 const STOPS: &str = "\
 point 320 2 160
 start 1 ann 0 1 = 1
@@ -157,7 +194,7 @@ fn metered(rt: &impl Abort, alloc: Global, meter_start: i32) -> PointBook {
     let mut book = point(rt, alloc, 320, (2, 160));
     let begin = begin_of(alloc, "ann", meter_start, 0).expect(rt, "error");
     assert!(rt; book.connectors() >= 1);
-    let _began = book.start(1, begin, 1);
+    let _began = book.start(1, begin, 1, None);
     book
 }
 

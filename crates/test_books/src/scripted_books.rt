@@ -4,7 +4,7 @@
 //! |---|---|
 //! | `point 630 2 320` | a new book of a ceiling and a number of connectors of a ceiling each; the first is this one |
 //! | `row id=1 level=3` | a row is installed: why it is refused, if it is, and then nothing has changed |
-//! | `start 1 ann 100 7` | a start at a connector, by an idTag, a number of seconds after midnight, with a number for it, which comes back unless the start is retransmitted: then `again` with the number that it has |
+//! | `start 1 ann 100 7` | a start at a connector, by an idTag, a number of seconds after midnight, with a number for it, which comes back unless the start is retransmitted: then `again` with the number that it has. Behind the number a profile may follow, with which it begins |
 //! | `stop 7` | the transaction of a number ends: at which connector, `-` at none |
 //! | `clear level=3` | rows are cleared by criteria: how many |
 //! | `rows` | the chargingProfileIds of the rows, in their order |
@@ -17,14 +17,14 @@
 
 ghost use Rattle.std.specs.Prelude.{◌≤◌, length};
 
-use crate::fixtures::{begin_of, criteria_of, row_of};
+use crate::fixtures::{begin_of, criteria_of, profile_of, row_of};
 use crate::reason_words::put_interval;
 use crate::same::{holds, same, same_text};
 use crate::words::Words;
 use meaning::{Ask, Composite, compile_plain};
 use ocpp_scalars::Refusal;
 use point_book::PointBook;
-use profile::Row;
+use profile::{Profile, Row};
 use std::alloc::Global;
 use std::process::Abort;
 use std::sync::Arc;
@@ -157,10 +157,33 @@ pub(crate) fn begin(
     (connector, tag, second): (u32, &str, u64),
     next: i32,
 ) -> Began {
+    begin_with(rt, alloc, book, (connector, tag, second), next, None)
+}
+
+/// The same, with a profile of the transaction's own.
+fn begin_with(
+    rt: &impl Abort,
+    alloc: Global,
+    book: &mut PointBook,
+    (connector, tag, second): (u32, &str, u64),
+    next: i32,
+    profile: Option<Profile>,
+) -> Began {
     let begin = begin_of(alloc, tag, 0, second).expect(rt, tag);
     assert!(rt; connector > 0);
     assert!(rt; connector <= book.connectors());
-    book.start(connector, begin, next)
+    book.start(connector, begin, next, profile)
+        .ok()
+        .expect(rt, tag)
+}
+
+/// The profile of the words that are left, if there are any.
+fn own_profile(rt: &impl Abort, alloc: Global, words: &str) -> Option<Profile> {
+    if words.is_empty() {
+        None
+    } else {
+        Some(profile_of(alloc, words).expect(rt, words))
+    }
 }
 
 fn start(rt: &impl Abort, book: &mut PointBook, mut line: Line<'_>) -> String {
@@ -168,7 +191,15 @@ fn start(rt: &impl Abort, book: &mut PointBook, mut line: Line<'_>) -> String {
     let tag = line.words.word();
     let second = line.words.long().expect(rt, line.whole);
     let next = line.words.whole().expect(rt, line.whole);
-    let said = match begin(rt, line.alloc, book, (connector, tag, second), next) {
+    let profile = own_profile(rt, line.alloc, line.words.rest());
+    let said = match begin_with(
+        rt,
+        line.alloc,
+        book,
+        (connector, tag, second),
+        next,
+        profile,
+    ) {
         Began::Fresh => format!(in line.alloc; "{next}"),
         Began::Repeat(number) => format!(in line.alloc; "again {number}"),
     };

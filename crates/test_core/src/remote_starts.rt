@@ -154,10 +154,10 @@ fn a_transaction_begins_with_its_profile(rt: HostRuntime) {
     let book = machine.book_of("CP1").expect(&rt, "no book");
     let rows = book.view().rows;
     holds(&rt, rows.len() == 1, "rows");
-    let profile = &rows[0].profile;
-    holds(&rt, profile.transaction == Some(1), "transactionId");
+    let row = rows.first().expect(&rt, "no row");
+    holds(&rt, row.profile.transaction == Some(1), "transactionId");
     let begun = test_books::instant_at(10).expect(&rt, "error");
-    holds(&rt, rows[0].moment == begun, "moment");
+    holds(&rt, row.moment == begun, "moment");
 }
 
 #[test]

@@ -1,10 +1,13 @@
 -- What an iterator over candidates still yields, level by level. The contract of `Rows::candidates` ties
 -- it to the candidates by falling level.
-use Rattle.std.specs.Prelude.{ℕ, ◌==◌, zero, suc, ◌&&◌, Bool, List, [], Option}
+use Rattle.std.specs.Prelude.{ℕ, ◌≡◌, ◌<◌, ◌==◌, zero, suc, ◌&&◌, Bool, List, [], Option, Some, None, option_and_then, slice_get, slice_index, if◌then◌else◌}
+use Rattle.std.specs.Option.{option_or}
 use Rattle.std.specs.List.{find, cons_option}
 use Rattle.profile.specs.declared.purpose.Purpose.{Purpose}
 use Rattle.profile.specs.declared.row.Row.{Row}
+use Rattle.profile.specs.declared.purpose.Purpose.TheVariants.{ChargePointMaxProfile, TxDefaultProfile, TxProfile}
 use Rattle.profile.specs.Candidates.{is_candidate}
+use Rattle.profile.specs.Changes.{is_purpose}
 use Rattle.stacking.specs.declared.candidates.Candidates.{Candidates}
 
 abbrev pub is_candidate_at : Purpose → List Row → ℕ → ℕ → Row → Bool
@@ -20,5 +23,52 @@ candidates_below purpose rows connector zero = []
 candidates_below purpose rows connector (suc level) =
     cons_option (candidate_at purpose rows connector level) (candidates_below purpose rows connector level)
 
+-- ---- by places
+
+abbrev pub stands_at : Purpose → ℕ → Row → Bool
+stands_at purpose connector row = is_purpose purpose row.profile.purpose && (row.connector == connector)
+
+-- the first row of a purpose at a connector that has a stack level
+abbrev pub first_at : Purpose → ℕ → ℕ → List Row → Option Row
+first_at purpose connector level rows =
+    find (λ row. (row.profile.stack_level == level) && stands_at purpose connector row) rows
+
+-- the places of the first of these rows, by their stack levels
+abbrev pub AreFirstPlaces : Purpose → List Row → ℕ → List Row → List ℕ → Type 0
+AreFirstPlaces purpose rows connector these places =
+    (level : ℕ) → level < 100
+    → slice_get rows (slice_index places level) ≡ first_at purpose connector level these
+
+-- a row, if it has a stack level
+abbrev pub of_level : ℕ → Row → Option Row
+of_level level row = if row.profile.stack_level == level then Some row else None
+
+-- the row at a place is added to these places, unless there is one of its level
+abbrev pub IsPlaceAdded : List Row → ℕ → List ℕ → List ℕ → Type 0
+IsPlaceAdded rows place old new =
+    (level : ℕ) → level < 100
+    → slice_get rows (slice_index new level)
+    ≡ option_or (slice_get rows (slice_index old level)) (option_and_then (of_level level) (slice_get rows place))
+
+-- where rows stand that speak for a connector: one of its own before one that speaks for all
+abbrev pub own_connector : Purpose → ℕ → ℕ
+own_connector ChargePointMaxProfile connector = 0
+own_connector TxDefaultProfile connector = connector
+own_connector TxProfile connector = connector
+
+abbrev pub shared_connector : Purpose → ℕ → ℕ
+shared_connector ChargePointMaxProfile connector = 0
+shared_connector TxDefaultProfile connector = 0
+shared_connector TxProfile connector = connector
+
+abbrev pub row_at : List Row → List ℕ → List ℕ → ℕ → Option Row
+row_at rows own shared level =
+    option_or (slice_get rows (slice_index own level)) (slice_get rows (slice_index shared level))
+
+unfoldable pub rows_below : List Row → List ℕ → List ℕ → ℕ → List Row
+rows_below rows own shared zero = []
+rows_below rows own shared (suc level) =
+    cons_option (row_at rows own shared level) (rows_below rows own shared level)
+
 abbrev pub candidates_left : Candidates → List Row
-candidates_left left = candidates_below left.purpose left.rows.now left.connector left.below
+candidates_left left = rows_below left.rows.now left.own left.shared left.below

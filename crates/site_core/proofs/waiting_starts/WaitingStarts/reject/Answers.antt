@@ -8,5 +8,5 @@ use Rattle.site_core.proofs.waiting_starts.WaitingStarts.reject.Goals as goal
 pub returns : goal.returns
 returns c =
     let kept = filter_same _ (λ (start : WaitingStart). not (is_of_call c.args.call start)) _
-        (λ x b f' k. search rules) _ _ c.retain.ensures.filtered in
+    (λ x b f' k. search rules) _ _ c.retain.ensures.filtered in
     rw (← c.self.view_is) kept

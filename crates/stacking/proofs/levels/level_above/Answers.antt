@@ -1,11 +1,12 @@
 -- That the level stays above those of the rows so far.
 use Rattle.std.proofs.Common.{◌≡◌, ◌<◌, ◌≤◌, ◌+◌, ℕ, List, take, length, slice_index_or, arith, subst, sym}
+use Rattle.std.proofs.lemmas.Bool.Decides.{nat_tests}
 use Rattle.std.specs.List.{All}
 use Rattle.std.proofs.lemmas.List.Elements.{All-more, All-weaker, All-same}
 use Rattle.std.proofs.lemmas.List.{take_all}
 use Rattle.profile.specs.declared.row.Row.{Row}
-use Rattle.stacking.proofs.candidates.level_above.Goals.{then-row-above, else-row-above}
-use Rattle.stacking.proofs.candidates.level_above.Goals as goal
+use Rattle.stacking.proofs.levels.level_above.Goals.{then-row-above, else-row-above}
+use Rattle.stacking.proofs.levels.level_above.Goals as goal
 
 one_more : (rows : List Row) (place above higher : ℕ) (row : Row) → place < length rows
     → row ≡ slice_index_or rows place row → above ≤ higher → row.profile.stack_level < higher
@@ -22,12 +23,19 @@ loop-row-preserved c =
     let rows = c.args.rows.now in
     let more = one_more rows c.loop-row.row-index c.loop-row.above c.if-row-above.above c.row-item.result
     c.loop-row-test.true c.row-item.is in
+    let low : c.row-item.result.profile.stack_level ≤ 99 = grind (arith, nat_tests, c.row-item.result.profile.low) in
     elim c.if-row-above.branch [
-      | then-row-above w ↦ more (omega (arith, w.above-is, w.if-row-above.true)) (omega (arith, w.above-is)) c.loop-row.invariant
-      | else-row-above w ↦ more (omega (arith, w.above-is)) (omega (arith, w.above-is, w.if-row-above.false)) c.loop-row.invariant
+      | then-row-above w ↦ record {
+        above = more (omega (arith, w.above-is, w.if-row-above.true)) (omega (arith, w.above-is)) c.loop-row.invariant.above;
+        level = omega (arith, w.above-is, low);
+      }
+      | else-row-above w ↦ record {
+        above = more (omega (arith, w.above-is)) (omega (arith, w.above-is, w.if-row-above.false)) c.loop-row.invariant.above;
+        level = omega (arith, w.above-is, c.loop-row.invariant.level);
+      }
     ]
 
-pub returns : goal.returns
-returns c =
+pub returns-clause-above : goal.returns-clause-above
+returns-clause-above c =
     All-same (λ (row : Row). row.profile.stack_level < c.loop-row.above) _ _
-    (sym (take_all c.loop-row.row-index c.args.rows.now c.loop-row-test.false)) c.loop-row.invariant
+    (sym (take_all c.loop-row.row-index c.args.rows.now c.loop-row-test.false)) c.loop-row.invariant.above

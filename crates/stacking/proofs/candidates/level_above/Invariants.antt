@@ -1,7 +1,0 @@
--- The rows so far have levels below this.
-use Rattle.std.proofs.Common.{◌<◌, take}
-use Rattle.std.specs.List.{All}
-use Rattle.stacking.proofs.candidates.level_above.Given as goal
-
-abbrev pub invariant-loop-row : goal.invariant-loop-row
-invariant-loop-row l = All (λ row. row.profile.stack_level < l.above) (take l.row-index l.rows)

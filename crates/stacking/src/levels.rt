@@ -1,0 +1,118 @@
+//! Of each stack level the row that speaks for a connector.
+
+ghost use Rattle.std.specs.Prelude.{◌≡◌, ◌≢◌, ◌<◌, ◌≤◌, ℕ, length, slice_get, slice_index};
+ghost use Rattle.std.specs.List.{All};
+ghost use Rattle.std.specs.Option.{option_copied};
+ghost use Rattle.stacking.specs.ByCases.Candidates.{AreFirstPlaces, IsPlaceAdded, own_connector, row_at, shared_connector, stands_at};
+
+use crate::changes::is_purpose;
+use profile::{MAX_STACK_LEVEL, Purpose, Row};
+
+/// How many stack levels there are.
+const LEVELS: usize = MAX_STACK_LEVEL as usize + 1;
+
+/// Of each stack level a place among rows, of which there are fewer than 256. What is no place
+/// stands where no row is.
+pub(crate) type Places = [u8; LEVELS];
+
+/// Behind the place of any row.
+const NO_PLACE: u8 = u8::MAX;
+
+/// Of each stack level the place of the first row of a purpose at a connector.
+pub(crate) fn first_places(rows: &[Row], purpose: Purpose, connector: u32) -> Places
+    requires few { length rows.now ≤ 255 }
+    ensures { AreFirstPlaces purpose rows.now connector rows.now result }
+{
+    let mut places = no_places();
+    for place in 0..rows.len() {
+        if stands_at(purpose, connector, &rows[place]) {
+            add_place(&mut places, rows, place);
+        }
+    }
+    places
+}
+
+/// Notes the place of a row, if there is none yet of its stack level.
+fn add_place(places: &mut Places, rows: &[Row], place: usize)
+    requires few { length rows.now ≤ 255 }
+    requires inside { place < length rows.now }
+    ensures { IsPlaceAdded rows.now place places.old places.new }
+{
+    let level = rows[place].profile.stack_level as usize;
+    if rows.get(places[level] as usize).is_none() {
+        set_place(places, level, place as u8);
+    }
+}
+
+fn no_places() -> Places
+    ensures { (level : ℕ) → level < 100 → slice_index result level ≡ 255 }
+{
+    [NO_PLACE; LEVELS]
+}
+
+fn set_place(places: &mut Places, level: usize, place: u8)
+    requires level { level < 100 }
+    ensures here { slice_index places.new level ≡ place }
+    ensures others { (other : ℕ) → other ≢ level
+        → slice_index places.new other ≡ slice_index places.old other }
+{
+    places[level] = place;
+}
+
+/// Whether a row is of a purpose and stands at a connector.
+fn stands_at(purpose: Purpose, connector: u32, row: &Row) -> bool
+    ensures { result ≡ stands_at purpose connector row.now }
+{
+    is_purpose(purpose, row.profile.purpose) && row.connector == connector
+}
+
+/// The row of a stack level: that of the connector itself before the one that speaks for all.
+pub(crate) fn row_at<'a>(
+    rows: &'a [Row],
+    own: &Places,
+    shared: &Places,
+    level: u32,
+) -> Option<&'a Row>
+    requires { level < 100 }
+    ensures { option_copied result ≡ row_at rows.now own.now shared.now level }
+{
+    match rows.get(own[level as usize] as usize) {
+        Some(row) => Some(row),
+        None => rows.get(shared[level as usize] as usize),
+    }
+}
+
+/// The connector at which rows of a purpose stand that speak for this one alone.
+pub(crate) fn own_connector(purpose: Purpose, connector: u32) -> u32
+    ensures { result ≡ own_connector purpose connector }
+{
+    match purpose {
+        Purpose::ChargePointMaxProfile => 0,
+        Purpose::TxDefaultProfile | Purpose::TxProfile => connector,
+    }
+}
+
+/// The connector at which rows of a purpose stand that speak for this one and others.
+pub(crate) fn shared_connector(purpose: Purpose, connector: u32) -> u32
+    ensures { result ≡ shared_connector purpose connector }
+{
+    match purpose {
+        Purpose::ChargePointMaxProfile | Purpose::TxDefaultProfile => 0,
+        Purpose::TxProfile => connector,
+    }
+}
+
+/// A stack level above those of all rows, so that no level is looked at in vain: 0 where there are no
+/// rows.
+pub(crate) fn level_above(rows: &[Row]) -> u32
+    ensures above { All (λ row. row.profile.stack_level < result) rows.now }
+    ensures level { result ≤ 100 }
+{
+    let mut above = 0;
+    for row in rows {
+        if row.profile.stack_level >= above {
+            above = row.profile.stack_level + 1;
+        }
+    }
+    above
+}
