@@ -13,13 +13,13 @@ import crowds
 import days
 import endings
 import handshakes
-import journals
 import messages
 import node_clients
 import programs
 import reconnects
 import refusals
 import replays
+import runs
 from node_client import NodeClient
 
 SUBJECTS = {
@@ -32,7 +32,7 @@ SUBJECTS = {
     "node_clients": node_clients,
     "endings": endings,
     "programs": programs,
-    "journals": journals,
+    "runs": runs,
     "audits": audits,
     "refusals": refusals,
 }
@@ -40,7 +40,7 @@ SUBJECTS = {
 # What takes a program that is proved: others are too slow, have no thread to spare, or can't be
 # refused an allocation.
 NEED_A_PROOF = {
-    ("messages", "a message past the limit"), ("crowds", "64 texts of the limit"), ("endings", "no threads"),
+    ("messages", "a message past the limit"), ("runs", "the longest message"), ("crowds", "64 texts of the limit"), ("endings", "no threads"),
     *(("refusals", name) for name, _ in refusals.tests()),
 }
 

@@ -3,13 +3,14 @@ use Rattle.std.specs.Prelude.{◌≡◌, ◌<◌, ◌≤◌, ◌^◌, Bool, true
 use Rattle.std.specs.Str.Parse.{IsNumeral, digits_value, without_leading_plus}
 use Rattle.meaning.specs.Limits.{max_duration}
 use Rattle.site_rules.specs.Limits.{max_connectors}
-use Rattle.replay.specs.Limits.{max_script_bytes}
 use Rattle.clap.specs.Words.{App, Kinds, Row, Rule, Text, all_of, fault_of, first_of, new_app, new_rule, one_of, subcommand_of, with_rule, with_subcommand}
 use Rattle.clap.specs.declared.builder.action.ArgAction.TheVariants.{Set, SetTrue}
 use Rattle.clap.specs.declared.builder.value_parser.ValueParser.TheVariants.{Unsigned}
 use Rattle.central.specs.declared.program.command_line.Job.{Job}
-use Rattle.central.specs.declared.program.command_line.Job.TheVariants.{Replay, Serve, Call, Point, Explain, Check, Show}
+use Rattle.central.specs.declared.program.command_line.Job.TheVariants.{Replay, Serve, Run, Journal, Call, Point, Explain, Check, Show}
+use Rattle.central.specs.declared.program.command_line.Replaying.{Replaying}
 use Rattle.central.specs.declared.program.command_line.Serving.{Serving}
+use Rattle.central.specs.declared.program.command_line.Running.{Running}
 use Rattle.central.specs.declared.program.command_line.Calling.{Calling}
 use Rattle.central.specs.declared.program.command_line.Asking.{Asking}
 use Rattle.central.specs.declared.program.command_line.Starting.{Starting}
@@ -24,6 +25,16 @@ max_workers = 8
 
 abbrev pub max_sessions : ℕ
 max_sessions = 64
+
+-- the most connections at a time; that many where it isn't said, and so many workers
+abbrev pub max_seats : ℕ
+max_seats = 1000
+
+abbrev pub default_seats : ℕ
+default_seats = 256
+
+abbrev pub default_workers : ℕ
+default_workers = 2
 
 -- ---- the commands
 
@@ -47,19 +58,35 @@ numbered least most rule = record rule { parser = Some (Unsigned least most) }
 abbrev pub flag : Text → Rule
 flag name = record (new_rule name) { long = Some name; action = Some SetTrue }
 
--- `replay --site F`
-abbrev pub replay_command : App
-replay_command = with_rule (new_app (codes "replay")) (needed (codes "site"))
+-- `run --site F --data DIR --listen A [--seats N] [--workers N]`
+abbrev pub run_command : App
+run_command =
+    with_rule (with_rule (with_rule (with_rule (with_rule (new_app (codes "run"))
+    (needed (codes "site")))
+    (needed (codes "data")))
+    (needed (codes "listen")))
+    (numbered 1 max_seats (optional (codes "seats"))))
+    (numbered 1 max_workers (optional (codes "workers")))
 
--- `serve --site F --listen A --workers N --sessions K [--journal FILE]`
+-- `journal --data DIR`
+abbrev pub journal_command : App
+journal_command = with_rule (new_app (codes "journal")) (needed (codes "data"))
+
+-- `replay --site F [--data DIR]`
+abbrev pub replay_command : App
+replay_command =
+    with_rule (with_rule (new_app (codes "replay"))
+    (needed (codes "site")))
+    (optional (codes "data"))
+
+-- `serve --site F --listen A --workers N --sessions K`
 abbrev pub serve_command : App
 serve_command =
-    with_rule (with_rule (with_rule (with_rule (with_rule (new_app (codes "serve"))
+    with_rule (with_rule (with_rule (with_rule (new_app (codes "serve"))
     (needed (codes "site")))
     (needed (codes "listen")))
     (numbered 1 max_workers (needed (codes "workers"))))
-    (numbered 1 max_sessions (needed (codes "sessions"))))
-    (optional (codes "journal"))
+    (numbered 1 max_sessions (needed (codes "sessions")))
 
 -- an option that takes two whole numbers, for which the help has names
 abbrev pub optional_numbers : Text → ℕ → Rule
@@ -98,35 +125,37 @@ point_command =
     (needed (codes "site")))
     (needed (codes "id"))
 
--- A script has no more lines than bytes.
 -- `explain --site F --point ID --connector C --start INSTANT --duration D
--- [--at N] [--picture FILE] [--json]`
+-- [--data DIR] [--at PLACE] [--picture FILE] [--json]`
 abbrev pub explain_command : App
 explain_command =
-    with_rule (with_rule (with_rule (with_rule (with_rule (with_rule (with_rule (with_rule
+    with_rule (with_rule (with_rule (with_rule (with_rule (with_rule (with_rule (with_rule (with_rule
     (new_app (codes "explain"))
     (needed (codes "site")))
     (needed (codes "point")))
     (numbered 0 max_connectors (needed (codes "connector"))))
     (needed (codes "start")))
     (numbered 1 max_duration (needed (codes "duration"))))
-    (numbered 0 max_script_bytes (optional (codes "at"))))
+    (optional (codes "data")))
+    (optional (codes "at")))
     (optional (codes "picture")))
     (flag (codes "json"))
 
--- `check --site F [--trace]`
+-- `check --site F [--data DIR] [--trace]`
 abbrev pub check_command : App
 check_command =
-    with_rule (with_rule (new_app (codes "check"))
+    with_rule (with_rule (with_rule (new_app (codes "check"))
     (needed (codes "site")))
+    (optional (codes "data")))
     (flag (codes "trace"))
 
--- `show --site F [--at N] [--json]`
+-- `show --site F [--data DIR] [--at PLACE] [--json]`
 abbrev pub show_command : App
 show_command =
-    with_rule (with_rule (with_rule (new_app (codes "show"))
+    with_rule (with_rule (with_rule (with_rule (new_app (codes "show"))
     (needed (codes "site")))
-    (numbered 0 max_script_bytes (optional (codes "at"))))
+    (optional (codes "data")))
+    (optional (codes "at")))
     (flag (codes "json"))
 
 -- a command that prints its version, and needs one of its subcommands
@@ -140,8 +169,8 @@ top_command name =
 unfoldable pub central_app : App
 central_app =
     with_subcommand (with_subcommand (with_subcommand (with_subcommand (with_subcommand
-    (with_subcommand (with_subcommand (top_command (codes "central"))
-    replay_command.top) serve_command.top) call_command.top) point_command.top)
+    (with_subcommand (with_subcommand (with_subcommand (with_subcommand (top_command (codes "central"))
+    run_command.top) journal_command.top) replay_command.top) serve_command.top) call_command.top) point_command.top)
     explain_command.top) check_command.top) show_command.top
 
 -- the kinds of error that the words give, none where clap takes them
@@ -185,7 +214,31 @@ pub record IsServing (rows : List Row) (serving : Serving) : Type 0 where
   pub some_workers : 1 ≤ serving.workers
   pub sessions : IsNumber (codes "sessions") rows serving.sessions
   pub some_sessions : 1 ≤ serving.sessions
-  pub journal : first_of (codes "journal") rows ≡ option_map (λ text. text.now) serving.journal
+
+-- which script is to be played, on which site
+pub record IsReplaying (rows : List Row) (replaying : Replaying) : Type 0 where
+  pub site : first_of (codes "site") rows ≡ Some replaying.site.now
+  pub data : first_of (codes "data") rows ≡ option_map (λ text. text.now) replaying.data
+
+abbrev pub number_or : ℕ → Option ℕ → ℕ
+number_or default None = default
+number_or default (Some number) = number
+
+-- the value of an option that is given as a number, or else this one
+pub record IsNumberOr (option : Text) (rows : List Row) (default number : ℕ) : Type 0 where
+  pub given : Option ℕ
+  pub is : IsOptionalNumber option rows given
+  pub value : number ≡ number_or default given
+
+-- how a site is to be run
+pub record IsRunning (rows : List Row) (running : Running) : Type 0 where
+  pub site : first_of (codes "site") rows ≡ Some running.site.now
+  pub data : first_of (codes "data") rows ≡ Some running.data.now
+  pub listen : first_of (codes "listen") rows ≡ Some running.listen.now
+  pub seats : IsNumberOr (codes "seats") rows default_seats running.seats
+  pub some_seats : 1 ≤ running.seats
+  pub workers : IsNumberOr (codes "workers") rows default_workers running.workers
+  pub some_workers : 1 ≤ running.workers
 
 -- what is to be asked: the texts of the connector and the seconds
 abbrev pub IsAsking : Option (List Text) → Option Asking → Type 0
@@ -228,25 +281,30 @@ pub record IsExplaining (rows : List Row) (explaining : Explaining) : Type 0 whe
   pub connector : IsNumber (codes "connector") rows explaining.connector
   pub start : first_of (codes "start") rows ≡ Some explaining.start.now
   pub duration : IsNumber (codes "duration") rows explaining.duration
-  pub last_line : IsOptionalNumber (codes "at") rows explaining.last_line
+  pub data : first_of (codes "data") rows ≡ option_map (λ text. text.now) explaining.data
+  pub at : first_of (codes "at") rows ≡ option_map (λ text. text.now) explaining.at
   pub picture : first_of (codes "picture") rows ≡ option_map (λ text. text.now) explaining.picture
   pub json : IsFlag (codes "json") rows explaining.json
 
 -- which site is to be checked, with a script
 pub record IsChecking (rows : List Row) (checking : Checking) : Type 0 where
   pub site : first_of (codes "site") rows ≡ Some checking.site.now
+  pub data : first_of (codes "data") rows ≡ option_map (λ text. text.now) checking.data
   pub trace : IsFlag (codes "trace") rows checking.trace
 
 -- which site is to be shown, after how many lines of a script, and how
 pub record IsShowing (rows : List Row) (showing : Showing) : Type 0 where
   pub site : first_of (codes "site") rows ≡ Some showing.site.now
-  pub last_line : IsOptionalNumber (codes "at") rows showing.last_line
+  pub data : first_of (codes "data") rows ≡ option_map (λ text. text.now) showing.data
+  pub at : first_of (codes "at") rows ≡ option_map (λ text. text.now) showing.at
   pub json : IsFlag (codes "json") rows showing.json
 
 -- what a subcommand with its options asks for
 abbrev pub IsJob : Text → List Row → Job → Type 0
-IsJob name rows (Replay site) =
-    (name ≡ codes "replay") × (first_of (codes "site") rows ≡ Some site.now)
+IsJob name rows (Replay replaying) = (name ≡ codes "replay") × IsReplaying rows replaying
+IsJob name rows (Run running) = (name ≡ codes "run") × IsRunning rows running
+IsJob name rows (Journal data) =
+    (name ≡ codes "journal") × (first_of (codes "data") rows ≡ Some data.now)
 IsJob name rows (Serve serving) = (name ≡ codes "serve") × IsServing rows serving
 IsJob name rows (Call calling) = (name ≡ codes "call") × IsCalling rows calling
 IsJob name rows (Point pointing) = (name ≡ codes "point") × IsPointing rows pointing

@@ -37,7 +37,7 @@ pub(crate) fn serve_connection<
 }
 
 /// The session that a client asks for, if it speaks OCPP 1.6 and names a point of the site.
-fn core_of<C: Ledger, A: Ledger, R: Wait, M: Moments, J: Journal>(
+pub(crate) fn core_of<C: Ledger, A: Ledger, R: Wait, M: Moments, J: Journal>(
     context: &Context<'_, C, A, R, M, J>,
     asked: &ClientRequest,
 ) -> Result<Option<SessionCore>, AllocError> {
@@ -57,7 +57,7 @@ fn core_of<C: Ledger, A: Ledger, R: Wait, M: Moments, J: Journal>(
 
 /// Closes a socket whose client isn't served (RFC 6455, section 7.4.1, policy violation). Doesn't
 /// wait for its answer.
-fn close_at_once<S: Read + Write + Drop>(mut socket: WebSocket<S, NoMask>) {
+pub(crate) fn close_at_once<S: Read + Write + Drop>(mut socket: WebSocket<S, NoMask>) {
     let frame = CloseFrame {
         code: CloseCode::Policy,
         reason: Utf8Bytes::from_static(""),

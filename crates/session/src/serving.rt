@@ -5,13 +5,15 @@ ghost use Rattle.session.specs.Serving.{KeepsPass};
 mod audits;
 mod calls;
 mod ended;
+mod noting;
 mod served_text;
 mod sockets;
 
 use crate::context::Context;
 use crate::journal::{Journal, NoJournal};
 use crate::session_core::SessionCore;
-use calls::{attach, lose};
+pub use calls::attach_session;
+use calls::lose;
 use crossbeam_channel::Sender;
 pub use ended::Ended;
 use ocpp_scalars::Moments;
@@ -54,9 +56,8 @@ pub fn serve_socket<
     )
 }
 
-/// Does what `serve_socket` does, and notes each message that has a step, and each that is followed
-/// by a call to its point, before it is answered. A message that is neither, as most Heartbeats,
-/// isn't noted.
+/// Does what `serve_socket` does, and notes each step that changes something, as it is made. No
+/// message leaves before all is kept that was noted by then.
 pub fn serve_noted_socket<
     S: Read + Write + Drop,
     K: MaskKeys + Drop,
@@ -107,15 +108,37 @@ pub fn serve_session<
     ensures { KeepsPass pass result.1 }
 {
     let (mut socket, mut core, mut pass) = (socket, core, pass);
-    let ended = match attach(context, &mut core, &mut pass) {
-        Ok(()) => serve_texts(context, &mut socket, &core, &mut pass),
+    match attach_session(context, &mut core, &mut pass) {
+        Ok(()) => serve_attached(context, socket, core, pass),
         Err(ended) => {
             let _ = socket.close(None);
-            ended
+            (ended, pass)
         }
-    };
+    }
+}
+
+/// Does what `serve_session` does from then on that a point's session has its link.
+pub fn serve_attached<
+    S: Read + Write + Drop,
+    K: MaskKeys + Drop,
+    C: Ledger,
+    A: Ledger,
+    R: Wait,
+    M: Moments,
+    J: Journal,
+>(
+    context: &Context<'_, C, A, R, M, J>,
+    socket: WebSocket<S, K>,
+    core: SessionCore,
+    pass: Pass<C, A>,
+) -> (Ended, Pass<C, A>)
+    ensures { KeepsPass pass result.1 }
+{
+    let (mut socket, mut pass) = (socket, pass);
+    let ended = serve_texts(context, &mut socket, &core, &mut pass);
     lose(context, core);
-    context.journal.write_out();
+    // What couldn't be kept now is kept before the next message that leaves, or none leaves.
+    let _ = context.journal.write_out();
     (ended, pass)
 }
 

@@ -6,7 +6,7 @@ ghost use Rattle.replay.specs.Limits.{max_script_bytes};
 use crate::program::command_line::Checking;
 use crate::program::pages::print_page;
 use crate::program::program_fault::ProgramFault;
-use crate::program::script_input::read_script;
+use crate::program::script_input::read_script_of;
 use crate::program::site_file::read_site_bytes;
 use findings::{
     Finding, RowChange, ScriptCheck, Severity, check_change, check_printed, check_site,
@@ -16,11 +16,13 @@ use show_pages::{Depth, Trace, ending_text, trace_text};
 use site_rules::{Site, SiteFault, read_site};
 use std::alloc::{AllocError, AllocGlobal, Global};
 use std::fmt::Write;
+use std::fs::File;
 use std::rt::Files;
 
-/// Says everything that is wrong with the site of a file and with the script of standard input.
+/// Says everything that is wrong with the site of a file and with the script of standard input, or
+/// with the journal of a folder.
 /// Returns the exit status.
-pub fn check_file<R: Files + Input + Print + AllocGlobal>(
+pub fn check_file<R: Files<File = File> + Input + Print + Eprint + AllocGlobal>(
     rt: &R,
     checking: Checking<'_>,
 ) -> Result<u8, ProgramFault> {
@@ -30,7 +32,7 @@ pub fn check_file<R: Files + Input + Print + AllocGlobal>(
     // What is wrong with the site file is printed even if the script can't be read.
     let page = site_page(alloc, checking.site, findings.as_slice())?;
     print_page(rt, page.as_str())?;
-    let script = read_script(rt)?;
+    let script = read_script_of(rt, checking.data)?;
     if let Some(site) = site_of(alloc, bytes.as_slice())? {
         let mut page = String::new(alloc);
         let mut more = push_played(&mut page, site, script.as_slice(), checking.trace)?;

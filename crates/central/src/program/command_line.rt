@@ -2,7 +2,7 @@
 
 ghost use Rattle.std.specs.Prelude.{◌≡◌, IfOk, IfSome, IsSomeAnd, codes, map, option_map, string_bytes};
 ghost use Rattle.clap.specs.Words.{FailsBy, all_of, first_of, found_of, rows_of};
-ghost use Rattle.central.specs.CommandLine.{IsAsking, IsCalling, IsChecking, IsExplaining, IsFlag, IsJob, IsNumber, IsOptionalNumber, IsPointing, IsServing, IsShowing, IsStarting, line_faults, subcommand_named};
+ghost use Rattle.central.specs.CommandLine.{IsAsking, IsCalling, IsChecking, IsExplaining, IsFlag, IsJob, IsNumber, IsOptionalNumber, IsPointing, IsReplaying, IsRunning, IsServing, IsShowing, IsStarting, line_faults, subcommand_named};
 
 use crate::program::commands::central_command;
 use clap::{ArgMatches, Error};
@@ -12,9 +12,13 @@ use std::alloc::{AllocError, Global};
 #[derive(Clone, Copy, Debug)]
 pub enum Job<'a> {
     /// To play a script on the site of a file.
-    Replay { site: &'a str },
+    Replay(Replaying<'a>),
     /// To serve the site of a file to those who connect.
     Serve(Serving<'a>),
+    /// To run the site of a file, and go on where that stopped.
+    Run(Running<'a>),
+    /// To print the journal of a folder as a script.
+    Journal { data: &'a str },
     /// To send an operator's calls.
     Call(Calling<'a>),
     /// To simulate a charge point.
@@ -38,8 +42,30 @@ pub struct Serving<'a> {
     pub workers: u64,
     /// After this many connections the program ends.
     pub sessions: u64,
-    /// The file of the journal to write, which isn't there yet.
-    pub journal: Option<&'a str>,
+}
+
+/// Which script is to be played, and on which site.
+#[derive(Clone, Copy, Debug)]
+pub struct Replaying<'a> {
+    /// The site's file.
+    pub site: &'a str,
+    /// The folder whose journal is the script, or else that is standard input.
+    pub data: Option<&'a str>,
+}
+
+/// How a site is to be run.
+#[derive(Clone, Copy, Debug)]
+pub struct Running<'a> {
+    /// The site's file.
+    pub site: &'a str,
+    /// The folder of its journal.
+    pub data: &'a str,
+    /// The address that is listened at: a host and a port.
+    pub listen: &'a str,
+    /// How many connections it serves at a time.
+    pub seats: u64,
+    /// How many workers compile schedules.
+    pub workers: u64,
 }
 
 /// What an operator's client sends: what is given here, or else the lines of standard input.
@@ -102,8 +128,10 @@ pub struct Explaining<'a> {
     pub start: &'a str,
     /// For this many seconds.
     pub duration: u64,
-    /// So many lines of the script are played, or all.
-    pub last_line: Option<u64>,
+    /// The folder whose journal is the script, or else that is standard input.
+    pub data: Option<&'a str>,
+    /// The text of how far the script is played: a number of lines, or an instant. Or all is.
+    pub at: Option<&'a str>,
     /// The file of the picture to write.
     pub picture: Option<&'a str>,
     /// Whether for programs.
@@ -115,6 +143,8 @@ pub struct Explaining<'a> {
 pub struct Checking<'a> {
     /// The file of the site.
     pub site: &'a str,
+    /// The folder whose journal is the script, or else that is standard input.
+    pub data: Option<&'a str>,
     /// Whether to show whose answer each is.
     pub trace: bool,
 }
@@ -124,8 +154,10 @@ pub struct Checking<'a> {
 pub struct Showing<'a> {
     /// The file of the site.
     pub site: &'a str,
-    /// So many lines of the script are played, or all.
-    pub last_line: Option<u64>,
+    /// The folder whose journal is the script, or else that is standard input.
+    pub data: Option<&'a str>,
+    /// The text of how far the script is played: a number of lines, or an instant. Or all is.
+    pub at: Option<&'a str>,
     /// Whether for programs.
     pub json: bool,
 }
@@ -141,6 +173,11 @@ impl Calling<'_> {
             || self.status
     }
 }
+
+/// How many connections are served at a time, and how many workers compile, where that isn't said.
+const SEATS: u64 = 256;
+
+const WORKERS: u64 = 2;
 
 /// The job of a command line, whose first word is the program's name.
 pub fn job_of<'a>(alloc: Global, words: &'a [String]) -> Result<Job<'a>, Error>
@@ -164,13 +201,13 @@ pub fn job_of<'a>(alloc: Global, words: &'a [String]) -> Result<Job<'a>, Error>
 fn job_named<'a>(name: &str, given: &ArgMatches<'a>) -> Option<Job<'a>>
     ensures { IfSome result (λ job. IsJob name.now (rows_of (found_of given.now)) job) }
 {
-    if name == "replay" {
-        let site = text_of(given, "site")?;
-        return Some(Job::Replay { site });
-    }
     if name == "serve" {
         let serving = serving_of(given)?;
         return Some(Job::Serve(serving));
+    }
+    if name == "run" {
+        let running = running_of(given)?;
+        return Some(Job::Run(running));
     }
     if name == "call" {
         let calling = calling_of(given)?;
@@ -179,6 +216,21 @@ fn job_named<'a>(name: &str, given: &ArgMatches<'a>) -> Option<Job<'a>>
     if name == "point" {
         let pointing = pointing_of(given)?;
         return Some(Job::Point(pointing));
+    }
+    reader_named(name, given)
+}
+
+/// The job of a subcommand that reads a script or a journal, and prints what it has.
+fn reader_named<'a>(name: &str, given: &ArgMatches<'a>) -> Option<Job<'a>>
+    ensures { IfSome result (λ job. IsJob name.now (rows_of (found_of given.now)) job) }
+{
+    if name == "replay" {
+        let replaying = replaying_of(given)?;
+        return Some(Job::Replay(replaying));
+    }
+    if name == "journal" {
+        let data = text_of(given, "data")?;
+        return Some(Job::Journal { data });
     }
     page_named(name, given)
 }
@@ -212,13 +264,39 @@ fn serving_of<'a>(given: &ArgMatches<'a>) -> Option<Serving<'a>>
     if workers < 1 || sessions < 1 {
         return None;
     }
-    let journal = text_of(given, "journal");
     Some(Serving {
         site,
         listen,
         workers,
         sessions,
-        journal,
+    })
+}
+
+fn replaying_of<'a>(given: &ArgMatches<'a>) -> Option<Replaying<'a>>
+    ensures { IfSome result (λ replaying. IsReplaying (rows_of (found_of given.now)) replaying) }
+{
+    let site = text_of(given, "site")?;
+    let data = text_of(given, "data");
+    Some(Replaying { site, data })
+}
+
+fn running_of<'a>(given: &ArgMatches<'a>) -> Option<Running<'a>>
+    ensures { IfSome result (λ running. IsRunning (rows_of (found_of given.now)) running) }
+{
+    let site = text_of(given, "site")?;
+    let data = text_of(given, "data")?;
+    let listen = text_of(given, "listen")?;
+    let seats = optional_number_of(given, "seats").unwrap_or(SEATS);
+    let workers = optional_number_of(given, "workers").unwrap_or(WORKERS);
+    if seats < 1 || workers < 1 {
+        return None;
+    }
+    Some(Running {
+        site,
+        data,
+        listen,
+        seats,
+        workers,
     })
 }
 
@@ -294,7 +372,8 @@ fn explaining_of<'a>(given: &ArgMatches<'a>) -> Option<Explaining<'a>>
     let connector = number_of(given, "connector")?;
     let start = text_of(given, "start")?;
     let duration = number_of(given, "duration")?;
-    let last_line = optional_number_of(given, "at");
+    let data = text_of(given, "data");
+    let at = text_of(given, "at");
     let picture = text_of(given, "picture");
     let json = is_given(given, "json");
     Some(Explaining {
@@ -303,7 +382,8 @@ fn explaining_of<'a>(given: &ArgMatches<'a>) -> Option<Explaining<'a>>
         connector,
         start,
         duration,
-        last_line,
+        data,
+        at,
         picture,
         json,
     })
@@ -313,18 +393,21 @@ fn checking_of<'a>(given: &ArgMatches<'a>) -> Option<Checking<'a>>
     ensures { IfSome result (λ checking. IsChecking (rows_of (found_of given.now)) checking) }
 {
     let site = text_of(given, "site")?;
+    let data = text_of(given, "data");
     let trace = is_given(given, "trace");
-    Some(Checking { site, trace })
+    Some(Checking { site, data, trace })
 }
 
 fn showing_of<'a>(given: &ArgMatches<'a>) -> Option<Showing<'a>>
     ensures { IfSome result (λ showing. IsShowing (rows_of (found_of given.now)) showing) }
 {
     let site = text_of(given, "site")?;
+    let data = text_of(given, "data");
     let json = is_given(given, "json");
     Some(Showing {
         site,
-        last_line: optional_number_of(given, "at"),
+        data,
+        at: text_of(given, "at"),
         json,
     })
 }

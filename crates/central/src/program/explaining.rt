@@ -6,35 +6,39 @@ use crate::program::command_line::Explaining;
 use crate::program::pages::{Screen, note_refused_lines, print_page, write_file};
 use crate::program::picture_name::{PictureForm, picture_form};
 use crate::program::program_fault::ProgramFault;
-use crate::program::script_input::read_script;
+use crate::program::script_end::{changes_after, script_end};
+use crate::program::script_input::read_shown_script;
 use crate::program::site_file::read_site_file;
 use explain_pages::{
     ExplainedAsk, not_counted, write_json, write_page, write_picture, write_table,
 };
 use meaning::Ask;
-use ocpp_scalars::read_instant;
+use ocpp_scalars::{Instant, read_instant};
 use point_book::PointBook;
 use profile::Unit;
 use replay::play_quietly;
 use site_rules::Site;
 use std::alloc::AllocGlobal;
+use std::fs::File;
 use std::rt::Files;
 use sweep_compiler::{Turns, explain};
 
 /// Says why the limits of a connector are what they are after a script. Faults of a picture's name,
 /// the instants and the site file, and what isn't in it, are reported before the script is read.
-pub fn explain_file<R: Files + Input + Print + Eprint + AllocGlobal>(
+pub fn explain_file<R: Files<File = File> + Input + Print + Eprint + AllocGlobal>(
     rt: &R,
     screen: Screen,
     explaining: Explaining<'_>,
 ) -> Result<(), ProgramFault> {
     let picture = picture_of(&explaining)?;
     let ask = ask_of(&explaining)?;
+    let end = script_end(explaining.at)?;
     let site = read_site_file(rt, explaining.site)?;
     check_connector(&site, explaining.point, ask.connector)?;
     let unit = site.unit();
-    let script = read_script(rt)?;
-    let played = play_quietly(rt.alloc(), script.as_slice(), site, explaining.last_line)?;
+    let script = read_shown_script(rt, explaining.data)?;
+    let last_line = end.last_line(script.as_slice());
+    let played = play_quietly(rt.alloc(), script.as_slice(), site, last_line)?;
     let Some(book) = played.machine().book_of(explaining.point) else {
         return Err(ProgramFault::NoSuchPoint);
     };
@@ -44,12 +48,34 @@ pub fn explain_file<R: Files + Input + Print + Eprint + AllocGlobal>(
         return Err(ProgramFault::NoSuchConnector);
     }
     note_refused_lines(rt, &played);
+    note_later_changes(rt, &explaining, script.as_slice(), last_line, ask.start);
     let presentation = Presentation {
         explaining: &explaining,
         unit,
         picture,
     };
     print_explained(rt, screen, presentation, book, &ask)
+}
+
+/// Says where a journal has changes at the point that are later than the first instant: what is
+/// explained isn't what the point had then.
+fn note_later_changes<R: Eprint>(
+    rt: &R,
+    explaining: &Explaining<'_>,
+    script: &[u8],
+    last_line: Option<u64>,
+    start: Instant,
+) {
+    if explaining.data.is_none() {
+        return;
+    }
+    let later = changes_after(script, last_line, explaining.point, start);
+    if later > 0 {
+        let (point, start) = (explaining.point, explaining.start);
+        let _ = eprintln!(rt;
+            "central: {later} changes at {point} are later than --start: --at {start} is without them"
+        );
+    }
 }
 
 /// A picture that is wanted.

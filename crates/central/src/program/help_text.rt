@@ -12,13 +12,14 @@ from a script.";
 /// The program's exit statuses.
 pub const STATUSES: &str = "Exit statuses:
   0  the whole script was played, and no line of it has a fault; or all sessions have ended
-  1  the site file has a fault: 'central: site: NAME' on standard error
+  1  the site file has a fault: 'central: site: NAME' on standard error; or a line of the journal of
+     --data is none, or doesn't fit the site: 'central: journal: line LINE: ..'
   2  the whole script was played, and lines '! LINE NAME' of the output name its faults;
      or the script has more than 16,777,216 bytes: 'central: script: ScriptTooLong'
   3  a file or a device can't be read or written: 'central: device: read' or 'central: device: write';
      or the address can't be listened at, or no connection accepted there: 'central: device: socket';
      or memory ran out: 'central: OutOfMemory'
-  4  the command line isn't one of these";
+  4  the command line isn't one of these, or another process runs on the folder of --data";
 
 /// What `replay` does.
 pub const REPLAY_ABOUT: &str = "Plays a script of messages on a site, and prints the answers.";
@@ -39,10 +40,6 @@ pub const WORKERS_HELP: &str = "How many workers compile schedules, from 1 to 8"
 /// What `--sessions` counts.
 pub const SESSIONS_HELP: &str = "It ends after this number of connections, from 1 to 64";
 
-/// What `--journal` names.
-pub const JOURNAL_HELP: &str =
-    "Write each message that changes or requests something to FILE, a new one, as a script";
-
 /// Who connects to `serve`, and a call of it.
 pub const SERVE_NOTES: &str = "F is a site file; 'central replay --help' shows one. It prints
   listening A                    once clients may connect
@@ -53,11 +50,63 @@ and each client offers the subprotocol ocpp1.6 at one of these paths:
 A client with neither is closed at once, and counts as a connection. There is no encryption and no
 password: put it behind a proxy that has both, and let it listen at the loopback address.
 
-FILE is a script that 'central explain', 'show', 'check' and 'replay' read, while it is written too. It holds
-the messages in the order in which they took effect. 'serve' doesn't read it: a restart begins empty.
+It keeps everything in memory: a restart begins empty. 'central run' is for a site that goes on.
 
 Example:
   central serve --site site.json --listen 127.0.0.1:9000 --workers 2 --sessions 64
+
+The exit statuses are those of 'central --help'.";
+
+/// What `run` does.
+pub const RUN_ABOUT: &str =
+    "Runs a site over WebSocket, and goes on where it stopped when it is started again.";
+
+/// What `--data` of `run` names.
+pub const RUN_DATA_HELP: &str =
+    "The folder that keeps what the site has; made where it isn't there";
+
+/// What `--seats` counts.
+pub const SEATS_HELP: &str =
+    "It serves so many connections at a time, from 1 to 1000; 256 if not said";
+
+/// What `--workers` of `run` counts.
+pub const RUN_WORKERS_HELP: &str = "How many workers compile schedules, from 1 to 8; 2 if not said";
+
+/// What `run` prints and keeps, and a call of it.
+pub const RUN_NOTES: &str = "F is a site file; 'central replay --help' shows one. It prints
+  resumed P points, R profiles, T transactions, C calls waiting
+  listening A                    once clients may connect
+Clients connect as to 'central serve', any number one after another. Above N at a time one is answered
+HTTP 503. Where a point connects anew, its older connection is closed.
+
+DIR/journal has a line for each step that changed something, written and synced before it is answered.
+A start makes these steps again, each with the number that it drew. A journal whose last line is torn
+is cut there: that was never answered. One process at a time runs on a folder.
+Where the device is full, what changes something is answered InternalError until there is room. Where
+the journal can't be written otherwise, the program ends with status 3. It may be killed at any moment.
+
+Example:
+  central run --site site.json --data /var/lib/central --listen 127.0.0.1:9000
+
+The exit statuses are those of 'central --help'.";
+
+/// What `journal` does.
+pub const JOURNAL_ABOUT: &str = "Prints the journal of a site that is run as a script.";
+
+/// What `--data` of `journal` names.
+pub const JOURNAL_DATA_HELP: &str = "The folder of 'central run'";
+
+/// What `--data` of the commands that read a script names.
+pub const DATA_HELP: &str =
+    "Read the journal of this folder of 'central run' in place of standard input";
+
+/// What `journal` prints, and a call of it.
+pub const JOURNAL_NOTES: &str =
+    "The script is one for 'central replay': the messages that changed something, in the order in which
+they took effect. It may be printed while the site is run.
+
+Example:
+  central journal --data /var/lib/central
 
 The exit statuses are those of 'central --help'.";
 
@@ -169,7 +218,8 @@ pub const START_HELP: &str = "From when on, such as 2025-01-03T12:00:00Z";
 pub const DURATION_HELP: &str = "For how many seconds, from 1 to 2678400";
 
 /// What `--at` counts.
-pub const AT_HELP: &str = "After this number of lines of the script, not after all";
+pub const AT_HELP: &str =
+    "After this number of lines of the script, or at this instant, not after all";
 
 /// What `--picture` names.
 pub const PICTURE_HELP: &str = "Write a picture too: FILE.svg, or a page with it: FILE.html";

@@ -6,19 +6,22 @@ ghost use Rattle.session.specs.Served.{HasOutcome, IsOutcomeOf, IsOutcomeOfJob, 
 ghost use Rattle.session.specs.Serving.{KeepsPass};
 
 use crate::context::Context;
-use crate::journal::Journal;
+use crate::journal::{Journal, JournalFault};
 use crate::outcome::{Outcome, Performed};
 use crate::serving::audits::{OpenAudit, audit_confirmed, audit_to_judge, judge_reply};
 use crate::serving::calls::send_call;
-use crate::serving::ended::Ended;
-use crate::serving::sockets::{read_text, send_text};
+use crate::serving::ended::{Ended, ended_unsaved};
+use crate::serving::noting::{note_performed, prepare_message};
+use crate::serving::sockets::{clear_to_leave, read_text, send_text};
 use crate::session_core::SessionCore;
 use crate::step::perform;
+use crate::todo::{Owed, Todo};
 use compile_pool::{answer_job, wait_answer};
 use meaning::Ask;
 use ocpp_scalars::{Moments, Refusal};
 use ocppj_frame::ReadingMemory;
 use site_core::Step;
+use site_journal::Entry;
 use std::io::{Read, Write};
 use std::sync::Wait;
 use std::sync::ledger::Ledger;
@@ -51,11 +54,15 @@ pub(crate) fn serve_text<
         return Err(Ended::Broken);
     };
     let sent = SentText::new(now, core.side(), core.point_id().as_str(), text.as_str());
-    let Served { answer, is_noted } = serve_sent_text(context, core, memory, pass, &sent)?;
+    let Served { answer } = serve_sent_text(context, core, memory, pass, &sent)?;
     if let Some(answer) = &answer {
-        send_text(context.alloc, socket, answer.as_str())?;
+        send_text(
+            context.alloc,
+            socket,
+            clear_to_leave(context, answer.as_str())?,
+        )?;
     }
-    send_call(context, socket, core, &sent, is_noted)
+    send_call(context, socket, core, &sent)
 }
 
 /// What came of a message.
@@ -63,13 +70,12 @@ pub(crate) fn serve_text<
 pub struct Served {
     /// The message that answers it, if one does.
     pub answer: Option<String>,
-    /// Whether it had a step, and so is noted.
-    pub is_noted: bool,
 }
 
 /// Makes the step of a message, if it has one, and gives the message that answers it. A request for
 /// a schedule is answered by what is right for what its point had when this very request was taken,
-/// and for what was asked. The answer to another request is never handed on: it ends the session.
+/// and for what was asked. The answer to another request is never handed on: it ends the session. A
+/// step that couldn't be noted isn't made: the message is answered as one that memory ran out for.
 pub fn serve_sent_text<C: Ledger, A: Ledger, R: Wait, M: Moments, J: Journal>(
     context: &Context<'_, C, A, R, M, J>,
     core: &SessionCore,
@@ -85,12 +91,28 @@ pub fn serve_sent_text<C: Ledger, A: Ledger, R: Wait, M: Moments, J: Journal>(
         return Err(Ended::OutOfMemory);
     };
     let step = todo.take_step();
-    let is_noted = step.is_some();
-    let outcome = outcome_of(context, memory, pass, sent, step)?;
+    let entry = match prepare_message(context, sent, &step) {
+        Ok(entry) => entry,
+        Err(fault) => return served_unmade(core, todo, fault),
+    };
+    let outcome = outcome_of(context, memory, pass, sent, step, entry)?;
     let is_short = matches!(outcome, Some(Outcome::Refused(Refusal::OutOfMemory)));
     match core.answer(todo, outcome) {
         Ok(None) if is_short => Err(Ended::OutOfMemory),
-        Ok(answer) => Ok(Served { answer, is_noted }),
+        Ok(answer) => Ok(Served { answer }),
+        Err(_) => Err(Ended::OutOfMemory),
+    }
+}
+
+/// The answer to a message whose step isn't made, since it couldn't be noted: that of a CALL that
+/// memory ran out for. A reply has none, and the session ends: its call goes out again over the
+/// point's next link.
+fn served_unmade(core: &SessionCore, todo: Todo, fault: JournalFault) -> Result<Served, Ended> {
+    let Owed::Outcome { id, .. } = todo.into_owed() else {
+        return Err(ended_unsaved(fault));
+    };
+    match core.answer(Todo::without_memory(id), None) {
+        Ok(answer) => Ok(Served { answer }),
         Err(_) => Err(Ended::OutOfMemory),
     }
 }
@@ -102,13 +124,17 @@ fn outcome_of<C: Ledger, A: Ledger, R: Wait, M: Moments, J: Journal>(
     pass: &mut Pass<C, A>,
     sent: &SentText<'_>,
     step: Option<Step>,
+    entry: Option<Entry>,
 ) -> Result<Option<Outcome>, Ended>
     requires { IfSome step IsOfText }
     ensures pass { KeepsPass pass.old pass.new }
     ensures outcome { IfOk result (HasOutcome pass.old sent.now step) }
 {
     match step {
-        Some(step) => Ok(Some(outcome_of_step(context, memory, pass, sent, step)?)),
+        Some(step) => {
+            let outcome = outcome_of_step(context, memory, pass, sent, step, entry)?;
+            Ok(Some(outcome))
+        }
         None => Ok(None),
     }
 }
@@ -121,14 +147,15 @@ fn outcome_of_step<C: Ledger, A: Ledger, R: Wait, M: Moments, J: Journal>(
     pass: &mut Pass<C, A>,
     sent: &SentText<'_>,
     step: Step,
+    entry: Option<Entry>,
 ) -> Result<Outcome, Ended>
     requires { IsOfText step }
     ensures pass { KeepsPass pass.old pass.new }
     ensures outcome { IfOk result (IsOutcomeOf pass.old sent.now step) }
 {
-    let (performed, audit) = perform_noted(context, pass, sent, step)?;
+    let (performed, audit) = perform_noted(context, pass, step, entry)?;
     if let Some(audit) = audit_to_judge(&performed, audit) {
-        judge_reply(context, memory, sent, audit);
+        judge_reply(context, memory, sent, audit)?;
     }
     match performed {
         Performed::Job(job) => answer_of(context, pass, job),
@@ -136,15 +163,15 @@ fn outcome_of_step<C: Ledger, A: Ledger, R: Wait, M: Moments, J: Journal>(
     }
 }
 
-/// Makes the one call on the shared book that the step of a message stands for, and notes the
-/// message. In a reply to the point's audit, what that asked is read before: nobody else has the
-/// book in between, so it is the audit whose call is confirmed. If there is no memory for it, the
-/// call isn't confirmed, nothing is noted, and the session ends.
+/// Makes the one call on the shared book that the step of a message stands for, and notes it behind
+/// that, if it changed something. In a reply to the point's audit, what that asked is read before:
+/// nobody else has the book in between, so it is the audit whose call is confirmed. If there is no
+/// memory for it, the call isn't confirmed, nothing is noted, and the session ends.
 fn perform_noted<C: Ledger, A: Ledger, R: Wait, M: Moments, J: Journal>(
     context: &Context<'_, C, A, R, M, J>,
     pass: &mut Pass<C, A>,
-    sent: &SentText<'_>,
     step: Step,
+    entry: Option<Entry>,
 ) -> Result<(Performed, Option<OpenAudit>), Ended>
     requires { IsOfText step }
     ensures pass { KeepsPass pass.old pass.new }
@@ -155,10 +182,9 @@ fn perform_noted<C: Ledger, A: Ledger, R: Wait, M: Moments, J: Journal>(
     let Ok(audit) = audit_confirmed(context.alloc, &book, &step) else {
         return Err(Ended::OutOfMemory);
     };
-    context.journal.note(sent);
     let performed = perform(&mut book, pass, step);
+    note_performed(context.journal, &book, entry, &performed);
     drop(book);
-    context.journal.write_out();
     Ok((performed, audit))
 }
 

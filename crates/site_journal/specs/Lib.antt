@@ -1,0 +1,9 @@
+pub mod Line
+pub mod Entry
+pub mod Header
+pub mod RestoreFault
+pub mod Restore
+pub mod NotedStep
+pub mod Journal
+pub mod LostLinks
+pub mod ByCases

@@ -1,0 +1,30 @@
+//! The journal of a site: a file of lines, each a step of the central system that changed
+//! something. How a line is written and read, how a book is restored from the lines, and how its
+//! points lose their links after that. What a line is stands in `specs/Line.antt`, what it makes of
+//! the state in `specs/Restore.antt`.
+#![tactic(auto)]
+
+mod entry;
+mod header;
+mod journal;
+mod line;
+mod line_fault;
+mod line_laws;
+mod line_word;
+mod lost_links;
+mod noted_step;
+mod reading;
+mod restore_fault;
+mod restoring;
+
+pub use entry::Entry;
+pub use header::{HeaderFault, push_header, read_header};
+pub use journal::{Restored, Unrestored, restore, restore_bytes, split_line, whole_lines};
+pub use line::{Line, Noted, push_line};
+pub use line_fault::LineFault;
+pub use line_laws::lines_read_back;
+pub use lost_links::lose_links;
+pub use noted_step::{noted_by, noted_steps_are_restored};
+pub use reading::{read_bytes, read_line};
+pub use restore_fault::RestoreFault;
+pub use restoring::{UNREAD_REPLY, number_drawn, restore_line};

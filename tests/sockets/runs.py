@@ -1,0 +1,593 @@
+"""Runs of a site that is killed and started again: what the journal holds, and that nothing that was answered is lost."""
+import asyncio
+import json
+import os
+import re
+import resource
+import shutil
+import socket
+import subprocess
+import tempfile
+import time
+
+from days import Day, charging, compare, evening, morning, replay
+from python_client import PythonClient
+from raw_client import CONTINUATION, PING, PONG, TEXT, RawClient, frame_bytes
+from serving import ENVIRONMENT, PATIENCE, Running, Unexpected, expect, limit, until
+from texts import (
+    CALL_0, OCPP, accepted, ask, call, clear, error, heartbeat, install, install_call, plain_site, profile, site, start,
+)
+
+SITE = plain_site(2)
+SHORT = error("short", "InternalError", "OutOfMemory")
+
+
+class Data:
+    """The name of a folder that isn't there yet, in a folder of its own."""
+
+    def __enter__(self):
+        self.folder = tempfile.TemporaryDirectory()
+        self.path = os.path.join(self.folder.name, "data")
+        return self
+
+    def __exit__(self, *_):
+        self.folder.cleanup()
+
+    @property
+    def journal(self):
+        return os.path.join(self.path, "journal")
+
+    def bytes(self):
+        with open(self.journal, "rb") as file:
+            return file.read()
+
+    def write(self, content):
+        os.makedirs(self.path, exist_ok=True)
+        with open(self.journal, "wb") as file:
+            file.write(content)
+
+    def lines(self):
+        """What follows the moment of each line behind the first."""
+        whole = self.bytes().decode().split("\n")
+        expect("behind the last line", whole[-1], "")
+        return [line.partition(" ")[2] for line in whole[1:-1]]
+
+
+def once(program, data, of=SITE, limits=None):
+    """Starts to run a site that isn't to begin. Its status, and what it said."""
+    with tempfile.NamedTemporaryFile("w", suffix=".json") as file:
+        file.write(of)
+        file.flush()
+        command = [program, "run", "--site", file.name, "--data", data.path, "--listen", "127.0.0.1:0"]
+        done = subprocess.run(
+            command, capture_output=True, timeout=PATIENCE, check=False, env=ENVIRONMENT,
+            preexec_fn=lambda: limit(limits or {}),
+        )
+    return done.returncode, done.stdout, done.stderr.decode()
+
+
+def read(program, data, *command, of=SITE):
+    """What a command says that reads the journal. The site file is called F."""
+    with tempfile.NamedTemporaryFile("w", suffix=".json") as file:
+        file.write(of)
+        file.flush()
+        named = [] if command[0] == "journal" else ["--site", file.name]
+        words = [program, command[0], *named, "--data", data.path, *command[1:]]
+        done = subprocess.run(words, capture_output=True, timeout=PATIENCE, check=False, env=ENVIRONMENT)
+    return done.returncode, done.stdout.decode().replace(file.name, "F"), done.stderr.decode()
+
+
+def transaction_of(text):
+    return json.loads(text)[2]["transactionId"]
+
+
+def stop(message_id, transaction):
+    return call(message_id, "StopTransaction", {"transactionId": transaction, "meterStop": 1, "timestamp": "2025-01-01T00:00:00Z"})
+
+
+def what_is_noted(program):
+    """Steps that change something, before their answers come; no others, and tabs in place of line breaks."""
+    pretty = '[2,"i","SetChargingProfile",{\r\n "connectorId":1,\n "csChargingProfiles":' + json.dumps(profile(1, [9])) + "\n}]\n"
+    with Data() as data, Running(program, SITE, data.path) as running:
+        noted = []
+        with RawClient.connected(running, "/operator/P1") as operator, RawClient.connected(running, "/P1") as point:
+            point.texts_now()  # it has its link
+            started = start("s")
+            for client, text, lines in (
+                (operator, heartbeat("h"), ["attached P1 1"]),
+                (operator, pretty, ["operator P1 1 " + pretty.replace("\r", "\t").replace("\n", "\t")]),
+                (operator, install("l", profile(1, [9], level=100)), []),
+                (operator, ask("größer €"), []),
+                (operator, clear("none", id=9), []),
+                (operator, "no frame", []),
+                (point, heartbeat("1"), ["sent P1 1 0"]),
+                (point, heartbeat("2"), []),
+                (point, accepted("0"), ["reply P1 1 " + accepted("0"), "sent P1 1 1"]),
+                (point, started, ["point P1 1 " + started]),
+                (point, started, []),
+                (point, stop("x", 7), []),
+                (point, accepted("1"), []),  # nothing leaves that depends on it
+                (operator, clear("all"), ["reply P1 1 " + accepted("1"), "operator P1 3 " + clear("all")]),
+                (point, stop("e", 1), ["point P1 4 " + stop("e", 1), "sent P1 1 2"]),
+            ):
+                client.texts_of(text)
+                noted += lines
+                expect(f"the journal behind {text}", data.lines(), noted)
+        until("the lost link is noted", lambda: data.lines() == noted + ["lost P1 1"])
+
+
+async def a_day_over_restarts(program):
+    """A point's day with a restart between its parts: what is told is what a replay of all texts tells."""
+    day = None
+    with Data() as data:
+        for part in (morning, charging, evening):
+            with Running(program, SITE, data.path) as running:
+                point = await PythonClient.connected(running, "/ocpp/P1")
+                operators = [await PythonClient.connected(running, "/operator/P1") for _ in range(2)]
+                day = day or Day("P1", point, operators)
+                day.point, day.operators = point, operators
+                await part(day, 3)
+                expect("what it says", await asyncio.to_thread(running.kill), b"")
+        status, script, said = read(program, data, "journal")
+        expect("how the journal is printed", (status, said), (0, ""))
+    compare(program, SITE, day.told)
+    begun = {told.brought[0] for told in day.told if told.started() and '"again"' not in told.text}
+    printed = {line[2:] for line in replay(program, SITE, script).splitlines()}
+    expect("the transactions that a replay of the journal doesn't tell", begun - printed, set())
+
+
+def a_call_in_flight(program):
+    """It goes again with its number after a restart; what was confirmed doesn't, and numbers and transactions go on."""
+    with Data() as data:
+        with Running(program, SITE, data.path) as running:
+            expect("a new site", running.resumed, (2, 0, 0, 2))
+            with RawClient.connected(running, "/operator/P1") as operator, RawClient.connected(running, "/P1") as point:
+                expect("an install", operator.texts_of(install("a", profile(1, [7]))), [accepted("a")])
+                expect("call 0", point.texts_of(heartbeat("h"))[1:], [CALL_0])
+                expect("call 1", point.texts_of(accepted("0")), [install_call(1, profile(1, [7.0]))])
+                expect("a start", transaction_of(point.texts_of(start("s"))[0]), 1)
+                expect("another install", operator.texts_of(install("b", profile(2, [8], 1))), [accepted("b")])
+                running.kill()
+        with Running(program, SITE, data.path) as running:
+            expect("what goes on", running.resumed, (2, 2, 1, 3))
+            expect("the link is lost", data.lines()[-1], "lost P1 1")
+            with RawClient.connected(running, "/operator/P1") as operator, RawClient.connected(running, "/P1") as point:
+                expect("call 1 again", point.texts_of(heartbeat("h"))[1:], [install_call(1, profile(1, [7.0]))])
+                expect("the start again", transaction_of(point.texts_of(start("s"))[0]), 1)
+                expect("the next start", transaction_of(point.texts_of(start("t", 2))[0]), 2)
+                expect("call 2", point.texts_of(accepted("1")), [install_call(2, profile(2, [8.0], 1))])
+                expect("a stop", point.texts_of(stop("e", 1))[0][:7], '[3,"e",')
+                expect("all is confirmed", point.texts_of(accepted("2")), [])
+                status = json.loads(operator.texts_of(call("p", "PointStatus"))[0])[2]
+                expect("the version", status["version"], 5)
+            expect("what it says", running.kill(), b"")
+        with Running(program, SITE, data.path) as running:
+            expect("what is left", running.resumed, (2, 2, 1, 1))
+
+
+def audits_and_remote_starts(program):
+    """They go on after a restart: the audit with its verdict, and the start that waits."""
+    with Data() as data:
+        with Running(program, SITE, data.path) as running:
+            with RawClient.connected(running, "/operator/P1") as operator, RawClient.connected(running, "/P1") as point:
+                point.texts_of(heartbeat("h"))
+                point.texts_of(accepted("0"))
+                expect("an audit", operator.texts_of(call("a", "AuditPoint", {"connectorId": 1, "duration": 60})), [accepted("a")])
+                expect("its call", json.loads(point.texts_of(heartbeat("i"))[1])[1:3], ["1", "GetCompositeSchedule"])
+                point.texts_of(error("1", "NotSupported"))
+                wanted = operator.texts_of(call("p", "PointStatus"))
+                fields = {"connectorId": 2, "idTag": "ANN", "chargingProfile": profile(9, [6], purpose="TxProfile", kind="Relative")}
+                expect("a remote start", operator.texts_of(call("r", "RemoteStartTransaction", fields)), [accepted("r")])
+                running.kill()
+        notes = [re.sub(r" \[.*", "", line) for line in data.lines()]
+        expect("the end of the journal", notes[-4:], ["sent P1 1 1", "reply P1 1", "verdict P1 1", "operator P1 2"])
+        with Running(program, SITE, data.path) as running:
+            with RawClient.connected(running, "/operator/P1") as operator, RawClient.connected(running, "/P1") as point:
+                status = json.loads(operator.texts_of(call("p", "PointStatus"))[0])[2]
+                expect("the verdict", status["audit"], json.loads(wanted[0])[2]["audit"])
+                expect("the call", json.loads(point.texts_of(heartbeat("h"))[1])[1:3], ["2", "RemoteStartTransaction"])
+                point.texts_of(accepted("2"))
+                expect("the start", transaction_of(point.texts_of(start("s", 2, "ANN"))[0]), 1)
+                asked = json.loads(operator.texts_of(ask("q", 2, 60))[0])[2]["chargingSchedule"]["chargingSchedulePeriod"]
+                expect("its limit", asked, [{"startPeriod": 0, "limit": 6.0}])
+
+
+def journal_of_a_day(program, data):
+    """A journal with each kind of line."""
+    with Running(program, SITE, data.path) as running, RawClient.connected(running, "/operator/P1") as operator:
+        operator.texts_of(install("a", profile(1, [7])))
+        with RawClient.connected(running, "/P1") as point:
+            point.texts_of(heartbeat("h"))
+            point.texts_of(accepted("0"))
+            point.texts_of(start("s"))
+            point.texts_of(accepted("1"))
+            operator.texts_of(call("u", "AuditPoint", {"connectorId": 1, "duration": 60}))
+            point.texts_of(stop("e", 1))
+            point.texts_of(error("2", "NotSupported"))
+            operator.texts_of(clear("c"))
+        until("the lost link is noted", lambda: data.lines()[-1] == "lost P1 1")
+    return data.bytes()
+
+
+# Behind each line of that journal: profiles, transactions, calls that wait at both points.
+RESUMED = (
+    (0, 0, 2), (1, 0, 3), (1, 0, 3), (1, 0, 3), (1, 0, 2), (1, 0, 2), (1, 1, 2), (1, 1, 1), (1, 1, 2), (1, 0, 2), (1, 0, 2),
+    (1, 0, 1), (1, 0, 1), (0, 0, 2), (0, 0, 2),
+)
+
+
+def torn_anywhere(program):
+    """A journal that is cut anywhere starts as its whole lines say; the rest is cut, and that is said."""
+    with Data() as data:
+        whole = journal_of_a_day(program, data)
+    ends = [place + 1 for place, byte in enumerate(whole) if byte == 10]
+    for number, end in enumerate(ends):
+        for extra in (0, 1 + number):
+            with Data() as data:
+                data.write(whole[:end + extra])
+                torn = min(extra, len(whole) - end)
+                with Running(program, SITE, data.path) as running:
+                    expect(f"behind line {number + 1} and {extra} bytes", running.resumed, (2, *RESUMED[number]))
+                    said = running.kill().decode()
+                wanted = f"central: {data.journal}: its last line is torn, and was cut: {torn} bytes\n" if torn else ""
+                expect("what is said", said, wanted)
+                expect("what is kept", data.bytes()[:end], whole[:end])
+                expect("what is added", [line for line in data.bytes()[end:].decode().split(" ")[1:2]] or ["lost"], ["lost"])
+
+
+def faulty_journals(program):
+    """The first line that can't be, or doesn't fit, is named with its number."""
+    with Data() as data:
+        whole = journal_of_a_day(program, data).split(b"\n")
+    sha = b"central journal 1 sha256:"
+    for name, lines, said in (
+        ("no journal", [b"something else", *whole[1:]], "line 1: not a journal"),
+        ("another format", [whole[0].replace(sha, b"central journal 2 sha256:"), *whole[1:]], "line 1: a journal of another format"),
+        ("no digest", [sha + b"xyz", *whole[1:]], "line 1: no digest of a site file"),
+        ("a line left out", whole[:4] + whole[5:], "line 5: "),
+        ("two lines exchanged", [*whole[:2], whole[3], whole[2], *whole[4:]], "line 3: "),
+        ("another link", [*whole[:2], whole[2].replace(b"P1 1", b"P1 2"), *whole[3:]], "line 3: its step draws 1, and 2 is written"),
+        ("another version", [whole[0], whole[1].replace(b"P1 1 ", b"P1 2 "), *whole[2:]], "line 2: its step draws 1, and 2 is written"),
+        ("no instant", [whole[0], b"x" + whole[1], *whole[2:]], "line 2: "),
+        ("not UTF-8", [whole[0], b"\xff", *whole[1:]], "line 2: "),
+        ("an empty line", [whole[0], b"", *whole[1:]], "line 2: "),
+    ):
+        with Data() as data:
+            data.write(b"\n".join(lines))
+            status, out, err = once(program, data)
+            expect(f"how it ends with {name}", (status, out), (1, b""))
+            expect(f"what is said of {name}", err.startswith(f"central: journal: {said}"), True)
+            expect("what is kept", data.bytes(), b"\n".join(lines))
+
+
+def one_process_at_a_time(program):
+    """A second process on the folder ends at once; once the first is killed another one goes on."""
+    in_use = "central: command line: another process runs on the folder of --data\n"
+    with Data() as data:
+        with Running(program, SITE, data.path) as running:
+            expect("a second one", once(program, data), (4, b"", in_use))
+            expect("a reader", read(program, data, "journal"), (0, "", ""))
+            running.kill()
+        with Running(program, SITE, data.path) as running:
+            expect("the next one", running.resumed, (2, 0, 0, 2))
+
+
+def another_site_file(program):
+    """More points and connectors pass; what no longer fits is named."""
+    other = "it was begun with another site file; its lines are tried with this one"
+    with Data() as data:
+        whole = journal_of_a_day(program, data)
+        for name, of, resumed in (
+            ("more points and connectors", plain_site(3, 3), (3, 0, 0, 3)),
+            ("points in another order", site({"P2": (63.0, [32.0] * 2), "P1": (63.0, [32.0] * 2)}), (2, 0, 0, 2)),
+        ):
+            data.write(whole)
+            with Running(program, of, data.path) as running:
+                expect(name, running.resumed, resumed)
+                expect(f"what is said of {name}", running.kill().decode(), f"central: {data.journal}: {other}\n")
+        data.write(whole)
+        status, out, err = once(program, data, site({"P2": (63.0, [32.0])}))
+        said = f"central: {data.journal}: {other}\ncentral: journal: line 2: its step is refused: UnknownPoint\n"
+        expect("how it ends without the point", (status, out, err), (1, b"", said))
+        expect("what is kept", data.bytes(), whole)
+
+
+def no_more_than_the_seats(program):
+    """Above N at a time one is answered 503, and a seat that is free again serves the next one."""
+    with Data() as data, Running(program, SITE, data.path, seats=2) as running:
+        first, second = (RawClient.connected(running, "/operator/P1") for _ in range(2))
+        for _ in range(3):
+            with RawClient(running) as third:
+                response = third.shake_hands("/operator/P1", [f"Sec-WebSocket-Protocol: {OCPP}"])
+                expect("the answer without a seat", response and response.status, 503)
+        first.close()
+        until("a seat is free", lambda: is_served(running))
+        for _ in range(40):
+            is_served(running)
+        expect("the other seat", second.texts_of(heartbeat("h"))[0][:7], '[4,"h",')
+        second.close()
+        said = running.kill()
+        expect("what is said, once", said.count(b"\n"), 1)
+        expect("what is said", said, b"central: all seats are taken: connections are turned away (HTTP 503)\n")
+
+
+def is_served(running):
+    with RawClient(running) as client:
+        response = client.shake_hands("/operator/P2", [f"Sec-WebSocket-Protocol: {OCPP}"])
+        if response is None or response.status != 101:
+            return False
+        client.close()
+        return True
+
+
+def silent_handshakes(program):
+    """Connections that say nothing, or a byte now and then, take no seat for good."""
+    with Data() as data, Running(program, SITE, data.path, seats=2) as running:
+        began = time.monotonic()
+        silent, slow = RawClient(running), RawClient(running)
+        slow.send_bytes(b"GET /P1 HTTP/1.1\r\nX-Slow: ")
+        while time.monotonic() < began + 6:
+            slow.send_bytes(b"x")
+            time.sleep(0.5)
+        expect("whether one is served meanwhile", is_served(running), False)
+        until("both seats are free", lambda: is_served(running))
+        expect("whether it took the time of a handshake", time.monotonic() - began > 9, True)
+        expect("the end of the silent one", silent.read_response(), None)
+        silent.socket.close()
+        slow.socket.close()
+        with RawClient.connected(running, "/operator/P1"), RawClient.connected(running, "/operator/P1"):
+            pass
+
+
+def the_newest_connection(program):
+    """Of two connections of a point the newer has the calls, and the older one's stream ends."""
+    with Data() as data, Running(program, SITE, data.path, seats=3) as running:
+        before = RawClient.connected(running, "/P1")
+        expect("call 0", before.texts_of(heartbeat("h"))[1:], [CALL_0])
+        for _ in range(5):
+            after = RawClient.connected(running, "/P1")
+            expect("what the older one reads", before.read_frame(), None)
+            before.socket.close()
+            expect("call 0 again", after.texts_of(heartbeat("h"))[1:], [CALL_0])
+            before = after
+        expect("all is confirmed", before.texts_of(accepted("0")), [])
+        before.close()
+
+
+def points_that_reconnect(program):
+    """Many connections one after another, far more than seats, beside bare ones; each is served."""
+    rounds = 40 if "UNPROVED" in os.environ else 400
+    names = [f"P{number}" for number in range(1, 6)]
+    with Data() as data, Running(program, plain_site(5), data.path, seats=8) as running:
+        for number in range(rounds):
+            name = names[number % len(names)]
+            socket.create_connection(("127.0.0.1", running.port), PATIENCE).close()
+            with RawClient.connected(running, f"/{name}") as point:
+                expect("an answer", point.texts_of(heartbeat("h"))[0][:7], '[3,"h",')
+                if number % 3 == 0:
+                    point.close()
+        links = sum(line.startswith("attached ") for line in data.lines())
+        expect("links", links, rounds)
+        running.kill()
+        with Running(program, plain_site(5), data.path) as again:
+            expect("what goes on", again.resumed, (5, 0, 0, 5))
+
+
+def the_longest_message(program):
+    """It is read whole, in one frame or in two, and one byte more in two isn't."""
+    with Data() as data, Running(program, SITE, data.path) as running:
+        with RawClient.connected(running, "/operator/P1") as operator:
+            text = heartbeat("h").ljust(1_048_576).encode()
+            operator.send_frame(TEXT, text)
+            expect("an answer", operator.texts_now()[0][:7], '[4,"h",')
+            operator.send_frame(TEXT, text[:100], is_final=False)
+            operator.send_frame(CONTINUATION, text[100:])
+            expect("an answer", operator.texts_now()[0][:7], '[4,"h",')
+            operator.send_frame(TEXT, text[:100], is_final=False)
+            operator.send_frame(CONTINUATION, text[99:])
+            operator.is_ended_for_a_breach()
+
+
+def a_message_that_is_too_long(program):
+    """It is refused before it has come."""
+    with Data() as data, Running(program, SITE, data.path) as running:
+        with RawClient.connected(running, "/operator/P1") as operator:
+            operator.send_bytes(frame_bytes(TEXT, b"", length=b"\x7f" + (1_048_577).to_bytes(8, "big")))
+            operator.is_ended_for_a_breach()
+
+
+def told(running, text):
+    """What an operator is told, or None where the session ends without an answer."""
+    with RawClient.connected(running, "/operator/P1") as operator:
+        operator.send_text(text)
+        frame = operator.read_frame()
+        return None if frame is None else frame.payload.decode()
+
+
+def a_file_that_is_full(program):
+    """What isn't on the disk isn't answered, and nothing that may depend on it."""
+    with Data() as data:
+        limits = {resource.RLIMIT_FSIZE: 1_000}
+        with Running(program, SITE, data.path, limits=limits) as running:
+            answers = [told(running, install("short", profile(number, [9 + number], number))) for number in range(1, 9)]
+            count = answers.index(None)
+            expect("the answers before", answers[:count], [accepted("short")] * count)
+            expect("the answers behind", answers[count:], [None] * (8 - count))
+            expect("what is written", len(data.bytes()), 1_000)
+            said = running.kill().decode()
+        expect("what is said", said, f"central: {data.journal}: File too large (os error 27)\n")
+        with Running(program, SITE, data.path) as running:
+            expect("what is kept", running.resumed, (2, count, 0, 2 + count))
+
+
+class SmallDevice(Data):
+    """The name of a folder on a device of 3 MiB, which can be filled; None where none can be made."""
+
+    def __enter__(self):
+        super().__enter__()
+        made = subprocess.run(["mount", "-t", "tmpfs", "-o", "size=3m", "tmpfs", self.folder.name], capture_output=True, check=False)
+        self.filler = os.path.join(self.folder.name, "filler")
+        return self if made.returncode == 0 else None
+
+    def __exit__(self, *problem):
+        subprocess.run(["umount", self.folder.name], capture_output=True, check=False)
+        super().__exit__(*problem)
+
+    def fill(self):
+        file = os.open(self.filler, os.O_CREAT | os.O_WRONLY)
+        try:
+            while True:
+                os.write(file, bytes(4_096))
+        except OSError:
+            os.close(file)
+
+
+def a_full_device(program):
+    """What was noted is written into the reserve. Then changes are answered InternalError, and asks are answered."""
+    with SmallDevice() as data:
+        if data is None:
+            return
+        with Running(program, SITE, data.path) as running:
+            data.fill()
+            answers = []
+            while SHORT not in answers[-1:]:
+                number = len(answers) + 1
+                answers.append(told(running, install("short", profile(number, [9] * 24, number))))
+                expect("an end", len(answers) < 20, True)
+            count = len(answers) - 1
+            expect("the answers before", answers[:count], [accepted("short")] * count)
+            expect("an ask", told(running, ask("a"))[:28], '[3,"a",{"status":"Accepted",')
+            expect("a clear", told(running, clear("short")), SHORT)
+            os.remove(data.filler)
+            until("there is room", lambda: told(running, install("short", profile(50, [9], 50))) == accepted("short"))
+            said = running.kill().decode()
+        wanted = [f"central: {data.journal}: {what}" for what in ("No space left on device (os error 28)", "there is room again")]
+        expect("what is said", said.splitlines(), wanted)
+        with Running(program, SITE, data.path) as running:
+            expect("what is kept", running.resumed, (2, count + 1, 0, 3 + count))
+
+
+# What `explain` says of an install and a start.
+LATER = r"central: 2 changes at P1 are later than --start: --at 2025-01-01T00:00:00Z is without them\n"
+
+
+def readers(program):
+    """`show`, `explain`, `check` and `replay` read the journal, while it is written too, as they read its script."""
+    explained = ("--point", "P1", "--connector", "1", "--start", "2025-01-01T00:00:00Z", "--duration", "86400")
+    with Data() as data, Running(program, SITE, data.path) as running:
+        with RawClient.connected(running, "/operator/P1") as operator, RawClient.connected(running, "/P1") as point:
+            operator.texts_of(install("a", profile(1, [7])))
+            point.texts_of(heartbeat("h"))
+            point.texts_of(accepted("0"))
+            point.texts_of(start("s"))
+            status, script, said = read(program, data, "journal")
+            expect("how it is printed", (status, said), (0, ""))
+            count = len(data.lines()) + 1
+            for command, notes in ((("replay",), ""), (("check",), ""), (("check", "--trace"), ""), (("show",), ""), (("explain", *explained), LATER), (("explain", *explained, "--at", explained[5]), LATER[:0])):
+                status, out, said = read(program, data, *command)
+                expect(f"what {command[0]} prints", (status, out), of_script(program, script, *command))
+                wanted = rf"central: journal: {count} lines, the last one of \S+\n{notes}" if command[0] in ("show", "explain") else notes
+                expect(f"what {command[0]} says", bool(re.fullmatch(wanted, said)), True)
+
+
+def of_script(program, script, *command):
+    with tempfile.NamedTemporaryFile("w", suffix=".json") as file:
+        file.write(SITE)
+        file.flush()
+        words = [program, command[0], "--site", file.name, *command[1:]]
+        done = subprocess.run(words, input=script.encode(), capture_output=True, timeout=PATIENCE, check=False, env=ENVIRONMENT)
+    return done.returncode, done.stdout.decode().replace(file.name, "F")
+
+
+class Answered:
+    """What a point and its operator do until the program is killed, and what of it was answered."""
+
+    def __init__(self):
+        self.installs, self.transactions, self.calls, self.confirmed = [], [], [], []
+
+    def play(self, running):
+        with RawClient.connected(running, "/operator/P1") as operator, RawClient.connected(running, "/P1") as point:
+            point.socket.settimeout(20)
+            operator.socket.settimeout(20)
+            self._see(self._told(point, heartbeat("h")))
+            for number in range(1, 4):
+                if accepted(f"i{number}") in self._told(operator, install(f"i{number}", profile(number, [6 + number], number))):
+                    self.installs.append(number)
+                for text in self._told(point, start(f"s{number}", 1, f"T{number}")):
+                    if text.startswith("[3,"):
+                        self.transactions.append(transaction_of(text))
+                    self._see([text])
+                self._see(self._told(point, accepted(str(self.calls[-1] if self.calls else 0))))
+
+    def _told(self, client, text):
+        """The texts that follow a text, up to the end of the stream."""
+        client.send_text(text)
+        client.pings += 1
+        client.send_frame(PING, b"p%d" % client.pings)
+        texts = []
+        while True:
+            frame = client.read_frame()
+            if frame is None:
+                raise ConnectionResetError
+            if frame.opcode == PONG:
+                return texts
+            texts.append(frame.payload.decode())
+
+    def _see(self, texts):
+        self.calls += [int(json.loads(text)[1]) for text in texts if text.startswith("[2,")]
+
+
+def killed_anywhere(program):
+    """Killed at the k-th write, send or sync: after the restart no answered change is missing, and no call is out of turn."""
+    if not shutil.which("strace"):
+        return
+    for name in ("write", "sendto", "fdatasync"):
+        for count in range(1, 8 if "UNPROVED" in os.environ else 25):
+            killed_at(program, name, count)
+
+
+def killed_at(program, name, count):
+    where = f"killed at {name} {count}"
+    under = ("strace", "-f", "-qq", "-o", "/dev/null", "-e", f"inject={name}:signal=SIGKILL:when={count}")
+    answered = Answered()
+    with Data() as data:
+        try:
+            with Running(program, SITE, data.path, under=under, environment=NO_LEAKS) as running:
+                answered.play(running)
+        except (OSError, Unexpected):
+            pass  # it was killed there, perhaps before it listened
+        with Running(program, SITE, data.path, environment=NO_LEAKS) as running:
+            profiles, transactions = running.resumed[1:3]
+            expect(f"{where}: installs", len(answered.installs) <= profiles <= len(answered.installs) + 1, True)
+            expect(f"{where}: active transactions", transactions in ({1} if answered.transactions else {0, 1}), True)
+            with RawClient.connected(running, "/P1") as point:
+                calls = [int(json.loads(text)[1]) for text in point.texts_of(heartbeat("h")) if text.startswith("[2,")]
+                last = max(answered.calls, default=0)
+                expect(f"{where}: the next call after {last}", not calls or calls[0] in (last, last + 1), True)
+                number = transaction_of(point.texts_of(start("n", 2, "N"))[0])
+                expect(f"{where}: the next transaction", number > max(answered.transactions, default=0), True)
+
+
+# The unproved program looks for leaks when it ends, which it can't below strace.
+NO_LEAKS = {"ASAN_OPTIONS": ENVIRONMENT["ASAN_OPTIONS"] + ":detect_leaks=0"}
+
+
+def tests():
+    yield "what is noted", what_is_noted
+    yield "a day over restarts", a_day_over_restarts
+    yield "a call in flight", a_call_in_flight
+    yield "audits and remote starts", audits_and_remote_starts
+    yield "torn anywhere", torn_anywhere
+    yield "faulty journals", faulty_journals
+    yield "one process at a time", one_process_at_a_time
+    yield "another site file", another_site_file
+    yield "no more than the seats", no_more_than_the_seats
+    yield "silent handshakes", silent_handshakes
+    yield "the newest connection", the_newest_connection
+    yield "points that reconnect", points_that_reconnect
+    yield "the longest message", the_longest_message
+    yield "a message that is too long", a_message_that_is_too_long
+    yield "a file that is full", a_file_that_is_full
+    yield "a full device", a_full_device
+    yield "readers", readers
+    yield "killed anywhere", killed_anywhere
