@@ -1,5 +1,5 @@
 -- That the rows by the places of the first ones are the candidates level by level.
-use Rattle.std.proofs.Common.{◌≡◌, ℕ, ◌+◌, ◌-◌, ◌<◌, ◌≤◌, ◌==◌, zero, suc, Bool, true, false, not, ◌&&◌, ◌||◌, cond, refl, ap, sym, ◌∙◌, List, [], ◌∷◌, take, length, Option, Some, None, option_and_then, slice_get, slice_index_or, arith}
+use Rattle.std.proofs.Common.{◌≡◌, ℕ, ◌+◌, ◌-◌, ◌<◌, ◌≤◌, ◌==◌, zero, suc, Bool, true, false, not, ◌&&◌, ◌||◌, cond, refl, ap, sym, ◌∙◌, List, [], ◌∷◌, take, length, Option, Some, None, option_and_then, slice_get, slice_index, slice_index_or, arith}
 use Rattle.std.specs.List.{AllByRecursion, find, cons_option, list_any}
 use Rattle.std.specs.Option.{option_or}
 use Rattle.std.proofs.lemmas.Bool.{eqb-true}
@@ -11,24 +11,25 @@ use Rattle.profile.specs.declared.purpose.Purpose.TheVariants.{ChargePointMaxPro
 use Rattle.profile.specs.declared.row.Row.{Row}
 use Rattle.profile.specs.Purpose.{is_tx_default}
 use Rattle.profile.specs.Candidates.{is_replaced_at}
-use Rattle.stacking.specs.ByCases.Candidates.{AreFirstPlaces, candidate_at, candidates_below, first_at, of_level, own_connector, row_at, rows_below, shared_connector, stands_at}
+use Rattle.stacking.specs.ByCases.Candidates.{AreCandidatePlaces, candidate_at, candidates_below, first_at, of_level, own_connector, rows_below, shared_connector, stands_at}
 use Rattle.stacking.proofs.CandidateLemmas.{all-of, none-passes}
 
 -- ---- the iterator
 
-pub below_next : (rows : List Row) (own shared : List ℕ) (below : ℕ) → 0 < below
-    → rows_below rows own shared below ≡ cons_option (row_at rows own shared (below - 1)) (rows_below rows own shared (below - 1))
+pub below_next : (rows : List Row) (places : List ℕ) (below : ℕ) → 0 < below
+    → rows_below rows places below
+    ≡ cons_option (slice_get rows (slice_index places (below - 1))) (rows_below rows places (below - 1))
 unfolding rows_below
-below_next rows own shared zero some = absurd (go some)
+below_next rows places zero some = absurd (go some)
   where
     go : 0 < zero → ⊥
     go some = omega arith
-below_next rows own shared (suc level) some = let e : suc level - 1 ≡ level = omega arith in rw e refl
+below_next rows places (suc level) some = let e : suc level - 1 ≡ level = omega arith in rw e refl
 
-pub below_none : (rows : List Row) (own shared : List ℕ) (below : ℕ) → below ≤ 0 → rows_below rows own shared below ≡ []
+pub below_none : (rows : List Row) (places : List ℕ) (below : ℕ) → below ≤ 0 → rows_below rows places below ≡ []
 unfolding rows_below
-below_none rows own shared zero none = refl
-below_none rows own shared (suc level) none = absurd (go none)
+below_none rows places zero none = refl
+below_none rows places (suc level) none = absurd (go none)
   where
     go : suc level ≤ 0 → ⊥
     go none = omega arith
@@ -110,15 +111,13 @@ one_of_two TxDefaultProfile rows connector level = go (is_replaced_at rows conne
         (row.connector == connector) (row.connector == 0) (is_replaced_at rows connector row.profile.stack_level) no (of_row row false is)) rows is in
         ap (λ first. option_or first (first_at TxDefaultProfile 0 level rows)) (none-found _ rows none) ∙ find-agree _ _ rows each
 
-pub by_places : (purpose : Purpose) (rows : List Row) (connector : ℕ) (own shared : List ℕ) (below : ℕ) → below ≤ 100
-    → AreFirstPlaces purpose rows (own_connector purpose connector) rows own → AreFirstPlaces purpose rows (shared_connector purpose connector) rows shared
-    → rows_below rows own shared below ≡ candidates_below purpose rows connector below
+pub by_places : (purpose : Purpose) (rows : List Row) (connector : ℕ) (places : List ℕ) (below : ℕ) → below ≤ 100
+    → AreCandidatePlaces purpose rows connector places → rows_below rows places below ≡ candidates_below purpose rows connector below
 unfolding rows_below candidates_below
-by_places purpose rows connector own shared zero few owns shareds = refl
-by_places purpose rows connector own shared (suc level) few owns shareds =
-    let here : row_at rows own shared level ≡ candidate_at purpose rows connector level =
-    (λ i. option_or (owns level (omega arith) i) (shareds level (omega arith) i)) ∙ one_of_two purpose rows connector level in
-    let rest = by_places purpose rows connector own shared level (omega arith) owns shareds in
+by_places purpose rows connector places zero few each = refl
+by_places purpose rows connector places (suc level) few each =
+    let here = each level (omega arith) in
+    let rest = by_places purpose rows connector places level (omega arith) each in
     λ i. cons_option (here i) (rest i)
 
 -- ---- one row more
@@ -165,3 +164,8 @@ added purpose connector level rows place row inside is passes =
     first_more purpose connector level rows place row inside is
     ∙ ap (λ (b : Bool). option_or (first_at purpose connector level (take place rows)) (cond b (of_level level row) None)) passes
     ∙ ap (λ (r : Option Row). option_or (first_at purpose connector level (take place rows)) (option_and_then (of_level level) r)) (sym found)
+
+-- a third behind two
+pub option_or-third : {X : Type 0} (x y z : Option X) → option_or (option_or x y) z ≡ option_or x (option_or y z)
+option_or-third None y z = refl
+option_or-third (Some x) y z = refl

@@ -11,9 +11,8 @@ use profile::Row;
 #[derive(Drop)]
 pub struct Candidates<'a> {
     pub(crate) rows: &'a [Row],
-    /// Of each stack level the row at the connector itself, and at the one that speaks for all.
-    pub(crate) own: Places,
-    pub(crate) shared: Places,
+    /// Of each stack level the place of the row that speaks for the connector.
+    pub(crate) places: Places,
     /// Those of this stack level and above were yielded.
     pub(crate) below: u32,
     pub(crate) ghost inside: { IsTrue (nat_le below 100) },
@@ -32,7 +31,7 @@ impl<'a> Iterator for Candidates<'a> {
     fn next(&mut self) -> Option<&'a Row> {
         while self.below > 0 {
             self.below -= 1;
-            let found = row_at(self.rows, &self.own, &self.shared, self.below);
+            let found = row_at(self.rows, &self.places, self.below);
             if found.is_some() {
                 return found;
             }

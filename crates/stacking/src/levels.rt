@@ -3,7 +3,7 @@
 ghost use Rattle.std.specs.Prelude.{◌≡◌, ◌≢◌, ◌<◌, ◌≤◌, ℕ, length, slice_get, slice_index};
 ghost use Rattle.std.specs.List.{All};
 ghost use Rattle.std.specs.Option.{option_copied};
-ghost use Rattle.stacking.specs.ByCases.Candidates.{AreFirstPlaces, IsPlaceAdded, own_connector, row_at, shared_connector, stands_at};
+ghost use Rattle.stacking.specs.ByCases.Candidates.{AreCandidatePlaces, AreFirstAdded, AreFirstPlaces, IsPlaceAdded, own_connector, shared_connector, stands_at};
 
 use crate::changes::is_purpose;
 use profile::{MAX_STACK_LEVEL, Purpose, Row};
@@ -18,18 +18,41 @@ pub(crate) type Places = [u8; LEVELS];
 /// Behind the place of any row.
 const NO_PLACE: u8 = u8::MAX;
 
-/// Of each stack level the place of the first row of a purpose at a connector.
-pub(crate) fn first_places(rows: &[Row], purpose: Purpose, connector: u32) -> Places
+/// Of each stack level the place of the row that speaks for a connector: one at the connector itself
+/// before one that speaks for all.
+pub(crate) fn candidate_places(rows: &[Row], purpose: Purpose, connector: u32) -> Places
     requires few { length rows.now ≤ 255 }
-    ensures { AreFirstPlaces purpose rows.now connector rows.now result }
+    ensures { AreCandidatePlaces purpose rows.now connector result }
 {
-    let mut places = no_places();
-    for place in 0..rows.len() {
-        if stands_at(purpose, connector, &rows[place]) {
-            add_place(&mut places, rows, place);
-        }
+    let own = own_connector(purpose, connector);
+    let shared = shared_connector(purpose, connector);
+    let mut places = first_places(rows, purpose, own);
+    if shared != own {
+        add_first_places(&mut places, rows, purpose, shared);
     }
     places
+}
+
+/// Of each stack level the place of the first row of a purpose at a connector.
+fn first_places(rows: &[Row], purpose: Purpose, connector: u32) -> Places
+    requires few { length rows.now ≤ 255 }
+    ensures { AreFirstPlaces purpose rows.now connector result }
+{
+    let mut places = no_places();
+    add_first_places(&mut places, rows, purpose, connector);
+    places
+}
+
+/// Notes of each stack level that has no place yet that of the first row of a purpose at a connector.
+fn add_first_places(places: &mut Places, rows: &[Row], purpose: Purpose, connector: u32)
+    requires few { length rows.now ≤ 255 }
+    ensures { AreFirstAdded purpose rows.now connector rows.now places.old places.new }
+{
+    for place in 0..rows.len() {
+        if stands_at(purpose, connector, &rows[place]) {
+            add_place(places, rows, place);
+        }
+    }
 }
 
 /// Notes the place of a row, if there is none yet of its stack level.
@@ -66,24 +89,16 @@ fn stands_at(purpose: Purpose, connector: u32, row: &Row) -> bool
     is_purpose(purpose, row.profile.purpose) && row.connector == connector
 }
 
-/// The row of a stack level: that of the connector itself before the one that speaks for all.
-pub(crate) fn row_at<'a>(
-    rows: &'a [Row],
-    own: &Places,
-    shared: &Places,
-    level: u32,
-) -> Option<&'a Row>
+/// The row that speaks for a connector at a stack level.
+pub(crate) fn row_at<'a>(rows: &'a [Row], places: &Places, level: u32) -> Option<&'a Row>
     requires { level < 100 }
-    ensures { option_copied result ≡ row_at rows.now own.now shared.now level }
+    ensures { option_copied result ≡ slice_get rows.now (slice_index places.now level) }
 {
-    match rows.get(own[level as usize] as usize) {
-        Some(row) => Some(row),
-        None => rows.get(shared[level as usize] as usize),
-    }
+    rows.get(places[level as usize] as usize)
 }
 
 /// The connector at which rows of a purpose stand that speak for this one alone.
-pub(crate) fn own_connector(purpose: Purpose, connector: u32) -> u32
+fn own_connector(purpose: Purpose, connector: u32) -> u32
     ensures { result ≡ own_connector purpose connector }
 {
     match purpose {
@@ -93,7 +108,7 @@ pub(crate) fn own_connector(purpose: Purpose, connector: u32) -> u32
 }
 
 /// The connector at which rows of a purpose stand that speak for this one and others.
-pub(crate) fn shared_connector(purpose: Purpose, connector: u32) -> u32
+fn shared_connector(purpose: Purpose, connector: u32) -> u32
     ensures { result ≡ shared_connector purpose connector }
 {
     match purpose {

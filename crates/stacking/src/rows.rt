@@ -11,7 +11,7 @@ ghost use Rattle.stacking.specs.Rows.{AreRows, IsRefused, rows_begun};
 
 use crate::candidates::Candidates;
 use crate::changes::{drop_cleared, drop_replaced, drop_transaction_profiles, has_match, staying};
-use crate::levels::{first_places, level_above, own_connector, shared_connector};
+use crate::levels::{candidate_places, level_above};
 use ocpp_scalars::{Instant, Refusal};
 use profile::{Criteria, Profile, Purpose, Row};
 use std::alloc::{AllocError, Global};
@@ -161,8 +161,7 @@ impl Rows {
         let rows = self.items.as_slice();
         Candidates {
             rows,
-            own: first_places(rows, purpose, own_connector(purpose, connector)),
-            shared: first_places(rows, purpose, shared_connector(purpose, connector)),
+            places: candidate_places(rows, purpose, connector),
             below: level_above(rows),
         }
     }

@@ -26,18 +26,26 @@ candidates_below purpose rows connector (suc level) =
 -- ---- by places
 
 abbrev pub stands_at : Purpose → ℕ → Row → Bool
-stands_at purpose connector row = is_purpose purpose row.profile.purpose && (row.connector == connector)
+stands_at purpose connector row =
+    is_purpose purpose row.profile.purpose && (row.connector == connector)
 
 -- the first row of a purpose at a connector that has a stack level
 abbrev pub first_at : Purpose → ℕ → ℕ → List Row → Option Row
 first_at purpose connector level rows =
     find (λ row. (row.profile.stack_level == level) && stands_at purpose connector row) rows
 
--- the places of the first of these rows, by their stack levels
-abbrev pub AreFirstPlaces : Purpose → List Row → ℕ → List Row → List ℕ → Type 0
-AreFirstPlaces purpose rows connector these places =
+-- the places of these rows, by their stack levels
+abbrev pub AreFirstPlaces : Purpose → List Row → ℕ → List ℕ → Type 0
+AreFirstPlaces purpose rows connector places =
     (level : ℕ) → level < 100
-    → slice_get rows (slice_index places level) ≡ first_at purpose connector level these
+    → slice_get rows (slice_index places level) ≡ first_at purpose connector level rows
+
+-- to the old places those of the first of these rows are added, unless there is one of their level
+abbrev pub AreFirstAdded : Purpose → List Row → ℕ → List Row → List ℕ → List ℕ → Type 0
+AreFirstAdded purpose rows connector these old new =
+    (level : ℕ) → level < 100
+    → slice_get rows (slice_index new level)
+    ≡ option_or (slice_get rows (slice_index old level)) (first_at purpose connector level these)
 
 -- a row, if it has a stack level
 abbrev pub of_level : ℕ → Row → Option Row
@@ -48,7 +56,9 @@ abbrev pub IsPlaceAdded : List Row → ℕ → List ℕ → List ℕ → Type 0
 IsPlaceAdded rows place old new =
     (level : ℕ) → level < 100
     → slice_get rows (slice_index new level)
-    ≡ option_or (slice_get rows (slice_index old level)) (option_and_then (of_level level) (slice_get rows place))
+    ≡ option_or
+    (slice_get rows (slice_index old level))
+    (option_and_then (of_level level) (slice_get rows place))
 
 -- where rows stand that speak for a connector: one of its own before one that speaks for all
 abbrev pub own_connector : Purpose → ℕ → ℕ
@@ -61,14 +71,16 @@ shared_connector ChargePointMaxProfile connector = 0
 shared_connector TxDefaultProfile connector = 0
 shared_connector TxProfile connector = connector
 
-abbrev pub row_at : List Row → List ℕ → List ℕ → ℕ → Option Row
-row_at rows own shared level =
-    option_or (slice_get rows (slice_index own level)) (slice_get rows (slice_index shared level))
+-- of each stack level the place of the row that speaks for the connector
+abbrev pub AreCandidatePlaces : Purpose → List Row → ℕ → List ℕ → Type 0
+AreCandidatePlaces purpose rows connector places =
+    (level : ℕ) → level < 100
+    → slice_get rows (slice_index places level) ≡ candidate_at purpose rows connector level
 
-unfoldable pub rows_below : List Row → List ℕ → List ℕ → ℕ → List Row
-rows_below rows own shared zero = []
-rows_below rows own shared (suc level) =
-    cons_option (row_at rows own shared level) (rows_below rows own shared level)
+unfoldable pub rows_below : List Row → List ℕ → ℕ → List Row
+rows_below rows places zero = []
+rows_below rows places (suc level) =
+    cons_option (slice_get rows (slice_index places level)) (rows_below rows places level)
 
 abbrev pub candidates_left : Candidates → List Row
-candidates_left left = rows_below left.rows.now left.own left.shared left.below
+candidates_left left = rows_below left.rows.now left.places left.below
