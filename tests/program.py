@@ -20,6 +20,7 @@ import sys
 import tempfile
 
 from case_folders import Case, all_cases
+from png_colours import shares_of_colours
 
 TOP = os.path.dirname(os.path.dirname(os.path.abspath(__file__)))
 UNPROVED = "UNPROVED" in os.environ
@@ -371,6 +372,7 @@ def memory_problems(program, folder):
         ("tests/cases/replay/hold-and-release", [], 80),
         ("tests/cases/replay/calls-confirmed-in-turn", [], 80),
         ("tests/cases/replay/audits-of-a-point", [], 150),
+        ("tests/cases/replay/remote-start-with-a-profile", [], 80),
         ("tests/cases/explain/two-cars", [], 60),
         ("tests/cases/explain/two-cars", ["--picture", picture], 60),
         ("tests/cases/explain/hour-that-lifts-a-limit", ["--picture", page], 60),
@@ -417,6 +419,8 @@ AGAIN = (
     ("test_core", "refused_memory::calls_on_a_book", 1, 4, 150),
     ("test_core", "refused_memory::an_audit_on_a_machine", 1, 3, 150),
     ("test_core", "refused_memory::an_audit_on_a_book", 1, 5, 150),
+    ("test_core", "refused_memory::a_remote_start_on_a_machine", 1, 3, 150),
+    ("test_core", "refused_memory::a_remote_start_on_a_book", 1, 5, 150),
     ("test_books", "judged_audits::an_audit_is_judged_again_where_memory_was_refused", 1, 2, 150),
     ("test_session", "sessions_over_memory::an_operators_session_is_refused_memory", 1, 25, 200),
     ("test_session", "sessions_over_memory::a_points_session_is_refused_memory", 1, 15, 200),
@@ -566,6 +570,22 @@ def drawn_problems(program, folder):
     ok = names == sorted(os.listdir(drawn)) and names
     differ = [name for name in names if bytes_of(os.path.join(kept, name)) != bytes_of(os.path.join(drawn, name))] if ok else names
     yield "pictures of the examples", [f"to be drawn anew: {differ}"] if differ or not ok else []
+    yield from viewed_pictures([os.path.join(kept, name) for name in names])
+
+
+def viewed_pictures(pictures):
+    """The pictures in a viewer that isn't a browser: librsvg, where it is installed."""
+    black = [name for name in pictures if b"var(" in bytes_of(name)]
+    yield "pictures without variables, which browsers alone know", [f"with some: {black}"] if black else []
+    if shutil.which("rsvg-convert") is None:
+        yield "pictures by librsvg (not run: rsvg-convert isn't installed)", []
+        return
+    # They share a style sheet, and a picture takes seconds.
+    for name in pictures[:2]:
+        shares = shares_of_colours(subprocess.run(["rsvg-convert", name], capture_output=True, check=True).stdout)
+        white, ink = (shares.get(colour, 0) for colour in ((255, 255, 255), (23, 32, 43)))
+        ok = white > 0.4 and 0.001 < ink < 0.2
+        yield f"{os.path.basename(name)} by librsvg", [] if ok else [f"{white:.0%} of it is white, {ink:.1%} as dark as the limit"]
 
 
 CLEAR = b'2025-01-01T00:00:00Z operator CP1 [2,"a","ClearChargingProfile",{"chargingProfileId":9}]\n'

@@ -1,32 +1,46 @@
 //! The style sheets of pictures and pages: for light and for dark, by colours that have contrast in both.
 
-/// Of a picture, and of one within a page.
+/// Of a picture, and of one within a page. Each rule names its colour, since viewers that aren't
+/// browsers know no variables; such a one shows the light colours.
 pub(crate) const PICTURE: &str = r#"<style>
-.hilfrogwy{--paper:#fff;--ink:#17202b;--soft:#556070;--grid:#dfe4ea;--area:#17202b12;--c0:#0b5fa5;--c1:#a8480b;--c2:#1d7a3e;--c3:#8a2a8f;--c4:#7d5d00;--c5:#b3261e;
-color:var(--ink);background:var(--paper);font:13px system-ui,-apple-system,"Segoe UI",Roboto,sans-serif}
-@media (prefers-color-scheme:dark){.hilfrogwy{--paper:#14181e;--ink:#edf1f6;--soft:#a9b4c2;--grid:#2c343f;--area:#edf1f61a;--c0:#7ab8f5;--c1:#f0a36b;--c2:#7fd39a;--c3:#d99be0;--c4:#e3c25a;--c5:#f28b82}}
-.hilfrogwy text{fill:currentColor}
-.hilfrogwy .soft{fill:var(--soft)}
+.hilfrogwy{color:#17202b;background:#fff;font-family:system-ui,-apple-system,"Segoe UI",Roboto,sans-serif;font-size:13px}
+.hilfrogwy text{fill:#17202b}
+.hilfrogwy .soft{fill:#556070}
 .hilfrogwy .head{font-size:19px;font-weight:600}
 .hilfrogwy .end{text-anchor:end}
 .hilfrogwy .middle{text-anchor:middle}
-.hilfrogwy .paper{fill:var(--paper)}
-.hilfrogwy path{fill:none;stroke:currentColor}
-.hilfrogwy .grid{stroke:var(--grid)}
-.hilfrogwy .day{stroke:var(--soft)}
-.hilfrogwy .area{fill:var(--area);stroke:none}
+.hilfrogwy .paper{fill:#fff}
+.hilfrogwy path{fill:none;stroke:#17202b}
+.hilfrogwy .grid{stroke:#dfe4ea}
+.hilfrogwy .day{stroke:#556070}
+.hilfrogwy .area{fill:#17202b;fill-opacity:.07;stroke:none}
 .hilfrogwy .limit{stroke-width:4;stroke-linejoin:round}
 .hilfrogwy .line{stroke-width:2}
-.hilfrogwy .ceiling{stroke:var(--soft);stroke-width:1.5;stroke-dasharray:4 4}
+.hilfrogwy .ceiling{stroke:#556070;stroke-width:1.5;stroke-dasharray:4 4}
 .hilfrogwy .whole{stroke-width:2.5;stroke-dasharray:12 6}
-.hilfrogwy .letter{font-weight:600;font-size:12px;paint-order:stroke;stroke:var(--paper);stroke-width:4px}
-.hilfrogwy .cause{fill:var(--area);stroke:var(--soft)}
+.hilfrogwy .letter{font-weight:600;font-size:12px;paint-order:stroke;stroke:#fff;stroke-width:4px}
+.hilfrogwy .cause{fill:#17202b;fill-opacity:.07;stroke:#556070}
 .hilfrogwy .odd{fill:none}
 .hilfrogwy .name{font-size:12px;text-anchor:middle}
-.hilfrogwy .c0{stroke:var(--c0)}.hilfrogwy .c1{stroke:var(--c1)}.hilfrogwy .c2{stroke:var(--c2)}
-.hilfrogwy .c3{stroke:var(--c3)}.hilfrogwy .c4{stroke:var(--c4)}.hilfrogwy .c5{stroke:var(--c5)}
+.hilfrogwy .c0{stroke:#0b5fa5}.hilfrogwy .c1{stroke:#a8480b}.hilfrogwy .c2{stroke:#1d7a3e}
+.hilfrogwy .c3{stroke:#8a2a8f}.hilfrogwy .c4{stroke:#7d5d00}.hilfrogwy .c5{stroke:#b3261e}
 .hilfrogwy .d0{stroke-dasharray:9 4}.hilfrogwy .d1{stroke-dasharray:2 3}.hilfrogwy .d2{stroke-dasharray:14 4 2 4}.hilfrogwy .d3{stroke-dasharray:5 5}
 .hilfrogwy .d4{stroke-dasharray:16 5}.hilfrogwy .d5{stroke-dasharray:8 3 2 3 2 3}.hilfrogwy .d6{stroke-dasharray:3 7}.hilfrogwy .d7{stroke-dasharray:4 2 1 2}
+@media (prefers-color-scheme:dark){
+.hilfrogwy{color:#edf1f6;background:#14181e}
+.hilfrogwy text{fill:#edf1f6}
+.hilfrogwy .soft{fill:#a9b4c2}
+.hilfrogwy .paper{fill:#14181e}
+.hilfrogwy path{stroke:#edf1f6}
+.hilfrogwy .grid{stroke:#2c343f}
+.hilfrogwy .day,.hilfrogwy .ceiling{stroke:#a9b4c2}
+.hilfrogwy .area{fill:#edf1f6;fill-opacity:.1;stroke:none}
+.hilfrogwy .letter{stroke:#14181e}
+.hilfrogwy .cause{fill:#edf1f6;fill-opacity:.1;stroke:#a9b4c2}
+.hilfrogwy .odd{fill:none}
+.hilfrogwy .c0{stroke:#7ab8f5}.hilfrogwy .c1{stroke:#f0a36b}.hilfrogwy .c2{stroke:#7fd39a}
+.hilfrogwy .c3{stroke:#d99be0}.hilfrogwy .c4{stroke:#e3c25a}.hilfrogwy .c5{stroke:#f28b82}
+}
 </style>
 "#;
 

@@ -1,3 +1,4 @@
 pub mod NextLemmas
 pub mod StartLemmas
 pub mod PlaceLemmas
+pub mod OccurrenceLemmas

@@ -2,3 +2,4 @@
 pub mod Next
 pub mod Sooner
 pub mod Places
+pub mod Occurrence

@@ -4,6 +4,7 @@
 #![tactic(auto)]
 
 mod next;
+mod occurrence;
 mod place;
 mod places;
 mod turns;

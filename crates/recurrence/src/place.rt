@@ -1,9 +1,12 @@
 //! The places of a profile in an interval of time, one after another.
 
-ghost use Rattle.std.specs.Prelude.{◌≡◌};
+ghost use Rattle.std.specs.Prelude.{◌≡◌, [], IfNone, IfSome};
 ghost use Rattle.std.specs.Iterator.{YieldsFirst, item_count};
+ghost use Rattle.recurrence.specs.ByCases.Occurrence.{IsNextPeriod, IsOccurrence};
 ghost use Rattle.recurrence.specs.ByCases.Places.{IsFirstPlace};
+ghost use Rattle.recurrence.specs.Places.{places_after};
 
+use crate::occurrence::{Occurrence, next_period, occurrence_at};
 use crate::places::next_change;
 use ocpp_scalars::Instant;
 use profile::Profile;
@@ -27,16 +30,20 @@ pub struct Places<'a> {
     /// Those up to here were yielded.
     after: Instant,
     last: Instant,
+    occurrence: Occurrence,
 }
 
 impl<'a> Model for Places<'a> {
     ghost use Rattle.std.specs.Prelude.{List};
     ghost use Rattle.recurrence.specs.declared.place.Place.{Place};
     ghost use Rattle.recurrence.specs.Places.{places_after};
+    ghost use Rattle.recurrence.specs.ByCases.Occurrence.{IsOccurrence};
 
     ghost Value = { List Place };
 
     ghost view = { λ p. places_after p.profile.now p.base p.after p.last };
+
+    ghost invariant = { λ p. IsOccurrence p.profile.now p.base p.after p.occurrence };
 }
 
 impl<'a> Places<'a> {
@@ -51,6 +58,7 @@ impl<'a> Places<'a> {
             base,
             after,
             last,
+            occurrence: occurrence_at(profile, base, after),
         }
     }
 }
@@ -63,11 +71,42 @@ impl Iterator for Places<'_> {
     ghost remaining = { item_count (λ left. left) };
 
     fn next(&mut self) -> Option<Place> {
-        let instant = first_place(self.profile, self.base, self.after, self.last)?;
-        self.after = instant;
-        let rate = self.profile.rate(self.base, instant);
-        Some(Place { instant, rate })
+        let next = next_place(
+            self.profile,
+            self.base,
+            self.after,
+            self.last,
+            self.occurrence,
+        )?;
+        let (place, occurrence) = next;
+        self.after = place.instant;
+        self.occurrence = occurrence;
+        Some(place)
     }
+}
+
+/// The next place of a profile, and the occurrence from there on.
+fn next_place(
+    profile: &Profile,
+    base: Instant,
+    after: Instant,
+    last: Instant,
+    occurrence: Occurrence,
+) -> Option<(Place, Occurrence)>
+    requires { IsOccurrence profile.now base after occurrence }
+    ensures some { IfSome result (λ next.
+        IsNextPeriod profile.now base after last next.0 next.1) }
+    ensures none { IfNone result (places_after profile.now base after last ≡ []) }
+{
+    if let Some(next) = next_period(profile, base, after, last, occurrence) {
+        return Some(next);
+    }
+    let instant = first_place(profile, base, after, last)?;
+    let rate = profile.rate(base, instant);
+    Some((
+        Place { instant, rate },
+        occurrence_at(profile, base, instant),
+    ))
 }
 
 /// The first place of a profile later than an instant and up to a last one.

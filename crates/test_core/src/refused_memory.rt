@@ -99,6 +99,23 @@ CP1 confirm 1 2 = Confirmed
 CP1 judge 2 160 = VerdictKept
 CP1 status = Agrees 1000";
 
+/// A transaction begins with the profile of the remote start that asked for it.
+const OF_A_REMOTE_START: &str = "\
+CP1 attach = Attached 1
+CP1 send 1 = Sent 0
+CP1 confirm 1 0 = Confirmed
+CP1 remote ann 1 id=5 purpose=TxProfile kind=Relative periods=0:60 = Called 1
+CP1 ask 1 10 60 = Taken 1
+- compile 1 = Compiled
+- answer 1 = limit 320 0:320
+CP1 send 1 = Sent 1
+CP1 confirm 1 1 = Confirmed
+CP1 begin ann 1 10 = Started 1
+CP1 ask 1 10 10 = Taken 2
+- compile 2 = Compiled
+- answer 2 = limit 60 0:60
+CP1 status = None 1000";
+
 /// What leads to an equal audit at another machine.
 const UP_TO_THE_AUDIT: &str = "\
 CP1 install 160 = Accepted
@@ -247,6 +264,11 @@ fn an_audit_on_a_machine(rt: HostRuntime) {
     play_on_a_machine(&rt, rt.alloc(), OF_AN_AUDIT);
 }
 
+#[test]
+fn a_remote_start_on_a_machine(rt: HostRuntime) {
+    play_on_a_machine(&rt, rt.alloc(), OF_A_REMOTE_START);
+}
+
 // ---- a compiling without memory
 
 /// What an allocation gave before a compiling, and what came of that compiling. From the first
@@ -384,6 +406,11 @@ fn calls_on_a_book(rt: HostRuntime) {
 #[test]
 fn an_audit_on_a_book(rt: HostRuntime) {
     play_on_a_book(&rt, rt.alloc(), OF_AN_AUDIT);
+}
+
+#[test]
+fn a_remote_start_on_a_book(rt: HostRuntime) {
+    play_on_a_book(&rt, rt.alloc(), OF_A_REMOTE_START);
 }
 
 /// `tests/program.py` refuses all allocations from each one on.

@@ -1,5 +1,5 @@
 -- That the nearest place is the first, where it isn't past the last instant.
-use Rattle.std.proofs.Common.{rules, ℕ, ◌<◌, ◌≤◌}
+use Rattle.std.proofs.Common.{rules, ◌<◌, ◌≤◌}
 use Rattle.ocpp_scalars.specs.Limits.{last_second}
 use Rattle.recurrence.proofs.PlaceLemmas.{places_first, places_past, places_none}
 use Rattle.recurrence.proofs.place.first_place.Goals as goal
