@@ -1,5 +1,5 @@
 -- The first line of a journal: its format, and the digest of the site file that it was begun with.
-use Rattle.std.specs.Prelude.{ℕ, List, ◌∷◌, ◌++◌, codes}
+use Rattle.std.specs.Prelude.{ℕ, List, [], ◌∷◌, ◌++◌, codes}
 use Rattle.hex.specs.Hex.{encode_lower}
 use Rattle.ocpp_scalars.specs.Ascii.{line_feed}
 

@@ -3,7 +3,8 @@
 ghost use Rattle.std.specs.Prelude.{◌≡◌, string_bytes};
 ghost use Rattle.ocpp_scalars.specs.Appending.{Appends};
 ghost use Rattle.site_journal.specs.Entry.{before_number, behind_number, noted_before, noted_behind};
-ghost use Rattle.site_journal.specs.Line.{line_text, noted_state, number_written, numbered_frame, on_one_line, side_word, without_returns, word_of};
+ghost use Rattle.site_journal.specs.ByCases.Line.{without_returns};
+ghost use Rattle.site_journal.specs.Line.{line_text, noted_state, number_written, numbered_frame, on_one_line, side_word, word_of};
 
 use messages::Side;
 use ocpp_scalars::{Instant, push_instant, push_integer};

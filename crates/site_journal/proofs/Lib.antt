@@ -1,0 +1,2 @@
+pub mod LineWriting
+pub mod LineCodec
