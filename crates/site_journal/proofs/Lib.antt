@@ -1,2 +1,3 @@
 pub mod LineWriting
 pub mod LineCodec
+pub mod LinePieces

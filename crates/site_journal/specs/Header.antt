@@ -1,11 +1,10 @@
 -- The first line of a journal: its format, and the digest of the site file that it was begun with.
-use Rattle.std.specs.Prelude.{ℕ, List, [], ◌∷◌, ◌++◌, codes}
+use Rattle.std.specs.Prelude.{ℕ, List, ◌++◌, codes}
 use Rattle.hex.specs.Hex.{encode_lower}
-use Rattle.ocpp_scalars.specs.Ascii.{line_feed}
 
 -- `central journal 1 sha256:` and the SHA-256 in lower case hex digits
 unfoldable pub header_words : List ℕ → List ℕ
 header_words digest = codes "central journal 1 sha256:" ++ encode_lower digest
 
 abbrev pub header_text : List ℕ → List ℕ
-header_text digest = header_words digest ++ line_feed ∷ []
+header_text digest = header_words digest ++ codes "\n"

@@ -1,5 +1,5 @@
 -- A line of a journal: what it notes, and its text, printed from its parts.
-use Rattle.std.specs.Prelude.{ℕ, ◌≡◌, ◌==◌, ◌||◌, ◌≤◌, ◌<◌, ◌≢◌, All, Bool, List, [], ◌∷◌, ◌++◌, map, length, codes, Option, Some, None, if◌then◌else◌}
+use Rattle.std.specs.Prelude.{ℕ, ◌≡◌, ◌==◌, ◌||◌, ◌≤◌, ◌<◌, ◌≢◌, All, Bool, List, ◌++◌, map, length, codes, Option, Some, None, if◌then◌else◌}
 use Rattle.std.specs.Fmt.{decimal}
 use Rattle.ocpp_scalars.specs.Ascii.{line_feed, space}
 use Rattle.ocpp_scalars.specs.Limits.{last_second}
@@ -83,7 +83,7 @@ on_one_line frame = map unbroken frame
 
 -- a number in decimal, and a message
 abbrev pub numbered_frame : ℕ → List ℕ → List ℕ
-numbered_frame number frame = decimal number ++ (space ∷ on_one_line frame)
+numbered_frame number frame = decimal number ++ codes " " ++ on_one_line frame
 
 -- what stands behind the point
 abbrev pub noted_text : NotedState → List ℕ
@@ -91,18 +91,18 @@ noted_text (message sender number frame) = numbered_frame number frame
 noted_text (reply link frame) = numbered_frame link frame
 noted_text (verdict call frame) = numbered_frame call frame
 noted_text (attached link) = decimal link
-noted_text (sent link call) = decimal link ++ (space ∷ decimal call)
+noted_text (sent link call) = decimal link ++ codes " " ++ decimal call
 noted_text (lost link) = decimal link
 
 -- its words, with one space between them
 unfoldable pub line_words : LineState → List ℕ
 line_words line =
-    instant_text line.moment ++ (space ∷ (word_of line.noted
-    ++ (space ∷ (line.point ++ (space ∷ noted_text line.noted)))))
+    instant_text line.moment ++ codes " " ++ word_of line.noted ++ codes " " ++ line.point
+    ++ codes " " ++ noted_text line.noted
 
 -- a whole line, with its line feed
 abbrev pub line_text : LineState → List ℕ
-line_text line = line_words line ++ line_feed ∷ []
+line_text line = line_words line ++ codes "\n"
 
 -- ---- which lines can be read back, and as what
 
