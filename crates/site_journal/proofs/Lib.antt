@@ -1,3 +1,4 @@
 pub mod LineWriting
 pub mod LineCodec
 pub mod LinePieces
+pub mod LineEnds

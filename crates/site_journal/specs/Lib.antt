@@ -1,4 +1,5 @@
 pub mod Line
+pub mod Lines
 pub mod Entry
 pub mod Header
 pub mod RestoreFault

@@ -28,7 +28,7 @@ pub const UNREAD_REPLY: &str = r#"[3,"",{"status":"Accepted"}]"#;
 /// Makes the step of a line, where it is made and draws the number that is written. Only after
 /// `OtherNumber` it was made all the same.
 #[tactic(auto, unfolding(crate::specs::Restore::restored))]
-pub fn restore_line<C: Ledger, A: Ledger>(
+pub(crate) fn restore_line<C: Ledger, A: Ledger>(
     alloc: Global,
     memory: &mut ReadingMemory,
     book: &mut Book<C, A>,
