@@ -7,4 +7,5 @@ pub mod Restore
 pub mod NotedStep
 pub mod Journal
 pub mod LostLinks
+pub mod Forgetting
 pub mod ByCases

@@ -4,7 +4,9 @@
 //! the state in `specs/Restore.antt`.
 #![tactic(auto)]
 
+mod drawn_number;
 mod entry;
+mod forgetting;
 mod header;
 mod journal;
 mod line;
@@ -16,9 +18,13 @@ mod lost_links;
 mod noted_step;
 mod reading;
 mod restore_fault;
+mod restored_links;
+mod restored_replies;
 mod restoring;
 
+pub use drawn_number::number_drawn;
 pub use entry::Entry;
+pub use forgetting::requests_can_be_left_out;
 pub use header::{HeaderFault, push_header, read_header};
 pub use journal::{Restored, Unrestored, restore};
 pub use line::{Line, Noted, push_line};
@@ -29,4 +35,4 @@ pub use lost_links::lose_links;
 pub use noted_step::{noted_by, noted_steps_are_restored};
 pub use reading::{read_bytes, read_line};
 pub use restore_fault::RestoreFault;
-pub use restoring::{UNREAD_REPLY, number_drawn};
+pub use restored_replies::UNREAD_REPLY;
