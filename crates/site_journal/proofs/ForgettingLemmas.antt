@@ -17,11 +17,12 @@ use Rattle.site_core.specs.declared.reply.Reply.TheVariants as replies
 use Rattle.site_core.specs.declared.reply.Reply.TheVariants.{Compiled, Finished}
 use Rattle.site_core.specs.Ask.{ask_at}
 use Rattle.site_core.specs.ChargePoint.{ChargePointState, Deed, point_after}
-use Rattle.site_core.specs.Requests.{request_of, answered}
+use Rattle.site_core.specs.Requests.{request_of, answered, all_stopped}
 use Rattle.site_core.specs.State.{MachineState, Kept, ScheduleAnswer, point_at, book_at}
-use Rattle.site_core.specs.Step.{Made, PointStep, starts_as, is_at_no_connector, Work, AtPoint, work, Works, Steps, Compiles, deed, drawn, done_at, made_at, made_there, found_place, place_for, unless, refusal_to_take, takes, taking, compiles, compiles_kept, answers, answers_kept, answers_with, finishes, stepped, no_answer, unchanged}
+use Rattle.site_core.specs.Step.{Made, PointStep, at_point, over_link, of_audit, starts_as, is_at_no_connector, Work, AtPoint, work, Works, Steps, Compiles, deed, drawn, done_at, made_at, made_there, found_place, place_for, unless, refusal_to_take, takes, taking, compiles, compiles_kept, answers, answers_kept, answers_with, finishes, stepped, no_answer, unchanged}
 use Rattle.site_core.specs.History.{Event, Legal}
 use Rattle.site_core.specs.Theory.Steps.{StepKind, kind_of, names_point, takes_one, compiles_one, answers_one, finishes_all}
+use Rattle.site_journal.proofs.StepLemmas.{led}
 use Rattle.site_journal.specs.Forgetting.{forget, is_of_request, without_requests, ForgettingKeepsChanges}
 
 abbrev no_request : Numbers → Numbers
@@ -34,16 +35,6 @@ abbrev ok : Made → Result Made Refusal
 ok made = Ok made
 
 -- ---- what led to a result
-
-record Led {A B E : Type 0} (first : Result A E) (next : A → Result B E) (b : B) : Type 0 where
-  a : A
-  is : first ≡ Ok a
-  then : next a ≡ Ok b
-
-led : {A B E : Type 0} (first : Result A E) (next : A → Result B E) (b : B)
-    → (first >>= next) ≡ Ok b → Led first next b
-led (Ok a) next b is = record { a = a; is = refl; then = is }
-led (Err e) next b is = absurd (cc is)
 
 unless_ok : {X : Type 0} (refusal : Option Refusal) (x y : X) → unless refusal x ≡ Ok y → x ≡ y
 unless_ok None x y is = cc is
@@ -61,10 +52,31 @@ abbrev IsSame : Work → Type 0
 IsSame (AtPoint at) = IsSameThere at
 IsSame other = Unit {0}
 
-by_found : (P : Option ℕ → Type 0) → P None → ((place : ℕ) → P (Some place))
-    → (found : Option ℕ) → P found
-by_found P none some None = none
-by_found P none some (Some place) = some place
+-- how steps come to their point: by its name, over a link, and by its audit
+abbrev by_name : PointStep
+by_name = at_point [] (λ site numbers point. Err UnknownConnector)
+
+abbrev by_link : ℕ → PointStep
+by_link link = over_link [] link (λ point. Err UnknownConnector)
+
+abbrev by_audit : PointStep
+by_audit = of_audit [] (λ point. Err UnknownConnector)
+
+abbrev FindsSame : PointStep → Type 0
+FindsSame at = (old : MachineState) (found : Option ℕ)
+    → found_place (forget old) at.via found ≡ found_place old at.via found
+
+named_same : FindsSame by_name
+named_same old None = refl
+named_same old (Some place) = refl
+
+linked_same : (link : ℕ) → FindsSame (by_link link)
+linked_same link old None = refl
+linked_same link old (Some place) = refl
+
+audited_same : FindsSame by_audit
+audited_same old None = refl
+audited_same old (Some place) = refl
 
 start_same : (began : Began) (numbers : Numbers)
     → starts_as began (no_request numbers) ≡ starts_as began numbers
@@ -81,14 +93,15 @@ step_same (steps.Start id connector begin) = record {
   decided = λ site numbers point.
       ap (λ (r : Result Reply Refusal). cond (is_at_no_connector point connector) (Err UnknownConnector) r)
       (start_same (began point.book.transactions connector begin) numbers);
-  found = λ old. by_found (λ found. found_place (forget old) _ found ≡ found_place old _ found)
-      refl (λ place. refl);
+  found = named_same;
 }
-step_same step = record {
-  decided = λ site numbers point. refl;
-  found = λ old. by_found (λ found. found_place (forget old) _ found ≡ found_place old _ found)
-      refl (λ place. refl);
-}
+step_same (steps.Send id link) = record { decided = λ site numbers point. refl; found = linked_same link }
+step_same (steps.Confirm id link number accepted) =
+    record { decided = λ site numbers point. refl; found = linked_same link }
+step_same (steps.Lost id link) = record { decided = λ site numbers point. refl; found = linked_same link }
+step_same (steps.Judge id number judged) =
+    record { decided = λ site numbers point. refl; found = audited_same }
+step_same step = record { decided = λ site numbers point. refl; found = named_same }
 
 -- no step at a point takes a request
 abbrev is_taken : Reply → Bool
@@ -167,7 +180,7 @@ taken_forgotten : (old : MachineState) (take : Take) (made : Made) → takes old
     → forget made.after ≡ forget old
 taken_forgotten old take made is =
     let ask = λ (place : ℕ). ask_at old.site.unit (book_at old place) take in
-    let placed = led (place_for old take.point Name) (λ place. ask place >>= (λ a. unless (refusal_to_take old take) (taking old place a))) made is in
+    let placed = led (place_for old take.point by_name.via) (λ place. ask place >>= (λ a. unless (refusal_to_take old take) (taking old place a))) made is in
     let asked = led (ask placed.a) (λ a. unless (refusal_to_take old take) (taking old placed.a a)) made placed.then in
     ap (λ (m : Made). forget m.after)
     (sym (unless_ok (refusal_to_take old take) (taking old placed.a asked.a) made asked.then))
@@ -203,14 +216,35 @@ answered_forgotten old (Some kept) made is = go kept.answer is
     go None is = same_after old (answers_with old kept None) made refl is
     go (Some answer) is = same_after old (answers_with old kept (Some answer)) made refl is
 
+finish_by : (old : MachineState) (stopped : Bool) → old.is_stopped ≡ stopped
+    → cond stopped (made_with Finished (forget old)) (made_with Finished (record (forget old) {
+      requests = all_stopped [];
+      is_stopped = true;
+    }))
+    ≡ made_with Finished (forget (cond stopped (made_with Finished old) (made_with Finished
+    (record old { requests = all_stopped old.requests; is_stopped = true }))).after)
+finish_by old true is = refl
+finish_by old false is = refl
+
 finish_is : (old : MachineState)
     → finishes (forget old) ≡ made_with Finished (forget (finishes old).after)
-finish_is old = ?
+finish_is old = finish_by old old.is_stopped refl
+
+finish_reply : (old : MachineState) (stopped : Bool)
+    → (cond stopped (made_with Finished old) (made_with Finished
+    (record old { requests = all_stopped old.requests; is_stopped = true }))).reply ≡ Finished
+finish_reply old true = refl
+finish_reply old false = refl
 
 finished_same : (old : MachineState) (reply : Reply) (new : MachineState)
     → ok (finishes old) ≡ ok (made_with reply new)
     → ok (finishes (forget old)) ≡ ok (made_with reply (forget new))
-finished_same old reply new is = ?
+finished_same old reply new is =
+    let one : finishes old ≡ made_with reply new = cc is in
+    let its_own : Finished ≡ reply =
+    sym (finish_reply old old.is_stopped) ∙ ap (λ (m : Made). m.reply) one in
+    ap ok (finish_is old ∙ ap (λ (m : Made). made_with Finished (forget m.after)) one
+    ∙ ap (λ (r : Reply). made_with r (forget new)) its_own)
 
 -- ---- histories
 
