@@ -1,7 +1,11 @@
 //! The stream of each point's newest connection.
 
-use crate::guest::{SharedStream, shut};
+ghost use Rattle.std.specs.Prelude.{◌≡◌, Some};
+ghost use Rattle.server.specs.PresentLink.{earlier_link, later_link, without_link};
+
+use crate::incoming_stream::{SharedStream, shut};
 use std::alloc::{AllocError, Global};
+use std::marker::Model;
 use std::sync::{Mutex, Wait};
 
 /// The stream over which a point has this link.
@@ -9,6 +13,14 @@ use std::sync::{Mutex, Wait};
 struct Present {
     link: u64,
     stream: SharedStream,
+}
+
+impl Model for Present {
+    ghost use Rattle.std.specs.Prelude.{ℕ};
+
+    ghost Value = { ℕ };
+
+    ghost view = { λ present. present.link };
 }
 
 /// The stream of each point's newest connection, by the point's place in the site. A point that
@@ -37,10 +49,10 @@ impl PresentStreams {
         let Some(present) = places.get_mut(place) else {
             return;
         };
-        let older = later_of(present, Present { link, stream });
+        let other = keep_later(present, Present { link, stream });
         drop(places);
-        if let Some(older) = older {
-            shut(&older.stream);
+        if let Some(other) = other {
+            shut(&other.stream);
         }
     }
 
@@ -50,16 +62,29 @@ impl PresentStreams {
         let Some(present) = places.get_mut(place) else {
             return;
         };
-        if present.as_ref().is_some_and(|present| present.link == link) {
-            *present = None;
-        }
+        let ended = remove_own(present, link);
+        drop(places);
+        drop(ended);
     }
 }
 
 /// Keeps the later one of two links. Returns the other one, if there are two.
-fn later_of(present: &mut Option<Present>, entering: Present) -> Option<Present> {
+fn keep_later(present: &mut Option<Present>, entering: Present) -> Option<Present>
+    ensures later { present.new ≡ Some (later_link present.old entering) }
+    ensures earlier { result ≡ earlier_link present.old entering }
+{
     match present {
         Some(kept) if kept.link > entering.link => Some(entering),
         _ => present.replace(entering),
+    }
+}
+
+/// Removes this link, and no later one. Returns it, if it was there.
+fn remove_own(present: &mut Option<Present>, link: u64) -> Option<Present>
+    ensures { present.new ≡ without_link present.old link }
+{
+    match present {
+        Some(kept) if kept.link == link => present.take(),
+        _ => None,
     }
 }
