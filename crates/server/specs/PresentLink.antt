@@ -1,17 +1,20 @@
--- Of two connections of a point the one with the later link stays. Links are numbered in the order
--- in which points get them.
-use Rattle.std.specs.Prelude.{ℕ, ◌==◌, min, max, Option, Some, None, if◌then◌else◌}
+-- The newest link that a point got. Links are numbered in the order in which points get them.
+use Rattle.std.specs.Prelude.{ℕ, ◌==◌, Bool, true, false, nat_lt, if◌then◌else◌}
 
--- of the link that a point has, if it has one, and one that enters
-abbrev pub later_link : Option ℕ → ℕ → ℕ
-later_link None entering = entering
-later_link (Some kept) entering = max kept entering
+pub record PresentState : Type 0 where
+  pub link : ℕ
+  -- whether the connection over which the point has it is still there
+  pub is_connected : Bool
 
-abbrev pub earlier_link : Option ℕ → ℕ → Option ℕ
-earlier_link None entering = None
-earlier_link (Some kept) entering = Some (min kept entering)
+abbrev pub never_connected : PresentState
+never_connected = record { link = 0; is_connected = false }
 
--- a connection has ended: another one's link stays
-abbrev pub without_link : Option ℕ → ℕ → Option ℕ
-without_link None ended = None
-without_link (Some kept) ended = if kept == ended then None else Some kept
+-- a connection over which the point has this link: of two the one with the later link stays
+abbrev pub entered : PresentState → ℕ → PresentState
+entered present link =
+    if nat_lt link present.link then present else record { link = link; is_connected = true }
+
+-- Such a connection has ended. Another one stays, and no earlier one is taken for the newest.
+abbrev pub left : PresentState → ℕ → PresentState
+left present link =
+    if present.link == link then record present { is_connected = false } else present

@@ -18,6 +18,7 @@ mod seldom;
 mod serving;
 
 pub use path::{PathPeer, peer_of_path};
+pub use seat::keep_seat;
 pub use seat_context::SeatContext;
 pub use seats::{MAX_SEATS, SeatedBook, run_seats};
 pub use serving::{MAX_SESSIONS, MAX_WORKERS, ServeFault, serve};

@@ -25,7 +25,7 @@ const READ_BYTES: usize = 8_192;
 
 /// Serves one connection after another, each with the seat's pass, until no more are sent. Gives
 /// back the pass, which counts no less than before.
-pub(crate) fn keep_seat<C: Ledger, A: Ledger, R: Wait + Clock, M: Moments, J: Journal>(
+pub fn keep_seat<C: Ledger, A: Ledger, R: Wait + Clock, M: Moments, J: Journal>(
     seats: &SeatContext<C, A, R, M, J>,
     jobs: &Sender<Job>,
     streams: &Receiver<TcpStream>,
