@@ -3,16 +3,22 @@
 //! ends after a number of connections; `run_seats` goes on, with so many at a time.
 #![tactic(auto)]
 
+mod accepting;
 mod connection;
 mod connections;
-mod door;
-mod guest;
+mod free_seats;
 mod handshake;
+mod incoming_stream;
 mod path;
 mod present_streams;
+mod seat;
+mod seat_context;
 mod seats;
+mod seldom;
 mod serving;
 
 pub use path::{PathPeer, peer_of_path};
-pub use seats::{House, MAX_SEATS, run_seats};
+pub use seat::keep_seat;
+pub use seat_context::SeatContext;
+pub use seats::{MAX_SEATS, SeatedBook, run_seats};
 pub use serving::{MAX_SESSIONS, MAX_WORKERS, ServeFault, serve};

@@ -1,21 +1,76 @@
 //! The stream of each point's newest connection.
 
-use crate::guest::{SharedStream, shut};
+ghost use Rattle.std.specs.Prelude.{◌≡◌, ◌<◌, IsSome};
+ghost use Rattle.server.specs.PresentLink.{entered, left, never_connected};
+
+use crate::incoming_stream::{SharedStream, shut};
 use std::alloc::{AllocError, Global};
+use std::marker::Model;
 use std::sync::{Mutex, Wait};
 
-/// The stream over which a point has this link.
+/// The newest link that a point got, and the stream over which it has it, while that is connected.
+/// The link stays when the stream goes: else an earlier connection whose stream comes here late
+/// would be taken for the newest, and the point left on it without its calls.
 #[derive(Drop)]
 struct Present {
     link: u64,
-    stream: SharedStream,
+    stream: Option<SharedStream>,
+}
+
+impl Model for Present {
+    ghost use Rattle.std.specs.Prelude.{is_some};
+    ghost use Rattle.server.specs.PresentLink.{PresentState};
+
+    ghost Value = { PresentState };
+
+    ghost view = { λ present. record {
+      link = present.link;
+      is_connected = is_some present.stream;
+    } };
+}
+
+impl Present {
+    /// Of a point that got no link yet. Links are numbered from 1 on.
+    fn new() -> Present
+        ensures { result ≡ never_connected }
+    {
+        Present {
+            link: 0,
+            stream: None,
+        }
+    }
+
+    /// The point has this link over this stream. Returns the stream that is to be shut, if there is
+    /// one: of two that with the earlier link.
+    fn enter(&mut self, link: u64, stream: SharedStream) -> Option<SharedStream>
+        ensures later { self.new ≡ entered self.old link }
+        ensures shut { link < self.old.link → IsSome result }
+    {
+        if link < self.link {
+            return Some(stream);
+        }
+        self.link = link;
+        self.stream.replace(stream)
+    }
+
+    /// The connection over which the point had this link has ended. Returns its stream, unless a
+    /// later connection has come.
+    fn leave(&mut self, link: u64) -> Option<SharedStream>
+        ensures { self.new ≡ left self.old link }
+    {
+        if self.link == link {
+            self.stream.take()
+        } else {
+            None
+        }
+    }
 }
 
 /// The stream of each point's newest connection, by the point's place in the site. A point that
 /// connects once more is served over its new connection, and the old one is shut.
 #[derive(Drop)]
 pub(crate) struct PresentStreams {
-    places: Mutex<Vec<Option<Present>>>,
+    places: Mutex<Vec<Present>>,
 }
 
 impl PresentStreams {
@@ -23,7 +78,7 @@ impl PresentStreams {
     pub(crate) fn make(alloc: Global, points: usize) -> Result<PresentStreams, AllocError> {
         let mut places = Vec::with_capacity(alloc, points)?;
         for _point in 0..points {
-            places.push(None)?;
+            places.push(Present::new())?;
         }
         Ok(PresentStreams {
             places: Mutex::new(places),
@@ -37,10 +92,10 @@ impl PresentStreams {
         let Some(present) = places.get_mut(place) else {
             return;
         };
-        let older = later_of(present, Present { link, stream });
+        let earlier = present.enter(link, stream);
         drop(places);
-        if let Some(older) = older {
-            shut(&older.stream);
+        if let Some(earlier) = earlier {
+            shut(&earlier);
         }
     }
 
@@ -50,16 +105,8 @@ impl PresentStreams {
         let Some(present) = places.get_mut(place) else {
             return;
         };
-        if present.as_ref().is_some_and(|present| present.link == link) {
-            *present = None;
-        }
-    }
-}
-
-/// Keeps the later one of two links. Returns the other one, if there are two.
-fn later_of(present: &mut Option<Present>, entering: Present) -> Option<Present> {
-    match present {
-        Some(kept) if kept.link > entering.link => Some(entering),
-        _ => present.replace(entering),
+        let ended = present.leave(link);
+        drop(places);
+        drop(ended);
     }
 }

@@ -1,5 +1,11 @@
 //! Where sessions note what their steps change.
 
+ghost use Rattle.std.specs.Prelude.{◌≡◌, Bool, true, IfOk, IfSome, OnOk};
+ghost use Rattle.site_journal.specs.Entry.{IsEntryOf};
+ghost use Rattle.site_journal.specs.Line.{noted_state};
+ghost use Rattle.site_journal.specs.NotedStep.{line_at};
+ghost use Rattle.session.specs.Noting.{IsOfMadeStep};
+
 use ocpp_scalars::Instant;
 use site_journal::{Entry, Noted};
 use std::alloc::AllocError;
@@ -7,6 +13,9 @@ use std::alloc::AllocError;
 /// Takes down the steps that change something, in the order in which they are made, and sees to it
 /// that they are kept before any message leaves that depends on them.
 pub trait Journal {
+    /// What only a journal that has kept all tells: no message leaves without it.
+    ghost lets_leave: { Self → Bool } = { λ journal. true };
+
     /// Makes the entry of a step that is about to be made, or none where nothing is noted. The
     /// number that the step draws, if it draws one, is 0. Nobody has the book: a long message takes
     /// its time here. On an error the step may not be made, since it couldn't be noted.
@@ -15,15 +24,19 @@ pub trait Journal {
         moment: Instant,
         point: &str,
         noted: Noted<'_>,
-    ) -> Result<Option<Entry>, JournalFault>;
+    ) -> Result<Option<Entry>, JournalFault>
+        ensures { IfOk result (λ entry. IfSome entry
+            (λ e. IsEntryOf e (line_at moment point.now (noted_state noted)))) };
 
     /// Notes a step that was made and changed something, with the number that it drew. Whoever
     /// notes it has had the book since before the step, so this waits for nothing that takes long.
-    fn note(&self, entry: Entry, number: u64);
+    fn note(&self, entry: Entry, number: u64)
+        requires { IsOfMadeStep entry number };
 
     /// Waits until all that is noted by now is kept, whoever noted it. The session doesn't have the
     /// book. On an error no message may leave that depends on any of it.
-    fn write_out(&self) -> Result<(), JournalFault>;
+    fn write_out(&self) -> Result<(), JournalFault>
+        ensures { OnOk result (lets_leave self.now ≡ true) };
 }
 
 /// Why a step can't be noted, or what is noted can't be kept.

@@ -1,6 +1,6 @@
 //! The job of `central run`.
 
-ghost use Rattle.std.specs.Prelude.{◌≡◌, ◌≤◌};
+ghost use Rattle.std.specs.Prelude.{◌≡◌, ◌≤◌, ◌+◌};
 
 use crate::program::command_line::Running;
 use crate::program::data_folder::{OpenJournal, open_journal};
@@ -10,10 +10,10 @@ use crate::program::restoring::{Resumed, restore_book, resumed};
 use crate::program::site_file::read_site_bytes;
 use crate::program::system_clock::SystemClock;
 use ocpp_scalars::Moments;
-use server::{House, ServeFault, run_seats};
+use server::{SeatContext, SeatedBook, ServeFault, run_seats};
 use sha2::{Digest, Sha256};
 use site_rules::{Site, read_site};
-use std::alloc::AllocGlobal;
+use std::alloc::{AllocError, AllocGlobal, Global};
 use std::fs::File;
 use std::marker::{Brand, Send, Sync};
 use std::net::{Net, TcpListener, TcpStream};
@@ -73,9 +73,11 @@ pub fn run_file<
         workers: running.workers,
     };
     // One pass more than seats: the restore has it.
-    let passes = running.seats.saturating_add(1);
+    let Some(passes) = running.seats.checked_add(1) else {
+        return Err(ProgramFault::OutOfMemory);
+    };
     let blanks = (Blank::new(passes), Blank::new(passes));
-    run_counted::<Brand, Brand, R>(rt, plan, passes, blanks)
+    run_counted::<Brand, Brand, R>(rt, plan, blanks)
 }
 
 /// Runs a site, whose changes and answers these two ledgers count.
@@ -94,13 +96,12 @@ fn run_counted<
         + Sync
         + Drop
         + 'static,
->(rt: &R, plan: Plan<'_>, passes: u64, blanks: (Blank, Blank)) -> Result<(), ProgramFault>
+>(rt: &R, plan: Plan<'_>, blanks: (Blank, Blank)) -> Result<(), ProgramFault>
     requires workers { 1 ≤ plan.workers }
-    requires passes { 1 ≤ passes }
     requires changes { (blanks.0.name ≡ C.name) × (blanks.0.parts ≡ C.parts)
-        × (blanks.0.parts ≡ passes) }
+        × (blanks.0.parts ≡ plan.seats + 1) }
     requires answers { (blanks.1.name ≡ A.name) × (blanks.1.parts ≡ A.parts)
-        × (blanks.1.parts ≡ passes) }
+        × (blanks.1.parts ≡ plan.seats + 1) }
 {
     let Plan {
         site,
@@ -108,36 +109,41 @@ fn run_counted<
         opened,
         listener,
         listen,
+        seats,
         workers,
-        ..
     } = plan;
-    let (changes, answers) = blanks;
-    let made: Result<(Shared<C, A>, _), _> = Shared::make(
-        rt.alloc(),
-        changes,
-        answers,
-        site,
-        passes,
-    );
-    let Ok((shared, mut passes)) = made else {
-        return Err(ProgramFault::OutOfMemory);
-    };
-    let journal = restore_shared(rt, opened, &digest, &shared, &mut passes)?;
-    let alloc = rt.alloc();
-    let clock = SystemClock { rt: *rt };
-    let house = Arc::new(alloc, House::make(*rt, alloc, shared, clock, journal)?)?;
+    let book: SeatedBook<C, A> = SeatedBook::make(rt.alloc(), blanks, site, seats)?;
+    let SeatedBook {
+        shared,
+        restoring,
+        seats,
+    } = book;
+    let journal = restore_shared(rt, opened, &digest, &shared, restoring)?;
+    let context = context_of(rt, shared, journal)?;
     if println!(rt; "listening {listen}").is_err() {
         return Err(ProgramFault::Write);
     }
-    match run_seats(&house, listener, passes, workers as usize) {
+    match run_seats(&context, listener, seats, workers as usize) {
         Ok(_) => {}
         Err(fault) => return Err(ProgramFault::Serve(fault)),
     }
-    house.journal().until_broken();
+    context.journal().until_broken();
     Err(ProgramFault::Journal)
 }
 
-/// Restores the book that sessions will share, with one of the passes, and prints what it has.
+/// What the threads share that serve this book.
+fn context_of<C: Ledger, A: Ledger, R: Clock + Wait + Eprint + AllocGlobal + Copy + Drop>(
+    rt: &R,
+    shared: Shared<C, A>,
+    journal: JournalFile<R>,
+) -> Result<Arc<SeatContext<C, A, R, SystemClock<R>, JournalFile<R>>, Global>, AllocError> {
+    let alloc = rt.alloc();
+    let clock = SystemClock { rt: *rt };
+    let context = SeatContext::make(*rt, alloc, shared, clock, journal)?;
+    Ok(Arc::new(alloc, context)?)
+}
+
+/// Restores the book that sessions will share, with a pass of its own, and prints what it has.
 /// Returns its journal, in which all stands.
 fn restore_shared<
     C: Ledger,
@@ -148,10 +154,10 @@ fn restore_shared<
     opened: OpenJournal,
     digest: &[u8; 32],
     shared: &Shared<C, A>,
-    passes: &mut Vec<Pass<C, A>>,
+    pass: Pass<C, A>,
 ) -> Result<JournalFile<R>, ProgramFault> {
-    let mut opened = opened;
-    let (Some(mut pass), Some(now)) = (passes.pop(), SystemClock { rt }.now()) else {
+    let (mut opened, mut pass) = (opened, pass);
+    let Some(now) = (SystemClock { rt }).now() else {
         return Err(ProgramFault::OutOfMemory);
     };
     let mut book = shared.lock(rt);

@@ -1,8 +1,10 @@
 //! A point's reply to its audit: which audit that is, and the verdict on it.
 
-ghost use Rattle.std.specs.Prelude.{◌≡◌, IfOk, OnOk};
+ghost use Rattle.std.specs.Prelude.{◌≡◌, IfOk, IsTrue, OnOk};
 ghost use Rattle.session.specs.Audit.{BringsVerdict, IsJudgedBy, MakesOrRefuses, audit_confirmed, audit_to_judge};
+ghost use Rattle.site_core.specs.declared.reply.Reply.{Reply};
 ghost use Rattle.site_core.specs.declared.step.Step.TheVariants as steps;
+ghost use Rattle.version_store.specs.Calls.{Makes};
 
 use crate::context::Context;
 use crate::journal::Journal;
@@ -12,7 +14,7 @@ use meaning::Said;
 use ocpp_scalars::Moments;
 use ocppj_frame::ReadingMemory;
 use site_core::{PointId, Reply, Step};
-use site_journal::Noted;
+use site_journal::{Noted, UNREAD_REPLY};
 use std::alloc::{AllocError, Global};
 use std::marker::Model;
 use std::sync::Wait;
@@ -81,8 +83,9 @@ pub(crate) fn audit_to_judge(performed: &Performed, audit: Option<OpenAudit>) ->
 /// - A Finish stopped the store. Then the verdict is refused.
 ///
 /// A refused verdict is dropped, for lack of memory too: the audit then has none. The journal has a
-/// line for the reply, where its call is confirmed, and one for the verdict, where that is kept.
-/// Where the verdict couldn't be noted the audit has none either, and the session ends.
+/// line for the reply, where its call is confirmed, and one for the verdict, where that is kept. The
+/// latter has a reply that isn't read where memory ran out for this one: a restore comes to the same
+/// verdict then. Where the verdict couldn't be noted the audit has none, and the session ends.
 pub(crate) fn judge_reply<C: Ledger, A: Ledger, R: Wait, M: Moments, J: Journal>(
     context: &Context<'_, C, A, R, M, J>,
     memory: &mut ReadingMemory,
@@ -92,11 +95,9 @@ pub(crate) fn judge_reply<C: Ledger, A: Ledger, R: Wait, M: Moments, J: Journal>
     ensures { OnOk result (BringsVerdict sent.now audit) }
 {
     let OpenAudit { point, call, job } = audit;
-    let judged = judged_by(context.alloc, memory, sent, job);
-    let noted = Noted::Verdict {
-        call,
-        frame: sent.frame(),
-    };
+    let (judged, is_short) = judged_by(context.alloc, memory, sent, job);
+    let frame = if is_short { UNREAD_REPLY } else { sent.frame() };
+    let noted = Noted::Verdict { call, frame };
     let prepared = context
         .journal
         .prepare(sent.moment(), point.as_str(), noted);
@@ -120,7 +121,9 @@ fn bring_verdict<C: Ledger, A: Ledger>(
     call: u64,
     judged: Judged,
 ) -> bool
-    ensures { MakesOrRefuses book.old (steps.Judge point call judged) book.new }
+    ensures either { MakesOrRefuses book.old (steps.Judge point call judged) book.new }
+    ensures made { IsTrue result
+        → Makes book.old (steps.Judge point call judged) Reply.VerdictKept book.new }
 {
     match book.judge(point, call, judged) {
         Ok(()) => true,
@@ -128,18 +131,22 @@ fn bring_verdict<C: Ledger, A: Ledger>(
     }
 }
 
-/// The verdict on what a message says. What can't be read for lack of memory is judged as unread.
+/// The verdict on what a message says, and whether memory ran out for it. What can't be read for
+/// lack of memory is judged as unread.
 fn judged_by(
     alloc: Global,
     memory: &mut ReadingMemory,
     sent: &SentText<'_>,
     job: AuditJob,
-) -> Judged
-    ensures { IsJudgedBy sent.now job result }
+) -> (Judged, bool)
+    ensures { IsJudgedBy sent.now job result.0 }
 {
-    let said = match said_of(alloc, memory, sent) {
-        Ok(said) => said,
-        Err(AllocError) => Said::Unread,
-    };
-    Judged::make(alloc, job, said)
+    match said_of(alloc, memory, sent) {
+        Ok(said) => {
+            let judged = Judged::make(alloc, job, said);
+            let is_short = judged.short();
+            (judged, is_short)
+        }
+        Err(AllocError) => (Judged::make(alloc, job, Said::Unread), true),
+    }
 }

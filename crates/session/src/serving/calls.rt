@@ -9,14 +9,13 @@ use crate::serving::noting::prepare_link;
 use crate::serving::sockets::{clear_to_leave, send_text};
 use crate::session_core::{Peer, SessionCore};
 use messages::{Call, push_call};
-use ocpp_scalars::{Moments, Refusal};
+use ocpp_scalars::{Instant, Moments, Refusal};
 use site_core::PointId;
-use site_journal::Noted;
+use site_journal::{Noted, noted_steps_are_restored};
 use std::alloc::{AllocError, Global};
 use std::io::{Read, Write};
 use std::sync::Wait;
 use std::sync::ledger::Ledger;
-use texts::SentText;
 use tungstenite::{MaskKeys, WebSocket};
 use version_store::Pass;
 
@@ -39,6 +38,8 @@ pub fn attach_session<C: Ledger, A: Ledger, R: Wait, M: Moments, J: Journal>(
     let Ok(point) = core.point_id().copy(context.alloc) else {
         return Err(Ended::OutOfMemory);
     };
+    // A law: nothing runs.
+    noted_steps_are_restored();
     let mut book = context.shared.lock(context.rt);
     let attached = book.attach(pass, point);
     if let (Ok(link), Some(entry)) = (&attached, entry) {
@@ -68,7 +69,7 @@ pub(crate) fn send_call<
     context: &Context<'_, C, A, R, M, J>,
     socket: &mut WebSocket<S, K>,
     core: &SessionCore,
-    sent: &SentText<'_>,
+    moment: Instant,
 ) -> Result<(), Ended> {
     let Peer::Point { link: Some(link) } = core.peer() else {
         return Ok(());
@@ -80,15 +81,14 @@ pub(crate) fn send_call<
     if link_to_send != Some(link) {
         return Ok(());
     }
-    let Some(call) = next_call(context, core.point_id(), link, sent)? else {
+    let Some(call) = next_call(context, core.point_id(), link, moment)? else {
         return Ok(());
     };
     match text_of_call(context.alloc, &call) {
-        Ok(text) => send_text(
-            context.alloc,
-            socket,
-            clear_to_leave(context, text.as_str())?,
-        ),
+        Ok(text) => {
+            let cleared = clear_to_leave(context.journal, text.as_str())?;
+            send_text(context.alloc, socket, cleared)
+        }
         Err(AllocError) => Err(Ended::OutOfMemory),
     }
 }
@@ -99,19 +99,18 @@ fn next_call<C: Ledger, A: Ledger, R: Wait, M: Moments, J: Journal>(
     context: &Context<'_, C, A, R, M, J>,
     point: &PointId,
     link: u64,
-    sent: &SentText<'_>,
+    moment: Instant,
 ) -> Result<Option<Call>, Ended> {
     let noted = Noted::Sent { link, call: 0 };
-    let prepared = context
-        .journal
-        .prepare(sent.moment(), point.as_str(), noted);
-    let entry = match prepared {
+    let entry = match context.journal.prepare(moment, point.as_str(), noted) {
         Ok(entry) => entry,
         Err(fault) => return Err(ended_unsaved(fault)),
     };
     let Ok(point) = point.copy(context.alloc) else {
         return Err(Ended::OutOfMemory);
     };
+    // A law: nothing runs.
+    noted_steps_are_restored();
     let mut book = context.shared.lock(context.rt);
     let call = book.send(point, link);
     if let (Ok(Some(call)), Some(entry)) = (&call, entry) {
@@ -145,6 +144,8 @@ pub(crate) fn lose<C: Ledger, A: Ledger, R: Wait, M: Moments, J: Journal>(
     let Ok(entry) = prepare_link(context, core.point_id().as_str(), noted) else {
         return;
     };
+    // A law: nothing runs.
+    noted_steps_are_restored();
     let mut book = context.shared.lock(context.rt);
     let lost = book.lost(core.into_point_id(), link);
     if let (Ok(()), Some(entry)) = (lost, entry) {

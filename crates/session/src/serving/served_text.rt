@@ -1,9 +1,11 @@
 //! One message of a session: its step, its answer, and the call that follows a point's message.
 
 ghost use Rattle.std.specs.Prelude.{◌≡◌, ◌↔◌, IsTrue, IfOk, IfSome, option_map, string_bytes};
+ghost use Rattle.session.specs.Noting.{IsEntryFor, IsEntryToNote, is_confirm};
 ghost use Rattle.session.specs.Perform.{IsOfText};
 ghost use Rattle.session.specs.Served.{HasOutcome, IsOutcomeOf, IsOutcomeOfJob, IsPerformed, IsServed};
 ghost use Rattle.session.specs.Serving.{KeepsPass};
+ghost use Rattle.session.specs.Session.{sent_by};
 
 use crate::context::Context;
 use crate::journal::{Journal, JournalFault};
@@ -18,7 +20,7 @@ use crate::step::perform;
 use crate::todo::{Owed, Todo};
 use compile_pool::{answer_job, wait_answer};
 use meaning::Ask;
-use ocpp_scalars::{Moments, Refusal};
+use ocpp_scalars::{Instant, Moments, Refusal};
 use ocppj_frame::ReadingMemory;
 use site_core::Step;
 use site_journal::Entry;
@@ -53,16 +55,12 @@ pub(crate) fn serve_text<
     let Some(now) = context.clock.now() else {
         return Err(Ended::Broken);
     };
-    let sent = SentText::new(now, core.side(), core.point_id().as_str(), text.as_str());
-    let Served { answer } = serve_sent_text(context, core, memory, pass, &sent)?;
+    let Served { answer } = serve_sent_text(context, core, memory, pass, now, text.as_str())?;
     if let Some(answer) = &answer {
-        send_text(
-            context.alloc,
-            socket,
-            clear_to_leave(context, answer.as_str())?,
-        )?;
+        let cleared = clear_to_leave(context.journal, answer.as_str())?;
+        send_text(context.alloc, socket, cleared)?;
     }
-    send_call(context, socket, core, &sent)
+    send_call(context, socket, core, now)
 }
 
 /// What came of a message.
@@ -72,8 +70,8 @@ pub struct Served {
     pub answer: Option<String>,
 }
 
-/// Makes the step of a message, if it has one, and gives the message that answers it. A request for
-/// a schedule is answered by what is right for what its point had when this very request was taken,
+/// Makes the step of a message of this session that comes at this moment, if it has one, and gives
+/// the message that answers it. A request for a schedule is answered by what is right for what its point had when this very request was taken,
 /// and for what was asked. The answer to another request is never handed on: it ends the session. A
 /// step that couldn't be noted isn't made: the message is answered as one that memory ran out for.
 pub fn serve_sent_text<C: Ledger, A: Ledger, R: Wait, M: Moments, J: Journal>(
@@ -81,21 +79,23 @@ pub fn serve_sent_text<C: Ledger, A: Ledger, R: Wait, M: Moments, J: Journal>(
     core: &SessionCore,
     memory: &mut ReadingMemory,
     pass: &mut Pass<C, A>,
-    sent: &SentText<'_>,
+    moment: Instant,
+    frame: &str,
 ) -> Result<Served, Ended>
     ensures pass { KeepsPass pass.old pass.new }
-    ensures served { IfOk result (λ served.
-        IsServed core.now pass.old sent.now (option_map string_bytes served.answer)) }
+    ensures served { IfOk result (λ served. IsServed core.now pass.old
+        (sent_by core.now moment frame.now) (option_map string_bytes served.answer)) }
 {
-    let Ok(mut todo) = core.read_text(memory, sent.moment(), sent.frame()) else {
+    let Ok(mut todo) = core.read_text(memory, moment, frame) else {
         return Err(Ended::OutOfMemory);
     };
+    let sent = SentText::new(moment, core.side(), core.point_id().as_str(), frame);
     let step = todo.take_step();
-    let entry = match prepare_message(context, sent, &step) {
+    let entry = match prepare_message(context, &sent, &step) {
         Ok(entry) => entry,
         Err(fault) => return served_unmade(core, todo, fault),
     };
-    let outcome = outcome_of(context, memory, pass, sent, step, entry)?;
+    let outcome = outcome_of(context, memory, pass, &sent, step, entry)?;
     let is_short = matches!(outcome, Some(Outcome::Refused(Refusal::OutOfMemory)));
     match core.answer(todo, outcome) {
         Ok(None) if is_short => Err(Ended::OutOfMemory),
@@ -126,7 +126,8 @@ fn outcome_of<C: Ledger, A: Ledger, R: Wait, M: Moments, J: Journal>(
     step: Option<Step>,
     entry: Option<Entry>,
 ) -> Result<Option<Outcome>, Ended>
-    requires { IfSome step IsOfText }
+    requires of_text { IfSome step IsOfText }
+    requires entry { IsEntryFor step entry }
     ensures pass { KeepsPass pass.old pass.new }
     ensures outcome { IfOk result (HasOutcome pass.old sent.now step) }
 {
@@ -149,7 +150,8 @@ fn outcome_of_step<C: Ledger, A: Ledger, R: Wait, M: Moments, J: Journal>(
     step: Step,
     entry: Option<Entry>,
 ) -> Result<Outcome, Ended>
-    requires { IsOfText step }
+    requires of_text { IsOfText step }
+    requires entry { IfSome entry (IsEntryToNote step) }
     ensures pass { KeepsPass pass.old pass.new }
     ensures outcome { IfOk result (IsOutcomeOf pass.old sent.now step) }
 {
@@ -173,19 +175,27 @@ fn perform_noted<C: Ledger, A: Ledger, R: Wait, M: Moments, J: Journal>(
     step: Step,
     entry: Option<Entry>,
 ) -> Result<(Performed, Option<OpenAudit>), Ended>
-    requires { IsOfText step }
+    requires of_text { IsOfText step }
+    requires entry { IfSome entry (IsEntryToNote step) }
     ensures pass { KeepsPass pass.old pass.new }
     ensures performed { IfOk result
         (λ performed. IsPerformed pass.old step performed.0 performed.1) }
 {
+    let confirms = is_confirm(&step);
     let mut book = context.shared.lock(context.rt);
     let Ok(audit) = audit_confirmed(context.alloc, &book, &step) else {
         return Err(Ended::OutOfMemory);
     };
     let performed = perform(&mut book, pass, step);
-    note_performed(context.journal, &book, entry, &performed);
+    note_performed(context.journal, &book, entry, confirms, &performed);
     drop(book);
     Ok((performed, audit))
+}
+
+fn is_confirm(step: &Step) -> bool
+    ensures { result ≡ is_confirm step.now }
+{
+    matches!(step, Step::Confirm { .. })
 }
 
 /// The answer to a request that is kept: compiled by a worker, or here where none takes it. No lock

@@ -1,13 +1,11 @@
 //! Messages from a socket and to it.
 
-use crate::context::Context;
+ghost use Rattle.std.specs.Prelude.{◌≡◌, true};
+
 use crate::journal::Journal;
 use crate::serving::ended::{Ended, ended_by, ended_unsaved};
-use ocpp_scalars::Moments;
 use std::alloc::{AllocError, Global};
 use std::io::{Read, Write};
-use std::sync::Wait;
-use std::sync::ledger::Ledger;
 use tungstenite::{MaskKeys, Message, Utf8Bytes, WebSocket};
 
 /// The next text message, or `None` for one of another kind. The socket itself answers pings and
@@ -22,29 +20,31 @@ pub(crate) fn read_text<S: Read + Write + Drop, K: MaskKeys + Drop>(
     }
 }
 
-/// A message that may leave: all that it may depend on is kept.
-#[derive(Clone, Copy, Debug)]
-pub(crate) struct Cleared<'a> {
+/// A message that may leave: since it was written, its journal has said that all is kept.
+#[derive(Drop)]
+pub(crate) struct Cleared<'a, J: Journal> {
     text: &'a str,
+    journal: &'a J,
+    ghost kept: { J.lets_leave journal.now ≡ true },
 }
 
 /// Waits until all is kept that a message may depend on: what this session noted, and what others
 /// did. Nobody has the book meanwhile. Where it isn't kept, the session ends without the message.
-pub(crate) fn clear_to_leave<'a, C: Ledger, A: Ledger, R: Wait, M: Moments, J: Journal>(
-    context: &Context<'_, C, A, R, M, J>,
+pub(crate) fn clear_to_leave<'a, J: Journal>(
+    journal: &'a J,
     text: &'a str,
-) -> Result<Cleared<'a>, Ended> {
-    match context.journal.write_out() {
-        Ok(()) => Ok(Cleared { text }),
+) -> Result<Cleared<'a, J>, Ended> {
+    match journal.write_out() {
+        Ok(()) => Ok(Cleared { text, journal }),
         Err(fault) => Err(ended_unsaved(fault)),
     }
 }
 
 /// Sends a message.
-pub(crate) fn send_text<S: Read + Write + Drop, K: MaskKeys + Drop>(
+pub(crate) fn send_text<S: Read + Write + Drop, K: MaskKeys + Drop, J: Journal>(
     alloc: Global,
     socket: &mut WebSocket<S, K>,
-    cleared: Cleared<'_>,
+    cleared: Cleared<'_, J>,
 ) -> Result<(), Ended> {
     let message = match Message::text(alloc, cleared.text) {
         Ok(message) => message,

@@ -21,15 +21,19 @@ pub(crate) type SharedStream = Arc<TcpStream, Global>;
 /// The stream of a connection. Until its handshake is done each read waits only for what is left
 /// until the deadline, so that nobody holds it up by a byte now and then.
 #[derive(Drop)]
-pub(crate) struct Guest<'a, R> {
+pub(crate) struct IncomingStream<'a, R> {
     rt: &'a R,
     stream: SharedStream,
     deadline: Option<Instant>,
 }
 
-impl<'a, R: Clock> Guest<'a, R> {
+impl<'a, R: Clock> IncomingStream<'a, R> {
     /// A connection whose handshake begins now. None where the system can't bound it.
-    pub(crate) fn arriving(rt: &'a R, alloc: Global, stream: TcpStream) -> Option<Guest<'a, R>> {
+    pub(crate) fn new(
+        rt: &'a R,
+        alloc: Global,
+        stream: TcpStream,
+    ) -> Option<IncomingStream<'a, R>> {
         let now = Instant::now(rt).ok()?;
         let deadline = now.checked_add(Duration::from_secs(LONGEST_HANDSHAKE))?;
         // An answer leaves at once. Where that can't be set, it leaves later.
@@ -37,7 +41,7 @@ impl<'a, R: Clock> Guest<'a, R> {
         let longest_write = Duration::from_secs(LONGEST_WRITE);
         stream.set_write_timeout(Some(longest_write)).ok()?;
         let stream = Arc::new(alloc, stream).ok()?;
-        Some(Guest {
+        Some(IncomingStream {
             rt,
             stream,
             deadline: Some(deadline),
@@ -46,7 +50,7 @@ impl<'a, R: Clock> Guest<'a, R> {
 
     /// Its handshake is done: from now on a read waits for as long as it takes. False where the
     /// system doesn't let it.
-    pub(crate) fn settle(&mut self) -> bool {
+    pub(crate) fn end_handshake(&mut self) -> bool {
         self.deadline = None;
         self.stream.set_read_timeout(None).is_ok()
     }
@@ -69,7 +73,7 @@ impl<'a, R: Clock> Guest<'a, R> {
     }
 }
 
-impl<R: Clock> Read for Guest<'_, R> {
+impl<R: Clock> Read for IncomingStream<'_, R> {
     fn read(&mut self, buf: &mut [u8]) -> io::Result<usize> {
         self.bound_read()?;
         let mut stream: &TcpStream = &self.stream;
@@ -77,7 +81,7 @@ impl<R: Clock> Read for Guest<'_, R> {
     }
 }
 
-impl<R: Clock> Write for Guest<'_, R> {
+impl<R: Clock> Write for IncomingStream<'_, R> {
     fn write(&mut self, buf: &[u8]) -> io::Result<usize> {
         let mut stream: &TcpStream = &self.stream;
         stream.write(buf)
