@@ -40,15 +40,18 @@ pub enum ProgramFault {
     /// The journal can't be written.
     #[error("central: device: write")]
     Journal,
-    /// The first line of the journal isn't that of one.
-    #[error("central: journal: line 1: {0}")]
-    JournalHeader(HeaderFault),
+    /// A line of the journal that is to name a site file doesn't: the first one has to.
+    #[error("central: journal: line {line}: {fault}")]
+    JournalHeader { line: u64, fault: HeaderFault },
     /// A line of the journal is no line, or its step isn't made as it was.
     #[error("central: journal: {0}")]
     Unrestored(Unrestored),
     /// A line of the journal is longer than any.
     #[error("central: journal: a line has more than 4194304 bytes")]
     JournalLineTooLong,
+    /// The clock can't be read.
+    #[error("central: device: clock")]
+    Clock,
     /// A client stopped.
     #[error("central: {0}")]
     Client(ClientFault),
@@ -88,7 +91,7 @@ impl ProgramFault {
         ensures { result ≡ fault_status self.now }
     {
         match self {
-            ProgramFault::Site(_) | ProgramFault::JournalHeader(_) => 1,
+            ProgramFault::Site(_) | ProgramFault::JournalHeader { .. } => 1,
             ProgramFault::Unrestored(
                 Unrestored {
                     fault: RestoreFault::OutOfMemory,
@@ -100,7 +103,7 @@ impl ProgramFault {
             ProgramFault::Replay(_) => 3,
             ProgramFault::SiteFile | ProgramFault::Write | ProgramFault::OutOfMemory => 3,
             ProgramFault::Serve(_) | ProgramFault::File | ProgramFault::Journal => 3,
-            ProgramFault::Data => 3,
+            ProgramFault::Data | ProgramFault::Clock => 3,
             ProgramFault::Client(ClientFault::Url | ClientFault::NotOperator) => 4,
             ProgramFault::Client(_) => 3,
             ProgramFault::Words | ProgramFault::NoSuchPoint | ProgramFault::NoSuchConnector => 4,
