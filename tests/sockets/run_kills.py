@@ -1,0 +1,177 @@
+"""A site that is run and killed at each write, send and sync, and at any moment of a crowd: nothing that was answered is lost."""
+import itertools
+import random
+import shutil
+import threading
+import time
+
+from raw_client import RawClient
+from run_data import NO_LEAKS, Data, size, tell
+from serving import PATIENCE, Running, Unexpected, expect
+from stations import Cut, Station, stations_site
+
+# What is counted: the calls of the journal alone, which has a file name, and all of sockets.
+COUNTED = ("write", "fdatasync", "sendto")
+
+
+def killed_at_each_call(program):
+    """A day of one seat, killed at its k-th write, sync and send for each k; then the day goes on where it was."""
+    if not shutil.which("strace"):
+        return
+    for name in COUNTED:
+        for count in itertools.count(1, size(1, 6, 1)):
+            if not is_killed_at(program, name, count, seats=1):
+                break
+        tell(f"{name}: {count - 1}")
+
+
+def killed_at_calls_of_two(program):
+    """The point and its operator are connected at once, so that each waits for what the other syncs."""
+    if not shutil.which("strace"):
+        return
+    for name in COUNTED:
+        for count in range(1, size(25, 8, 60)):
+            is_killed_at(program, name, count, seats=2)
+
+
+def is_killed_at(program, name, count, seats):
+    """Plays a day, killed at this call of one of its threads. Whether it was."""
+    station = Station("P1", seed=7, turns=seats == 1)
+    with Data(in_memory=True) as data:
+        with Running(program, stations_site(1), data.path, environment=NO_LEAKS):
+            pass  # the journal has its first line
+        of_journal = () if name == "sendto" else ("-P", data.journal)
+        inject = f"inject={name}:signal=SIGKILL:when={count}"
+        under = ("strace", "-f", "-qq", "-o", "/dev/null", *of_journal, "-e", f"trace={name}", "-e", inject)
+        was_killed = not is_played(program, data, station, 40, under=under, seats=seats, environment=NO_LEAKS)
+        with Running(program, stations_site(1), data.path, environment=NO_LEAKS) as running:
+            go_on(f"killed at {name} {count}", station, running)
+    return was_killed
+
+
+def is_played(program, data, station, steps, **more):
+    """Whether a station played so many steps before the program was killed."""
+    try:
+        with Running(program, stations_site(1), data.path, **more) as running:
+            station.connect(running)
+            for _ in range(steps):
+                station.step()
+            return True
+    except Cut:
+        return False
+    finally:
+        station.pair.cut()
+
+
+def go_on(where, station, running):
+    """Behind a restart all is there that was answered, and it goes on."""
+    try:
+        expect("what it resumes with", is_resumed(running.resumed, station), True)
+        station.connect(running)
+        for _ in range(10):
+            station.step()
+        station.drain()
+        expect("the version", station.status()["version"], station.changes)
+    except Unexpected as fault:
+        raise Unexpected(f"{where}: {fault}") from fault
+    finally:
+        station.pair.cut()
+
+
+def is_resumed(resumed, station):
+    """Whether a program says that it has what was answered, give or take the one change that wasn't."""
+    profiles, transactions, calls = station.resumed()
+    near = 1 if station.pending else 0
+    return (
+        resumed[0] == 1 and abs(resumed[1] - profiles) <= near and abs(resumed[2] - transactions) <= near
+        and calls <= resumed[3] <= calls + 1 + near
+    )
+
+
+class Crowd:
+    """Stations that go on over restarts, each on a thread of its own, until all have sent so many texts."""
+
+    def __init__(self, count, texts):
+        self.stations = [Station(f"P{number}", seed=count) for number in range(1, count + 1)]
+        self.each = texts // count
+        self.changed = threading.Condition()
+        self.running, self.round = None, 0
+        self.faults = []
+        self.threads = [threading.Thread(target=self._keep_on, args=(station,), daemon=True) for station in self.stations]
+
+    def begin(self, running):
+        """From now on this program serves them."""
+        with self.changed:
+            self.running, self.round = running, self.round + 1
+            self.changed.notify_all()
+
+    def _wait(self, seen):
+        """The next program behind the one of this number, with its own."""
+        with self.changed:
+            self.changed.wait_for(lambda: self.round != seen, PATIENCE)
+            return self.running, self.round
+
+    def _keep_on(self, station):
+        seen = 0
+        while station.number < self.each and not self.faults:
+            running, seen = self._wait(seen)
+            try:
+                station.connect(running)
+                while station.number < self.each:
+                    station.step()
+            except Cut:
+                pass
+            except Exception as fault:  # whatever it is, the test has failed
+                self.faults.append(f"{station.name}: {type(fault).__name__}: {fault}")
+
+    def is_done(self):
+        return self.faults or not any(thread.is_alive() for thread in self.threads)
+
+
+def soak(program):
+    """Stations send texts while the program is killed 20 times at any moment. In the end an independent count agrees."""
+    texts, kills = size(30_000, 4_000, 1_000_000), size(10, 4, 20)
+    crowd, peak = Crowd(8, texts), 0
+    began, chance = time.monotonic(), random.Random(42)
+    pauses = [chance.uniform(0.2, 1.0) for _ in range(kills)]
+    with Data() as data:
+        for thread in crowd.threads:
+            thread.start()
+        each = None
+        for number, pause in enumerate([*pauses, None]):
+            with Running(program, stations_site(8), data.path) as running:
+                crowd.begin(running)
+                serve_until(crowd, running, texts * (number + pause) / (kills + 1) if pause else None)
+                peak = max(peak, running.peak_memory())
+                each = running.resumed
+        expect("what stations say", crowd.faults, [])
+        changes = sum(station.changes for station in crowd.stations)
+        with Running(program, stations_site(8), data.path) as running:
+            check_all(crowd, running, changes)
+        tell(f"{sum(station.number for station in crowd.stations)} texts, {changes} changes, {kills} kills, last resumed {each}, "
+             f"{peak} kB at most, {len(data.bytes())} bytes, {time.monotonic() - began:.0f} s")
+
+
+def serve_until(crowd, running, texts):
+    """Serves until so many texts were sent, or all."""
+    end = time.monotonic() + 40 * PATIENCE
+    while not crowd.is_done() and (texts is None or sum(station.number for station in crowd.stations) < texts):
+        expect("whether it runs", running.process.poll(), None)
+        if time.monotonic() > end:
+            raise Unexpected("stations stand still")
+        time.sleep(0.003)
+
+
+def check_all(crowd, running, changes):
+    """All stations find what they were answered, their calls come to an end, and the changes are as many as they counted."""
+    for station in crowd.stations:
+        station.connect(running)
+        station.drain()
+        expect("the version", station.status()["version"], changes)
+        station.pair.cut()
+
+
+def tests():
+    yield "killed at each call", killed_at_each_call
+    yield "killed at calls of two", killed_at_calls_of_two
+    yield "soak", soak
