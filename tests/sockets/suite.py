@@ -20,6 +20,7 @@ import programs
 import reconnects
 import refusals
 import replays
+import run_histories
 import run_kills
 import runs
 from node_client import NodeClient
@@ -35,6 +36,7 @@ SUBJECTS = {
     "endings": endings,
     "programs": programs,
     "runs": runs,
+    "run_histories": run_histories,
     "run_kills": run_kills,
     "audits": audits,
     "refusals": refusals,
