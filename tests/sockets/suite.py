@@ -20,6 +20,7 @@ import programs
 import reconnects
 import refusals
 import replays
+import run_crowds
 import run_histories
 import run_kills
 import runs
@@ -38,6 +39,7 @@ SUBJECTS = {
     "runs": runs,
     "run_histories": run_histories,
     "run_kills": run_kills,
+    "run_crowds": run_crowds,
     "audits": audits,
     "refusals": refusals,
 }
@@ -46,6 +48,7 @@ SUBJECTS = {
 # refused an allocation.
 NEED_A_PROOF = {
     ("messages", "a message past the limit"), ("runs", "the longest message"), ("crowds", "64 texts of the limit"), ("endings", "no threads"),
+    ("run_crowds", "idle seats"), ("run_crowds", "unfinished messages"), ("run_crowds", "hostile seats"),
     *(("refusals", name) for name, _ in refusals.tests()),
 }
 
