@@ -93,8 +93,12 @@ def state_shown(page):
 
 
 def findings(page):
-    """What `check` finds of a site file and of points. Of a script's lines only those are in the journal that changed something."""
-    return sorted(re.sub(r"line \d+", "line", line) for line in page.splitlines() if not line.startswith("script: line"))
+    """What `check` finds of a site file and of points, without lines and instants, of which a client knows the second only nearly.
+
+    Of a script's lines only those are in the journal that changed something.
+    """
+    lines = (line for line in page.splitlines() if not line.startswith("script: line"))
+    return sorted(re.sub(r"line \d+|\d{4}-\d\d-\d\d.\d\d:\d\d(:\d\dZ?)?", "..", line) for line in lines)
 
 
 def journal_of_a_station(program, lines):

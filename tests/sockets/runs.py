@@ -10,7 +10,7 @@ import time
 
 from days import Day, charging, compare, evening, morning, replay
 from python_client import PythonClient
-from raw_client import CONTINUATION, TEXT, RawClient, frame_bytes
+from raw_client import CLOSE, CONTINUATION, TEXT, RawClient, frame_bytes
 from run_data import SITE, Data, SiteFile, SmallDevice, of_script, once, read, run_words, stop, transaction_of
 from serving import ENVIRONMENT, PATIENCE, Running, expect, until
 from texts import (
@@ -215,10 +215,9 @@ def begun_at_once(program):
         until("all but one have ended", lambda: sum(one.poll() is None for one in begun) == 1)
         for one in begun:
             one.kill()
-        statuses = sorted(one.wait(PATIENCE) for one in begun)
-        said = [one.communicate()[0] for one in begun]
-        expect("how they end", statuses, [-9, 4, 4, 4, 4, 4])
-        expect("what the others print", said.count(b""), 5)
+        ended = sorted((one.wait(PATIENCE), one.communicate()[0]) for one in begun)
+        expect("how they end", [status for status, _ in ended], [-9, 4, 4, 4, 4, 4])
+        expect("what the others print", [printed for _, printed in ended[1:]], [b""] * 5)
         with Running(program, SITE, data.path) as running:
             expect("the next one", running.resumed, (2, 0, 0, 2))
 
@@ -428,6 +427,39 @@ def a_full_device(program):
             expect("what is kept", running.resumed, (2, count + 1, 0, 3 + count))
 
 
+def wide(number):
+    """An install that takes much room in the journal."""
+    fields = {"connectorId": 0, "csChargingProfiles": profile(number, [9], number), "pad": "x" * 100_000}
+    return call("short", "SetChargingProfile", fields)
+
+
+def killed_on_a_full_device(program):
+    """Killed and started again on a full device it goes on in what is left of the reserve; behind that nothing is answered."""
+    with SmallDevice() as data:
+        if data is None:
+            return
+        answered = 0
+        with Running(program, SITE, data.path) as running:
+            data.fill()
+            while told(running, wide(answered + 1)) == accepted("short"):
+                answered += 1
+            with RawClient.connected(running, "/P1") as point:
+                expect("whether a point is served that can't be noted", point.read_frame().opcode, CLOSE)
+            running.kill()
+        with Running(program, SITE, data.path) as running:
+            expect("what is kept", running.resumed, (2, answered, 0, 2 + answered))
+            while told(running, wide(answered + 1)) == accepted("short"):
+                answered += 1
+                expect("an end", answered < 50, True)
+            expect("a change that can't be kept", told(running, wide(answered + 2)) in (None, SHORT), True)
+            data.has_room_again()
+            until("there is room", lambda: told(running, install("short", profile(60, [9], 60))) == accepted("short"))
+            running.kill()
+        with Running(program, SITE, data.path) as running:
+            profiles = running.resumed[1]
+            expect("what is kept", profiles - answered in (1, 2), True)  # what wasn't answered may be there
+
+
 # What `explain` says of an install and a start.
 LATER = r"central: 2 changes at P1 are later than --start: --at 2025-01-01T00:00:00Z is without them\n"
 
@@ -470,4 +502,5 @@ def tests():
     yield "a message that is too long", a_message_that_is_too_long
     yield "a file that is full", a_file_that_is_full
     yield "a full device", a_full_device
+    yield "killed on a full device", killed_on_a_full_device
     yield "readers", readers
