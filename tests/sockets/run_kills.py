@@ -2,6 +2,7 @@
 import itertools
 import random
 import shutil
+import tempfile
 import threading
 import time
 
@@ -86,6 +87,85 @@ def is_resumed(resumed, station):
         resumed[0] == 1 and abs(resumed[1] - profiles) <= near and abs(resumed[2] - transactions) <= near
         and calls <= resumed[3] <= calls + 1 + near
     )
+
+
+def synced_before_each_send(program):
+    """Of one seat nothing leaves between a write of the journal and its sync: a kill alone wouldn't show that."""
+    if not shutil.which("strace"):
+        return
+    station = Station("P1", seed=11, turns=True)
+    with Data(in_memory=True) as data, tempfile.NamedTemporaryFile("r") as log:
+        under = ("strace", "-f", "-qq", "-y", "-s", "0", "-o", log.name, "-e", "trace=write,sendto,fdatasync")
+        expect("whether a day was played", is_played(program, data, station, 60, under=under, seats=1, environment=NO_LEAKS), True)
+        is_written, writes, sends = False, 0, 0
+        for line in log:
+            if "write(" in line and f"<{data.journal}>" in line:
+                is_written, writes = True, writes + 1
+            elif "fdatasync" in line and line.endswith("= 0\n"):
+                is_written = False
+            elif "sendto(" in line:
+                expect(f"whether a write isn't synced before {line}", is_written, False)
+                sends += 1
+        expect("whether there were any", writes > 20 < sends, True)
+        tell(f"{writes} writes, {sends} sends")
+
+
+# What strace makes of calls of the journal: the status of the program behind it, and what it says.
+FAULTS = (
+    ("fdatasync", "EIO", 3, "Input/output error (os error 5)"),
+    ("write", "EIO", 3, "Input/output error (os error 5)"),
+    ("write", "ENOSPC", None, "No space left on device (os error 28)"),
+)
+
+
+def failing_device(program):
+    """A write or a sync that fails: nothing that may not be kept is answered. Where it isn't known what is kept, it ends."""
+    if not shutil.which("strace"):
+        return
+    for name, fault, status, said in FAULTS:
+        for count in (1, 2, 7):
+            try:
+                fails_at(program, name, fault, count, status, said)
+            except Unexpected as problem:
+                raise Unexpected(f"{fault} of {name} {count}: {problem}") from problem
+
+
+def fails_at(program, name, fault, count, status, said):
+    station = Station("P1", seed=9, turns=True)
+    with Data(in_memory=True) as data, tempfile.NamedTemporaryFile("r") as log:
+        with Running(program, stations_site(1), data.path, environment=NO_LEAKS):
+            pass  # the journal has its first line
+        inject = f"inject={name}:error={fault}:when={count}"
+        under = ("strace", "-f", "-qq", "-o", log.name, "-P", data.journal, "-e", "trace=write,fdatasync", "-e", inject)
+        with Running(program, stations_site(1), data.path, under=under, seats=1, environment=NO_LEAKS) as running:
+            play_on(station, running, 40)
+            if status is None:
+                running.end_children()
+                err = running.kill()
+            else:
+                ended, _, err = running.fault()
+                expect("its status", ended, status)
+                behind = log.read().partition(fault)[2]
+                expect("writes and syncs behind the fault", ("write(" in behind, "fdatasync(" in behind), (False, False))
+            of_file = [line for line in err.decode().splitlines() if data.journal in line]
+            expect("what is said of it first", of_file[:1], [f"central: {data.journal}: {said}"])
+        with Running(program, stations_site(1), data.path, environment=NO_LEAKS) as running:
+            go_on("behind it", station, running)
+
+
+def play_on(station, running, steps):
+    """Plays a day, also where sessions end without an answer, until the program ends."""
+    for _ in range(10):
+        try:
+            station.connect(running)
+            for _ in range(steps):
+                station.step()
+            return
+        except Cut:
+            station.pair.cut()
+            if station.pair.is_killed():
+                return
+    raise Unexpected("its sessions end again and again")
 
 
 class Crowd:
@@ -174,4 +254,6 @@ def check_all(crowd, running, changes):
 def tests():
     yield "killed at each call", killed_at_each_call
     yield "killed at calls of two", killed_at_calls_of_two
+    yield "synced before each send", synced_before_each_send
+    yield "failing device", failing_device
     yield "soak", soak

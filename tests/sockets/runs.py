@@ -10,7 +10,7 @@ import time
 
 from days import Day, charging, compare, evening, morning, replay
 from python_client import PythonClient
-from raw_client import CLOSE, CONTINUATION, TEXT, RawClient, frame_bytes
+from raw_client import CLOSE, CONTINUATION, TEXT, RawClient, frame_bytes, request_bytes
 from run_data import SITE, Data, SiteFile, SmallDevice, of_script, once, read, run_words, stop, transaction_of
 from serving import ENVIRONMENT, PATIENCE, Running, expect, until
 from texts import (
@@ -302,6 +302,27 @@ def is_served(running):
         return True
 
 
+def no_file_descriptors(program):
+    """A connection for which the program has no file descriptor waits; once others have ended it is served."""
+    with Data() as data, Running(program, SITE, data.path, limits={resource.RLIMIT_NOFILE: 24}) as running:
+        clients = [RawClient(running) for _ in range(40)]
+        for client in clients[:3]:
+            client.send_bytes(request_bytes("/operator/P1", [f"Sec-WebSocket-Protocol: {OCPP}"]))
+            expect("a handshake", client.read_response().status, 101)
+        clients[-1].send_bytes(request_bytes("/operator/P1", [f"Sec-WebSocket-Protocol: {OCPP}"]))
+        clients[-1].socket.settimeout(1)
+        try:
+            expect("whether the last one is served", clients[-1].read_response(), "nothing")
+        except TimeoutError:
+            pass
+        clients[-1].socket.settimeout(PATIENCE)
+        for client in clients[:-1]:
+            client.socket.close()
+        expect("the last one", clients[-1].read_response().status, 101)
+        clients[-1].close()
+        expect("what is said", running.kill(), b"")
+
+
 def silent_handshakes(program):
     """Connections that say nothing, or a byte now and then, take no seat for good."""
     with Data() as data, Running(program, SITE, data.path, seats=2) as running:
@@ -495,6 +516,7 @@ def tests():
     yield "another site file", another_site_file
     yield "another site file that does not fit", another_site_file_that_does_not_fit
     yield "no more than the seats", no_more_than_the_seats
+    yield "no file descriptors", no_file_descriptors
     yield "silent handshakes", silent_handshakes
     yield "the newest connection", the_newest_connection
     yield "points that reconnect", points_that_reconnect

@@ -182,10 +182,10 @@ class Running(Serving):
         return self.process.stdout.readline()
 
     def __exit__(self, *problem):
-        self._kill_children()
+        self.end_children()
         super().__exit__(*problem)
 
-    def _kill_children(self):
+    def end_children(self):
         """Kills what it runs below, if it does: that wouldn't take it along."""
         if self.under and self.process.poll() is None:
             with open(f"/proc/{self.process.pid}/task/{self.process.pid}/children", encoding="ascii") as file:

@@ -66,16 +66,28 @@ class Pair:
             try:
                 client = RawClient(self.running)
                 response = client.shake_hands(path, [f"Sec-WebSocket-Protocol: {OCPP}"])
-            except OSError as fault:
+            except ConnectionRefusedError as fault:
                 raise Cut from fault
-            if response is None:
-                raise Cut
-            if response.status == 101:
+            except OSError:
+                response = None
+            if response is not None and response.status == 101:
                 return client
-            expect("the handshake", response.status, 503)
             client.socket.close()
+            if response is not None:
+                expect("the handshake", response.status, 503)
+            elif self.is_killed():
+                raise Cut
             time.sleep(0.002)
         raise Unexpected("there is no seat for a station")
+
+    def is_killed(self):
+        """Whether the program is killed, and soon seen so: a connection that it turns away may be reset, too."""
+        end = time.monotonic() + 0.5
+        while time.monotonic() < end:
+            if self.running.process.poll() is not None:
+                return True
+            time.sleep(0.01)
+        return False
 
     def texts_of(self, side, text):
         """What a text brings, up to the answer to a ping behind it."""
