@@ -295,11 +295,23 @@ def no_more_than_the_seats(program):
 
 def is_served(running):
     with RawClient(running) as client:
-        response = client.shake_hands("/operator/P2", [f"Sec-WebSocket-Protocol: {OCPP}"])
+        try:
+            response = client.shake_hands("/operator/P2", [f"Sec-WebSocket-Protocol: {OCPP}"])
+        except OSError:  # it was turned away before it had asked
+            return False
         if response is None or response.status != 101:
             return False
         client.close()
         return True
+
+
+def served_at_once(program):
+    """Who connects as soon as the program says that it listens is served: after a restart all points come at once."""
+    with Data(in_memory=True) as data:
+        for number in range(10 if "UNPROVED" in os.environ else 40):
+            with Running(program, SITE, data.path, seats=2) as running:
+                expect(f"whether one is served at once, at start {number}", is_served(running), True)
+                expect("what is said", running.kill(), b"")
 
 
 def no_file_descriptors(program):
@@ -515,6 +527,7 @@ def tests():
     yield "begun at once", begun_at_once
     yield "another site file", another_site_file
     yield "another site file that does not fit", another_site_file_that_does_not_fit
+    yield "served at once", served_at_once
     yield "no more than the seats", no_more_than_the_seats
     yield "no file descriptors", no_file_descriptors
     yield "silent handshakes", silent_handshakes
