@@ -460,6 +460,23 @@ def a_full_device(program):
             expect("what is kept", running.resumed, (2, count + 1, 0, 3 + count))
 
 
+def readers_of_a_torn_journal(program):
+    """They say that its last line is torn, leave it as it is, and read the lines before."""
+    with Data() as data:
+        whole = journal_of_a_day(program, data)
+        torn = whole[:-1]
+        behind = len(torn) - torn.rindex(b"\n") - 1
+        for command in (("journal",), ("show",), ("replay",), ("check",), ("explain", "--point", "P1", "--connector", "1", "--start", "2025-01-01T00:00:00Z", "--duration", "60")):
+            data.write(whole[:-behind - 1])
+            status, wanted, _ = read(program, data, *command)
+            data.write(torn)
+            seen = read(program, data, *command)
+            expect(f"what {command[0]} prints", seen[:2], (status, wanted))
+            said = f"central: {data.journal}: its last line is torn, and isn't read: {behind} bytes\n"
+            expect(f"whether {command[0]} says it", said in seen[2], True)
+            expect("what is kept", data.bytes(), torn)
+
+
 def wide(number):
     """An install that takes much room in the journal."""
     fields = {"connectorId": 0, "csChargingProfiles": profile(number, [9], number), "pad": "x" * 100_000}
@@ -539,3 +556,4 @@ def tests():
     yield "a full device", a_full_device
     yield "killed on a full device", killed_on_a_full_device
     yield "readers", readers
+    yield "readers of a torn journal", readers_of_a_torn_journal
