@@ -16,14 +16,15 @@ COUNTED = ("write", "fdatasync", "sendto")
 
 
 def killed_at_each_call(program):
-    """A day of one seat, killed at its k-th write, sync and send for each k; then the day goes on where it was."""
+    """A day of one seat, killed at its k-th write, sync and send for each k, but for some sends; then it goes on where it was."""
     if not shutil.which("strace"):
         return
     for name in COUNTED:
-        for count in itertools.count(1, size(1, 6, 1)):
+        for count in itertools.count(1, size(2 if name == "sendto" else 1, 10, 1)):
             if not is_killed_at(program, name, count, seats=1):
                 break
-        tell(f"{name}: {count - 1}")
+        expect(f"whether a day has many a {name}", count > 40, True)
+        tell(f"{name}: killed at up to {count - 1}")
 
 
 def killed_at_calls_of_two(program):
@@ -31,7 +32,7 @@ def killed_at_calls_of_two(program):
     if not shutil.which("strace"):
         return
     for name in COUNTED:
-        for count in range(1, size(25, 8, 60)):
+        for count in range(1, size(25, 6, 60)):
             is_killed_at(program, name, count, seats=2)
 
 
@@ -210,7 +211,7 @@ class Crowd:
 
 def soak(program):
     """Stations send texts while the program is killed 20 times at any moment. In the end an independent count agrees."""
-    texts, kills = size(30_000, 4_000, 1_000_000), size(10, 4, 20)
+    texts, kills = size(30_000, 2_400, 1_000_000), size(10, 3, 20)
     crowd, peak = Crowd(8, texts), 0
     began, chance = time.monotonic(), random.Random(42)
     pauses = [chance.uniform(0.2, 1.0) for _ in range(kills)]
