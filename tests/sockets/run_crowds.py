@@ -219,8 +219,8 @@ def is_hostile(client, number):
     text = LONG_TEXTS[number % len(LONG_TEXTS)].encode()
     client.send_frame(TEXT, text)
     expect("the answer", client.read_text()[:9], '[4,"long"')
-    client.send_frame(TEXT, text[:600_000], is_final=False)
-    client.send_bytes(frame_bytes(CONTINUATION, text[600_000:])[:-10])
+    client.send_frame(TEXT, text[:1_048_000], is_final=False)
+    client.send_bytes(frame_bytes(CONTINUATION, text[1_048_000:])[:-10])
 
 
 def unfinished_messages(program):
@@ -229,8 +229,8 @@ def unfinished_messages(program):
     with Data(in_memory=True) as data, Running(program, SITE, data.path) as running:
         clients = [RawClient.connected(running, "/operator/P1") for _ in range(count)]
         for client in clients:
-            client.send_frame(TEXT, bytes(600_000), is_final=False)
-            client.send_bytes(frame_bytes(CONTINUATION, bytes(448_576))[:-10])
+            client.send_frame(TEXT, bytes(1_048_000), is_final=False)
+            client.send_bytes(frame_bytes(CONTINUATION, bytes(576))[:-10])
         running.until_idle()
         used = running.peak_memory()
         tell(f"{count} unfinished messages: {used} kB at most")
