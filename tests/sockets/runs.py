@@ -477,6 +477,20 @@ def readers_of_a_torn_journal(program):
             expect("what is kept", data.bytes(), torn)
 
 
+def readers_of_a_long_change(program):
+    """An install as long as a message may be is in readers what it is in a restart, or is refused."""
+    with Data(in_memory=True) as data:
+        with Running(program, SITE, data.path) as running:
+            text = call("short", "SetChargingProfile", {"connectorId": 0, "csChargingProfiles": profile(1, [9]), "pad": ""})
+            answer = told(running, text.replace('"pad":""', f'"pad":"{"x" * (1_048_576 - len(text))}"'))
+            running.kill()
+        shown = json.loads(read(program, data, "show", "--json")[1])["points"][0]["profiles"]
+        with Running(program, SITE, data.path) as running:
+            kept = running.resumed[1]
+        expect("whether it is kept where it was accepted", kept, int(answer == accepted("short")))
+        expect("the profiles that are shown", len(shown), kept)
+
+
 def wide(number):
     """An install that takes much room in the journal."""
     fields = {"connectorId": 0, "csChargingProfiles": profile(number, [9], number), "pad": "x" * 100_000}
@@ -557,3 +571,4 @@ def tests():
     yield "killed on a full device", killed_on_a_full_device
     yield "readers", readers
     yield "readers of a torn journal", readers_of_a_torn_journal
+    yield "readers of a long change", readers_of_a_long_change
