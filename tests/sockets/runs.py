@@ -4,85 +4,20 @@ import json
 import os
 import re
 import resource
-import shutil
 import socket
 import subprocess
-import tempfile
 import time
 
 from days import Day, charging, compare, evening, morning, replay
 from python_client import PythonClient
-from raw_client import CONTINUATION, PING, PONG, TEXT, RawClient, frame_bytes
-from serving import ENVIRONMENT, PATIENCE, Running, Unexpected, expect, limit, until
+from raw_client import CLOSE, CONTINUATION, TEXT, RawClient, frame_bytes, request_bytes
+from run_data import SITE, Data, SiteFile, SmallDevice, of_script, once, read, run_words, stop, transaction_of
+from serving import ENVIRONMENT, PATIENCE, Running, expect, until
 from texts import (
     CALL_0, OCPP, accepted, ask, call, clear, error, heartbeat, install, install_call, plain_site, profile, site, start,
 )
 
-SITE = plain_site(2)
 SHORT = error("short", "InternalError", "OutOfMemory")
-
-
-class Data:
-    """The name of a folder that isn't there yet, in a folder of its own."""
-
-    def __enter__(self):
-        self.folder = tempfile.TemporaryDirectory()
-        self.path = os.path.join(self.folder.name, "data")
-        return self
-
-    def __exit__(self, *_):
-        self.folder.cleanup()
-
-    @property
-    def journal(self):
-        return os.path.join(self.path, "journal")
-
-    def bytes(self):
-        with open(self.journal, "rb") as file:
-            return file.read()
-
-    def write(self, content):
-        os.makedirs(self.path, exist_ok=True)
-        with open(self.journal, "wb") as file:
-            file.write(content)
-
-    def lines(self):
-        """What follows the moment of each line behind the first."""
-        whole = self.bytes().decode().split("\n")
-        expect("behind the last line", whole[-1], "")
-        return [line.partition(" ")[2] for line in whole[1:-1]]
-
-
-def once(program, data, of=SITE, limits=None):
-    """Starts to run a site that isn't to begin. Its status, and what it said."""
-    with tempfile.NamedTemporaryFile("w", suffix=".json") as file:
-        file.write(of)
-        file.flush()
-        command = [program, "run", "--site", file.name, "--data", data.path, "--listen", "127.0.0.1:0"]
-        done = subprocess.run(
-            command, capture_output=True, timeout=PATIENCE, check=False, env=ENVIRONMENT,
-            preexec_fn=lambda: limit(limits or {}),
-        )
-    return done.returncode, done.stdout, done.stderr.decode()
-
-
-def read(program, data, *command, of=SITE):
-    """What a command says that reads the journal. The site file is called F."""
-    with tempfile.NamedTemporaryFile("w", suffix=".json") as file:
-        file.write(of)
-        file.flush()
-        named = [] if command[0] == "journal" else ["--site", file.name]
-        words = [program, command[0], *named, "--data", data.path, *command[1:]]
-        done = subprocess.run(words, capture_output=True, timeout=PATIENCE, check=False, env=ENVIRONMENT)
-    return done.returncode, done.stdout.decode().replace(file.name, "F"), done.stderr.decode()
-
-
-def transaction_of(text):
-    return json.loads(text)[2]["transactionId"]
-
-
-def stop(message_id, transaction):
-    return call(message_id, "StopTransaction", {"transactionId": transaction, "meterStop": 1, "timestamp": "2025-01-01T00:00:00Z"})
 
 
 def what_is_noted(program):
@@ -272,24 +207,71 @@ def one_process_at_a_time(program):
             expect("the next one", running.resumed, (2, 0, 0, 2))
 
 
+def begun_at_once(program):
+    """Of several processes that begin at the same time on one folder one runs, and the others end."""
+    with Data() as data, SiteFile(SITE) as path:
+        words = run_words(program, data, path)
+        begun = [subprocess.Popen(words, stdout=subprocess.PIPE, stderr=subprocess.DEVNULL, env=ENVIRONMENT) for _ in range(6)]
+        until("all but one have ended", lambda: sum(one.poll() is None for one in begun) == 1)
+        for one in begun:
+            one.kill()
+        ended = sorted((one.wait(PATIENCE), one.communicate()[0]) for one in begun)
+        expect("how they end", [status for status, _ in ended], [-9, 4, 4, 4, 4, 4])
+        expect("what the others print", [printed for _, printed in ended[1:]], [b""] * 5)
+        with Running(program, SITE, data.path) as running:
+            expect("the next one", running.resumed, (2, 0, 0, 2))
+
+
+OTHER_SITE = "it was begun with another site file; its lines are tried with this one"
+
+
 def another_site_file(program):
-    """More points and connectors pass; what no longer fits is named."""
-    other = "it was begun with another site file; its lines are tried with this one"
+    """More points and connectors pass, and what no line speaks of may go; what no longer fits is named."""
+    plain = (63.0, [32.0] * 2)
     with Data() as data:
         whole = journal_of_a_day(program, data)
-        for name, of, resumed in (
-            ("more points and connectors", plain_site(3, 3), (3, 0, 0, 3)),
-            ("points in another order", site({"P2": (63.0, [32.0] * 2), "P1": (63.0, [32.0] * 2)}), (2, 0, 0, 2)),
+        for name, of, resumed, most in (
+            ("more points and connectors", plain_site(3, 3), (3, 0, 0, 3), 32.0),
+            ("points in another order", site({"P2": plain, "P1": plain}), (2, 0, 0, 2), 32.0),
+            ("lower ceilings", site({"P1": (63.0, [4.0, 32.0]), "P2": plain}), (2, 0, 0, 2), 4.0),
+            ("a lower ceiling of the point", site({"P1": (3.0, [32.0] * 2), "P2": plain}), (2, 0, 0, 2), 3.0),
+            ("a connector less that no line names", plain_site(2, 1), (2, 0, 0, 2), 32.0),
+            ("a point less that no line names", plain_site(1), (1, 0, 0, 1), 32.0),
         ):
             data.write(whole)
             with Running(program, of, data.path) as running:
                 expect(name, running.resumed, resumed)
-                expect(f"what is said of {name}", running.kill().decode(), f"central: {data.journal}: {other}\n")
-        data.write(whole)
-        status, out, err = once(program, data, site({"P2": (63.0, [32.0])}))
-        said = f"central: {data.journal}: {other}\ncentral: journal: line 2: its step is refused: UnknownPoint\n"
-        expect("how it ends without the point", (status, out, err), (1, b"", said))
-        expect("what is kept", data.bytes(), whole)
+                expect(f"the limit with {name}", limit_told(running), most)
+                expect(f"what is said of {name}", running.kill().decode(), f"central: {data.journal}: {OTHER_SITE}\n")
+
+
+def limit_told(running):
+    """The limit of connector 1 of P1 at present."""
+    answer = json.loads(told(running, ask("limit")))
+    return answer[2]["chargingSchedule"]["chargingSchedulePeriod"][0]["limit"]
+
+
+def another_site_file_that_does_not_fit(program):
+    """The first line that doesn't fit is named, and the journal is kept as it was."""
+    plain = (63.0, [32.0] * 2)
+    with Data() as data:
+        whole = journal_of_a_day(program, data)
+        for name, of, said in (
+            ("the point removed", site({"P2": plain}), "line 2: its step is refused: UnknownPoint"),
+            ("another identity", site({"Q1": plain, "P2": plain}), "line 2: its step is refused: UnknownPoint"),
+            ("another unit", plain_site(2).replace('"A"', '"W"'), "line 2: its step is refused: WrongUnit"),
+        ):
+            data.write(whole)
+            status, out, err = once(program, data, of)
+            wanted = f"central: {data.journal}: {OTHER_SITE}\ncentral: journal: {said}\n"
+            expect(f"how it ends with {name}", (status, out, err), (1, b"", wanted))
+            expect("what is kept", data.bytes(), whole)
+            status, out, err = read(program, data, "show", of=of)
+            expect(f"how a reader ends with {name}", status in (0, 1), True)
+        data.write(whole.replace(b'"connectorId":1,"idTag"', b'"connectorId":2,"idTag"'))
+        status, out, err = once(program, data, plain_site(2, 1))
+        wanted = f"central: {data.journal}: {OTHER_SITE}\ncentral: journal: line 7: its step is refused: UnknownConnector\n"
+        expect("how it ends without the connector", (status, out, err), (1, b"", wanted))
 
 
 def no_more_than_the_seats(program):
@@ -313,11 +295,44 @@ def no_more_than_the_seats(program):
 
 def is_served(running):
     with RawClient(running) as client:
-        response = client.shake_hands("/operator/P2", [f"Sec-WebSocket-Protocol: {OCPP}"])
+        try:
+            response = client.shake_hands("/operator/P2", [f"Sec-WebSocket-Protocol: {OCPP}"])
+        except OSError:  # it was turned away before it had asked
+            return False
         if response is None or response.status != 101:
             return False
         client.close()
         return True
+
+
+def served_at_once(program):
+    """Who connects as soon as the program says that it listens is served: after a restart all points come at once."""
+    with Data(in_memory=True) as data:
+        for number in range(10 if "UNPROVED" in os.environ else 40):
+            with Running(program, SITE, data.path, seats=2) as running:
+                expect(f"whether one is served at once, at start {number}", is_served(running), True)
+                expect("what is said", running.kill(), b"")
+
+
+def no_file_descriptors(program):
+    """A connection for which the program has no file descriptor waits; once others have ended it is served."""
+    with Data() as data, Running(program, SITE, data.path, limits={resource.RLIMIT_NOFILE: 24}) as running:
+        clients = [RawClient(running) for _ in range(40)]
+        for client in clients[:3]:
+            client.send_bytes(request_bytes("/operator/P1", [f"Sec-WebSocket-Protocol: {OCPP}"]))
+            expect("a handshake", client.read_response().status, 101)
+        clients[-1].send_bytes(request_bytes("/operator/P1", [f"Sec-WebSocket-Protocol: {OCPP}"]))
+        clients[-1].socket.settimeout(1)
+        try:
+            expect("whether the last one is served", clients[-1].read_response(), "nothing")
+        except TimeoutError:
+            pass
+        clients[-1].socket.settimeout(PATIENCE)
+        for client in clients[:-1]:
+            client.socket.close()
+        expect("the last one", clients[-1].read_response().status, 101)
+        clients[-1].close()
+        expect("what is said", running.kill(), b"")
 
 
 def silent_handshakes(program):
@@ -420,28 +435,6 @@ def a_file_that_is_full(program):
             expect("what is kept", running.resumed, (2, count, 0, 2 + count))
 
 
-class SmallDevice(Data):
-    """The name of a folder on a device of 3 MiB, which can be filled; None where none can be made."""
-
-    def __enter__(self):
-        super().__enter__()
-        made = subprocess.run(["mount", "-t", "tmpfs", "-o", "size=3m", "tmpfs", self.folder.name], capture_output=True, check=False)
-        self.filler = os.path.join(self.folder.name, "filler")
-        return self if made.returncode == 0 else None
-
-    def __exit__(self, *problem):
-        subprocess.run(["umount", self.folder.name], capture_output=True, check=False)
-        super().__exit__(*problem)
-
-    def fill(self):
-        file = os.open(self.filler, os.O_CREAT | os.O_WRONLY)
-        try:
-            while True:
-                os.write(file, bytes(4_096))
-        except OSError:
-            os.close(file)
-
-
 def a_full_device(program):
     """What was noted is written into the reserve. Then changes are answered InternalError, and asks are answered."""
     with SmallDevice() as data:
@@ -458,13 +451,77 @@ def a_full_device(program):
             expect("the answers before", answers[:count], [accepted("short")] * count)
             expect("an ask", told(running, ask("a"))[:28], '[3,"a",{"status":"Accepted",')
             expect("a clear", told(running, clear("short")), SHORT)
-            os.remove(data.filler)
+            data.has_room_again()
             until("there is room", lambda: told(running, install("short", profile(50, [9], 50))) == accepted("short"))
             said = running.kill().decode()
         wanted = [f"central: {data.journal}: {what}" for what in ("No space left on device (os error 28)", "there is room again")]
         expect("what is said", said.splitlines(), wanted)
         with Running(program, SITE, data.path) as running:
             expect("what is kept", running.resumed, (2, count + 1, 0, 3 + count))
+
+
+def readers_of_a_torn_journal(program):
+    """They say that its last line is torn, leave it as it is, and read the lines before."""
+    with Data() as data:
+        whole = journal_of_a_day(program, data)
+        torn = whole[:-1]
+        behind = len(torn) - torn.rindex(b"\n") - 1
+        for command in (("journal",), ("show",), ("replay",), ("check",), ("explain", "--point", "P1", "--connector", "1", "--start", "2025-01-01T00:00:00Z", "--duration", "60")):
+            data.write(whole[:-behind - 1])
+            status, wanted, _ = read(program, data, *command)
+            data.write(torn)
+            seen = read(program, data, *command)
+            expect(f"what {command[0]} prints", seen[:2], (status, wanted))
+            said = f"central: {data.journal}: its last line is torn, and isn't read: {behind} bytes\n"
+            expect(f"whether {command[0]} says it", said in seen[2], True)
+            expect("what is kept", data.bytes(), torn)
+
+
+def readers_of_a_long_change(program):
+    """An install as long as a message may be is in readers what it is in a restart, or is refused."""
+    with Data(in_memory=True) as data:
+        with Running(program, SITE, data.path) as running:
+            text = call("short", "SetChargingProfile", {"connectorId": 0, "csChargingProfiles": profile(1, [9]), "pad": ""})
+            answer = told(running, text.replace('"pad":""', f'"pad":"{"x" * (1_048_576 - len(text))}"'))
+            running.kill()
+        shown = json.loads(read(program, data, "show", "--json")[1])["points"][0]["profiles"]
+        with Running(program, SITE, data.path) as running:
+            kept = running.resumed[1]
+        expect("whether it is kept where it was accepted", kept, int(answer == accepted("short")))
+        expect("the profiles that are shown", len(shown), kept)
+
+
+def wide(number):
+    """An install that takes much room in the journal."""
+    fields = {"connectorId": 0, "csChargingProfiles": profile(number, [9], number), "pad": "x" * 100_000}
+    return call("short", "SetChargingProfile", fields)
+
+
+def killed_on_a_full_device(program):
+    """Killed and started again on a full device it goes on in what is left of the reserve; behind that nothing is answered."""
+    with SmallDevice() as data:
+        if data is None:
+            return
+        answered = 0
+        with Running(program, SITE, data.path) as running:
+            data.fill()
+            while told(running, wide(answered + 1)) == accepted("short"):
+                answered += 1
+            with RawClient.connected(running, "/P1") as point:
+                expect("whether a point is served that can't be noted", point.read_frame().opcode, CLOSE)
+            running.kill()
+        with Running(program, SITE, data.path) as running:
+            expect("what is kept", running.resumed, (2, answered, 0, 2 + answered))
+            while told(running, wide(answered + 1)) == accepted("short"):
+                answered += 1
+                expect("an end", answered < 50, True)
+            expect("a change that can't be kept", told(running, wide(answered + 2)) in (None, SHORT), True)
+            data.has_room_again()
+            until("there is room", lambda: told(running, install("short", profile(60, [9], 60))) == accepted("short"))
+            running.kill()
+        with Running(program, SITE, data.path) as running:
+            profiles = running.resumed[1]
+            expect("what is kept", profiles - answered in (1, 2), True)  # what wasn't answered may be there
 
 
 # What `explain` says of an install and a start.
@@ -490,88 +547,6 @@ def readers(program):
                 expect(f"what {command[0]} says", bool(re.fullmatch(wanted, said)), True)
 
 
-def of_script(program, script, *command):
-    with tempfile.NamedTemporaryFile("w", suffix=".json") as file:
-        file.write(SITE)
-        file.flush()
-        words = [program, command[0], "--site", file.name, *command[1:]]
-        done = subprocess.run(words, input=script.encode(), capture_output=True, timeout=PATIENCE, check=False, env=ENVIRONMENT)
-    return done.returncode, done.stdout.decode().replace(file.name, "F")
-
-
-class Answered:
-    """What a point and its operator do until the program is killed, and what of it was answered."""
-
-    def __init__(self):
-        self.installs, self.transactions, self.calls, self.confirmed = [], [], [], []
-
-    def play(self, running):
-        with RawClient.connected(running, "/operator/P1") as operator, RawClient.connected(running, "/P1") as point:
-            point.socket.settimeout(20)
-            operator.socket.settimeout(20)
-            self._see(self._told(point, heartbeat("h")))
-            for number in range(1, 4):
-                if accepted(f"i{number}") in self._told(operator, install(f"i{number}", profile(number, [6 + number], number))):
-                    self.installs.append(number)
-                for text in self._told(point, start(f"s{number}", 1, f"T{number}")):
-                    if text.startswith("[3,"):
-                        self.transactions.append(transaction_of(text))
-                    self._see([text])
-                self._see(self._told(point, accepted(str(self.calls[-1] if self.calls else 0))))
-
-    def _told(self, client, text):
-        """The texts that follow a text, up to the end of the stream."""
-        client.send_text(text)
-        client.pings += 1
-        client.send_frame(PING, b"p%d" % client.pings)
-        texts = []
-        while True:
-            frame = client.read_frame()
-            if frame is None:
-                raise ConnectionResetError
-            if frame.opcode == PONG:
-                return texts
-            texts.append(frame.payload.decode())
-
-    def _see(self, texts):
-        self.calls += [int(json.loads(text)[1]) for text in texts if text.startswith("[2,")]
-
-
-def killed_anywhere(program):
-    """Killed at the k-th write, send or sync: after the restart no answered change is missing, and no call is out of turn."""
-    if not shutil.which("strace"):
-        return
-    for name in ("write", "sendto", "fdatasync"):
-        for count in range(1, 8 if "UNPROVED" in os.environ else 25):
-            killed_at(program, name, count)
-
-
-def killed_at(program, name, count):
-    where = f"killed at {name} {count}"
-    under = ("strace", "-f", "-qq", "-o", "/dev/null", "-e", f"inject={name}:signal=SIGKILL:when={count}")
-    answered = Answered()
-    with Data() as data:
-        try:
-            with Running(program, SITE, data.path, under=under, environment=NO_LEAKS) as running:
-                answered.play(running)
-        except (OSError, Unexpected):
-            pass  # it was killed there, perhaps before it listened
-        with Running(program, SITE, data.path, environment=NO_LEAKS) as running:
-            profiles, transactions = running.resumed[1:3]
-            expect(f"{where}: installs", len(answered.installs) <= profiles <= len(answered.installs) + 1, True)
-            expect(f"{where}: active transactions", transactions in ({1} if answered.transactions else {0, 1}), True)
-            with RawClient.connected(running, "/P1") as point:
-                calls = [int(json.loads(text)[1]) for text in point.texts_of(heartbeat("h")) if text.startswith("[2,")]
-                last = max(answered.calls, default=0)
-                expect(f"{where}: the next call after {last}", not calls or calls[0] in (last, last + 1), True)
-                number = transaction_of(point.texts_of(start("n", 2, "N"))[0])
-                expect(f"{where}: the next transaction", number > max(answered.transactions, default=0), True)
-
-
-# The unproved program looks for leaks when it ends, which it can't below strace.
-NO_LEAKS = {"ASAN_OPTIONS": ENVIRONMENT["ASAN_OPTIONS"] + ":detect_leaks=0"}
-
-
 def tests():
     yield "what is noted", what_is_noted
     yield "a day over restarts", a_day_over_restarts
@@ -580,8 +555,12 @@ def tests():
     yield "torn anywhere", torn_anywhere
     yield "faulty journals", faulty_journals
     yield "one process at a time", one_process_at_a_time
+    yield "begun at once", begun_at_once
     yield "another site file", another_site_file
+    yield "another site file that does not fit", another_site_file_that_does_not_fit
+    yield "served at once", served_at_once
     yield "no more than the seats", no_more_than_the_seats
+    yield "no file descriptors", no_file_descriptors
     yield "silent handshakes", silent_handshakes
     yield "the newest connection", the_newest_connection
     yield "points that reconnect", points_that_reconnect
@@ -589,5 +568,7 @@ def tests():
     yield "a message that is too long", a_message_that_is_too_long
     yield "a file that is full", a_file_that_is_full
     yield "a full device", a_full_device
+    yield "killed on a full device", killed_on_a_full_device
     yield "readers", readers
-    yield "killed anywhere", killed_anywhere
+    yield "readers of a torn journal", readers_of_a_torn_journal
+    yield "readers of a long change", readers_of_a_long_change

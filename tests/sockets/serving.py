@@ -182,10 +182,10 @@ class Running(Serving):
         return self.process.stdout.readline()
 
     def __exit__(self, *problem):
-        self._kill_children()
+        self.end_children()
         super().__exit__(*problem)
 
-    def _kill_children(self):
+    def end_children(self):
         """Kills what it runs below, if it does: that wouldn't take it along."""
         if self.under and self.process.poll() is None:
             with open(f"/proc/{self.process.pid}/task/{self.process.pid}/children", encoding="ascii") as file:
@@ -201,10 +201,10 @@ class Running(Serving):
 RESUMED = rb"resumed (\d+) points, (\d+) profiles, (\d+) transactions, (\d+) calls waiting\n"
 
 
-def until(what, is_so):
-    """Waits until something is so."""
-    end = time.monotonic() + PATIENCE
+def until(what, is_so, more=0.0):
+    """Waits until something is so, for so many seconds more than for anything else."""
+    end = time.monotonic() + PATIENCE + more
     while not is_so():
         if time.monotonic() > end:
-            raise Unexpected(f"after {PATIENCE:.0f} seconds not yet: {what}")
+            raise Unexpected(f"after {PATIENCE + more:.0f} seconds not yet: {what}")
         time.sleep(0.01)
