@@ -29,6 +29,7 @@ mod sentences;
 mod similar;
 mod site_check;
 mod site_fields;
+mod site_json;
 mod site_parts;
 mod site_point;
 mod site_points;

@@ -5,6 +5,7 @@ use crate::finding::{FaultName, Finding, Location};
 use crate::found::{ExpectedField, Glance, field_message, message_of, what_stands};
 use crate::json_fault::json_fault_text;
 use crate::site_fields::{SiteNames, site_names};
+use crate::site_json::{Verdict, verdict_on};
 use crate::site_parts::{PartFault, glance_from, read_glance};
 use crate::site_points::{PointsPart, read_points};
 use crate::text_place::place_in_text;
@@ -61,11 +62,32 @@ fn site_fault(fault: SiteFault, message: String) -> Finding {
 
 /// Checks a site file that is UTF-8.
 fn check_site_text(alloc: Global, text: &str) -> Result<Vec<Finding>, AllocError> {
-    match read_site(alloc, text.as_bytes()) {
-        Err(SiteFault::OutOfMemory) => Err(AllocError),
-        Err(SiteFault::NotJson) => alone(alloc, not_json(alloc, text)?),
-        // Behind its first fault may be others, and a site may have what is to be warned of.
-        Ok(_) | Err(_) => check_json(alloc, text),
+    let mut room = Vec::new(alloc);
+    let marked = mark_text(text, &mut room)?;
+    if !is_json(alloc, text, marked)? {
+        return alone(alloc, not_json(alloc, text)?);
+    }
+    let names = site_names(alloc, text)?;
+    let mut findings = match check_marked(alloc, marked, &names) {
+        Ok(findings) => findings,
+        Err(PartFault::NotJson) => alone(alloc, not_json(alloc, text)?)?,
+        Err(PartFault::OutOfMemory) => return Err(AllocError),
+    };
+    names.warn(alloc, text, &mut findings)?;
+    Ok(findings)
+}
+
+/// Whether a tree is read from a text.
+fn is_json(alloc: Global, text: &str, marked: &str) -> Result<bool, AllocError> {
+    match verdict_on(alloc, marked)? {
+        Verdict::Json => Ok(true),
+        Verdict::NotJson => Ok(false),
+        // Nobody writes such a file. Reading it takes many times its size.
+        Verdict::Unsure => match read_site(alloc, text.as_bytes()) {
+            Err(SiteFault::OutOfMemory) => Err(AllocError),
+            Err(SiteFault::NotJson) => Ok(false),
+            Ok(_) | Err(_) => Ok(true),
+        },
     }
 }
 
@@ -77,28 +99,13 @@ fn not_json(alloc: Global, text: &str) -> Result<Finding, AllocError> {
     Ok(Finding::fault(place, FaultName::Site(SiteFault::NotJson), message))
 }
 
-/// Checks a site file that is JSON.
-fn check_json(alloc: Global, text: &str) -> Result<Vec<Finding>, AllocError> {
-    let names = site_names(alloc, text)?;
-    match check_parts(alloc, text, &names) {
-        Ok(mut findings) => {
-            names.warn(alloc, text, &mut findings)?;
-            Ok(findings)
-        }
-        Err(PartFault::NotJson) => alone(alloc, not_json(alloc, text)?),
-        Err(PartFault::OutOfMemory) => Err(AllocError),
-    }
-}
-
-/// All faults of a site file that is JSON, and the remarks on its points.
-fn check_parts(
+/// All faults of a site file that is JSON, from its marked text, and the remarks on its points.
+fn check_marked(
     alloc: Global,
-    text: &str,
+    marked: &str,
     names: &SiteNames<'_>,
 ) -> Result<Vec<Finding>, PartFault> {
-    let mut room = Vec::new(alloc);
     let mut scratch = Scratch::new(alloc);
-    let marked = mark_text(text, &mut room)?;
     let mut reader = Reader::new(marked, &mut scratch)?;
     let token = reader.next().ok_or(PartFault::NotJson)?;
     if let Token::BeginObject = token {

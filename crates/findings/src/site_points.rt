@@ -12,8 +12,8 @@ use json::{Reader, Token};
 use site_rules::SiteFault;
 use std::alloc::{AllocError, Global};
 
-/// The most findings in the points that are kept: each point of the largest site may have four.
-pub(crate) const MAX_FOUND: usize = 4_000;
+/// The most findings in the points that are kept: each point of the largest site may have two.
+pub(crate) const MAX_FOUND: usize = 2_000;
 
 /// The value of `points`.
 #[derive(Drop)]
