@@ -33,7 +33,7 @@ pub fn check_file<R: Files<File = File> + Input + Print + Eprint + AllocGlobal>(
     let page = site_page(alloc, checking.site, findings.as_slice())?;
     print_page(rt, page.as_str())?;
     let script = read_script_of(rt, checking.folder)?;
-    if let Some(site) = site_of(alloc, bytes.as_slice())? {
+    if let Some(site) = site_of(alloc, bytes.as_slice(), findings.as_slice())? {
         let mut page = String::new(alloc);
         let mut more = push_played(&mut page, site, script.as_slice(), checking.trace)?;
         findings.append(&mut more)?;
@@ -53,7 +53,11 @@ fn site_page(alloc: Global, name: &str, findings: &[Finding]) -> Result<String, 
 }
 
 /// The site of a site file, where one is read from it. Else what is found in the file says why not.
-fn site_of(alloc: Global, bytes: &[u8]) -> Result<Option<Site>, AllocError> {
+fn site_of(alloc: Global, bytes: &[u8], findings: &[Finding]) -> Result<Option<Site>, AllocError> {
+    // None would be read, and of a file with a malformed number that takes many times its size.
+    if exit_status(findings) == 1 {
+        return Ok(None);
+    }
     match read_site(alloc, bytes) {
         Ok(site) => Ok(Some(site)),
         Err(SiteFault::OutOfMemory) => Err(AllocError),
