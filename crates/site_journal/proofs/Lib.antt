@@ -5,4 +5,5 @@ pub mod LineEnds
 pub mod StepLemmas
 pub mod RestoreLemmas
 pub mod NotedLemmas
+pub mod LostLemmas
 pub mod ForgettingLemmas

@@ -1,6 +1,6 @@
 -- What is noted of a step leads where the step led.
-use Rattle.std.proofs.Common.{◌≡◌, ℕ, Bool, true, cond, List, Option, Some, None, Result, Ok, Err, refl, sym, ap, ◌∙◌, eqb}
-use Rattle.std.proofs.lemmas.Bool.{eqb-refl}
+use Rattle.std.proofs.Common.{◌≡◌, ℕ, Bool, true, false, cond, List, Option, Some, None, Result, Ok, Err, refl, sym, ap, ◌∙◌, eqb}
+use Rattle.std.proofs.lemmas.Bool.{eqb-false}
 use Rattle.ocpp_scalars.specs.ResultSteps.{◌>>=◌}
 use Rattle.ocpp_scalars.specs.declared.refusal.Refusal.{Refusal}
 use Rattle.messages.specs.declared.side.Side.{Side}
@@ -17,13 +17,19 @@ use Rattle.site_core.specs.declared.reply.Reply.{Reply}
 use Rattle.site_core.specs.State.{MachineState, audit_job}
 use Rattle.site_core.specs.Step.{Made, stepped, no_answer}
 use Rattle.site_journal.specs.declared.restore_fault.RestoreFault.{RestoreFault}
-use Rattle.site_journal.specs.declared.restore_fault.RestoreFault.TheVariants.{OtherStep}
+use Rattle.site_journal.specs.declared.restore_fault.RestoreFault.TheVariants.{OtherStep, OtherNumber}
 use Rattle.site_journal.specs.Restore.{change_asked, confirm_asked, judge_asked, judged_exactly, number_drawn, number_fault, unless_fault, made_or_refused, made_with, restored}
 use Rattle.site_journal.specs.NotedStep.{ChangesAreRestored, ConfirmsAreRestored, VerdictsAreRestored, LinksAreRestored, SendsAreRestored, LossesAreRestored}
 
+is_itself : (number : ℕ) → eqb number number ≡ true
+is_itself number = elim (eqb number number) as (λ b. eqb number number ≡ b → b ≡ true) [
+  | true ↦ λ is. refl
+  | false ↦ λ is. absurd (eqb-false number number is refl)
+] refl
+
 pub same_number : (number : ℕ) → number_fault (Some number) (Some number) ≡ None
 same_number number =
-    ap (λ (same : Bool). cond same None (number_fault (Some number) None)) (eqb-refl number)
+    ap (λ (same : Bool). cond same None (Some (OtherNumber number number))) (is_itself number)
 
 -- a step that was made, with its number
 pub made_again : (state : MachineState) (step : Step) (made : Made) (written : Option ℕ)
