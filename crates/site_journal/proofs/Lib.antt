@@ -6,4 +6,5 @@ pub mod StepLemmas
 pub mod RestoreLemmas
 pub mod NotedLemmas
 pub mod LostLemmas
+pub mod JournalLemmas
 pub mod ForgettingLemmas

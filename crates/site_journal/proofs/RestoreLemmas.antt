@@ -1,5 +1,5 @@
 -- What a call on the book makes of its state, as what a line makes of it.
-use Rattle.std.proofs.Common.{◌≡◌, ℕ, ◌+◌, ◌≤◌, ◌⊎◌, inl, inr, Bool, true, false, cond, eqb, Option, Some, None, Result, Ok, Err, refl, sym, ap, ◌∙◌, subst, arith}
+use Rattle.std.proofs.Common.{◌≡◌, ℕ, ◌+◌, ◌≤◌, ◌⊎◌, inl, inr, Bool, true, false, cond, eqb, List, Option, Some, None, Result, Ok, Err, refl, sym, ap, ◌∙◌, subst, arith}
 use Rattle.ocpp_scalars.specs.ResultSteps.{◌>>=◌}
 use Rattle.ocpp_scalars.specs.declared.refusal.Refusal.{Refusal}
 use Rattle.ocpp_scalars.specs.declared.refusal.Refusal.TheVariants as refusals
@@ -7,16 +7,20 @@ use Rattle.site_core.specs.declared.step.Step.{Step}
 use Rattle.site_core.specs.declared.step.Step.TheVariants as steps
 use Rattle.site_core.specs.declared.reply.Reply.{Reply}
 use Rattle.site_core.specs.declared.reply.Reply.TheVariants as replies
-use Rattle.site_core.specs.State.{MachineState}
+use Rattle.messages.specs.declared.side.Side.TheVariants.{Point}
+use Rattle.texts.specs.Said.{said_of}
+use Rattle.texts.specs.SentText.{Sent, sent}
+use Rattle.site_core.specs.State.{MachineState, audit_job}
 use Rattle.site_core.specs.Step.{Made, stepped, no_answer, is_event, is_reply_to}
 use Rattle.version_store.specs.Passes.{PassState, pass_after}
 use Rattle.version_store.specs.Store.{StoreState, may_fold}
 use Rattle.version_store.specs.Calls.{Makes, IsRefusalOf, IsRefusalTo}
 use Rattle.site_journal.specs.declared.restore_fault.RestoreFault.{RestoreFault}
 use Rattle.site_journal.specs.declared.restore_fault.RestoreFault.TheVariants as faults
+use Rattle.site_journal.specs.Line.{LineState, verdict}
 use Rattle.site_journal.specs.RestoreFault.{fault_of_refusal}
-use Rattle.site_journal.specs.Restore.{KeepsPass, IsFaultOf, is_change, is_made, number_drawn, number_fault, unless_fault, made_or_refused, made_with}
-use Rattle.site_journal.specs.ByCases.Restore.{Leads}
+use Rattle.site_journal.specs.Restore.{KeepsPass, IsFaultOf, is_change, is_made, number_drawn, number_fault, unless_fault, made_or_refused, made_with, restored}
+use Rattle.site_journal.specs.ByCases.Restore.{Leads, judged}
 
 abbrev pub made_so : Reply → MachineState → Made
 made_so reply after = record { reply = reply; after = after }
@@ -149,6 +153,18 @@ leads_refused old new written step refusal fault cause is kept = record {
 pub leads_short : (wanted : Result MachineState RestoreFault) (old new : MachineState) → new ≡ old
     → Leads {A = Unit} wanted old (Err faults.OutOfMemory) new
 leads_short wanted old new kept = record { done = tt; fault = inr refl; kept = λ made. kept }
+
+-- the line of a verdict
+pub verdict_leads : (old new : MachineState) (result : Result Unit RestoreFault) (moment : ℕ)
+    (point : List ℕ) (call : ℕ) (frame : List ℕ) (text : Sent) (line : LineState)
+    → text ≡ sent moment Point point frame
+    → line ≡ record { moment = moment; point = point; noted = verdict call frame }
+    → Leads (judged old text.point call (said_of text) (audit_job old text.point call)) old result new
+    → Leads (restored old line) old result new
+unfolding restored
+verdict_leads old new result moment point call frame text line same line_is led =
+    subst (λ (l : LineState). Leads (restored old l) old result new) (sym line_is)
+    (subst (λ (t : Sent). Leads (judged old t.point call (said_of t) (audit_job old t.point call)) old result new) same led)
 
 -- ---- passes
 

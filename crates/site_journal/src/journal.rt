@@ -52,13 +52,15 @@ pub fn restore<C: Ledger, A: Ledger>(
     let mut number = FIRST_LINE;
     let mut rest = text;
     while let Some((line, others)) = split_line(rest) {
-        if let Err(fault) = restore_bytes(alloc, &mut memory, book, pass, line) {
-            return Err(Unrestored {
-                line: number,
-                fault,
-            });
+        match restore_bytes(alloc, &mut memory, book, pass, line) {
+            Ok(()) => number += 1,
+            Err(fault) => {
+                return Err(Unrestored {
+                    line: number,
+                    fault,
+                });
+            }
         }
-        number += 1;
         rest = others;
     }
     Ok(Restored { lines: number - 1 })
