@@ -9,10 +9,11 @@ import time
 
 from days import compare
 from histories import CONNECTORS, POINTS, History
+from raw_client import RawClient
 from run_data import Data, of_script, read, size, tell
-from serving import Running, Unexpected, expect
+from serving import Running, Unexpected, expect, until
 from stations import Station, stations_site
-from texts import plain_site
+from texts import CALL_0, accepted, call, heartbeat, plain_site, profile, start
 
 SITE = plain_site(len(POINTS))
 
@@ -101,6 +102,26 @@ def findings(page):
     return sorted(re.sub(r"line \d+|\d{4}-\d\d-\d\d.\d\d:\d\d(:\d\dZ?)?", "..", line) for line in lines)
 
 
+def remote_start_over_a_lost_link(program):
+    """A call that went out over a link that was lost waits again. Another car's start comes before it goes out anew: readers see what is there."""
+    fields = {"connectorId": 1, "idTag": "ANN", "chargingProfile": profile(9, [6], purpose="TxProfile", kind="Relative")}
+    with Data(in_memory=True) as data:
+        with Running(program, SITE, data.path) as running:
+            with RawClient.connected(running, "/operator/P1") as operator:
+                expect("a remote start", operator.texts_of(call("r", "RemoteStartTransaction", fields)), [accepted("r")])
+            with RawClient.connected(running, "/P1") as point:
+                expect("call 0", point.texts_of(heartbeat("h"))[1:], [CALL_0])
+                expect("call 1", len(point.texts_of(accepted("0"))), 1)
+            until("the lost link is noted", lambda: data.lines()[-1] == "lost P1 1")
+            with RawClient.connected(running, "/P1") as point:
+                expect("a start, and call 1 again", len(point.texts_of(start("b", 1, "BEN"))), 2)
+                expect("another start", len(point.texts_of(start("a", 1, "ANN"))), 1)
+            running.kill()
+        shown = resumed_by(program, data)
+        with Running(program, SITE, data.path) as running:
+            expect("what it resumes with, beside what is shown", running.resumed, shown)
+
+
 def journal_of_a_station(program, lines):
     """The first lines of the journal of a station that is cut off now and then."""
     with Data(in_memory=True) as data:
@@ -185,4 +206,5 @@ def starts_behind(program, lines, count, extra):
 
 def tests():
     yield "histories at random", histories_at_random
+    yield "a remote start over a lost link", remote_start_over_a_lost_link
     yield "cut anywhere", cut_anywhere

@@ -6,7 +6,6 @@ import tempfile
 import threading
 import time
 
-from raw_client import RawClient
 from run_data import NO_LEAKS, Data, size, tell
 from serving import PATIENCE, Running, Unexpected, expect
 from stations import Cut, Station, stations_site

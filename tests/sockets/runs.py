@@ -466,7 +466,8 @@ def readers_of_a_torn_journal(program):
         whole = journal_of_a_day(program, data)
         torn = whole[:-1]
         behind = len(torn) - torn.rindex(b"\n") - 1
-        for command in (("journal",), ("show",), ("replay",), ("check",), ("explain", "--point", "P1", "--connector", "1", "--start", "2025-01-01T00:00:00Z", "--duration", "60")):
+        explained = ("--point", "P1", "--connector", "1", "--start", "2025-01-01T00:00:00Z", "--duration", "60")
+        for command in (("journal",), ("show",), ("replay",), ("check",), ("explain", *explained)):
             data.write(whole[:-behind - 1])
             status, wanted, _ = read(program, data, *command)
             data.write(torn)
@@ -540,7 +541,8 @@ def readers(program):
             status, script, said = read(program, data, "journal")
             expect("how it is printed", (status, said), (0, ""))
             count = len(data.lines()) + 1
-            for command, notes in ((("replay",), ""), (("check",), ""), (("check", "--trace"), ""), (("show",), ""), (("explain", *explained), LATER), (("explain", *explained, "--at", explained[5]), LATER[:0])):
+            explaining = ((("explain", *explained), LATER), (("explain", *explained, "--at", explained[5]), ""))
+            for command, notes in ((("replay",), ""), (("check",), ""), (("check", "--trace"), ""), (("show",), ""), *explaining):
                 status, out, said = read(program, data, *command)
                 expect(f"what {command[0]} prints", (status, out), of_script(program, script, *command))
                 wanted = rf"central: journal: {count} lines, the last one of \S+\n{notes}" if command[0] in ("show", "explain") else notes
