@@ -19,7 +19,7 @@ use Rattle.site_core.specs.Ask.{ask_at}
 use Rattle.site_core.specs.ChargePoint.{ChargePointState, Deed, point_after}
 use Rattle.site_core.specs.Requests.{request_of, answered, all_stopped}
 use Rattle.site_core.specs.State.{MachineState, Kept, ScheduleAnswer, point_at, book_at}
-use Rattle.site_core.specs.Step.{Made, PointStep, at_point, over_link, of_audit, starts_as, is_at_no_connector, Work, AtPoint, work, Works, Steps, Compiles, deed, drawn, done_at, made_at, made_there, found_place, place_for, unless, refusal_to_take, takes, taking, compiles, compiles_kept, answers, answers_kept, answers_with, finishes, stepped, no_answer, unchanged}
+use Rattle.site_core.specs.Step.{Made, PointStep, at_point, over_link, of_audit, starts_as, is_at_no_connector, Work, AtPoint, work, Works, Steps, deed, drawn, done_at, made_at, made_there, found_place, place_for, unless, refusal_to_take, takes, taking, compiles_kept, answers_kept, answers_with, finishes}
 use Rattle.site_core.specs.History.{Event, Legal}
 use Rattle.site_core.specs.Theory.Steps.{StepKind, kind_of, names_point, takes_one, compiles_one, answers_one, finishes_all}
 use Rattle.site_journal.proofs.StepLemmas.{led}

@@ -1,5 +1,5 @@
 -- Lines that are restored one after another.
-use Rattle.std.proofs.Common.{◌≡◌, ℕ, ◌+◌, ◌-◌, ◌<◌, ◌≤◌, false, List, [], ◌∷◌, ◌++◌, map, length, codes, Result, Ok, Err, refl, sym, ap, ◌∙◌, append_assoc, append-nil, arith, length-append}
+use Rattle.std.proofs.Common.{◌≡◌, ℕ, ◌+◌, ◌-◌, ◌≤◌, false, List, [], ◌∷◌, ◌++◌, map, length, codes, Result, Ok, refl, sym, ap, ◌∙◌, append_assoc, append-nil, arith, length-append}
 use Rattle.std.specs.Prelude.{flat_map}
 use Rattle.std.specs.List.{AllByRecursion}
 use Rattle.std.proofs.lemmas.Grind.{flat_map-append}
@@ -12,7 +12,7 @@ use Rattle.site_journal.specs.declared.restore_fault.RestoreFault.{RestoreFault}
 use Rattle.site_journal.specs.ByCases.Line.{line_in}
 use Rattle.site_journal.specs.Line.{LineState, HasNoLineFeed}
 use Rattle.site_journal.specs.Lines.{with_feed, BeginsWithLines, SplitsAtFeed}
-use Rattle.site_journal.specs.Restore.{KeepsPass, IsFaultOf, is_made, restored, restored_lines}
+use Rattle.site_journal.specs.Restore.{KeepsPass, IsFaultOf, is_made, restored_lines}
 use Rattle.site_journal.specs.Journal.{AreReadAs, IsRestored, IsUnrestored, restored_bytes}
 use Rattle.site_journal.specs.ByCases.Restore.{LeadsByLine}
 use Rattle.site_journal.proofs.LostLemmas.{lines_join}
@@ -106,8 +106,12 @@ stopped_at old state new text rest line others number fault was splits is kept =
 pub shorter : (rest line others : List ℕ) → SplitsAtFeed rest line others
     → length others + 1 ≤ length rest
 shorter rest line others splits =
-    omega (arith, ap length splits.is, length-append (with_feed line) others,
-    length-append line (codes "\n"))
+    omega (
+      arith,
+      ap length splits.is,
+      length-append (with_feed line) others,
+      length-append line (codes "\n"),
+    )
 
 pub keeps_on : (first middle last : PassState) → KeepsPass first middle → KeepsPass middle last
     → KeepsPass first last

@@ -1,8 +1,8 @@
 -- A line that is written is read back, and no line feed is inside.
-use Rattle.std.proofs.Common.{◌≡◌, ◌≢◌, ℕ, zero, suc, ◌+◌, ◌/◌, ◌%◌, ◌<◌, ◌≤◌, Bool, true, false, cond, eqb, ◌||◌, ◌&&◌, nat_lt, List, [], ◌∷◌, ◌++◌, map, take, drop, length, get_or, Some, Ok, Result, codes, refl, sym, ap, ◌∙◌, subst, arith, append_assoc, length-append}
+use Rattle.std.proofs.Common.{◌≡◌, ◌≢◌, ℕ, zero, suc, ◌+◌, ◌/◌, ◌%◌, ◌<◌, ◌≤◌, Bool, true, false, cond, eqb, ◌||◌, ◌&&◌, nat_lt, List, [], ◌∷◌, ◌++◌, length, get_or, Some, Ok, codes, refl, ap, ◌∙◌, arith, append_assoc, length-append}
 use Rattle.std.specs.Prelude.{All}
 use Rattle.std.specs.Fmt.{decimal}
-use Rattle.std.specs.List.{position_or_len, before_first, after_first}
+use Rattle.std.specs.List.{position_or_len}
 use Rattle.std.specs.Str.{bytes_eq}
 use Rattle.std.proofs.Math.Seq.{take-append_seam, drop-append-add}
 use Rattle.std.proofs.lemmas.Bool.{eqb-true, lt-ltb, ltb-true}
@@ -15,13 +15,11 @@ use Rattle.ocpp_scalars.specs.Writing.{in_digits, day_text, time_of_day_text, in
 use Rattle.ocpp_scalars.specs.ByCases.InstantText.{instant_of}
 use Rattle.messages.specs.declared.side.Side.TheVariants as sides
 use Rattle.site_core.specs.Limits.{max_number}
-use Rattle.texts.specs.ByCases.Number.{number_of}
 use Rattle.texts.specs.Theory.Number.{number_made}
-use Rattle.site_journal.specs.declared.line_fault.LineFault.{LineFault}
 use Rattle.site_journal.specs.declared.line_word.LineWord.{LineWord}
 use Rattle.site_journal.specs.declared.line_word.LineWord.TheVariants as words
-use Rattle.site_journal.specs.Line.{NotedState, LineState, message, reply, verdict, attached, sent, lost, word_of, noted_text, unbroken, on_one_line, numbered_frame, line_words, HasNoLineFeed, CanBeNoted, CanBeWritten, noted_on_one_line, line_on_one_line}
-use Rattle.site_journal.specs.ByCases.Line.{is_space, word_at, word_named, number_or_fault, number_at, noted_in, words_of, moment_or_fault, line_of}
+use Rattle.site_journal.specs.Line.{NotedState, LineState, message, reply, verdict, attached, sent, lost, word_of, noted_text, unbroken, on_one_line, line_words, HasNoLineFeed, CanBeNoted, CanBeWritten, noted_on_one_line, line_on_one_line}
+use Rattle.site_journal.specs.ByCases.Line.{is_space, word_at, word_named, number_or_fault, number_at, noted_in, line_of}
 
 -- ---- bytes above the space
 
@@ -198,8 +196,11 @@ some_word (lost link) = omega arith
 
 some_instant : (instant : ℕ) → 0 < length (instant_text instant)
 unfolding instant_text
-some_instant instant = omega (arith, length-append (day_text (calendar_day (instant / 86_400))
-    ++ codes "T" ++ time_of_day_text (instant % 86_400)) (codes "Z"))
+some_instant instant = omega (
+  arith,
+  length-append (day_text (calendar_day (instant / 86_400))
+      ++ codes "T" ++ time_of_day_text (instant % 86_400)) (codes "Z"),
+)
 
 abbrev pub InstantsAreRead : Type 0
 InstantsAreRead = (instant : ℕ) → instant ≤ last_second

@@ -43,14 +43,14 @@ pub put_together : (line : LineState)
 unfolding line_words
 put_together line =
     let first = instant_text line.moment ++ codes " " ++ word_of line.noted ++ codes " "
-        ++ line.point ++ codes " " in
+    ++ line.point ++ codes " " in
     let drawn = drawn_text (number_written line.noted) in
     let last = noted_behind line.noted in
     sym (append_assoc (before_number line ++ drawn) last (codes "\n"))
     ∙ ap (λ (t : List ℕ). t ++ codes "\n") (
-        ap (λ (t : List ℕ). t ++ last) (append_assoc first (noted_before line.noted) drawn)
-        ∙ append_assoc first (noted_before line.noted ++ drawn) last
-        ∙ ap (λ (t : List ℕ). first ++ t) (pieces line.noted)
+    ap (λ (t : List ℕ). t ++ last) (append_assoc first (noted_before line.noted) drawn)
+    ∙ append_assoc first (noted_before line.noted ++ drawn) last
+    ∙ ap (λ (t : List ℕ). first ++ t) (pieces line.noted)
     )
 
 -- ---- and of an entry: the number that the line has makes no difference to it
@@ -79,12 +79,12 @@ pub entry_becomes : (line : LineState) (number : ℕ)
 entry_becomes line number =
     let is = same line.noted number in
     ap (λ (t : List ℕ). instant_text line.moment ++ codes " " ++ t ++ codes " " ++ line.point
-        ++ codes " " ++ noted_before line.noted ++ number_text (draws_number line.noted) number
-        ++ behind_number line) (sym is.word)
+    ++ codes " " ++ noted_before line.noted ++ number_text (draws_number line.noted) number
+    ++ behind_number line) (sym is.word)
     ∙ ap (λ (t : List ℕ). instant_text line.moment ++ codes " " ++ word_of (with_number line.noted number)
-        ++ codes " " ++ line.point ++ codes " " ++ t
-        ++ number_text (draws_number line.noted) number ++ behind_number line) (sym is.before)
+    ++ codes " " ++ line.point ++ codes " " ++ t
+    ++ number_text (draws_number line.noted) number ++ behind_number line) (sym is.before)
     ∙ ap (λ (t : List ℕ). before_number (numbered line number) ++ t ++ behind_number line) (sym is.drawn)
     ∙ ap (λ (t : List ℕ). before_number (numbered line number)
-        ++ drawn_text (number_written (with_number line.noted number)) ++ (t ++ codes "\n")) (sym is.behind)
+    ++ drawn_text (number_written (with_number line.noted number)) ++ (t ++ codes "\n")) (sym is.behind)
     ∙ put_together (numbered line number)

@@ -1,29 +1,27 @@
 -- What the loss of a link does, and losses one after another.
-use Rattle.std.proofs.Common.{◌≡◌, ℕ, zero, suc, ◌+◌, ◌<◌, ◌≤◌, Bool, true, false, cond, List, [], ◌∷◌, ◌++◌, length, get_or, Option, Some, None, Result, Ok, Err, inl, inr, refl, sym, ap, ◌∙◌, subst, append_assoc, append-nil, arith}
+use Rattle.std.proofs.Common.{◌≡◌, ℕ, zero, suc, ◌+◌, ◌<◌, Bool, true, false, cond, List, [], ◌∷◌, ◌++◌, length, get_or, Option, Some, None, Result, Ok, Err, inl, inr, refl, sym, ap, ◌∙◌, subst, append_assoc, append-nil, arith}
 use Rattle.std.specs.Prelude.{slice_set, slice_get, flat_map}
-use Rattle.std.specs.List.{AllByRecursion, position}
+use Rattle.std.specs.List.{AllByRecursion}
 use Rattle.std.specs.Str.{bytes_eq}
 use Rattle.std.proofs.lemmas.Bool.{cases_lt}
 use Rattle.std.proofs.lemmas.Grind.{flat_map-append}
 use Rattle.std.proofs.lemmas.List.Quantifiers.{position-Some}
 use Rattle.std.proofs.lemmas.Slice.Eq.{bytes_eq-Decides}
 use Rattle.ocpp_scalars.specs.ResultSteps.{◌>>=◌}
-use Rattle.ocpp_scalars.specs.declared.refusal.Refusal.{Refusal}
 use Rattle.ocpp_scalars.specs.declared.refusal.Refusal.TheVariants.{Stopped, Superseded}
 use Rattle.site_rules.specs.Site.{PointEntry, SiteState, place_of}
-use Rattle.site_core.specs.declared.step.Step.{Step}
 use Rattle.site_core.specs.declared.step.Step.TheVariants as steps
 use Rattle.site_core.specs.declared.reply.Reply.{Reply}
 use Rattle.site_core.specs.declared.reply.Reply.TheVariants.{LinkLost}
 use Rattle.site_core.specs.ChargePoint.{ChargePointState, Loses, point_after}
 use Rattle.site_core.specs.State.{MachineState, point_in, point_at, outbox_at, link_at, link_of, is_this_number}
-use Rattle.site_core.specs.Step.{Made, PointStep, over_link, loses, made_at, found_place, place_for, stepped, no_answer}
+use Rattle.site_core.specs.Step.{Made, over_link, loses, made_at, found_place, place_for, stepped, no_answer}
 use Rattle.site_journal.specs.declared.restore_fault.RestoreFault.{RestoreFault}
 use Rattle.site_journal.specs.Line.{LineState, lost, line_text}
 use Rattle.site_journal.specs.Restore.{restored, restored_lines}
 use Rattle.site_journal.specs.LostLinks.{HasNoLinks, IsLossAt, LosesLinks}
 use Rattle.site_journal.specs.ByCases.LostLinks.{HasNoLinkAt, GivesNoLink}
-use Rattle.site_journal.proofs.StepLemmas.{Led, led}
+use Rattle.site_journal.proofs.StepLemmas.{led}
 use Rattle.site_journal.proofs.RestoreLemmas.{made_so}
 use Rattle.site_journal.proofs.NotedLemmas.{losses}
 

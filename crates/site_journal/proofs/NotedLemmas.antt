@@ -1,5 +1,5 @@
 -- What is noted of a step leads where the step led.
-use Rattle.std.proofs.Common.{◌≡◌, ℕ, Bool, true, false, cond, List, Option, Some, None, Result, Ok, Err, refl, sym, ap, ◌∙◌, eqb}
+use Rattle.std.proofs.Common.{◌≡◌, ℕ, Bool, true, false, cond, Option, Some, None, Result, Ok, Err, refl, sym, ap, ◌∙◌, eqb}
 use Rattle.std.proofs.lemmas.Bool.{eqb-false}
 use Rattle.ocpp_scalars.specs.ResultSteps.{◌>>=◌}
 use Rattle.ocpp_scalars.specs.declared.refusal.Refusal.{Refusal}
@@ -7,7 +7,6 @@ use Rattle.messages.specs.declared.side.Side.{Side}
 use Rattle.messages.specs.declared.side.Side.TheVariants.{Point}
 use Rattle.sweep_compiler.specs.Verdict.{AuditRequest}
 use Rattle.texts.specs.declared.asked.Asked.{Asked}
-use Rattle.texts.specs.declared.asked.Asked.TheVariants as asked
 use Rattle.texts.specs.Asked.{asked_of}
 use Rattle.texts.specs.Said.{said_of}
 use Rattle.texts.specs.SentText.{Sent, sent}

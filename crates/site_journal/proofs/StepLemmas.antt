@@ -1,5 +1,5 @@
 -- What led to a result, step by step.
-use Rattle.std.proofs.Common.{◌≡◌, Option, Some, None, Result, Ok, Err, refl}
+use Rattle.std.proofs.Common.{◌≡◌, Result, Ok, Err, refl}
 use Rattle.ocpp_scalars.specs.ResultSteps.{◌>>=◌}
 
 pub record Led {A B E : Type 0} (first : Result A E) (next : A → Result B E) (b : B) : Type 0 where

@@ -2,7 +2,7 @@
 use Rattle.std.specs.Prelude.{ℕ, ◌≡◌, List, [], ◌++◌, codes, Bool, true, false, Option, Some, None, is_some}
 use Rattle.std.specs.Fmt.{decimal}
 use Rattle.ocpp_scalars.specs.Writing.{instant_text}
-use Rattle.site_journal.specs.Line.{NotedState, LineState, message, reply, verdict, attached, sent, lost, word_of, number_written, noted_text, on_one_line, line_text}
+use Rattle.site_journal.specs.Line.{NotedState, LineState, message, attached, sent, word_of, number_written, noted_text, on_one_line, line_text}
 
 -- what stands before the number and behind it
 pub record EntryState : Type 0 where

@@ -2,7 +2,7 @@
 use Rattle.std.specs.Prelude.{◌≡◌, ℕ, List, ◌++◌, flat_map, None, Ok}
 use Rattle.std.specs.List.{AllByRecursion}
 use Rattle.site_core.specs.State.{MachineState, link_of}
-use Rattle.site_journal.specs.Line.{LineState, NotedState, lost, line_text}
+use Rattle.site_journal.specs.Line.{LineState, lost, line_text}
 use Rattle.site_journal.specs.Restore.{restored_lines}
 
 abbrev pub HasNoLinks : MachineState → Type 0

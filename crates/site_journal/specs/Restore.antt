@@ -22,7 +22,7 @@ use Rattle.site_core.specs.State.{MachineState, audit_job}
 use Rattle.site_core.specs.Step.{Made, stepped, no_answer}
 use Rattle.version_store.specs.Passes.{PassState}
 use Rattle.site_journal.specs.declared.restore_fault.RestoreFault.{RestoreFault}
-use Rattle.site_journal.specs.declared.restore_fault.RestoreFault.TheVariants.{Line, OtherStep, Refused, Unchanged, OtherNumber, OutOfMemory}
+use Rattle.site_journal.specs.declared.restore_fault.RestoreFault.TheVariants.{OtherStep, Refused, Unchanged, OtherNumber, OutOfMemory}
 use Rattle.site_journal.specs.Line.{NotedState, LineState, message, reply, verdict, attached, sent, lost, number_written}
 
 -- ---- the step of a line

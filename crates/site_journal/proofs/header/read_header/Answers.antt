@@ -1,5 +1,4 @@
 -- What begins otherwise is no first line.
-use Rattle.std.proofs.Common.{sym, ap, ◌∙◌}
 use Rattle.hex.specs.Hex.{encode_lower}
 use Rattle.site_journal.specs.Header.{header_words}
 use Rattle.site_journal.proofs.header.read_header.Goals as goal

@@ -1,5 +1,5 @@
 -- The pieces make the line.
-use Rattle.std.proofs.Common.{ℕ, List, ◌++◌, string_bytes, subst, ap, sym, ◌∙◌}
+use Rattle.std.proofs.Common.{◌++◌, string_bytes, subst, ap, ◌∙◌}
 use Rattle.ocpp_scalars.specs.Appending.{Appends}
 use Rattle.site_journal.specs.Line.{LineState, number_written}
 use Rattle.site_journal.specs.Entry.{before_number, behind_number, drawn_text}

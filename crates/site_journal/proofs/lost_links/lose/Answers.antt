@@ -2,7 +2,7 @@
 use Rattle.std.proofs.Common.{List, ℕ, ◌++◌, string_bytes, ap, ◌∙◌}
 use Rattle.site_core.specs.declared.step.Step.TheVariants as steps
 use Rattle.site_core.specs.declared.reply.Reply.TheVariants.{LinkLost}
-use Rattle.site_journal.specs.Line.{LineState, lost, line_text}
+use Rattle.site_journal.specs.Line.{lost, line_text}
 use Rattle.site_journal.proofs.RestoreLemmas.{step_made}
 use Rattle.site_journal.proofs.LostLemmas.{loses_at, one_loss}
 use Rattle.site_journal.proofs.lost_links.lose.Goals as goal

@@ -1,5 +1,5 @@
 -- Place after place has no link.
-use Rattle.std.proofs.Common.{◌≡◌, ◌<◌, ℕ, length, string_bytes, sym, ap, ◌∙◌, arith}
+use Rattle.std.proofs.Common.{◌≡◌, length, string_bytes, sym, ap, ◌∙◌, arith}
 use Rattle.site_rules.specs.Site.{SiteState}
 use Rattle.site_core.specs.State.{MachineState}
 use Rattle.site_journal.proofs.LostLemmas.{one_place_more, more_losses, no_links}

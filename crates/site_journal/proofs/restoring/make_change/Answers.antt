@@ -1,8 +1,7 @@
 -- The change was made, with its number, or refused.
 use Rattle.std.proofs.Common.{Some, ◌∙◌, ap}
-use Rattle.site_core.specs.declared.reply.Reply.{Reply}
 use Rattle.site_journal.specs.Restore.{number_drawn, number_fault}
-use Rattle.site_journal.proofs.RestoreLemmas.{told, leads, leads_refused, step_made, left, no_number, change_folds, keeps}
+use Rattle.site_journal.proofs.RestoreLemmas.{told, leads, leads_refused, step_made, left, no_number}
 use Rattle.site_journal.proofs.restoring.make_change.Goals as goal
 
 pub returns-in-Ok-clause-leads : goal.returns-in-Ok-clause-leads

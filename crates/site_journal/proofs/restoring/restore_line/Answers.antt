@@ -1,6 +1,6 @@
 -- A verdict is judged again.
 use Rattle.std.proofs.Common.{sym, ap, ◌∙◌}
-use Rattle.site_journal.specs.Line.{LineState, noted_state}
+use Rattle.site_journal.specs.Line.{noted_state}
 use Rattle.site_journal.proofs.RestoreLemmas.{verdict_leads}
 use Rattle.site_journal.proofs.restoring.restore_line.Goals as goal
 

@@ -1,7 +1,7 @@
 -- The entry is of the line whose number isn't known.
-use Rattle.std.proofs.Common.{ℕ, List, Bool, ◌++◌, is_some, ap, ◌∙◌}
-use Rattle.site_journal.specs.Line.{LineState, number_written}
-use Rattle.site_journal.specs.Entry.{number_text, before_number, behind_number, draws_number}
+use Rattle.std.proofs.Common.{ℕ, List, ◌++◌, is_some, ap, ◌∙◌}
+use Rattle.site_journal.specs.Line.{LineState}
+use Rattle.site_journal.specs.Entry.{before_number, behind_number, draws_number}
 use Rattle.site_journal.proofs.LinePieces.{entry_becomes}
 use Rattle.site_journal.proofs.entry.Entry.new.Goals as goal
 
