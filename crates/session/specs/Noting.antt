@@ -1,31 +1,29 @@
 -- What a session notes of a step that it made: a line that leads where the step led.
 use Rattle.std.specs.Prelude.{ℕ, ◌≡◌, Bool, true, false, List, Option, Some, None, Ok}
 use Rattle.messages.specs.declared.action_kind.ActionKind.{ActionKind}
-use Rattle.messages.specs.declared.side.Side.TheVariants.{Point}
 use Rattle.site_core.specs.declared.step.Step.{Step}
 use Rattle.site_core.specs.declared.step.Step.TheVariants as steps
 use Rattle.site_core.specs.declared.reply.Reply.{Reply}
+use Rattle.site_core.specs.Step.{Made}
 use Rattle.version_store.specs.Passes.{PassState}
 use Rattle.version_store.specs.Store.{StoreState, IsStore}
 use Rattle.version_store.specs.Calls.{Makes}
 use Rattle.site_journal.specs.Entry.{EntryState, IsEntryOf, numbered}
-use Rattle.site_journal.specs.Line.{NotedState, LineState, verdict}
-use Rattle.site_journal.specs.NotedStep.{line_at, noted_by}
-use Rattle.site_journal.specs.Restore.{is_change, restored}
+use Rattle.site_journal.specs.Line.{NotedState, LineState, reply, verdict}
+use Rattle.site_journal.specs.NotedStep.{LeadsTo, line_at, noted_by}
 use Rattle.texts.specs.declared.asked.Asked.TheVariants as asked
 use Rattle.texts.specs.Asked.{asked_of}
 use Rattle.texts.specs.SentText.{Sent}
-use Rattle.session.specs.declared.outcome.Outcome.TheVariants.{Made}
 use Rattle.session.specs.declared.outcome.Performed.{Performed}
-use Rattle.session.specs.declared.outcome.Performed.TheVariants.{Outcome}
 use Rattle.session.specs.Perform.{Performs}
 
 -- ---- a line of a step that was made
 
--- a line leads from one state to the other; of a verdict nothing is said
-abbrev pub LeadsFrom : LineState → StoreState → StoreState → NotedState → Type 0
-LeadsFrom line old new (verdict call frame) = Unit {0}
-LeadsFrom line old new noted = restored old.present line ≡ Ok new.present
+-- a line leads where a step led; of what a point replied nothing is said
+abbrev pub LeadsWith : StoreState → LineState → NotedState → Made → Type 0
+LeadsWith old line (reply link frame) made = Unit {0}
+LeadsWith old line (verdict call frame) made = Unit {0}
+LeadsWith old line noted made = LeadsTo old.present line made
 
 -- A step was made on the book while the session had it, and the entry with this number is a line that
 -- leads where the step led.
@@ -35,10 +33,11 @@ pub record IsOfMadeStep (entry : EntryState) (number : ℕ) : Type 0 where
   pub old : StoreState
   pub new : StoreState
   pub step : Step
-  pub reply : Reply
+  pub told : Reply
   pub store : IsStore old
-  pub makes : Makes old step reply new
-  pub leads : LeadsFrom (numbered line number) old new line.noted
+  pub makes : Makes old step told new
+  pub leads : LeadsWith old (numbered line number) line.noted
+      (record { reply = told; after = new.present })
 
 -- an entry of what is noted of a point, at some moment
 abbrev pub IsEntryAt : List ℕ → NotedState → EntryState → Type 0
@@ -46,11 +45,9 @@ IsEntryAt point noted entry = (moment : ℕ) × IsEntryOf entry (line_at moment 
 
 -- ---- what is noted of a message
 
--- what a message asks for is this step: by a CALL, or for a confirm by the point's reply
+-- what a message asks for is this step; of a confirm nothing is said
 abbrev pub AsksFor : Sent → Step → Type 0
-AsksFor text (steps.Confirm point link call accepted) =
-    (text.sender ≡ Point) × (point ≡ text.point)
-    × (asked_of text ≡ asked.Confirm text.point call accepted)
+AsksFor text (steps.Confirm point link call accepted) = Unit {0}
 AsksFor text step = (id : List ℕ) × (kind : ActionKind) × (asked_of text ≡ asked.Step id kind step)
 
 -- an entry of what is noted of a step, for which a message asks

@@ -26,7 +26,7 @@ pub trait Journal {
         noted: Noted<'_>,
     ) -> Result<Option<Entry>, JournalFault>
         ensures { IfOk result (λ entry. IfSome entry
-            (λ e. IsEntryOf e (line_at moment point.now (noted_state noted)))) };
+            (λ e. IsEntryOf e (line_at moment point.now (noted_state noted.entry)))) };
 
     /// Notes a step that was made and changed something, with the number that it drew. Whoever
     /// notes it has had the book since before the step, so this waits for nothing that takes long.

@@ -1,14 +1,16 @@
 //! What is noted of a session's steps: those that change something.
 
-ghost use Rattle.std.specs.Prelude.{IfOk, IfSome};
+ghost use Rattle.std.specs.Prelude.{◌≡◌, IfOk, IfSome};
 ghost use Rattle.site_journal.specs.Line.{noted_state};
+ghost use Rattle.session.specs.declared.outcome.Outcome.{Outcome};
+ghost use Rattle.session.specs.declared.outcome.Performed.{Performed};
 ghost use Rattle.session.specs.Noting.{AsksFor, IsEntryAt, IsEntryFor, IsNotable};
 
 use crate::context::Context;
 use crate::journal::{Journal, JournalFault};
 use crate::outcome::{Outcome, Performed};
 use ocpp_scalars::{Instant, Moments};
-use site_core::Step;
+use site_core::{Reply, Step};
 use site_journal::{Entry, Noted, noted_by, noted_steps_are_restored, number_drawn};
 use std::sync::Wait;
 use std::sync::ledger::Ledger;
@@ -40,7 +42,7 @@ pub(crate) fn prepare_link<C: Ledger, A: Ledger, R: Wait, M: Moments, J: Journal
     point: &str,
     noted: Noted<'_>,
 ) -> Result<Option<Entry>, JournalFault>
-    ensures { IfOk result (λ entry. IfSome entry (IsEntryAt point.now (noted_state noted))) }
+    ensures { IfOk result (λ entry. IfSome entry (IsEntryAt point.now (noted_state noted.entry))) }
 {
     // Moments are noted and never compared, so one is as good as none.
     let Some(moment) = context.clock.now().or(Instant::try_new(0)) else {
@@ -62,12 +64,22 @@ pub(crate) fn note_performed<C: Ledger, A: Ledger, J: Journal>(
 {
     // A law: nothing runs.
     noted_steps_are_restored();
-    let (Some(entry), Performed::Outcome(Outcome::Made(reply))) = (entry, performed) else {
+    let (Some(entry), Some(reply)) = (entry, reply_made(performed)) else {
         return;
     };
     if confirms {
         journal.note(entry, 0);
     } else if let Some(number) = number_drawn(reply, book.version()) {
         journal.note(entry, number);
+    }
+}
+
+/// The reply of a step that was made.
+fn reply_made(performed: &Performed) -> Option<&Reply>
+    ensures { IfSome result (λ reply. performed.now ≡ Performed.Outcome (Outcome.Made reply.now)) }
+{
+    match performed {
+        Performed::Outcome(Outcome::Made(reply)) => Some(reply),
+        _ => None,
     }
 }

@@ -3,7 +3,7 @@
 ghost use Rattle.std.specs.Prelude.{◌≡◌, ◌↔◌, IsTrue, IfOk, IfSome, option_map, string_bytes};
 ghost use Rattle.session.specs.Noting.{IsEntryFor, IsEntryToNote, is_confirm};
 ghost use Rattle.session.specs.Perform.{IsOfText};
-ghost use Rattle.session.specs.Served.{HasOutcome, IsOutcomeOf, IsOutcomeOfJob, IsPerformed, IsServed};
+ghost use Rattle.session.specs.Served.{HasOutcome, IsOutcomeOf, IsOutcomeOfJob, IsPerformed, IsServed, IsUnmade};
 ghost use Rattle.session.specs.Serving.{KeepsPass};
 ghost use Rattle.session.specs.Session.{sent_by};
 
@@ -17,7 +17,7 @@ use crate::serving::noting::{note_performed, prepare_message};
 use crate::serving::sockets::{clear_to_leave, read_text, send_text};
 use crate::session_core::SessionCore;
 use crate::step::perform;
-use crate::todo::{Owed, Todo};
+use crate::todo::Todo;
 use compile_pool::{answer_job, wait_answer};
 use meaning::Ask;
 use ocpp_scalars::{Instant, Moments, Refusal};
@@ -74,6 +74,7 @@ pub struct Served {
 /// the message that answers it. A request for a schedule is answered by what is right for what its point had when this very request was taken,
 /// and for what was asked. The answer to another request is never handed on: it ends the session. A
 /// step that couldn't be noted isn't made: the message is answered as one that memory ran out for.
+#[tactic(auto, using(crate::proofs::AskedLemmas::asks_for))]
 pub fn serve_sent_text<C: Ledger, A: Ledger, R: Wait, M: Moments, J: Journal>(
     context: &Context<'_, C, A, R, M, J>,
     core: &SessionCore,
@@ -97,21 +98,26 @@ pub fn serve_sent_text<C: Ledger, A: Ledger, R: Wait, M: Moments, J: Journal>(
     };
     let outcome = outcome_of(context, memory, pass, &sent, step, entry)?;
     let is_short = matches!(outcome, Some(Outcome::Refused(Refusal::OutOfMemory)));
-    match core.answer(todo, outcome) {
-        Ok(None) if is_short => Err(Ended::OutOfMemory),
-        Ok(answer) => Ok(Served { answer }),
-        Err(_) => Err(Ended::OutOfMemory),
+    let Ok(answer) = core.answer(todo, outcome) else {
+        return Err(Ended::OutOfMemory);
+    };
+    if is_short && answer.is_none() {
+        return Err(Ended::OutOfMemory);
     }
+    Ok(Served { answer })
 }
 
 /// The answer to a message whose step isn't made, since it couldn't be noted: that of a CALL that
 /// memory ran out for. A reply has none, and the session ends: its call goes out again over the
 /// point's next link.
-fn served_unmade(core: &SessionCore, todo: Todo, fault: JournalFault) -> Result<Served, Ended> {
-    let Owed::Outcome { id, .. } = todo.into_owed() else {
+fn served_unmade(core: &SessionCore, todo: Todo, fault: JournalFault) -> Result<Served, Ended>
+    ensures { IfOk result
+        (λ served. IsUnmade core.now todo.owed (option_map string_bytes served.answer)) }
+{
+    let Some(unnoted) = todo.into_unnoted() else {
         return Err(ended_unsaved(fault));
     };
-    match core.answer(Todo::without_memory(id), None) {
+    match core.answer(unnoted, None) {
         Ok(answer) => Ok(Served { answer }),
         Err(_) => Err(Ended::OutOfMemory),
     }
