@@ -40,6 +40,7 @@ pub fn keep_seat<C: Ledger, A: Ledger, R: Wait + Clock, M: Moments, J: Journal>(
         jobs,
         clock: &seats.clock,
         journal: &seats.journal,
+        reading: &seats.reading,
     };
     let mut pass = pass;
     for _connection in seats.rt.forever() {

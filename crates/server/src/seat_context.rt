@@ -6,8 +6,8 @@ use ocpp_scalars::Moments;
 use session::Journal;
 use std::alloc::{AllocError, Global};
 use std::rt::Clock;
-use std::sync::Wait;
 use std::sync::ledger::Ledger;
+use std::sync::{Mutex, Wait};
 use version_store::Shared;
 
 /// What all threads share that serve a site.
@@ -20,6 +20,8 @@ pub struct SeatContext<C: Ledger, A: Ledger, R, M, J> {
     pub(crate) journal: J,
     pub(crate) present: PresentStreams,
     pub(crate) free: FreeSeats,
+    /// Whoever reads a long message has this.
+    pub(crate) reading: Mutex<()>,
 }
 
 impl<
@@ -48,6 +50,7 @@ impl<
             journal,
             present: PresentStreams::make(alloc, points)?,
             free: FreeSeats::new(),
+            reading: Mutex::new(()),
         })
     }
 

@@ -11,8 +11,8 @@ use site_rules::Site;
 use std::alloc::{AllocError, Global};
 use std::marker::{Brand, Send, Sync};
 use std::net::TcpListener;
-use std::sync::Wait;
 use std::sync::ledger::{Blank, Ledger};
+use std::sync::{Mutex, Wait};
 use std::thread;
 use std::thread::Threads;
 use thiserror::Error;
@@ -156,6 +156,7 @@ fn serve_beside_workers<
                 { run_pool(rt, alloc, workers, &queue, shared, &Open) },
             );
             drop(pool);
+            let reading = Mutex::new(());
             let context = Context {
                 rt,
                 alloc,
@@ -163,6 +164,7 @@ fn serve_beside_workers<
                 jobs: &jobs,
                 clock,
                 journal: &NoJournal,
+                reading: &reading,
             };
             let served = serve_connections(&context, listener, passes);
             shared.lock(rt).finish();

@@ -6,6 +6,7 @@ mod audits;
 mod calls;
 mod ended;
 mod noting;
+mod reading;
 mod served_text;
 mod sockets;
 
@@ -22,8 +23,8 @@ use served_text::serve_text;
 pub use served_text::{Served, serve_sent_text};
 use std::alloc::Global;
 use std::io::{Read, Write};
-use std::sync::Wait;
 use std::sync::ledger::Ledger;
+use std::sync::{Mutex, Wait};
 use tungstenite::{MaskKeys, WebSocket};
 use version_store::{Job, Pass, Shared};
 
@@ -79,6 +80,7 @@ pub fn serve_noted_socket<
 ) -> (Ended, Pass<C, A>)
     ensures { KeepsPass pass result.1 }
 {
+    let reading = Mutex::new(());
     let context = Context {
         rt,
         alloc,
@@ -86,6 +88,7 @@ pub fn serve_noted_socket<
         jobs,
         clock,
         journal,
+        reading: &reading,
     };
     serve_session(&context, socket, core, pass)
 }

@@ -10,6 +10,7 @@ use crate::context::Context;
 use crate::journal::Journal;
 use crate::outcome::{Outcome, Performed};
 use crate::serving::ended::{Ended, ended_unsaved};
+use crate::serving::reading::read_reply;
 use meaning::Said;
 use ocpp_scalars::Moments;
 use ocppj_frame::ReadingMemory;
@@ -20,7 +21,7 @@ use std::marker::Model;
 use std::sync::Wait;
 use std::sync::ledger::Ledger;
 use sweep_compiler::{AuditJob, Judged};
-use texts::{SentText, said_of};
+use texts::SentText;
 use version_store::Book;
 
 /// An audit that has no verdict yet.
@@ -95,7 +96,7 @@ pub(crate) fn judge_reply<C: Ledger, A: Ledger, R: Wait, M: Moments, J: Journal>
     ensures { OnOk result (BringsVerdict sent.now audit) }
 {
     let OpenAudit { point, call, job } = audit;
-    let (judged, is_short) = judged_by(context.alloc, memory, sent, job);
+    let (judged, is_short) = judged_by(context, memory, sent, job);
     let frame = if is_short { UNREAD_REPLY } else { sent.frame() };
     let noted = Noted::Verdict { call, frame };
     let prepared = context
@@ -133,20 +134,20 @@ fn bring_verdict<C: Ledger, A: Ledger>(
 
 /// The verdict on what a message says, and whether memory ran out for it. What can't be read for
 /// lack of memory is judged as unread.
-fn judged_by(
-    alloc: Global,
+fn judged_by<C: Ledger, A: Ledger, R: Wait, M: Moments, J: Journal>(
+    context: &Context<'_, C, A, R, M, J>,
     memory: &mut ReadingMemory,
     sent: &SentText<'_>,
     job: AuditJob,
 ) -> (Judged, bool)
     ensures { IsJudgedBy sent.now job result.0 }
 {
-    match said_of(alloc, memory, sent) {
+    match read_reply(context, memory, sent) {
         Ok(said) => {
-            let judged = Judged::make(alloc, job, said);
+            let judged = Judged::make(context.alloc, job, said);
             let is_short = judged.short();
             (judged, is_short)
         }
-        Err(AllocError) => (Judged::make(alloc, job, Said::Unread), true),
+        Err(AllocError) => (Judged::make(context.alloc, job, Said::Unread), true),
     }
 }

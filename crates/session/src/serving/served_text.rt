@@ -14,6 +14,7 @@ use crate::serving::audits::{OpenAudit, audit_confirmed, audit_to_judge, judge_r
 use crate::serving::calls::send_call;
 use crate::serving::ended::{Ended, ended_unsaved};
 use crate::serving::noting::{note_performed, prepare_message};
+use crate::serving::reading::read_message;
 use crate::serving::sockets::{clear_to_leave, read_text, send_text};
 use crate::session_core::SessionCore;
 use crate::step::perform;
@@ -87,7 +88,7 @@ pub fn serve_sent_text<C: Ledger, A: Ledger, R: Wait, M: Moments, J: Journal>(
     ensures served { IfOk result (λ served. IsServed core.now pass.old
         (sent_by core.now moment frame.now) (option_map string_bytes served.answer)) }
 {
-    let Ok(mut todo) = core.read_text(memory, moment, frame) else {
+    let Ok(mut todo) = read_message(context, core, memory, moment, frame) else {
         return Err(Ended::OutOfMemory);
     };
     let sent = SentText::new(moment, core.side(), core.point_id().as_str(), frame);
