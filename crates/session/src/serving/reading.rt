@@ -1,6 +1,6 @@
 //! How a message is read into memory, which a long one takes many times its size of.
 
-ghost use Rattle.std.specs.Prelude.{◌≡◌, IfOk};
+ghost use Rattle.std.specs.Prelude.{◌≡◌, IfErr, IfOk};
 ghost use Rattle.session.specs.Todo.{IsTodo};
 ghost use Rattle.texts.specs.Said.{said_of};
 
@@ -28,7 +28,8 @@ pub(crate) fn read_message<C: Ledger, A: Ledger, R: Wait, M: Moments, J: Journal
     moment: Instant,
     frame: &str,
 ) -> Result<Todo, Refusal>
-    ensures { IfOk result (λ todo. IsTodo core.now moment frame.now todo) }
+    ensures todo { IfOk result (λ todo. IsTodo core.now moment frame.now todo) }
+    ensures refusal { IfErr result (λ refusal. refusal ≡ Refusal.OutOfMemory) }
 {
     if frame.len() <= LONGEST_IN_OWN {
         return core.read_text(memory, moment, frame);
