@@ -53,7 +53,11 @@ impl<C: Ledger, A: Ledger> SeatedBook<C, A> {
         ensures { IfOk result (λ book. length book.seats.items ≡ seats) }
     {
         let (changes, answers) = blanks;
-        let (shared, passes) = Shared::make(alloc, changes, answers, site, seats + 1)?;
+        // It never fails: each ledger has so many parts.
+        let Some(count) = seats.checked_add(1) else {
+            return Err(AllocError);
+        };
+        let (shared, passes) = Shared::make(alloc, changes, answers, site, count)?;
         let mut passes = passes;
         let Some(restoring) = passes.pop() else {
             unreachable!()
