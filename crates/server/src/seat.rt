@@ -44,11 +44,11 @@ pub fn keep_seat<C: Ledger, A: Ledger, R: Wait + Clock, M: Moments, J: Journal>(
     };
     let mut pass = pass;
     for _connection in seats.rt.forever() {
-        seats.free.add(&seats.rt);
         let Ok(stream) = streams.recv(&seats.rt) else {
             return pass;
         };
         pass = serve_incoming(seats, &context, stream, pass);
+        seats.free.add(&seats.rt);
     }
     unreachable!()
 }
