@@ -156,6 +156,8 @@ fn begin_seats<
     let mut seats = 0usize;
     for pass in passes {
         if begin_seat(context, jobs, queue, pass)? {
+            // It is free before a connection is let in.
+            context.free.add(&context.rt);
             seats += 1;
         }
     }
