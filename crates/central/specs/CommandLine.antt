@@ -218,7 +218,7 @@ pub record IsServing (rows : List Row) (serving : Serving) : Type 0 where
 -- which script is to be played, on which site
 pub record IsReplaying (rows : List Row) (replaying : Replaying) : Type 0 where
   pub site : first_of (codes "site") rows ≡ Some replaying.site.now
-  pub data : first_of (codes "data") rows ≡ option_map (λ text. text.now) replaying.data
+  pub folder : first_of (codes "data") rows ≡ option_map (λ text. text.now) replaying.folder
 
 abbrev pub number_or : ℕ → Option ℕ → ℕ
 number_or default None = default
@@ -233,7 +233,7 @@ pub record IsNumberOr (option : Text) (rows : List Row) (default number : ℕ) :
 -- how a site is to be run
 pub record IsRunning (rows : List Row) (running : Running) : Type 0 where
   pub site : first_of (codes "site") rows ≡ Some running.site.now
-  pub data : first_of (codes "data") rows ≡ Some running.data.now
+  pub folder : first_of (codes "data") rows ≡ Some running.folder.now
   pub listen : first_of (codes "listen") rows ≡ Some running.listen.now
   pub seats : IsNumberOr (codes "seats") rows default_seats running.seats
   pub some_seats : 1 ≤ running.seats
@@ -281,7 +281,7 @@ pub record IsExplaining (rows : List Row) (explaining : Explaining) : Type 0 whe
   pub connector : IsNumber (codes "connector") rows explaining.connector
   pub start : first_of (codes "start") rows ≡ Some explaining.start.now
   pub duration : IsNumber (codes "duration") rows explaining.duration
-  pub data : first_of (codes "data") rows ≡ option_map (λ text. text.now) explaining.data
+  pub folder : first_of (codes "data") rows ≡ option_map (λ text. text.now) explaining.folder
   pub at : first_of (codes "at") rows ≡ option_map (λ text. text.now) explaining.at
   pub picture : first_of (codes "picture") rows ≡ option_map (λ text. text.now) explaining.picture
   pub json : IsFlag (codes "json") rows explaining.json
@@ -289,13 +289,13 @@ pub record IsExplaining (rows : List Row) (explaining : Explaining) : Type 0 whe
 -- which site is to be checked, with a script
 pub record IsChecking (rows : List Row) (checking : Checking) : Type 0 where
   pub site : first_of (codes "site") rows ≡ Some checking.site.now
-  pub data : first_of (codes "data") rows ≡ option_map (λ text. text.now) checking.data
+  pub folder : first_of (codes "data") rows ≡ option_map (λ text. text.now) checking.folder
   pub trace : IsFlag (codes "trace") rows checking.trace
 
 -- which site is to be shown, after how many lines of a script, and how
 pub record IsShowing (rows : List Row) (showing : Showing) : Type 0 where
   pub site : first_of (codes "site") rows ≡ Some showing.site.now
-  pub data : first_of (codes "data") rows ≡ option_map (λ text. text.now) showing.data
+  pub folder : first_of (codes "data") rows ≡ option_map (λ text. text.now) showing.folder
   pub at : first_of (codes "at") rows ≡ option_map (λ text. text.now) showing.at
   pub json : IsFlag (codes "json") rows showing.json
 
@@ -303,8 +303,8 @@ pub record IsShowing (rows : List Row) (showing : Showing) : Type 0 where
 abbrev pub IsJob : Text → List Row → Job → Type 0
 IsJob name rows (Replay replaying) = (name ≡ codes "replay") × IsReplaying rows replaying
 IsJob name rows (Run running) = (name ≡ codes "run") × IsRunning rows running
-IsJob name rows (Journal data) =
-    (name ≡ codes "journal") × (first_of (codes "data") rows ≡ Some data.now)
+IsJob name rows (Journal folder) =
+    (name ≡ codes "journal") × (first_of (codes "data") rows ≡ Some folder.now)
 IsJob name rows (Serve serving) = (name ≡ codes "serve") × IsServing rows serving
 IsJob name rows (Call calling) = (name ≡ codes "call") × IsCalling rows calling
 IsJob name rows (Point pointing) = (name ≡ codes "point") × IsPointing rows pointing

@@ -86,8 +86,8 @@ fn do_job<
             naming(rt, running.site, run)?;
             Ok(0)
         }
-        Ok(Job::Journal { data }) => {
-            print_journal(rt, data)?;
+        Ok(Job::Journal { folder }) => {
+            print_journal(rt, folder)?;
             Ok(0)
         }
         Ok(Job::Serve(serving)) => {

@@ -32,7 +32,7 @@ pub fn check_file<R: Files<File = File> + Input + Print + Eprint + AllocGlobal>(
     // What is wrong with the site file is printed even if the script can't be read.
     let page = site_page(alloc, checking.site, findings.as_slice())?;
     print_page(rt, page.as_str())?;
-    let script = read_script_of(rt, checking.data)?;
+    let script = read_script_of(rt, checking.folder)?;
     if let Some(site) = site_of(alloc, bytes.as_slice())? {
         let mut page = String::new(alloc);
         let mut more = push_played(&mut page, site, script.as_slice(), checking.trace)?;

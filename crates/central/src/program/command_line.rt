@@ -18,7 +18,7 @@ pub enum Job<'a> {
     /// To run the site of a file, and go on where that stopped.
     Run(Running<'a>),
     /// To print the journal of a folder as a script.
-    Journal { data: &'a str },
+    Journal { folder: &'a str },
     /// To send an operator's calls.
     Call(Calling<'a>),
     /// To simulate a charge point.
@@ -50,7 +50,7 @@ pub struct Replaying<'a> {
     /// The site's file.
     pub site: &'a str,
     /// The folder whose journal is the script, or else that is standard input.
-    pub data: Option<&'a str>,
+    pub folder: Option<&'a str>,
 }
 
 /// How a site is to be run.
@@ -59,7 +59,7 @@ pub struct Running<'a> {
     /// The site's file.
     pub site: &'a str,
     /// The folder of its journal.
-    pub data: &'a str,
+    pub folder: &'a str,
     /// The address that is listened at: a host and a port.
     pub listen: &'a str,
     /// How many connections it serves at a time.
@@ -129,7 +129,7 @@ pub struct Explaining<'a> {
     /// For this many seconds.
     pub duration: u64,
     /// The folder whose journal is the script, or else that is standard input.
-    pub data: Option<&'a str>,
+    pub folder: Option<&'a str>,
     /// The text of how far the script is played: a number of lines, or an instant. Or all is.
     pub at: Option<&'a str>,
     /// The file of the picture to write.
@@ -144,7 +144,7 @@ pub struct Checking<'a> {
     /// The file of the site.
     pub site: &'a str,
     /// The folder whose journal is the script, or else that is standard input.
-    pub data: Option<&'a str>,
+    pub folder: Option<&'a str>,
     /// Whether to show whose answer each is.
     pub trace: bool,
 }
@@ -155,7 +155,7 @@ pub struct Showing<'a> {
     /// The file of the site.
     pub site: &'a str,
     /// The folder whose journal is the script, or else that is standard input.
-    pub data: Option<&'a str>,
+    pub folder: Option<&'a str>,
     /// The text of how far the script is played: a number of lines, or an instant. Or all is.
     pub at: Option<&'a str>,
     /// Whether for programs.
@@ -229,8 +229,8 @@ fn reader_named<'a>(name: &str, given: &ArgMatches<'a>) -> Option<Job<'a>>
         return Some(Job::Replay(replaying));
     }
     if name == "journal" {
-        let data = text_of(given, "data")?;
-        return Some(Job::Journal { data });
+        let folder = text_of(given, "data")?;
+        return Some(Job::Journal { folder });
     }
     page_named(name, given)
 }
@@ -276,15 +276,15 @@ fn replaying_of<'a>(given: &ArgMatches<'a>) -> Option<Replaying<'a>>
     ensures { IfSome result (λ replaying. IsReplaying (rows_of (found_of given.now)) replaying) }
 {
     let site = text_of(given, "site")?;
-    let data = text_of(given, "data");
-    Some(Replaying { site, data })
+    let folder = text_of(given, "data");
+    Some(Replaying { site, folder })
 }
 
 fn running_of<'a>(given: &ArgMatches<'a>) -> Option<Running<'a>>
     ensures { IfSome result (λ running. IsRunning (rows_of (found_of given.now)) running) }
 {
     let site = text_of(given, "site")?;
-    let data = text_of(given, "data")?;
+    let folder = text_of(given, "data")?;
     let listen = text_of(given, "listen")?;
     let seats = optional_number_of(given, "seats").unwrap_or(SEATS);
     let workers = optional_number_of(given, "workers").unwrap_or(WORKERS);
@@ -293,7 +293,7 @@ fn running_of<'a>(given: &ArgMatches<'a>) -> Option<Running<'a>>
     }
     Some(Running {
         site,
-        data,
+        folder,
         listen,
         seats,
         workers,
@@ -372,7 +372,7 @@ fn explaining_of<'a>(given: &ArgMatches<'a>) -> Option<Explaining<'a>>
     let connector = number_of(given, "connector")?;
     let start = text_of(given, "start")?;
     let duration = number_of(given, "duration")?;
-    let data = text_of(given, "data");
+    let folder = text_of(given, "data");
     let at = text_of(given, "at");
     let picture = text_of(given, "picture");
     let json = is_given(given, "json");
@@ -382,7 +382,7 @@ fn explaining_of<'a>(given: &ArgMatches<'a>) -> Option<Explaining<'a>>
         connector,
         start,
         duration,
-        data,
+        folder,
         at,
         picture,
         json,
@@ -393,21 +393,26 @@ fn checking_of<'a>(given: &ArgMatches<'a>) -> Option<Checking<'a>>
     ensures { IfSome result (λ checking. IsChecking (rows_of (found_of given.now)) checking) }
 {
     let site = text_of(given, "site")?;
-    let data = text_of(given, "data");
+    let folder = text_of(given, "data");
     let trace = is_given(given, "trace");
-    Some(Checking { site, data, trace })
+    Some(Checking {
+        site,
+        folder,
+        trace,
+    })
 }
 
 fn showing_of<'a>(given: &ArgMatches<'a>) -> Option<Showing<'a>>
     ensures { IfSome result (λ showing. IsShowing (rows_of (found_of given.now)) showing) }
 {
     let site = text_of(given, "site")?;
-    let data = text_of(given, "data");
+    let folder = text_of(given, "data");
+    let at = text_of(given, "at");
     let json = is_given(given, "json");
     Some(Showing {
         site,
-        data,
-        at: text_of(given, "at"),
+        folder,
+        at,
         json,
     })
 }

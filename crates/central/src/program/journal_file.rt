@@ -1,5 +1,7 @@
 //! The journal of a site that is run: what sessions note, written to a file and synced.
 
+use crate::program::data_folder::OpenJournal;
+use crate::program::named_file::NamedFile;
 use crate::program::reserve_file::ReserveFile;
 use ocpp_scalars::Instant;
 use session::{Entry, Journal, JournalFault, Noted};
@@ -69,6 +71,10 @@ enum JournalState {
 #[derive(Drop)]
 struct WrittenLines {
     file: File,
+    /// How many bytes of the file are on the disk.
+    synced: u64,
+    /// Whether a write or a sync failed, so that it isn't known what stands behind these.
+    is_broken: bool,
     reserve: ReserveFile,
     /// Entries that were taken and have no text yet. Room for entries is kept free.
     taken: Vec<NumberedEntry>,
@@ -97,6 +103,8 @@ enum KeepFault {
     Full(io::Error),
     /// It isn't known what stands in the file.
     Broken(io::Error),
+    /// It wasn't known before, and nothing was tried.
+    BrokenBefore,
     OutOfMemory,
 }
 
@@ -108,14 +116,13 @@ impl From<AllocError> for KeepFault {
 
 impl<R: Wait + Clock + Eprint + AllocGlobal + Drop> JournalFile<R> {
     /// The journal in an open file, to which these lines are to be added.
-    pub fn make(
-        rt: R,
-        path: String,
-        file: File,
-        reserve: ReserveFile,
-        lines: String,
-    ) -> Result<JournalFile<R>, AllocError> {
+    pub fn make(rt: R, opened: OpenJournal, lines: String) -> Result<JournalFile<R>, AllocError> {
         let alloc = rt.alloc();
+        let OpenJournal {
+            lines: NamedFile { file, path },
+            length,
+            reserve,
+        } = opened;
         let noted = NotedEntries {
             entries: Vec::with_capacity(alloc, FREE_ENTRIES)?,
             noted: 0,
@@ -124,6 +131,8 @@ impl<R: Wait + Clock + Eprint + AllocGlobal + Drop> JournalFile<R> {
         };
         let written = WrittenLines {
             file,
+            synced: length,
+            is_broken: false,
             reserve,
             taken: Vec::with_capacity(alloc, FREE_ENTRIES)?,
             taken_count: 0,
@@ -234,6 +243,7 @@ impl<R: Wait + Clock + Eprint + AllocGlobal + Drop> JournalFile<R> {
                 Ok(())
             }
             Err(KeepFault::OutOfMemory) => Err(JournalFault::OutOfMemory),
+            Err(KeepFault::BrokenBefore) => Err(JournalFault::Unwritable),
             Err(KeepFault::Full(error)) => {
                 self.say_error(JournalState::Full, &error);
                 Err(JournalFault::Unwritable)
@@ -280,12 +290,27 @@ impl WrittenLines {
         self.taken.reserve(FREE_ENTRIES)
     }
 
-    /// Writes the lines that aren't in the file, and syncs it. Where the device is full the reserve
-    /// is given up for them.
+    /// Writes the lines that aren't in the file, and syncs it. Once that fails, but for want of room,
+    /// it isn't tried again: a second sync would tell nothing. The file is cut to what is on the
+    /// disk then, so that a start doesn't read what may stand in the system's memory alone.
     fn write_and_sync(&mut self) -> Result<Kept, KeepFault> {
+        if self.is_broken {
+            return Err(KeepFault::BrokenBefore);
+        }
         if self.lines.is_empty() {
             return Ok(Kept::All);
         }
+        let kept = self.write_with_reserve();
+        if let Err(KeepFault::Broken(_)) = &kept {
+            self.is_broken = true;
+            let _ = self.file.set_len(self.synced);
+        }
+        kept
+    }
+
+    /// Writes the lines that aren't in the file, and syncs it. Where the device is full the reserve
+    /// is given up for them.
+    fn write_with_reserve(&mut self) -> Result<Kept, KeepFault> {
         match self.write_lines() {
             Ok(()) => {
                 self.sync()?;
@@ -302,8 +327,7 @@ impl WrittenLines {
 
     /// Writes the lines that aren't in the file yet.
     fn write_lines(&mut self) -> Result<(), KeepFault> {
-        // Each write that succeeds takes a byte at least.
-        for _write in 0..self.lines.len() {
+        for _write in 0..u64::MAX {
             let Some(rest) = self.lines.as_bytes().get(self.in_file..) else {
                 return Ok(());
             };
@@ -317,16 +341,16 @@ impl WrittenLines {
                 Err(error) => return Err(fault_of_write(error)),
             }
         }
-        Ok(())
+        Err(KeepFault::Full(io::Error::from(ErrorKind::Interrupted)))
     }
 
-    /// Syncs the file, which has all lines. After an error nobody knows what is on the disk, and a
-    /// second sync would tell nothing.
+    /// Syncs the file, which has all lines.
     fn sync(&mut self) -> Result<(), KeepFault> {
         match self.file.sync_data() {
             Ok(()) => {}
             Err(error) => return Err(KeepFault::Broken(error)),
         }
+        self.synced = self.synced.saturating_add(self.lines.len() as u64);
         self.in_file = 0;
         if self.lines.capacity() > LONGEST_KEPT_TEXT {
             self.lines = String::new(*self.lines.allocator());

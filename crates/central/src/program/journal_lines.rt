@@ -1,132 +1,214 @@
 //! The lines of a journal, read from its file part by part.
 
+use crate::program::named_file::NamedFile;
 use crate::program::program_fault::ProgramFault;
-use site_journal::{read_header, split_line, whole_lines};
+use site_journal::{HeaderFault, read_header, split_line, whole_lines};
 use std::alloc::{AllocError, Global};
-use std::io::{ErrorKind, Read};
+use std::mem;
 
-/// So many bytes are read at a time, more or less. No line is so long.
-const PART: usize = 4 * 1_048_576;
+/// So many bytes are read at a time. No line is so long.
+const PART: u64 = 4 * 1_048_576;
 
-/// So many bytes are asked of the system at a time.
-const READ_BYTES: usize = 65_536;
+/// How a line begins that names a site file, the first line among them. The others begin with an
+/// instant.
+const SITE_LINE: &[u8] = b"central journal ";
+
+/// The length of such a line.
+const SITE_LINE_BYTES: usize = 89;
 
 /// The whole lines of a journal, as they are read.
 #[derive(Drop)]
 pub struct JournalLines {
     alloc: Global,
-    /// What was read, and of that how much was handed out.
-    bytes: Vec<u8>,
-    handed_out: usize,
-    /// How many bytes the lines have that were handed out, the first line's too.
+    /// What was read behind the last whole line.
+    torn: Vec<u8>,
+    /// Whole lines that weren't handed out.
+    ahead: Vec<u8>,
+    /// The lines that were handed out last.
+    steps: Vec<u8>,
+    /// How many bytes and lines were handed out in all, those that name site files too.
     length: u64,
+    count: u64,
+    /// The digest of the site file with which the lines go on that were handed out last.
+    site: Option<[u8; 32]>,
     is_at_end: bool,
-    chunk: Vec<u8>,
 }
 
-/// Part of a journal's lines: each of them is whole.
+/// Part of a journal's lines: each of them is whole, and notes a step.
 #[derive(Clone, Copy, Debug)]
 pub struct Lines<'a> {
+    /// The number of the first one, counted from 1 with all lines of the journal.
+    pub first: u64,
     pub bytes: &'a [u8],
 }
 
 impl JournalLines {
     /// The lines of a file from its beginning.
-    pub fn new(alloc: Global) -> Result<JournalLines, AllocError> {
-        let mut chunk = Vec::new(alloc);
-        chunk.resize(READ_BYTES, 0)?;
-        Ok(JournalLines {
+    pub fn new(alloc: Global) -> JournalLines {
+        JournalLines {
             alloc,
-            bytes: Vec::new(alloc),
-            handed_out: 0,
+            torn: Vec::new(alloc),
+            ahead: Vec::new(alloc),
+            steps: Vec::new(alloc),
             length: 0,
+            count: 0,
+            site: None,
             is_at_end: false,
-            chunk,
-        })
+        }
     }
 
-    /// The digest of the site file in the first line. None where the file has no whole line.
-    pub fn read_first<S: Read>(&mut self, file: &mut S) -> Result<Option<[u8; 32]>, ProgramFault> {
-        self.fill(file)?;
-        let Some((line, _)) = split_line(self.bytes.as_slice()) else {
-            return Ok(None);
-        };
-        let length = line.len().saturating_add(1);
-        let read = match std::str::from_utf8(line) {
-            Ok(text) => read_header(text),
-            Err(_) => read_header(""),
-        };
-        match read {
-            Ok(digest) => {
-                self.hand_out(length);
-                Ok(Some(digest))
+    /// The next lines, or None behind the last one. The first line of the file has to name a site
+    /// file; a file without a whole line may be the beginning of such a line.
+    pub fn next<R: Eprint>(
+        &mut self,
+        rt: &R,
+        journal: &mut NamedFile,
+    ) -> Result<Option<Lines<'_>>, ProgramFault> {
+        let mut has_steps = false;
+        // Each turn but the last one reads a part of the file, or a line that names a site file.
+        for _turn in 0..u64::MAX {
+            if self.ahead.is_empty() && !self.read_part(rt, journal)? {
+                break;
             }
-            Err(fault) => Err(ProgramFault::JournalHeader(fault)),
+            if self.site.is_some() && self.take_steps()? {
+                has_steps = true;
+                break;
+            }
+            self.take_site()?;
         }
-    }
-
-    /// The next lines, or None behind the last one.
-    pub fn next<S: Read>(&mut self, file: &mut S) -> Result<Option<Lines<'_>>, ProgramFault> {
-        self.fill(file)?;
-        let (whole, _) = whole_lines(self.bytes.as_slice().split_at(self.handed_out).1);
-        let length = whole.len();
-        if length == 0 && self.is_at_end {
+        if !has_steps {
             return Ok(None);
         }
-        if length == 0 {
-            return Err(ProgramFault::JournalLineTooLong);
-        }
-        let start = self.handed_out;
-        self.hand_out(length);
-        Ok(Some(Lines {
-            bytes: self.bytes.as_slice().split_at(start).1.split_at(length).0,
-        }))
+        let first = self.count.saturating_add(1);
+        let bytes = self.steps.as_slice();
+        self.count = self.count.saturating_add(count_lines(bytes));
+        self.length = self.length.saturating_add(bytes.len() as u64);
+        Ok(Some(Lines { first, bytes }))
     }
 
-    /// How many bytes the whole lines have.
+    /// The digest of the site file with which the journal goes on behind the lines that were handed
+    /// out. None where the file has no whole line.
+    pub fn site(&self) -> Option<[u8; 32]> {
+        self.site
+    }
+
+    /// How many bytes the whole lines have that were handed out.
     pub fn length(&self) -> u64 {
         self.length
     }
 
+    /// How many lines were handed out.
+    pub fn count(&self) -> u64 {
+        self.count
+    }
+
     /// How many bytes stand behind the last whole line, once that was handed out.
     pub fn torn(&self) -> usize {
-        self.bytes.len().saturating_sub(self.handed_out)
+        self.torn.len()
     }
 
-    fn hand_out(&mut self, length: usize) {
-        self.handed_out = self.handed_out.saturating_add(length);
-        self.length = self.length.saturating_add(length as u64);
-    }
-
-    /// Reads until there are enough bytes, or the file ends. What was handed out is dropped.
-    fn fill<S: Read>(&mut self, file: &mut S) -> Result<(), ProgramFault> {
+    /// Reads the next part of the file, where no line is ahead. Returns whether it has one.
+    fn read_part<R: Eprint>(
+        &mut self,
+        rt: &R,
+        journal: &mut NamedFile,
+    ) -> Result<bool, ProgramFault> {
         if self.is_at_end {
-            return Ok(());
+            return Ok(false);
         }
-        self.bytes.drain(..self.handed_out);
-        self.handed_out = 0;
-        for _chunk in 0..u64::MAX {
-            if self.is_at_end || self.bytes.len() >= PART {
-                return Ok(());
-            }
-            self.read_chunk(file)?;
+        let count = journal.append_to(rt, &mut self.torn, PART)?;
+        self.is_at_end = (count as u64) < PART;
+        let read = mem::replace(&mut self.torn, Vec::new(self.alloc));
+        let (whole, torn) = whole_lines(read.as_slice());
+        self.ahead = copied(self.alloc, whole)?;
+        self.torn = copied(self.alloc, torn)?;
+        if whole.is_empty() {
+            self.check_torn()?;
+        }
+        Ok(!whole.is_empty())
+    }
+
+    /// Refuses a part without a whole line, but for the end of a journal. A file of another kind
+    /// isn't taken for a journal that was begun.
+    fn check_torn(&self) -> Result<(), ProgramFault> {
+        if !self.is_at_end {
+            return Err(ProgramFault::JournalLineTooLong);
+        }
+        let torn = self.torn.as_slice();
+        let begins = SITE_LINE.starts_with(torn) || torn.starts_with(SITE_LINE);
+        if self.site.is_none() && !(begins && torn.len() <= SITE_LINE_BYTES) {
+            return Err(self.no_site_line(HeaderFault::NotAJournal));
         }
         Ok(())
     }
 
-    fn read_chunk<S: Read>(&mut self, file: &mut S) -> Result<(), ProgramFault> {
-        match file.read(&mut self.chunk) {
-            Ok(0) => {
-                self.is_at_end = true;
-                Ok(())
-            }
-            Ok(count) => {
-                let read = self.chunk.as_slice().split_at(count).0;
-                self.bytes.extend_from_slice(read)?;
-                Ok(())
-            }
-            Err(error) if error.kind() == ErrorKind::Interrupted => Ok(()),
-            Err(_) => Err(ProgramFault::Data),
+    /// Takes the lines that come before the next one that names a site file. Returns whether there
+    /// are any.
+    fn take_steps(&mut self) -> Result<bool, AllocError> {
+        let ahead = mem::replace(&mut self.ahead, Vec::new(self.alloc));
+        let (steps, rest) = steps_before_site(ahead.as_slice());
+        self.steps = copied(self.alloc, steps)?;
+        self.ahead = copied(self.alloc, rest)?;
+        Ok(!steps.is_empty())
+    }
+
+    /// Takes the line that is ahead, which has to name a site file.
+    fn take_site(&mut self) -> Result<(), ProgramFault> {
+        let ahead = mem::replace(&mut self.ahead, Vec::new(self.alloc));
+        let Some((line, rest)) = split_line(ahead.as_slice()) else {
+            return Ok(());
+        };
+        match std::str::from_utf8(line) {
+            Ok(text) => match read_header(text) {
+                Ok(digest) => self.site = Some(digest),
+                Err(fault) => return Err(self.no_site_line(fault)),
+            },
+            Err(_) => return Err(self.no_site_line(HeaderFault::NotAJournal)),
+        }
+        self.ahead = copied(self.alloc, rest)?;
+        self.count = self.count.saturating_add(1);
+        self.length = self
+            .length
+            .saturating_add(line.len() as u64)
+            .saturating_add(1);
+        Ok(())
+    }
+
+    /// The line that is ahead names no site file.
+    fn no_site_line(&self, fault: HeaderFault) -> ProgramFault {
+        ProgramFault::JournalHeader {
+            line: self.count.saturating_add(1),
+            fault,
         }
     }
+}
+
+fn copied(alloc: Global, bytes: &[u8]) -> Result<Vec<u8>, AllocError> {
+    let mut copy = Vec::with_capacity(alloc, bytes.len())?;
+    copy.extend_from_slice(bytes)?;
+    Ok(copy)
+}
+
+/// The lines that come before the next one that names a site file, and the rest.
+fn steps_before_site(whole: &[u8]) -> (&[u8], &[u8]) {
+    let mut rest = whole;
+    for _line in 0..whole.len() {
+        match split_line(rest) {
+            Some((line, others)) if !line.starts_with(SITE_LINE) => rest = others,
+            _ => break,
+        }
+    }
+    let steps = whole.len().saturating_sub(rest.len());
+    (whole.split_at(steps).0, rest)
+}
+
+/// How many lines a text of whole lines has.
+fn count_lines(text: &[u8]) -> u64 {
+    let mut count = 0u64;
+    for byte in text {
+        if *byte == b'\n' {
+            count = count.saturating_add(1);
+        }
+    }
+    count
 }

@@ -40,9 +40,9 @@ pub enum ProgramFault {
     /// The journal can't be written.
     #[error("central: device: write")]
     Journal,
-    /// The first line of the journal isn't that of one.
-    #[error("central: journal: line 1: {0}")]
-    JournalHeader(HeaderFault),
+    /// A line of the journal that is to name a site file doesn't: the first one has to.
+    #[error("central: journal: line {line}: {fault}")]
+    JournalHeader { line: u64, fault: HeaderFault },
     /// A line of the journal is no line, or its step isn't made as it was.
     #[error("central: journal: {0}")]
     Unrestored(Unrestored),
@@ -88,7 +88,7 @@ impl ProgramFault {
         ensures { result ≡ fault_status self.now }
     {
         match self {
-            ProgramFault::Site(_) | ProgramFault::JournalHeader(_) => 1,
+            ProgramFault::Site(_) | ProgramFault::JournalHeader { .. } => 1,
             ProgramFault::Unrestored(
                 Unrestored {
                     fault: RestoreFault::OutOfMemory,

@@ -18,10 +18,10 @@ pub fn replay_file<R: Files<File = File> + Input + Print + Eprint + AllocGlobal>
     replaying: Replaying<'_>,
 ) -> Result<Summary, ProgramFault> {
     let site = read_site_file(rt, replaying.site)?;
-    match replaying.data {
+    match replaying.folder {
         Some(folder) => {
             let script = read_journal_script(rt, folder)?;
-            replay_from(rt, &mut script.bytes.as_slice(), site)
+            replay_from(rt, &mut script.as_slice(), site)
         }
         None => replay_from(rt, &mut rt.reader(), site),
     }

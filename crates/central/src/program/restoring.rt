@@ -1,7 +1,8 @@
 //! The book of a site that is run, from the journal of its folder.
 
 use crate::program::data_folder::OpenJournal;
-use crate::program::journal_lines::JournalLines;
+use crate::program::journal_lines::{JournalLines, Lines};
+use crate::program::named_file::{NamedFile, or_stop};
 use crate::program::program_fault::ProgramFault;
 use ocpp_scalars::Instant;
 use site_core::Machine;
@@ -11,6 +12,9 @@ use std::fs::File;
 use std::rt::Files;
 use std::sync::ledger::Ledger;
 use version_store::{Book, Pass};
+
+/// The number of a part's first line, as the part is counted.
+const FIRST_OF_PART: u64 = 2;
 
 /// What a site has when it is run.
 #[derive(Clone, Copy, Debug, PartialEq, Eq)]
@@ -23,8 +27,9 @@ pub struct Resumed {
 }
 
 /// Restores a book from its journal, each step with what it drew, and takes the links from all
-/// points. A new journal gets its first line, and a last line that is torn is cut: nothing that it
-/// says was answered. Returns the lines that are to be added to the journal.
+/// points. A journal that is new, or was written with another site file, gets a line that names this
+/// one. A last line that is torn is cut: nothing that it says was answered. Returns the lines that
+/// are to be added to the journal.
 pub fn restore_book<C: Ledger, A: Ledger, R: Files<File = File> + AllocGlobal + Eprint>(
     rt: &R,
     opened: &mut OpenJournal,
@@ -34,18 +39,16 @@ pub fn restore_book<C: Ledger, A: Ledger, R: Files<File = File> + AllocGlobal + 
     now: Instant,
 ) -> Result<String, ProgramFault> {
     let alloc = rt.alloc();
-    let mut journal = JournalLines::new(alloc)?;
+    let mut journal = JournalLines::new(alloc);
+    let restored = restore_lines(rt, &mut opened.lines, &mut journal, book, pass);
+    let is_of_this_site = say_other_site(rt, &opened.lines, &journal, digest);
+    restored?;
+    opened.length = journal.length();
+    cut_torn(rt, opened, journal.torn())?;
     let mut added = String::new(alloc);
-    match journal.read_first(&mut opened.file)? {
-        Some(first) => {
-            if first != *digest {
-                say_other_site(rt, opened.path.as_str());
-            }
-            restore_lines(rt, opened, &mut journal, book, pass)?;
-        }
-        None => push_header(alloc, &mut added, digest)?,
+    if !is_of_this_site {
+        push_header(alloc, &mut added, digest)?;
     }
-    cut_torn(rt, opened, &journal)?;
     match lose_links(alloc, book, now, &mut added) {
         Ok(()) => Ok(added),
         // Each point that has a link may lose it, if memory lasts.
@@ -53,63 +56,62 @@ pub fn restore_book<C: Ledger, A: Ledger, R: Files<File = File> + AllocGlobal + 
     }
 }
 
-/// Restores a book from the lines that follow the first one.
-fn restore_lines<C: Ledger, A: Ledger, R: Files<File = File> + AllocGlobal>(
+/// Restores a book from the lines of a journal.
+fn restore_lines<C: Ledger, A: Ledger, R: AllocGlobal + Eprint>(
     rt: &R,
-    opened: &mut OpenJournal,
+    file: &mut NamedFile,
     journal: &mut JournalLines,
     book: &mut Book<C, A>,
     pass: &mut Pass<C, A>,
 ) -> Result<(), ProgramFault> {
-    let mut before = 0u64;
     for _part in 0..u64::MAX {
-        let Some(lines) = journal.next(&mut opened.file)? else {
-            return Ok(());
+        let Some(Lines { first, bytes }) = journal.next(rt, file)? else {
+            break;
         };
-        match restore(rt.alloc(), book, pass, lines.bytes) {
-            // Each part is counted as if the first line stood before it.
-            Ok(restored) => {
-                before = before.saturating_add(restored.lines.saturating_sub(1));
-            }
-            Err(Unrestored { line, fault }) => {
-                return Err(ProgramFault::Unrestored(Unrestored {
-                    line: line.saturating_add(before),
-                    fault,
-                }));
-            }
+        if let Err(Unrestored { line, fault }) = restore(rt.alloc(), book, pass, bytes) {
+            // Each part is counted as if one line stood before it.
+            let line = line.saturating_sub(FIRST_OF_PART).saturating_add(first);
+            return Err(ProgramFault::Unrestored(Unrestored { line, fault }));
         }
     }
     Ok(())
 }
 
-/// Cuts a last line that is torn off the file.
-fn cut_torn<R: Files<File = File> + Eprint>(
-    rt: &R,
-    opened: &OpenJournal,
-    journal: &JournalLines,
-) -> Result<(), ProgramFault> {
-    let torn = journal.torn();
-    if torn == 0 {
-        return Ok(());
+/// Cuts a last line that is torn off the file. All that is left is on the disk afterwards: it may
+/// have been written by a process that was killed before it synced it.
+fn cut_torn<R: Eprint>(rt: &R, opened: &OpenJournal, torn: usize) -> Result<(), ProgramFault> {
+    let NamedFile { file, path } = &opened.lines;
+    if torn > 0 {
+        or_stop(
+            rt,
+            path.as_str(),
+            file.set_len(opened.length),
+            ProgramFault::Journal,
+        )?;
+        let _ = eprintln!(rt; "central: {path}: its last line is torn, and was cut: {torn} bytes");
     }
-    let cut = opened
-        .file
-        .set_len(journal.length())
-        .and_then(|()| opened.file.sync_data());
-    if cut.is_err() {
-        return Err(ProgramFault::Journal);
-    }
-    let _ = eprintln!(rt;
-        "central: {}: its last line is torn, and was cut: {torn} bytes",
-        opened.path
-    );
-    Ok(())
+    or_stop(rt, path.as_str(), file.sync_data(), ProgramFault::Journal)
 }
 
-fn say_other_site<R: Eprint>(rt: &R, path: &str) {
-    let _ = eprintln!(rt;
-        "central: {path}: it was begun with another site file; its lines are tried with this one"
-    );
+/// Returns whether the lines that were read go on with the site file of this digest. Says so where
+/// they were written with another one.
+pub fn say_other_site<R: Eprint>(
+    rt: &R,
+    file: &NamedFile,
+    journal: &JournalLines,
+    digest: &[u8; 32],
+) -> bool {
+    match journal.site() {
+        Some(site) if site == *digest => true,
+        Some(_) => {
+            let _ = eprintln!(rt;
+                "central: {}: it was begun with another site file; its lines are tried with this one",
+                file.path
+            );
+            false
+        }
+        None => false,
+    }
 }
 
 /// What the points of a site have.

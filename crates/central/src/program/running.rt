@@ -5,14 +5,14 @@ ghost use Rattle.std.specs.Prelude.{◌≡◌, ◌≤◌, ◌+◌};
 use crate::program::command_line::Running;
 use crate::program::data_folder::{OpenJournal, open_journal};
 use crate::program::journal_file::JournalFile;
+use crate::program::named_file::or_stop;
 use crate::program::program_fault::ProgramFault;
 use crate::program::restoring::{Resumed, restore_book, resumed};
-use crate::program::site_file::read_site_bytes;
+use crate::program::site_file::read_digested_site;
 use crate::program::system_clock::SystemClock;
 use ocpp_scalars::Moments;
 use server::{SeatContext, SeatedBook, ServeFault, run_seats};
-use sha2::{Digest, Sha256};
-use site_rules::{Site, read_site};
+use site_rules::Site;
 use std::alloc::{AllocError, AllocGlobal, Global};
 use std::fs::File;
 use std::marker::{Brand, Send, Sync};
@@ -56,13 +56,15 @@ pub fn run_file<
     requires workers { 1 ≤ running.workers }
     requires seats { 1 ≤ running.seats }
 {
-    let bytes = read_site_bytes(rt, running.site)?;
-    let site = read_site(rt.alloc(), bytes.as_slice())?;
-    let digest = Sha256::digest(bytes.as_slice());
-    let opened = open_journal(rt, running.data)?;
-    let Ok(listener) = TcpListener::bind(rt, running.listen) else {
-        return Err(ProgramFault::Serve(ServeFault::Socket));
-    };
+    let (site, digest) = read_digested_site(rt, running.site)?;
+    let opened = open_journal(rt, running.folder)?;
+    let bound = TcpListener::bind(rt, running.listen);
+    let listener = or_stop(
+        rt,
+        running.listen,
+        bound,
+        ProgramFault::Serve(ServeFault::Socket),
+    )?;
     let plan = Plan {
         site,
         digest,
@@ -164,12 +166,7 @@ fn restore_shared<
     let added = restore_book(rt, &mut opened, digest, &mut book, &mut pass, now)?;
     let resumed = resumed(book.present());
     drop(book);
-    let OpenJournal {
-        file,
-        path,
-        reserve,
-    } = opened;
-    let journal = JournalFile::make(*rt, path, file, reserve, added)?;
+    let journal = JournalFile::make(*rt, opened, added)?;
     if journal.keep_all().is_err() {
         return Err(ProgramFault::Journal);
     }

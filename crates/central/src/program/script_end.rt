@@ -1,10 +1,9 @@
-//! How far a script is played, and what of it comes later.
+//! How far a script or a journal is played.
 
-use crate::program::journal_script::BEFORE_A_CALL;
 use crate::program::program_fault::ProgramFault;
 use ocpp_scalars::{Instant, read_instant};
 
-/// How far a script is played.
+/// How far a script or a journal is played.
 #[derive(Clone, Copy, Debug, PartialEq, Eq)]
 pub enum ScriptEnd {
     /// All of it.
@@ -38,6 +37,15 @@ impl ScriptEnd {
             ScriptEnd::Moment(moment) => Some(lines_until(script, moment)),
         }
     }
+
+    /// Whether a line of a journal, of this number and moment, isn't played any more.
+    pub fn is_before(self, number: u64, moment: Instant) -> bool {
+        match self {
+            ScriptEnd::Whole => false,
+            ScriptEnd::Lines(lines) => lines < number,
+            ScriptEnd::Moment(last) => last < moment,
+        }
+    }
 }
 
 /// How many lines of a script come before the first one that is later than a moment.
@@ -52,39 +60,9 @@ fn lines_until(script: &[u8], moment: Instant) -> u64 {
     lines
 }
 
-/// How many of the first lines of a script of a journal are messages at a point, later than a moment,
-/// that ask for a change.
-pub fn changes_after(script: &[u8], last_line: Option<u64>, point: &str, moment: Instant) -> u64 {
-    let (mut number, mut later) = (0u64, 0u64);
-    for line in script.split(|byte| *byte == b'\n') {
-        number = number.saturating_add(1);
-        if last_line.is_some_and(|last| number > last) {
-            break;
-        }
-        if moment_of(line).is_some_and(|told| told > moment) && asks_for_change(line, point) {
-            later = later.saturating_add(1);
-        }
-    }
-    later
-}
-
 /// The moment at which a line of a script begins, if it does.
 fn moment_of(line: &[u8]) -> Option<Instant> {
     let text = std::str::from_utf8(line).ok()?;
     let (moment, _) = text.split_once(' ')?;
     read_instant(moment).ok()
-}
-
-/// Whether a line of a script of a journal is a message at this point that asks for a change: it is
-/// neither a reply nor a Heartbeat before a call.
-fn asks_for_change(line: &[u8], point: &str) -> bool {
-    let Ok(text) = std::str::from_utf8(line) else {
-        return false;
-    };
-    let mut words = text.splitn(4, ' ');
-    let (_moment, _sender) = (words.next(), words.next());
-    let (Some(told), Some(frame)) = (words.next(), words.next()) else {
-        return false;
-    };
-    told == point && frame != BEFORE_A_CALL && !frame.starts_with("[3") && !frame.starts_with("[4")
 }

@@ -3,9 +3,8 @@
 ghost use Rattle.std.specs.Prelude.{◌≤◌, IfOk, vec_len};
 ghost use Rattle.replay.specs.Limits.{max_script_bytes};
 
-use crate::program::journal_script::{JournalScript, read_journal_script};
+use crate::program::journal_script::read_journal_script;
 use crate::program::program_fault::ProgramFault;
-use ocpp_scalars::push_instant;
 use replay::{InputFault, MAX_SCRIPT_BYTES, ReplayFault, read_all};
 use std::alloc::AllocGlobal;
 use std::fs::File;
@@ -32,35 +31,7 @@ pub fn read_script_of<R: Files<File = File> + Input + Eprint + AllocGlobal>(
     ensures short { IfOk result (λ script. vec_len script ≤ max_script_bytes) }
 {
     match data {
-        Some(folder) => Ok(read_journal_script(rt, folder)?.bytes),
+        Some(folder) => read_journal_script(rt, folder),
         None => read_script(rt),
     }
-}
-
-/// Does the same, and says how many lines of the journal were read, and the moment of the last one.
-pub fn read_shown_script<R: Files<File = File> + Input + Eprint + AllocGlobal>(
-    rt: &R,
-    data: Option<&str>,
-) -> Result<Vec<u8>, ProgramFault>
-    ensures short { IfOk result (λ script. vec_len script ≤ max_script_bytes) }
-{
-    let Some(folder) = data else {
-        return read_script(rt);
-    };
-    let script = read_journal_script(rt, folder)?;
-    say_read(rt, &script)?;
-    Ok(script.bytes)
-}
-
-/// Says how much of a journal was read.
-fn say_read<R: Eprint>(rt: &R, script: &JournalScript) -> Result<(), ProgramFault> {
-    let lines = script.lines;
-    let Some(last) = script.last else {
-        let _ = eprintln!(rt; "central: journal: {lines} lines");
-        return Ok(());
-    };
-    let mut moment = String::new(*script.bytes.allocator());
-    push_instant(&mut moment, last)?;
-    let _ = eprintln!(rt; "central: journal: {lines} lines, the last one of {moment}");
-    Ok(())
 }

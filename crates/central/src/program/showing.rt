@@ -1,37 +1,82 @@
 //! The job of `central show`.
 
+ghost use Rattle.std.specs.Prelude.{◌≡◌};
+
 use crate::program::command_line::Showing;
+use crate::program::followed_journal::{FollowedJournal, Following, follow_journal};
 use crate::program::pages::{note_refused_lines, print_page};
 use crate::program::program_fault::ProgramFault;
-use crate::program::script_end::script_end;
-use crate::program::script_input::read_shown_script;
-use crate::program::site_file::read_site_file;
-use show_pages::{Depth, standing_json, standing_text, trace_script};
+use crate::program::script_end::{ScriptEnd, script_end};
+use crate::program::script_input::read_script;
+use crate::program::site_file::read_digested_site;
+use show_pages::{Depth, Standing, standing_json, standing_text, trace_script};
+use site_rules::Site;
 use std::alloc::AllocGlobal;
 use std::fs::File;
+use std::marker::Brand;
 use std::rt::Files;
+use std::sync::ledger::{Blank, Ledger};
 
-/// Shows what each point of a site has after a script.
+/// Shows what each point of a site has after a script or a journal.
 pub fn show_file<R: Files<File = File> + Input + Print + Eprint + AllocGlobal>(
     rt: &R,
     showing: Showing<'_>,
 ) -> Result<(), ProgramFault> {
-    let alloc = rt.alloc();
     let end = script_end(showing.at)?;
-    let site = read_site_file(rt, showing.site)?;
-    let script = read_shown_script(rt, showing.data)?;
-    let trace = trace_script(
-        alloc,
-        script.as_slice(),
-        site,
-        end.last_line(script.as_slice()),
-        Depth::State,
-    )?;
-    let page = if showing.json {
-        standing_json(alloc, &trace)?
-    } else {
-        standing_text(alloc, &trace)?
+    let (site, digest) = read_digested_site(rt, showing.site)?;
+    let Some(folder) = showing.folder else {
+        return show_script(rt, showing, end, site);
     };
+    let following = Following {
+        folder,
+        digest,
+        end,
+        counted: None,
+    };
+    let blanks = (Blank::new(1), Blank::new(1));
+    show_journal::<Brand, Brand, R>(rt, showing, &following, site, blanks)
+}
+
+/// Shows what each point has after the script of standard input.
+fn show_script<R: Input + Print + Eprint + AllocGlobal>(
+    rt: &R,
+    showing: Showing<'_>,
+    end: ScriptEnd,
+    site: Site,
+) -> Result<(), ProgramFault> {
+    let script = read_script(rt)?;
+    let last_line = end.last_line(script.as_slice());
+    let trace = trace_script(rt.alloc(), script.as_slice(), site, last_line, Depth::State)?;
     note_refused_lines(rt, trace.playing());
+    print_standing(rt, showing, &trace.standing())
+}
+
+/// Shows what each point has after a journal, on which these two ledgers count.
+fn show_journal<C: Ledger, A: Ledger, R: Files<File = File> + Print + Eprint + AllocGlobal>(
+    rt: &R,
+    showing: Showing<'_>,
+    following: &Following<'_>,
+    site: Site,
+    blanks: (Blank, Blank),
+) -> Result<(), ProgramFault>
+    requires changes { (blanks.0.name ≡ C.name) × (blanks.0.parts ≡ C.parts)
+        × (blanks.0.parts ≡ 1) }
+    requires answers { (blanks.1.name ≡ A.name) × (blanks.1.parts ≡ A.parts)
+        × (blanks.1.parts ≡ 1) }
+{
+    let followed: FollowedJournal<C, A> = follow_journal(rt, following, site, blanks)?;
+    print_standing(rt, showing, &followed.standing())
+}
+
+fn print_standing<R: Print + AllocGlobal>(
+    rt: &R,
+    showing: Showing<'_>,
+    standing: &Standing<'_>,
+) -> Result<(), ProgramFault> {
+    let page = if showing.json {
+        standing_json(rt.alloc(), standing)?
+    } else {
+        standing_text(rt.alloc(), standing)?
+    };
     print_page(rt, page.as_str())
 }

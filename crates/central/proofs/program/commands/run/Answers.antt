@@ -9,8 +9,8 @@ pub returns : goal.returns
 returns c =
     let plain : app_of c.after_help.result ≡ new_app (codes "run") = rw (c.after_help.ensures, c.about.ensures) c.new.ensures.app in
     let site = argued _ _ _ _ _ c.in_ok-arg.ensures c.needed.ensures.global plain c.needed.ensures.rule in
-    let data = argued _ _ _ _ _ c.in_ok-arg-2.ensures c.needed-2.ensures.global site c.needed-2.ensures.rule in
-    let listen = argued _ _ _ _ _ c.in_ok-arg-3.ensures c.needed-3.ensures.global data c.needed-3.ensures.rule in
+    let folder = argued _ _ _ _ _ c.in_ok-arg-2.ensures c.needed-2.ensures.global site c.needed-2.ensures.rule in
+    let listen = argued _ _ _ _ _ c.in_ok-arg-3.ensures c.needed-3.ensures.global folder c.needed-3.ensures.rule in
     let seats = argued _ _ _ _ _ c.in_ok-arg-4.ensures (c.numbered.ensures.global ∙ c.optional-seats.ensures.global) listen
     (c.numbered.ensures.rule ∙ ap (numbered 1 max_seats) c.optional-seats.ensures.rule) in
     on_ok _ _ c.arg-5.result (λ x added. argued _ x _ _ _ added (c.numbered-2.ensures.global ∙ c.optional-workers.ensures.global) seats

@@ -1,0 +1,238 @@
+//! What the lines of a journal lead to, for the commands that show it.
+
+ghost use Rattle.std.specs.Prelude.{◌≡◌};
+
+use crate::program::data_folder::open_to_read;
+use crate::program::journal_lines::{JournalLines, Lines};
+use crate::program::journal_script::{say_torn, unread};
+use crate::program::program_fault::ProgramFault;
+use crate::program::restoring::say_other_site;
+use crate::program::script_end::ScriptEnd;
+use ocpp_scalars::{Instant, push_instant};
+use ocppj_frame::ReadingMemory;
+use show_pages::{PointCalls, Standing};
+use site_core::Machine;
+use site_journal::{Line, Noted, Unrestored, read_bytes, restore_line, split_line};
+use site_rules::Site;
+use std::alloc::{AllocError, AllocGlobal, Global};
+use std::fs::File;
+use std::rt::Files;
+use std::sync::ledger::{Blank, Ledger};
+use version_store::{Book, Pass};
+
+/// Which journal is followed, and how far.
+#[derive(Clone, Copy, Debug)]
+pub struct Following<'a> {
+    /// The folder of the journal.
+    pub folder: &'a str,
+    /// The SHA-256 of the site file.
+    pub digest: [u8; 32],
+    pub end: ScriptEnd,
+    /// The changes at this point that are later than this moment are counted.
+    pub counted: Option<(&'a str, Instant)>,
+}
+
+/// The book to which the lines of a journal lead, and what became of the calls to each point.
+#[derive(Drop)]
+pub struct FollowedJournal<C: Ledger, A: Ledger> {
+    alloc: Global,
+    memory: ReadingMemory,
+    book: Book<C, A>,
+    pass: Pass<C, A>,
+    /// Each at its place in the site file.
+    calls: Vec<PointCalls>,
+    /// The number of the last line, and its moment.
+    number: u64,
+    last: Option<Instant>,
+    /// How many changes were counted.
+    changes: u64,
+}
+
+/// Follows the journal of a folder on a site, whose changes and answers these two ledgers count.
+/// Says on standard error how far it was followed.
+pub fn follow_journal<C: Ledger, A: Ledger, R: Files<File = File> + Eprint + AllocGlobal>(
+    rt: &R,
+    following: &Following<'_>,
+    site: Site,
+    blanks: (Blank, Blank),
+) -> Result<FollowedJournal<C, A>, ProgramFault>
+    requires changes { (blanks.0.name ≡ C.name) × (blanks.0.parts ≡ C.parts)
+        × (blanks.0.parts ≡ 1) }
+    requires answers { (blanks.1.name ≡ A.name) × (blanks.1.parts ≡ A.parts)
+        × (blanks.1.parts ≡ 1) }
+{
+    let mut file = open_to_read(rt, following.folder)?;
+    let mut followed = FollowedJournal::begin(rt.alloc(), site, blanks)?;
+    let mut journal = JournalLines::new(rt.alloc());
+    let mut is_whole = true;
+    for _part in 0..u64::MAX {
+        let Some(lines) = journal.next(rt, &mut file)? else {
+            break;
+        };
+        is_whole = followed.follow_lines(lines, following)?;
+        if !is_whole {
+            break;
+        }
+    }
+    let _ = say_other_site(rt, &file, &journal, &following.digest);
+    if is_whole {
+        followed.number = journal.count();
+        say_torn(rt, &file, &journal);
+    }
+    followed.say_followed(rt)?;
+    Ok(followed)
+}
+
+impl<C: Ledger, A: Ledger> FollowedJournal<C, A> {
+    /// Before the first line.
+    fn begin(
+        alloc: Global,
+        site: Site,
+        blanks: (Blank, Blank),
+    ) -> Result<FollowedJournal<C, A>, ProgramFault>
+        requires changes { (blanks.0.name ≡ C.name) × (blanks.0.parts ≡ C.parts)
+            × (blanks.0.parts ≡ 1) }
+        requires answers { (blanks.1.name ≡ A.name) × (blanks.1.parts ≡ A.parts)
+            × (blanks.1.parts ≡ 1) }
+    {
+        let mut calls = Vec::with_capacity(alloc, site.len())?;
+        for _place in 0..site.len() {
+            calls.push(PointCalls::new(alloc)?)?;
+        }
+        let (changes, answers) = blanks;
+        let (book, mut passes) = Book::make(alloc, changes, answers, site, 1)?;
+        let Some(pass) = passes.pop() else {
+            return Err(ProgramFault::OutOfMemory);
+        };
+        Ok(FollowedJournal {
+            alloc,
+            memory: ReadingMemory::new(alloc),
+            book,
+            pass,
+            calls,
+            number: 0,
+            last: None,
+            changes: 0,
+        })
+    }
+
+    /// The state to which the lines lead.
+    pub fn machine(&self) -> &Machine {
+        self.book.present()
+    }
+
+    /// What is shown of it.
+    pub fn standing(&self) -> Standing<'_> {
+        Standing {
+            machine: self.book.present(),
+            points: self.calls.as_slice(),
+            held: &[],
+            lines: self.number,
+            faults: 0,
+        }
+    }
+
+    /// How many changes were counted.
+    pub fn changes(&self) -> u64 {
+        self.changes
+    }
+
+    /// Follows lines, up to the end that is wanted. Returns whether that is still to come.
+    fn follow_lines(
+        &mut self,
+        lines: Lines<'_>,
+        following: &Following<'_>,
+    ) -> Result<bool, ProgramFault> {
+        let (mut rest, mut number) = (lines.bytes, lines.first);
+        for _line in 0..lines.bytes.len() {
+            let Some((bytes, others)) = split_line(rest) else {
+                break;
+            };
+            let line = match read_bytes(bytes) {
+                Ok(line) => line,
+                Err(fault) => return Err(unread(number, fault)),
+            };
+            if following.end.is_before(number, line.moment) {
+                return Ok(false);
+            }
+            self.follow_line(&line, number, following)?;
+            rest = others;
+            number = number.saturating_add(1);
+        }
+        Ok(true)
+    }
+
+    /// Follows the line of a number.
+    fn follow_line(
+        &mut self,
+        line: &Line<'_>,
+        number: u64,
+        following: &Following<'_>,
+    ) -> Result<(), ProgramFault> {
+        let restored = restore_line(
+            self.alloc,
+            &mut self.memory,
+            &mut self.book,
+            &mut self.pass,
+            line,
+        );
+        if let Err(fault) = restored {
+            return Err(ProgramFault::Unrestored(Unrestored {
+                line: number,
+                fault,
+            }));
+        }
+        self.number = number;
+        self.last = Some(line.moment);
+        if is_counted(line, following) {
+            self.changes = self.changes.saturating_add(1);
+        }
+        self.follow_calls(line, number)?;
+        Ok(())
+    }
+
+    /// Takes in what a line did to the calls of its point.
+    fn follow_calls(&mut self, line: &Line<'_>, number: u64) -> Result<(), AllocError> {
+        let machine = self.book.present();
+        let (Some(place), Some(outbox)) = (
+            machine.site().place_of(line.point),
+            machine.outbox_of(line.point),
+        ) else {
+            return Ok(());
+        };
+        let Some(calls) = self.calls.get_mut(place) else {
+            return Ok(());
+        };
+        match line.noted {
+            Noted::Message { .. } => calls.added(outbox.next_number(), number),
+            Noted::Sent { .. } => calls.sent_first(self.alloc, outbox, number),
+            Noted::Reply { frame, .. } => {
+                calls.confirmed(self.alloc, &mut self.memory, number, frame)
+            }
+            Noted::Verdict { .. } | Noted::Attached { .. } | Noted::Lost { .. } => Ok(()),
+        }
+    }
+
+    /// Says how many lines were followed, and the moment of the last one.
+    fn say_followed<R: Eprint>(&self, rt: &R) -> Result<(), AllocError> {
+        let lines = self.number;
+        let Some(last) = self.last else {
+            let _ = eprintln!(rt; "central: journal: {lines} lines");
+            return Ok(());
+        };
+        let mut moment = String::new(self.alloc);
+        push_instant(&mut moment, last)?;
+        let _ = eprintln!(rt; "central: journal: {lines} lines, the last one of {moment}");
+        Ok(())
+    }
+}
+
+/// Whether a line is a change that is to be counted.
+fn is_counted(line: &Line<'_>, following: &Following<'_>) -> bool {
+    match (line.noted, following.counted) {
+        (Noted::Message { .. }, Some((point, moment))) => {
+            line.point == point && line.moment > moment
+        }
+        _ => false,
+    }
+}
