@@ -10,7 +10,7 @@ use Rattle.site_journal.specs.declared.restore_fault.RestoreFault.TheVariants as
 use Rattle.client.specs.declared.fault.ClientFault.{ClientFault}
 use Rattle.client.specs.declared.fault.ClientFault.TheVariants as client_fault
 use Rattle.central.specs.declared.program.program_fault.ProgramFault.{ProgramFault}
-use Rattle.central.specs.declared.program.program_fault.ProgramFault.TheVariants.{Words, Site, SiteFile, Write, Replay, Serve, DataInUse, Data, Journal, JournalHeader, Unrestored, JournalLineTooLong, Client, File, NoSuchPoint, NoSuchConnector, NoInstant, NoScriptEnd, NoNumber, PastCalendar, NoPicture, OutOfMemory}
+use Rattle.central.specs.declared.program.program_fault.ProgramFault.TheVariants.{Words, Site, SiteFile, Write, Replay, Serve, DataInUse, Data, Journal, JournalHeader, Unrestored, JournalLineTooLong, Clock, Client, File, NoSuchPoint, NoSuchConnector, NoInstant, NoScriptEnd, NoNumber, PastCalendar, NoPicture, OutOfMemory}
 
 abbrev pub replay_status : ReplayFault → ℕ
 replay_status replay_fault.Read = 3
@@ -42,6 +42,7 @@ fault_status Journal = 3
 fault_status (JournalHeader line fault) = 1
 fault_status (Unrestored unrestored) = restore_status unrestored.fault
 fault_status JournalLineTooLong = 1
+fault_status Clock = 3
 fault_status (Client fault) = client_status fault
 fault_status File = 3
 fault_status NoSuchPoint = 4

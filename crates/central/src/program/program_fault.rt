@@ -49,6 +49,9 @@ pub enum ProgramFault {
     /// A line of the journal is longer than any.
     #[error("central: journal: a line has more than 4194304 bytes")]
     JournalLineTooLong,
+    /// The clock can't be read.
+    #[error("central: device: clock")]
+    Clock,
     /// A client stopped.
     #[error("central: {0}")]
     Client(ClientFault),
@@ -100,7 +103,7 @@ impl ProgramFault {
             ProgramFault::Replay(_) => 3,
             ProgramFault::SiteFile | ProgramFault::Write | ProgramFault::OutOfMemory => 3,
             ProgramFault::Serve(_) | ProgramFault::File | ProgramFault::Journal => 3,
-            ProgramFault::Data => 3,
+            ProgramFault::Data | ProgramFault::Clock => 3,
             ProgramFault::Client(ClientFault::Url | ClientFault::NotOperator) => 4,
             ProgramFault::Client(_) => 3,
             ProgramFault::Words | ProgramFault::NoSuchPoint | ProgramFault::NoSuchConnector => 4,

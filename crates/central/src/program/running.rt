@@ -160,7 +160,7 @@ fn restore_shared<
 ) -> Result<JournalFile<R>, ProgramFault> {
     let (mut opened, mut pass) = (opened, pass);
     let Some(now) = (SystemClock { rt }).now() else {
-        return Err(ProgramFault::OutOfMemory);
+        return Err(ProgramFault::Clock);
     };
     let mut book = shared.lock(rt);
     let added = restore_book(rt, &mut opened, digest, &mut book, &mut pass, now)?;
