@@ -41,15 +41,17 @@ pub struct FollowedJournal<C: Ledger, A: Ledger> {
     pass: Pass<C, A>,
     /// Each at its place in the site file.
     calls: Vec<PointCalls>,
-    /// The number of the last line, and its moment.
+    /// The number of the last line that was followed, and whether those behind it are only read.
     number: u64,
+    is_ended: bool,
+    /// The moment of the last line that was read.
     last: Option<Instant>,
     /// How many changes were counted.
     changes: u64,
 }
 
 /// Follows the journal of a folder on a site, whose changes and answers these two ledgers count.
-/// Says on standard error how far it was followed.
+/// Says on standard error how many lines there are, and the moment of the last one.
 pub fn follow_journal<C: Ledger, A: Ledger, R: Files<File = File> + Eprint + AllocGlobal>(
     rt: &R,
     following: &Following<'_>,
@@ -64,22 +66,15 @@ pub fn follow_journal<C: Ledger, A: Ledger, R: Files<File = File> + Eprint + All
     let mut file = open_to_read(rt, following.folder)?;
     let mut followed = FollowedJournal::begin(rt.alloc(), site, blanks)?;
     let mut journal = JournalLines::new(rt.alloc());
-    let mut is_whole = true;
     for _part in 0..u64::MAX {
-        let Some(lines) = journal.next(rt, &mut file)? else {
-            break;
-        };
-        is_whole = followed.follow_lines(lines, following)?;
-        if !is_whole {
-            break;
+        match journal.next(rt, &mut file)? {
+            Some(lines) => followed.follow_lines(lines, following)?,
+            None => break,
         }
     }
     let _ = say_other_site(rt, &file, &journal, &following.digest);
-    if is_whole {
-        followed.number = journal.count();
-        say_torn(rt, &file, &journal);
-    }
-    followed.say_followed(rt)?;
+    say_torn(rt, &file, &journal);
+    say_read(rt, journal.count(), followed.last)?;
     Ok(followed)
 }
 
@@ -111,6 +106,7 @@ impl<C: Ledger, A: Ledger> FollowedJournal<C, A> {
             pass,
             calls,
             number: 0,
+            is_ended: false,
             last: None,
             changes: 0,
         })
@@ -137,38 +133,39 @@ impl<C: Ledger, A: Ledger> FollowedJournal<C, A> {
         self.changes
     }
 
-    /// Follows lines, up to the end that is wanted. Returns whether that is still to come.
+    /// Reads lines, and follows those up to the end that is wanted.
     fn follow_lines(
         &mut self,
         lines: Lines<'_>,
         following: &Following<'_>,
-    ) -> Result<bool, ProgramFault> {
+    ) -> Result<(), ProgramFault> {
         let (mut rest, mut number) = (lines.bytes, lines.first);
         for _line in 0..lines.bytes.len() {
             let Some((bytes, others)) = split_line(rest) else {
                 break;
             };
-            let line = match read_bytes(bytes) {
-                Ok(line) => line,
+            match read_bytes(bytes) {
+                Ok(line) => self.follow_line(&line, number, following)?,
                 Err(fault) => return Err(unread(number, fault)),
-            };
-            if following.end.is_before(number, line.moment) {
-                return Ok(false);
             }
-            self.follow_line(&line, number, following)?;
             rest = others;
             number = number.saturating_add(1);
         }
-        Ok(true)
+        Ok(())
     }
 
-    /// Follows the line of a number.
+    /// Follows the line of a number, unless it is behind the end that is wanted.
     fn follow_line(
         &mut self,
         line: &Line<'_>,
         number: u64,
         following: &Following<'_>,
     ) -> Result<(), ProgramFault> {
+        self.last = Some(line.moment);
+        self.is_ended = self.is_ended || following.end.is_before(number, line.moment);
+        if self.is_ended {
+            return Ok(());
+        }
         let restored = restore_line(
             self.alloc,
             &mut self.memory,
@@ -183,7 +180,6 @@ impl<C: Ledger, A: Ledger> FollowedJournal<C, A> {
             }));
         }
         self.number = number;
-        self.last = Some(line.moment);
         if is_counted(line, following) {
             self.changes = self.changes.saturating_add(1);
         }
@@ -212,19 +208,22 @@ impl<C: Ledger, A: Ledger> FollowedJournal<C, A> {
             Noted::Verdict { .. } | Noted::Attached { .. } | Noted::Lost { .. } => Ok(()),
         }
     }
+}
 
-    /// Says how many lines were followed, and the moment of the last one.
-    fn say_followed<R: Eprint>(&self, rt: &R) -> Result<(), AllocError> {
-        let lines = self.number;
-        let Some(last) = self.last else {
-            let _ = eprintln!(rt; "central: journal: {lines} lines");
-            return Ok(());
-        };
-        let mut moment = String::new(self.alloc);
-        push_instant(&mut moment, last)?;
-        let _ = eprintln!(rt; "central: journal: {lines} lines, the last one of {moment}");
-        Ok(())
-    }
+/// Says how many lines were read, and the moment of the last one.
+fn say_read<R: Eprint + AllocGlobal>(
+    rt: &R,
+    lines: u64,
+    last: Option<Instant>,
+) -> Result<(), AllocError> {
+    let Some(last) = last else {
+        let _ = eprintln!(rt; "central: journal: {lines} lines");
+        return Ok(());
+    };
+    let mut moment = String::new(rt.alloc());
+    push_instant(&mut moment, last)?;
+    let _ = eprintln!(rt; "central: journal: {lines} lines, the last one of {moment}");
+    Ok(())
 }
 
 /// Whether a line is a change that is to be counted.
