@@ -254,7 +254,7 @@ def first_schedule_problems(program, folder):
     example = Case("examples/first-schedule")
     done = subprocess.run([os.path.join(TOP, "first-schedule"), program], capture_output=True, timeout=120)
     commands = [line.split(b" --")[0].split(b"| ")[-1] for line in done.stdout.split(b"\n") if b" --" in line]
-    wanted = [f"{program} {command}".encode() for command in ("serve", "point", "call")]
+    wanted = [f"{program} {command}".encode() for command in ("run", "point", "call")]
     begins = done.stdout.startswith(example.wanted[0] + b"\n")
     ok = done.returncode == 0 and begins and commands == wanted and not done.stderr
     yield "first-schedule", [] if ok else [f"{done}"]

@@ -285,7 +285,6 @@ fn running_of<'a>(given: &ArgMatches<'a>) -> Option<Running<'a>>
 {
     let site = text_of(given, "site")?;
     let folder = text_of(given, "data")?;
-    let listen = text_of(given, "listen")?;
     let seats = optional_number_of(given, "seats").unwrap_or(SEATS);
     let workers = optional_number_of(given, "workers").unwrap_or(WORKERS);
     if seats < 1 || workers < 1 {
@@ -294,7 +293,7 @@ fn running_of<'a>(given: &ArgMatches<'a>) -> Option<Running<'a>>
     Some(Running {
         site,
         folder,
-        listen,
+        listen: text_of(given, "listen")?,
         seats,
         workers,
     })
@@ -407,12 +406,11 @@ fn showing_of<'a>(given: &ArgMatches<'a>) -> Option<Showing<'a>>
 {
     let site = text_of(given, "site")?;
     let folder = text_of(given, "data");
-    let at = text_of(given, "at");
     let json = is_given(given, "json");
     Some(Showing {
         site,
         folder,
-        at,
+        at: text_of(given, "at"),
         json,
     })
 }
