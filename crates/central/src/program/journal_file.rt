@@ -277,15 +277,13 @@ impl<R: Wait + Clock + Eprint + AllocGlobal + Drop> JournalFile<R> {
 
 impl WrittenLines {
     /// Makes the text of what was taken, behind the lines that aren't on the disk yet. Afterwards
-    /// there is room for entries. Where memory runs out all is as it was.
+    /// there is room for entries. Where memory runs out the lines are as they were.
     fn put_into_words(&mut self) -> Result<(), AllocError> {
-        let before = self.lines.len();
+        let mut lines = String::new(*self.lines.allocator());
         for numbered in &self.taken {
-            if let Err(AllocError) = numbered.entry.push(&mut self.lines, numbered.number) {
-                self.lines.truncate(before);
-                return Err(AllocError);
-            }
+            numbered.entry.push(&mut lines, numbered.number)?;
         }
+        self.lines.push_str(lines.as_str())?;
         self.taken.clear();
         self.taken.reserve(FREE_ENTRIES)
     }
