@@ -12,7 +12,7 @@ use ocpp_scalars::{Instant, push_instant};
 use ocppj_frame::ReadingMemory;
 use show_pages::{PointCalls, Standing};
 use site_core::Machine;
-use site_journal::{Line, Noted, Unrestored, read_bytes, restore_line, split_line};
+use site_journal::{Line, Noted, Unrestored, read_bytes, restore, split_line};
 use site_rules::Site;
 use std::alloc::{AllocError, AllocGlobal, Global};
 use std::fs::File;
@@ -144,8 +144,11 @@ impl<C: Ledger, A: Ledger> FollowedJournal<C, A> {
             let Some((bytes, others)) = split_line(rest) else {
                 break;
             };
+            let length = rest.len().saturating_sub(others.len());
             match read_bytes(bytes) {
-                Ok(line) => self.follow_line(&line, number, following)?,
+                Ok(line) => {
+                    self.follow_line(&line, rest.split_at(length).0, number, following)?;
+                }
                 Err(fault) => return Err(unread(number, fault)),
             }
             rest = others;
@@ -154,10 +157,12 @@ impl<C: Ledger, A: Ledger> FollowedJournal<C, A> {
         Ok(())
     }
 
-    /// Follows the line of a number, unless it is behind the end that is wanted.
+    /// Follows the line of a number, unless it is behind the end that is wanted. The text is the
+    /// line's with its line feed.
     fn follow_line(
         &mut self,
         line: &Line<'_>,
+        text: &[u8],
         number: u64,
         following: &Following<'_>,
     ) -> Result<(), ProgramFault> {
@@ -166,17 +171,10 @@ impl<C: Ledger, A: Ledger> FollowedJournal<C, A> {
         if self.is_ended {
             return Ok(());
         }
-        let restored = restore_line(
-            self.alloc,
-            &mut self.memory,
-            &mut self.book,
-            &mut self.pass,
-            line,
-        );
-        if let Err(fault) = restored {
+        if let Err(unrestored) = restore(self.alloc, &mut self.book, &mut self.pass, text) {
             return Err(ProgramFault::Unrestored(Unrestored {
                 line: number,
-                fault,
+                fault: unrestored.fault,
             }));
         }
         self.number = number;

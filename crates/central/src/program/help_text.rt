@@ -81,7 +81,8 @@ HTTP 503. Where a point connects anew, its older connection is closed.
 
 DIR/journal has a line for each step that changed something, written and synced before it is answered.
 A start makes these steps again, each with the number that it drew. A journal whose last line is torn
-is cut there: that was never answered. One process at a time runs on a folder.
+is cut there: that was never answered. With another site file they are tried: the first line that doesn't
+fit is named. One process at a time runs on a folder.
 Where the device is full, what changes something is answered InternalError until there is room. Where
 the journal can't be written otherwise, the program ends with status 3. It may be killed at any moment.
 
@@ -219,7 +220,7 @@ pub const DURATION_HELP: &str = "For how many seconds, from 1 to 2678400";
 
 /// What `--at` counts.
 pub const AT_HELP: &str =
-    "After this number of lines of the script, or at this instant, not after all";
+    "After this number of lines of the script or journal, or at this instant, not after all";
 
 /// What `--picture` names.
 pub const PICTURE_HELP: &str = "Write a picture too: FILE.svg, or a page with it: FILE.html";
@@ -229,10 +230,10 @@ pub const JSON_HELP: &str = "Print it for programs, as JSON";
 
 /// What `explain` reads and prints.
 pub const EXPLAIN_NOTES: &str =
-    "The script is standard input, as of 'central replay'; its lines are played and not printed. Then the
-limits of the connector are printed, one line for each interval in which the limit and its cause
-stay the same: from, to, how long, the limit, and what sets it. Below stand the profiles of the point that
-never set it in this time, each with the reason.
+    "The script is standard input, as of 'central replay', or the journal of --data; its lines are played
+and not printed. Then the limits of the connector are printed, one line for each interval in which the limit and its
+cause stay the same: from, to, how long, the limit, and what sets it. Below stand the profiles of the point
+that never set it in this time, each with the reason.
 
 Example:
   central explain --site site.json --point CP1 --connector 1 --start 2025-01-03T12:00:00Z --duration 86400 < script
@@ -248,8 +249,8 @@ pub const TRACE_HELP: &str = "Show what each line of the script is answered";
 
 /// What `check` reads and prints.
 pub const CHECK_NOTES: &str =
-    "The script is standard input, as of 'central replay'; without one give it /dev/null. Each finding is a line:
-where it is, what was found, and what is wanted.
+    "The script is standard input, as of 'central replay', or the journal of --data; without one give it
+/dev/null. Each finding is a line: where it is, what was found, and what is wanted.
 
 Example:
   central check --site site.json < script
@@ -262,12 +263,13 @@ pub const SHOW_ABOUT: &str = "Shows what each point of a site has after a script
 
 /// What `show` reads and prints.
 pub const SHOW_NOTES: &str =
-    "The script is standard input, as of 'central replay'; its lines are played and not printed. Then the
-profiles, transactions, audit, remote starts and waiting calls of each point are printed, and the requests
-that are held.
+    "The script is standard input, as of 'central replay', or the journal of --data; its lines are played
+and not printed. Then the profiles, transactions, audit, remote starts and waiting calls of each point are
+printed, and the requests that are held.
 
-Example:
+Examples:
   central show --site site.json < script
+  central show --site site.json --data /var/lib/central
 
 The exit statuses are those of 'central --help'.";
 
