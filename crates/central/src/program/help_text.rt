@@ -231,9 +231,9 @@ pub const JSON_HELP: &str = "Print it for programs, as JSON";
 /// What `explain` reads and prints.
 pub const EXPLAIN_NOTES: &str =
     "The script is standard input, as of 'central replay', or the journal of --data; its lines are played
-and not printed. Then the limits of the connector are printed, one line for each interval in which the limit and its
-cause stay the same: from, to, how long, the limit, and what sets it. Below stand the profiles of the point
-that never set it in this time, each with the reason.
+and not printed. Then the limits of the connector are printed, one line for each interval in which the
+limit and its cause stay the same: from, to, how long, the limit, and what sets it. Below stand the
+profiles of the point that never set it in this time, each with the reason.
 
 Example:
   central explain --site site.json --point CP1 --connector 1 --start 2025-01-03T12:00:00Z --duration 86400 < script
