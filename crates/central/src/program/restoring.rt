@@ -115,7 +115,7 @@ pub fn say_other_site<R: Eprint>(
 }
 
 /// What the points of a site have.
-pub fn resumed(machine: &Machine) -> Resumed {
+pub fn count_resumed(machine: &Machine) -> Resumed {
     let site = machine.site();
     let mut resumed = Resumed {
         points: site.len() as u64,

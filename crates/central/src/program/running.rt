@@ -7,7 +7,7 @@ use crate::program::data_folder::{OpenJournal, open_journal};
 use crate::program::journal_file::JournalFile;
 use crate::program::named_file::or_stop;
 use crate::program::program_fault::ProgramFault;
-use crate::program::restoring::{Resumed, restore_book, resumed};
+use crate::program::restoring::{Resumed, count_resumed, restore_book};
 use crate::program::site_file::read_digested_site;
 use crate::program::system_clock::SystemClock;
 use ocpp_scalars::Moments;
@@ -164,7 +164,7 @@ fn restore_shared<
     };
     let mut book = shared.lock(rt);
     let added = restore_book(rt, &mut opened, digest, &mut book, &mut pass, now)?;
-    let resumed = resumed(book.present());
+    let resumed = count_resumed(book.present());
     drop(book);
     let journal = JournalFile::make(*rt, opened, added)?;
     if journal.keep_all().is_err() {
