@@ -3,7 +3,9 @@
 ghost use Rattle.std.specs.Prelude.{◌≡◌, ◌≤◌, length};
 
 use crate::program::command_line::Explaining;
-use crate::program::followed_journal::{FollowedJournal, Following, follow_journal};
+use crate::program::followed_journal::{
+    CountedChanges, FollowedJournal, Following, follow_journal,
+};
 use crate::program::pages::{Screen, note_refused_lines, print_page, write_file};
 use crate::program::picture_name::{PictureForm, picture_form};
 use crate::program::program_fault::ProgramFault;
@@ -53,7 +55,10 @@ pub fn explain_file<R: Files<File = File> + Input + Print + Eprint + AllocGlobal
         folder,
         digest,
         end,
-        counted: Some((explaining.point, ask.start)),
+        counted: Some(CountedChanges {
+            point: explaining.point,
+            moment: ask.start,
+        }),
     };
     let blanks = (Blank::new(1), Blank::new(1));
     explain_journal::<Brand, Brand, R>(rt, presentation, &following, site, blanks, &ask)

@@ -28,8 +28,15 @@ pub struct Following<'a> {
     /// The SHA-256 of the site file.
     pub digest: [u8; 32],
     pub end: ScriptEnd,
-    /// The changes at this point that are later than this moment are counted.
-    pub counted: Option<(&'a str, Instant)>,
+    /// Which changes are counted.
+    pub counted: Option<CountedChanges<'a>>,
+}
+
+/// The changes at a point that are later than a moment.
+#[derive(Clone, Copy, Debug)]
+pub struct CountedChanges<'a> {
+    pub point: &'a str,
+    pub moment: Instant,
 }
 
 /// The book to which the lines of a journal lead, and what became of the calls to each point.
@@ -226,9 +233,9 @@ fn say_read<R: Eprint + AllocGlobal>(
 
 /// Whether a line is a change that is to be counted.
 fn is_counted(line: &Line<'_>, following: &Following<'_>) -> bool {
-    match (line.noted, following.counted) {
-        (Noted::Message { .. }, Some((point, moment))) => {
-            line.point == point && line.moment > moment
+    match (&line.noted, &following.counted) {
+        (Noted::Message { .. }, Some(counted)) => {
+            line.point == counted.point && line.moment > counted.moment
         }
         _ => false,
     }
