@@ -1,4 +1,5 @@
 pub mod Line
+pub mod Lines
 pub mod Entry
 pub mod Header
 pub mod RestoreFault
@@ -6,4 +7,5 @@ pub mod Restore
 pub mod NotedStep
 pub mod Journal
 pub mod LostLinks
+pub mod Forgetting
 pub mod ByCases

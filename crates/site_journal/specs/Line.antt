@@ -1,7 +1,6 @@
 -- A line of a journal: what it notes, and its text, printed from its parts.
-use Rattle.std.specs.Prelude.{ℕ, ◌≡◌, ◌==◌, ◌||◌, ◌≤◌, ◌<◌, ◌≢◌, Bool, List, [], ◌∷◌, ◌++◌, map, length, slice_index, codes, Option, Some, None, if◌then◌else◌}
+use Rattle.std.specs.Prelude.{ℕ, ◌≡◌, ◌==◌, ◌||◌, ◌≤◌, ◌<◌, ◌≢◌, All, Bool, List, ◌++◌, map, length, codes, Option, Some, None, if◌then◌else◌}
 use Rattle.std.specs.Fmt.{decimal}
-use Rattle.std.specs.List.{EachIndex}
 use Rattle.ocpp_scalars.specs.Ascii.{line_feed, space}
 use Rattle.ocpp_scalars.specs.Limits.{last_second}
 use Rattle.ocpp_scalars.specs.Writing.{instant_text}
@@ -82,13 +81,9 @@ unbroken byte = if is_break byte then tab else byte
 abbrev pub on_one_line : List ℕ → List ℕ
 on_one_line frame = map unbroken frame
 
--- in a text without line feeds
-abbrev pub without_returns : List ℕ → List ℕ
-without_returns text = map (λ byte. if byte == carriage_return then tab else byte) text
-
 -- a number in decimal, and a message
 abbrev pub numbered_frame : ℕ → List ℕ → List ℕ
-numbered_frame number frame = decimal number ++ (space ∷ on_one_line frame)
+numbered_frame number frame = decimal number ++ codes " " ++ on_one_line frame
 
 -- what stands behind the point
 abbrev pub noted_text : NotedState → List ℕ
@@ -96,38 +91,34 @@ noted_text (message sender number frame) = numbered_frame number frame
 noted_text (reply link frame) = numbered_frame link frame
 noted_text (verdict call frame) = numbered_frame call frame
 noted_text (attached link) = decimal link
-noted_text (sent link call) = decimal link ++ (space ∷ decimal call)
+noted_text (sent link call) = decimal link ++ codes " " ++ decimal call
 noted_text (lost link) = decimal link
 
 -- its words, with one space between them
 unfoldable pub line_words : LineState → List ℕ
 line_words line =
-    instant_text line.moment ++ (space ∷ (word_of line.noted
-    ++ (space ∷ (line.point ++ (space ∷ noted_text line.noted)))))
+    instant_text line.moment ++ codes " " ++ word_of line.noted ++ codes " " ++ line.point
+    ++ codes " " ++ noted_text line.noted
 
 -- a whole line, with its line feed
 abbrev pub line_text : LineState → List ℕ
-line_text line = line_words line ++ line_feed ∷ []
+line_text line = line_words line ++ codes "\n"
 
--- ---- which lines can be read back
+-- ---- which lines can be read back, and as what
 
 abbrev pub HasNoLineFeed : List ℕ → Type 0
-HasNoLineFeed text = EachIndex text (λ k. slice_index text k ≢ line_feed)
-
--- no line feed and no carriage return
-abbrev pub IsUnbroken : List ℕ → Type 0
-IsUnbroken frame = on_one_line frame ≡ frame
+HasNoLineFeed text = All (λ byte. byte ≢ line_feed) text
 
 -- at least one byte, and none of them a space or a line feed
 pub record IsPointWord (point : List ℕ) : Type 0 where
   pub some : 0 < length point
-  pub spaces : EachIndex point (λ k. slice_index point k ≢ space)
+  pub spaces : All (λ byte. byte ≢ space) point
   pub breaks : HasNoLineFeed point
 
 abbrev pub CanBeNoted : NotedState → Type 0
-CanBeNoted (message sender number frame) = (number ≤ max_number) × IsUnbroken frame
-CanBeNoted (reply link frame) = (link ≤ max_number) × IsUnbroken frame
-CanBeNoted (verdict call frame) = (call ≤ max_number) × IsUnbroken frame
+CanBeNoted (message sender number frame) = number ≤ max_number
+CanBeNoted (reply link frame) = link ≤ max_number
+CanBeNoted (verdict call frame) = call ≤ max_number
 CanBeNoted (attached link) = link ≤ max_number
 CanBeNoted (sent link call) = (link ≤ max_number) × (call ≤ max_number)
 CanBeNoted (lost link) = link ≤ max_number
@@ -137,3 +128,17 @@ pub record CanBeWritten (line : LineState) : Type 0 where
   pub moment : line.moment ≤ last_second
   pub point : IsPointWord line.point
   pub noted : CanBeNoted line.noted
+
+-- its message is on one line
+abbrev pub noted_on_one_line : NotedState → NotedState
+noted_on_one_line (message sender number frame) = message sender number (on_one_line frame)
+noted_on_one_line (reply link frame) = reply link (on_one_line frame)
+noted_on_one_line (verdict call frame) = verdict call (on_one_line frame)
+noted_on_one_line noted = noted
+
+abbrev pub line_on_one_line : LineState → LineState
+line_on_one_line line = record line { noted = noted_on_one_line line.noted }
+
+-- its message has neither line feed nor carriage return
+abbrev pub HasNoBreak : LineState → Type 0
+HasNoBreak line = line_on_one_line line ≡ line

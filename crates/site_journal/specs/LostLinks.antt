@@ -1,9 +1,9 @@
 -- After a start no point has a link, and the journal says so.
-use Rattle.std.specs.Prelude.{◌≡◌, ℕ, List, ◌++◌, map, None}
-use Rattle.std.specs.List.{flat_map, AllByRecursion}
+use Rattle.std.specs.Prelude.{◌≡◌, ℕ, List, ◌++◌, flat_map, None, Ok}
+use Rattle.std.specs.List.{AllByRecursion}
 use Rattle.site_core.specs.State.{MachineState, link_of}
-use Rattle.site_journal.specs.Journal.{Restores}
-use Rattle.site_journal.specs.Line.{LineState, NotedState, lost, line_text, line_words}
+use Rattle.site_journal.specs.Line.{LineState, lost, line_text}
+use Rattle.site_journal.specs.Restore.{restored_lines}
 
 abbrev pub HasNoLinks : MachineState → Type 0
 HasNoLinks state = (point : List ℕ) → link_of state point ≡ None
@@ -19,4 +19,4 @@ pub record LosesLinks (moment : ℕ) (old new : MachineState) (before behind : L
   pub lines : List LineState
   pub losses : AllByRecursion (IsLossAt moment) lines
   pub appended : behind ≡ before ++ flat_map line_text lines
-  pub restores : Restores old (map line_words lines) new
+  pub leads : restored_lines old lines ≡ Ok new

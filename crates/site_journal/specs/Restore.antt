@@ -1,6 +1,6 @@
 -- What a line of a journal makes of the state, or why it can't be restored. Each line is a step of
 -- the machine, and the numbers that the step draws are those that the line has.
-use Rattle.std.specs.Prelude.{ℕ, unsigned_abs, ◌≡◌, ◌≤◌, ◌⊎◌, ◌==◌, Bool, true, false, List, Option, Some, None, Result, Ok, Err, if◌then◌else◌}
+use Rattle.std.specs.Prelude.{ℕ, unsigned_abs, ◌≡◌, ◌≤◌, ◌⊎◌, ◌==◌, Bool, true, false, List, [], ◌∷◌, Option, Some, None, Result, Ok, Err, if◌then◌else◌}
 use Rattle.ocpp_scalars.specs.ResultSteps.{◌>>=◌}
 use Rattle.ocpp_scalars.specs.declared.refusal.Refusal.{Refusal}
 use Rattle.ocpp_scalars.specs.declared.refusal.Refusal.TheVariants.{UnknownRequest}
@@ -22,7 +22,7 @@ use Rattle.site_core.specs.State.{MachineState, audit_job}
 use Rattle.site_core.specs.Step.{Made, stepped, no_answer}
 use Rattle.version_store.specs.Passes.{PassState}
 use Rattle.site_journal.specs.declared.restore_fault.RestoreFault.{RestoreFault}
-use Rattle.site_journal.specs.declared.restore_fault.RestoreFault.TheVariants.{Line, OtherStep, Refused, Unchanged, OtherNumber, OutOfMemory}
+use Rattle.site_journal.specs.declared.restore_fault.RestoreFault.TheVariants.{OtherStep, Refused, Unchanged, OtherNumber, OutOfMemory}
 use Rattle.site_journal.specs.Line.{NotedState, LineState, message, reply, verdict, attached, sent, lost, number_written}
 
 -- ---- the step of a line
@@ -116,6 +116,13 @@ unfoldable pub restored : MachineState → LineState → Result MachineState Res
 restored state line = do
   step ← step_noted state line line.noted
   made_with state (number_written line.noted) step
+
+-- the state after lines, one after another, or the fault of the first that has one
+abbrev pub restored_lines : MachineState → List LineState → Result MachineState RestoreFault
+restored_lines state [] = Ok state
+restored_lines state (line ∷ lines) = do
+  next ← restored state line
+  restored_lines next lines
 
 -- why a line isn't restored: its fault, or memory ran out
 abbrev pub IsFaultOf : {A : Type 0} → Result A RestoreFault → RestoreFault → Type 0

@@ -1,18 +1,13 @@
 //! The first line of a journal, written and read.
 
-ghost use Rattle.std.specs.Prelude.{◌≡◌, string_bytes, IfOk};
+ghost use Rattle.std.specs.Prelude.{ℕ, ◌≡◌, ◌≢◌, ◌++◌, List, string_bytes, IfNone, IfOk, IfSome, OnErr};
+ghost use Rattle.hex.specs.Hex.{encode_lower};
 ghost use Rattle.ocpp_scalars.specs.Appending.{Appends};
-ghost use Rattle.site_journal.specs.Header.{header_text, header_words};
+ghost use Rattle.site_journal.specs.Header.{IsDigest, header_text, header_words};
 
 use hex::FromHex;
 use std::alloc::{AllocError, Global};
 use thiserror::Error;
-
-/// How the first line begins, before its format.
-const NAME: &str = "central journal ";
-
-/// The format that is written, and the only one that is read.
-const FORMAT: &str = "1";
 
 /// Why a text is no first line of a journal.
 #[derive(Clone, Copy, Debug, PartialEq, Eq, Error)]
@@ -43,29 +38,58 @@ pub fn push_header(alloc: Global, text: &mut String, digest: &[u8; 32]) -> Resul
 }
 
 /// The digest of the site file in the first line of a journal, without its line feed.
+#[tactic(auto, unfolding(crate::specs::Header::header_words))]
 pub fn read_header(line: &str) -> Result<[u8; 32], HeaderFault>
-    ensures { IfOk result (λ digest. header_words digest ≡ line.now) }
+    ensures read { IfOk result (λ digest. header_words digest ≡ line.now) }
+    ensures none { OnErr result
+        ((digest : List ℕ) → IsDigest digest → header_words digest ≢ line.now) }
 {
-    let Some(line) = line.strip_prefix(NAME) else {
-        return Err(HeaderFault::NotAJournal);
+    let Some(digits) = strip(line, "central journal 1 sha256:") else {
+        return Err(fault_of(line));
     };
-    let Some((format, digest)) = line.split_once(' ') else {
-        return Err(HeaderFault::NotAJournal);
-    };
-    if format != FORMAT {
-        return Err(HeaderFault::OtherFormat);
-    }
-    match read_digest(digest) {
+    match read_digest(digits) {
         Some(digest) => Ok(digest),
         None => Err(HeaderFault::NoDigest),
     }
 }
 
-/// The digest in lower case hex digits.
-fn read_digest(text: &str) -> Option<[u8; 32]> {
-    let digits = text.strip_prefix("sha256:")?;
-    if digits.bytes().any(|byte| byte.is_ascii_uppercase()) {
-        return None;
+/// Why a text that doesn't begin as a first line does is none.
+fn fault_of(line: &str) -> HeaderFault {
+    let Some(rest) = line.strip_prefix("central journal ") else {
+        return HeaderFault::NotAJournal;
+    };
+    match rest.split_once(' ') {
+        Some(("1", _)) => HeaderFault::NoDigest,
+        Some(_) => HeaderFault::OtherFormat,
+        None => HeaderFault::NotAJournal,
     }
-    <[u8; 32] as FromHex>::from_hex(digits).ok()
+}
+
+/// What follows this beginning of a text, if it begins so.
+fn strip<'a>(text: &'a str, beginning: &str) -> Option<&'a str>
+    ensures some { IfSome result (λ rest. beginning.now ++ rest.now ≡ text.entry.now) }
+    ensures none { IfNone result ((rest : List ℕ) → beginning.now ++ rest ≢ text.entry.now) }
+{
+    text.strip_prefix(beginning)
+}
+
+/// The digest whose lower case hex digits a text is.
+fn read_digest(text: &str) -> Option<[u8; 32]>
+    ensures some { IfSome result (λ digest. encode_lower digest ≡ text.now) }
+    ensures none { IfNone result
+        ((digest : List ℕ) → IsDigest digest → encode_lower digest ≢ text.now) }
+{
+    let Ok(digest) = <[u8; 32] as FromHex>::from_hex(text) else {
+        return None;
+    };
+    // Digits in upper case were read too.
+    let mut digits = [0u8; 64];
+    let Ok(()) = hex::encode_to_slice(digest, &mut digits) else {
+        return None;
+    };
+    if digits.as_slice() == text.as_bytes() {
+        Some(digest)
+    } else {
+        None
+    }
 }

@@ -2,8 +2,9 @@
 
 ghost use Rattle.std.specs.Prelude.{◌≡◌, string_bytes};
 ghost use Rattle.ocpp_scalars.specs.Appending.{Appends};
-ghost use Rattle.site_journal.specs.Entry.{before_number, behind_number, noted_before, noted_behind};
-ghost use Rattle.site_journal.specs.Line.{line_text, noted_state, number_written, numbered_frame, on_one_line, side_word, without_returns, word_of};
+ghost use Rattle.site_journal.specs.Entry.{before_number, behind_number, drawn_text, noted_before, noted_behind};
+ghost use Rattle.site_journal.specs.ByCases.Line.{without_returns};
+ghost use Rattle.site_journal.specs.Line.{line_text, noted_state, number_written, numbered_frame, on_one_line, side_word, word_of};
 
 use messages::Side;
 use ocpp_scalars::{Instant, push_instant, push_integer};
@@ -109,10 +110,18 @@ pub fn push_line(text: &mut String, line: &Line<'_>) -> Result<(), AllocError>
     ensures { Appends result (string_bytes text.old) (string_bytes text.new) (line_text line.now) }
 {
     push_before_number(text, line)?;
-    if let Some(number) = line.noted.number() {
-        push_integer(text, number)?;
-    }
+    push_drawn(text, line.noted.number())?;
     push_behind_number(text, line)
+}
+
+/// Appends the number that a step draws, if it draws one.
+fn push_drawn(text: &mut String, number: Option<u64>) -> Result<(), AllocError>
+    ensures { Appends result (string_bytes text.old) (string_bytes text.new) (drawn_text number) }
+{
+    match number {
+        Some(number) => push_integer(text, number),
+        None => Ok(()),
+    }
 }
 
 /// Appends a line up to the number that its step draws. One that draws none is whole but for its

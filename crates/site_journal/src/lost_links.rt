@@ -1,6 +1,8 @@
 //! What is done after a restore: each point loses its link.
 
-ghost use Rattle.std.specs.Prelude.{◌≡◌, OnOk, string_bytes};
+ghost use Rattle.std.specs.Prelude.{◌≡◌, None, OnOk, string_bytes};
+ghost use Rattle.site_core.specs.State.{link_of};
+ghost use Rattle.site_journal.specs.ByCases.LostLinks.{GivesNoLink, HasNoLinkAt};
 ghost use Rattle.site_journal.specs.LostLinks.{HasNoLinks, LosesLinks};
 
 use crate::line::{Line, Noted, push_line};
@@ -36,7 +38,12 @@ fn lose_link<C: Ledger, A: Ledger>(
     place: usize,
     moment: Instant,
     text: &mut String,
-) -> Result<(), Refusal> {
+) -> Result<(), Refusal>
+    ensures here { OnOk result (HasNoLinkAt book.new.present place) }
+    ensures others { OnOk result (GivesNoLink book.old.present book.new.present) }
+    ensures lines { OnOk result (LosesLinks moment book.old.present book.new.present
+        (string_bytes text.old) (string_bytes text.new)) }
+{
     let Some(point) = book.present().site().point(place) else {
         return Ok(());
     };
@@ -44,11 +51,30 @@ fn lose_link<C: Ledger, A: Ledger>(
         return Ok(());
     };
     let point = PointId::copied(alloc, point.id)?;
+    lose(book, point, link, moment, text)
+}
+
+/// The point of an identity loses this link.
+fn lose<C: Ledger, A: Ledger>(
+    book: &mut Book<C, A>,
+    point: PointId,
+    link: u64,
+    moment: Instant,
+    text: &mut String,
+) -> Result<(), Refusal>
+    ensures here { OnOk result (link_of book.new.present point ≡ None) }
+    ensures others { OnOk result (GivesNoLink book.old.present book.new.present) }
+    ensures lines { OnOk result (LosesLinks moment book.old.present book.new.present
+        (string_bytes text.old) (string_bytes text.new)) }
+{
     let line = Line {
         moment,
         point: point.as_str(),
         noted: Noted::Lost { link },
     };
     push_line(text, &line)?;
-    book.lost(point, link)
+    match book.lost(point, link) {
+        Ok(()) => Ok(()),
+        Err(refusal) => Err(refusal),
+    }
 }

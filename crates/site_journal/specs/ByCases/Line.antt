@@ -1,5 +1,5 @@
 -- What a line says, word by word. The law `lines_read_back` says that this is what was written.
-use Rattle.std.specs.Prelude.{ℕ, ◌==◌, ◌&&◌, Bool, nat_lt, if◌then◌else◌, List, length, codes, Option, Some, None, Result, Ok, Err}
+use Rattle.std.specs.Prelude.{ℕ, ◌==◌, ◌&&◌, Bool, nat_lt, if◌then◌else◌, List, map, length, codes, Option, Some, None, Result, Ok, Err}
 use Rattle.std.specs.List.{position_or_len, before_first, after_first}
 use Rattle.std.specs.Str.{bytes_eq, is_utf8}
 use Rattle.ocpp_scalars.specs.Ascii.{space}
@@ -14,7 +14,13 @@ use Rattle.site_journal.specs.declared.line_word.LineWord.TheVariants.{Operator,
 use Rattle.site_journal.specs.declared.reading.Words.{Words}
 use Rattle.site_journal.specs.declared.line_fault.LineFault.{LineFault}
 use Rattle.site_journal.specs.declared.line_fault.LineFault.TheVariants.{NotUtf8, Form, Moment, Number}
-use Rattle.site_journal.specs.Line.{NotedState, LineState, message, reply, verdict, attached, sent, lost}
+use Rattle.site_journal.specs.Line.{NotedState, LineState, message, reply, verdict, attached, sent, lost, carriage_return, tab}
+
+-- ---- messages
+
+-- of a text without line feeds
+abbrev pub without_returns : List ℕ → List ℕ
+without_returns text = map (λ byte. if byte == carriage_return then tab else byte) text
 
 -- ---- words
 
