@@ -72,7 +72,7 @@ impl<C: Ledger, A: Ledger> Desk<C, A> {
         };
         let entry = Entry::new(self.alloc, &line).expect(rt, "error");
         entry.push(&mut self.journal, number).expect(rt, "error");
-        self.lines += 1;
+        self.lines = self.lines.saturating_add(1);
     }
 
     // ---- a message
