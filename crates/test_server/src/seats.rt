@@ -19,7 +19,7 @@ use std::sync::Wait;
 use std::sync::ledger::{Blank, Ledger};
 use std::thread;
 use std::thread::Threads;
-use version_store::{Job, Totals};
+use version_store::{Job, Pass, Totals};
 
 const TOTALS: Totals = Totals {
     changes: 4,
@@ -111,8 +111,33 @@ fn totals_of_a_seat<
     );
     // Nobody takes the jobs, so the seat compiles.
     let jobs = jobs_of_nobody(rt, alloc);
+    seat_beside_clients(rt, &context, &jobs, &queue, pass, entrance)
+}
+
+/// Serves the clients with a seat of this pass, on a thread of its own.
+fn seat_beside_clients<
+    C: Ledger + Send + Sync,
+    A: Ledger + Send + Sync,
+    R: Abort
+        + Threads
+        + Wait
+        + Clock
+        + Net<Stream = TcpStream>
+        + RandomSource
+        + Copy
+        + Send
+        + Sync
+        + Drop,
+>(
+    rt: &R,
+    context: &SeatContext<C, A, R, TenPastMidnight, NoJournal>,
+    jobs: &Sender<Job>,
+    queue: &Receiver<TcpStream>,
+    pass: Pass<C, A>,
+    entrance: Entrance<R>,
+) -> Totals {
     thread::scope(thread::scope_env(), rt, |scope| {
-        let seat = scope.spawn(|| keep_seat(&context, &jobs, &queue, pass));
+        let seat = scope.spawn(move || keep_seat(context, jobs, queue, pass));
         let seat = seat.ok().expect(rt, "no thread");
         clients(&entrance);
         drop(entrance);
