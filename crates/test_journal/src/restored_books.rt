@@ -144,7 +144,7 @@ fn cut_after<C: Ledger, A: Ledger>(rt: &impl Abort, desk: &mut Desk<C, A>, lines
         .push_str("2025-01-01T00:00:20Z lost CP1")
         .expect(rt, "error");
     let said = desk.restore(rt, journal.as_str());
-    let wanted = said_of_restored(rt, desk.alloc, lines as u64 + 1);
+    let wanted = said_of_restored(rt, desk.alloc, (lines as u64).saturating_add(1));
     same_text(rt, said.as_str(), wanted.as_str(), "a journal that is cut");
     let wanted = STATES.split(',').nth(lines).expect(rt, "no state");
     let state = desk.state(rt);
@@ -158,7 +158,7 @@ fn cut_after<C: Ledger, A: Ledger>(rt: &impl Abort, desk: &mut Desk<C, A>, lines
 
 /// A journal with a changed line is named by its first line that doesn't fit.
 fn changed<C: Ledger, A: Ledger>(rt: &impl Abort, desk: &mut Desk<C, A>, index: usize) {
-    let (number, line, wanted) = CHANGED[index];
+    let (number, line, wanted) = *CHANGED.get(index).expect(rt, "no line");
     let journal = journal_of(rt, desk.alloc, LINES, number, line);
     let said = desk.restore(rt, journal.as_str());
     same_text(rt, said.as_str(), wanted, line);
@@ -226,9 +226,12 @@ fn links_came_and_went<C: Ledger, A: Ledger>(rt: &impl Abort, desk: &mut Desk<C,
         push_links(rt, desk.alloc, &mut journal, link);
     }
     let said = desk.restore(rt, journal.as_str());
-    let wanted = said_of_restored(rt, desk.alloc, 2 * links + 1);
+    let wanted = said_of_restored(rt, desk.alloc, links.saturating_mul(2).saturating_add(1));
     same_text(rt, said.as_str(), wanted.as_str(), "many links");
-    let next = format!(in desk.alloc; "2025-01-01T00:00:00Z attached CP2 {}\n", links + 1);
+    let next = format!(in desk.alloc;
+        "2025-01-01T00:00:00Z attached CP2 {}\n",
+        links.saturating_add(1)
+    );
     let said = desk.restore(rt, next.expect(rt, "error").as_str());
     same_text(rt, said.as_str(), "2 lines", "one link more");
 }
