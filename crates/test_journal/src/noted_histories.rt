@@ -159,8 +159,9 @@ impl<C: Ledger, A: Ledger> Desk<C, A> {
 
     /// Something happens at a point.
     fn happen(&mut self, rt: &impl Abort) {
-        self.seconds += self.random.below(20);
-        let point = POINTS[self.random.below(2) as usize];
+        self.seconds = self.seconds.saturating_add(self.random.below(20));
+        let place = self.random.below(2) as usize;
+        let point = *POINTS.get(place).expect(rt, "no point");
         match self.random.below(16) {
             0 | 1 => self.install(rt, point),
             2 => self.clear(rt, point),

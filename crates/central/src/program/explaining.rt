@@ -61,7 +61,7 @@ pub fn explain_file<R: Files<File = File> + Input + Print + Eprint + AllocGlobal
         }),
     };
     let blanks = (Blank::new(1), Blank::new(1));
-    explain_journal::<Brand, Brand, R>(rt, presentation, &following, site, blanks, &ask)
+    explain_journal::<Brand, Brand, R>(rt, presentation, following, site, blanks, &ask)
 }
 
 /// Explains what a point has after the script of standard input.
@@ -83,7 +83,7 @@ fn explain_script<R: Files + Input + Print + Eprint + AllocGlobal>(
 fn explain_journal<C: Ledger, A: Ledger, R: Files<File = File> + Print + Eprint + AllocGlobal>(
     rt: &R,
     presentation: Presentation<'_>,
-    following: &Following<'_>,
+    following: Following<'_>,
     site: Site,
     blanks: (Blank, Blank),
     ask: &Ask,
@@ -93,7 +93,7 @@ fn explain_journal<C: Ledger, A: Ledger, R: Files<File = File> + Print + Eprint 
     requires answers { (blanks.1.name ≡ A.name) × (blanks.1.parts ≡ A.parts)
         × (blanks.1.parts ≡ 1) }
 {
-    let followed: FollowedJournal<C, A> = follow_journal(rt, following, site, blanks)?;
+    let followed: FollowedJournal<C, A> = follow_journal(rt, &following, site, blanks)?;
     note_later_changes(rt, presentation.explaining, followed.changes());
     print_explained(rt, presentation, followed.machine(), ask)
 }

@@ -34,7 +34,7 @@ pub fn show_file<R: Files<File = File> + Input + Print + Eprint + AllocGlobal>(
         counted: None,
     };
     let blanks = (Blank::new(1), Blank::new(1));
-    show_journal::<Brand, Brand, R>(rt, showing, &following, site, blanks)
+    show_journal::<Brand, Brand, R>(rt, showing, following, site, blanks)
 }
 
 /// Shows what each point has after the script of standard input.
@@ -55,7 +55,7 @@ fn show_script<R: Input + Print + Eprint + AllocGlobal>(
 fn show_journal<C: Ledger, A: Ledger, R: Files<File = File> + Print + Eprint + AllocGlobal>(
     rt: &R,
     showing: Showing<'_>,
-    following: &Following<'_>,
+    following: Following<'_>,
     site: Site,
     blanks: (Blank, Blank),
 ) -> Result<(), ProgramFault>
@@ -64,7 +64,7 @@ fn show_journal<C: Ledger, A: Ledger, R: Files<File = File> + Print + Eprint + A
     requires answers { (blanks.1.name ≡ A.name) × (blanks.1.parts ≡ A.parts)
         × (blanks.1.parts ≡ 1) }
 {
-    let followed: FollowedJournal<C, A> = follow_journal(rt, following, site, blanks)?;
+    let followed: FollowedJournal<C, A> = follow_journal(rt, &following, site, blanks)?;
     print_standing(rt, showing, &followed.standing())
 }
 
