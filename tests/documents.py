@@ -32,10 +32,10 @@ HERE = os.path.dirname(os.path.dirname(os.path.abspath(__file__)))
 
 # The most that a page may have, in KB of 1,024 bytes. README is counted in lines.
 SIZES = {
-    "docs/RUNNING.md": 15,
-    "docs/COMMANDS.md": 15,
-    "docs/PROTOCOL.md": 30,
-    "docs/DIFFERENCES.md": 30,
+    "docs/RUNNING.md": 16,
+    "docs/COMMANDS.md": 16,
+    "docs/PROTOCOL.md": 28,
+    "docs/DIFFERENCES.md": 21,
     "docs/MEANING.md": 16,
     "docs/ARCHITECTURE.md": 14,
     "docs/WORKING.md": 18,
@@ -47,7 +47,7 @@ SIZES = {
     "tests/README.md": 8,
 }
 OTHER_SIZE = 8
-ALL_SIZE = 240
+ALL_SIZE = 244
 README_LINES = 110
 MEAN_WORDS = 25
 LONGEST_WORDS = 60

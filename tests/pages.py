@@ -2,9 +2,9 @@
 """pages.py PROGRAM [write]: runs the commands of the pages on the built program, and prints 'N passed, M failed'.
 
 A command is a code block that calls `packaging/out/central`, or `curl` on what it serves. A block of `text` that follows it is
-what it has to print, but for moments, which are those of the clock. `serve` and `point`, in the last line of a block, run beside the
-commands behind them, up to the end of the page: `serve` has to print where it listens, and `point` a line. With `write` the blocks of text are written anew,
-to be read before they are kept.
+what it has to print, but for moments, which are those of the clock. `run` and `point`, in the last line of a block, run beside the
+commands behind them, up to the end of the page: `run` has to print what it has and where it listens, in a folder of its own, and
+`point` a line. With `write` the blocks of text are written anew, to be read before they are kept.
 """
 import os
 import re
@@ -14,7 +14,9 @@ import signal
 import socket
 import subprocess
 import sys
+import tempfile
 import textwrap
+import time
 
 TOP = os.path.dirname(os.path.dirname(os.path.realpath(__file__)))
 PAGES = (
@@ -23,7 +25,8 @@ PAGES = (
 )
 PROGRAM = re.compile(r"\bpackaging/out/central (?=\w)")
 COMMAND = re.compile(rf"{PROGRAM.pattern}|^ *curl ")
-BESIDE = re.compile(r"\bpackaging/out/central (serve|point) ")
+BESIDE = re.compile(r"\bpackaging/out/central (run|point) ")
+DATA = re.compile(r"/tmp/central-data\b")
 PORT = re.compile(r"(?<=127\.0\.0\.1):90\d\d\b")
 MOMENTS = re.compile(r'"(scheduleStart|currentTime|timestamp)":"[^"]*"')
 FENCE = re.compile(r"^( *)```(\w*)$")
@@ -80,8 +83,22 @@ def end(process):
     process.communicate()
 
 
-def run_page(page, program, is_written):
-    """The problems of each command of a page."""
+def began(process, name):
+    """The problems of a command that goes on: what it prints first."""
+    wanted = ("resumed ", "listening ") if name == "run" else ("",)
+    said, over = b"", time.monotonic() + PATIENCE
+    while said.count(b"\n") < len(wanted) and select.select([process.stdout], [], [], max(0, over - time.monotonic()))[0]:
+        part = os.read(process.stdout.fileno(), 4_096)
+        if not part:
+            break
+        said += part
+    lines = said.decode().split("\n")[:-1]
+    is_right = len(lines) >= len(wanted) and all(line.startswith(start) for line, start in zip(lines, wanted))
+    return [] if is_right else [f"it prints {said!r}"]
+
+
+def run_page(page, program, is_written, data):
+    """The problems of each command of a page, whose sites are kept in this folder."""
     path = os.path.join(TOP, page)
     with open(path, encoding="utf-8") as file:
         lines = file.read().split("\n")
@@ -90,12 +107,11 @@ def run_page(page, program, is_written):
         for first, command, place in commands_of(lines):
             name = f"{page}:{first + 1}"
             command = PORT.sub(lambda found: f":{ports.setdefault(found[0], free_port())}", command)
+            command = DATA.sub(data, command)
             run = start(PROGRAM.sub(lambda _: shlex.quote(program) + " ", command))
             if found := BESIDE.search(command.rstrip().rsplit("\n", 1)[-1]):
                 beside.append(run)
-                line = select.select([run.stdout], [], [], PATIENCE)[0] and run.stdout.readline()
-                is_right = line and (found[1] != "serve" or line.startswith("listening "))
-                yield name, [] if is_right else [f"it prints {line!r}"]
+                yield name, began(run, found[1])
                 continue
             try:
                 printed = run.communicate(timeout=PATIENCE)[0].rstrip("\n")
@@ -125,7 +141,9 @@ def main():
         sys.exit(__doc__)
     passed = failed = 0
     for page in PAGES:
-        results = list(run_page(page, os.path.abspath(sys.argv[1]), len(sys.argv) == 3))
+        with tempfile.TemporaryDirectory() as folder:
+            data = os.path.join(folder, "data")
+            results = list(run_page(page, os.path.abspath(sys.argv[1]), len(sys.argv) == 3, data))
         for name, problems in results or [(page, ["it has no command"])]:
             for problem in problems:
                 print(f"{name}: {problem}")

@@ -255,7 +255,7 @@ def first_schedule_problems(program, folder):
     example = Case("examples/first-schedule")
     done = subprocess.run([os.path.join(TOP, "first-schedule"), program], capture_output=True, timeout=120)
     commands = [line.split(b" --")[0].split(b"| ")[-1] for line in done.stdout.split(b"\n") if b" --" in line]
-    wanted = [f"{program} {command}".encode() for command in ("serve", "point", "call")]
+    wanted = [f"{program} {command}".encode() for command in ("run", "point", "call")]
     begins = done.stdout.startswith(example.wanted[0] + b"\n")
     ok = done.returncode == 0 and begins and commands == wanted and not done.stderr
     yield "first-schedule", [] if ok else [f"{done}"]
@@ -297,13 +297,13 @@ _, status, usage = os.wait4(process, 0)
 print(usage.ru_maxrss, os.waitstatus_to_exitcode(status))"""
 
 
-def peak_memory(program, folder, script, site=SITE):
-    """The most kilobytes that a replay of a script on a site has at one time, and its exit status."""
+def peak_memory(program, folder, script, site=SITE, command="replay"):
+    """The most kilobytes that a replay or a check of a script on a site has at one time, and its exit status."""
     path, site_path = os.path.join(folder, "script"), os.path.join(folder, "site-of-the-script")
     for name, content in ((path, script), (site_path, site)):
         with open(name, "wb") as file:
             file.write(content)
-    arguments = [sys.executable, "-I", "-S", "-c", MEASURE, program, "replay", "--site", site_path]
+    arguments = [sys.executable, "-I", "-S", "-c", MEASURE, program, command, "--site", site_path]
     # A build that is watched by a sanitizer is told not to keep memory that was freed. Others don't look.
     kept = {"ASAN_OPTIONS": "quarantine_size_mb=1", **os.environ}
     with open(path, "rb") as given:
@@ -332,28 +332,55 @@ def filled(size, before, items, after):
     return bytes(content[:-1]) + after
 
 
-def site_growth_problems(program, folder):
-    """Full site files, right and wrong ones: a replay takes at most ten bytes for each of their bytes, whatever fills them."""
-    size = 1 << 19 if UNPROVED else MAX_SITE_BYTES
-    point = b'{"id":"CP1","ceiling":63.0,"connectors":[32.0]}'
-    head, noted = b'{"unit":"A","points":[', b'{"unit":"A","points":[' + point + b'],"note":'
-    one_point = head + b'{"id":"CP1","ceiling":63.0,"connectors":['
-    names = (b'"%s":0' % "".join(name).encode() for name in itertools.product(string.ascii_letters + string.digits, repeat=4))
-    least, _ = peak_memory(program, folder, b"")
-    for name, site, wanted in (
-        ("unknown numbers", filled(size, noted + b"[", itertools.repeat(b"1"), b"]}"), 0),
-        ("unknown lists", filled(size, noted + b"[", itertools.repeat(b"[1]"), b"]}"), 0),
-        ("unknown objects", filled(size, noted + b"[", itertools.repeat(b'{"a":0}'), b"]}"), 0),
-        ("unknown fields", filled(size, noted + b"{", names, b"}}"), 0),
-        ("points", filled(size, head, itertools.repeat(point), b"]}"), 1),
-        ("points without a field", filled(size, head, itertools.repeat(b"{}"), b"]}"), 1),
-        ("connectors", filled(size, one_point, itertools.repeat(b"1"), b"]}]}"), 1),
-        ("a long id", head + point.replace(b"CP1", b"a" * (size - 100)) + b"]}", 1),
-        ("points in no JSON", filled(size, head, itertools.repeat(point), b"]"), 1),
+# What `check` finds takes memory, too: it lists at most 2,000 faults and remarks in points.
+FOUND_BYTES = 3 << 20
+
+HEAD = b'{"unit":"A","points":['
+POINT = b'{"id":"CP1","ceiling":63.0,"connectors":[32.0]}'
+
+
+def named(form):
+    """As many items as there are names of four letters and digits, each with another name."""
+    return (form % "".join(name).encode() for name in itertools.product(string.ascii_letters + string.digits, repeat=4))
+
+
+def full_sites(size):
+    """Site files of this size, right and wrong ones, each full of one thing, and the statuses of a replay and of a check."""
+    noted, one_point = HEAD + POINT + b'],"note":', HEAD + b'{"id":"CP1","ceiling":63.0,"connectors":['
+    own_points = named(POINT.replace(b"CP1", b"%s"))
+    for name, parts, replayed, checked in (
+        ("unknown numbers", (noted + b"[", itertools.repeat(b"1"), b"]}"), 0, 2),
+        ("unknown lists", (noted + b"[", itertools.repeat(b"[1]"), b"]}"), 0, 2),
+        ("unknown objects", (noted + b"[", itertools.repeat(b'{"a":0}'), b"]}"), 0, 2),
+        ("unknown objects without a field", (noted + b"[", itertools.repeat(b"{}"), b"]}"), 0, 2),
+        ("unknown fields", (noted + b"{", named(b'"%s":0'), b"}}"), 0, 2),
+        ("fields beside unit", (HEAD + POINT + b"],", named(b'"%s":0'), b"}"), 0, 2),
+        ("fields of a point", (HEAD + POINT[:-1] + b",", named(b'"%s":0'), b"}]}"), 0, 2),
+        ("points", (HEAD, itertools.repeat(POINT), b"]}"), 1, 1),
+        ("points of their own", (HEAD, own_points, b"]}"), 1, 1),
+        ("points without a field", (HEAD, itertools.repeat(b"{}"), b"]}"), 1, 1),
+        ("lists of points", (b'{"unit":"A",', itertools.repeat(b'"points":[{}]'), b"}"), 1, 1),
+        ("connectors", (one_point, itertools.repeat(b"1"), b"]}]}"), 1, 1),
+        ("connectors of another kind", (one_point, itertools.repeat(b"{}"), b"]}]}"), 1, 1),
+        ("points in no JSON", (HEAD, itertools.repeat(POINT), b"]"), 1, 1),
+        # A replay makes a tree of these.
+        ("numbers and a malformed one", (noted + b"[", itertools.repeat(b"1"), b",01]}"), None, 1),
+        ("malformed numbers", (noted + b"{", named(b'"%s":01'), b"}}"), None, 1),
     ):
-        peak, status = peak_memory(program, folder, b"", site)
-        ok = status == wanted and (peak - least) * 1024 <= 10 * len(site)
-        yield f"a site file full of {name}", [] if ok else [f"{len(site)} bytes, {peak - least} KB, status {status}"]
+        yield name, filled(size, *parts), replayed, checked
+    yield "a long id", HEAD + POINT.replace(b"CP1", b"a" * (size - 100)) + b"]}", 1, 1
+
+
+def site_growth_problems(program, folder):
+    """Full site files: a replay or a check takes at most ten bytes for each of their bytes, whatever fills them."""
+    least, _ = peak_memory(program, folder, b"")
+    for name, site, replayed, checked in full_sites(1 << 19 if UNPROVED else MAX_SITE_BYTES):
+        for command, wanted, found in (("replay", replayed, 0), ("check", checked, FOUND_BYTES)):
+            if wanted is None:
+                continue
+            peak, status = peak_memory(program, folder, b"", site, command)
+            ok = status == wanted and (peak - least) * 1024 <= 10 * len(site) + found
+            yield f"{command} of a site file full of {name}", [] if ok else [f"{len(site)} bytes, {peak - least} KB, status {status}"]
 
 
 def memory_problems(program, folder):
@@ -521,6 +548,11 @@ def explain_order_problems(program, folder):
         yield f"explain: {name}", list(differences(done, b"", error, status))
 
 
+def of_journal(folder, cause, did):
+    """What is said where a folder's journal can't be read or written."""
+    return f"central: {folder}/journal: {cause}\ncentral: device: {did}\n".encode()
+
+
 def order_problems(program, folder):
     """The order of the faults of the other commands: the command line, the files that it names, then the script or the sockets."""
     none, bad, good = (os.path.join(folder, name) for name in ("none", "blank", "good"))
@@ -543,7 +575,11 @@ def order_problems(program, folder):
         ("point: no such point, and nobody listens", [*point, good, "--id", "CP9"], words + b"no such point in the site file\n", 4),
         ("call: a URL, and no payload", ["call", "--url", "http://x", "--set-profile", none], url, 4),
         ("call: no payload, and nobody listens", [*call, none], payload, 3),
-        ("serve: a journal that is there, and no site file", [*serve, none, "--journal", good], words + b"the file of --journal is there already\n", 4),
+        ("run: no site file, and no folder", ["run", "--site", none, "--data", good, "--listen", "nowhere"], no_site, 3),
+        ("run: a file where the folder should be", ["run", "--site", good, "--data", good, "--listen", "nowhere"], of_journal(good, "Not a directory (os error 20)", "write"), 3),
+        ("journal: no folder", ["journal", "--data", none], of_journal(none, "No such file or directory (os error 2)", "read"), 3),
+        ("show: no folder", ["show", "--site", good, "--data", none], of_journal(none, "No such file or directory (os error 2)", "read"), 3),
+        ("show: no place, and no site file", ["show", "--site", none, "--at", "noon"], words + b"--at is no number of lines, and no instant\n", 4),
         ("serve: no site file, and no address", [*serve, none], read, 3),
         ("serve: a site file with a fault, and no address", [*serve, bad], b"central: site: NotAnObject\n", 1),
         ("serve: no address", [*serve, good], b"central: device: socket\n", 3),

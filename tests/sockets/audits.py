@@ -1,8 +1,6 @@
 """Audits: a point is asked for the schedule that it follows, and its reply is compared with what the central system means."""
 import tempfile
 
-from days import replay
-from journals import Journal
 from programs import PROFILE, SITE, operator, point
 from raw_client import RawClient
 from serving import Serving, expect
@@ -196,19 +194,6 @@ def another_connection(program):
         expect("the totals", serving.totals(), (1, 0))
 
 
-def journal_of_an_audit(program):
-    """A journal has the audit and the reply, and a replay tells the same."""
-    with Journal() as journal, Serving(program, SITE, 2, journal=journal.path) as serving:
-        with Desk(serving) as desk:
-            number = desk.begin()
-            desk.point.texts_of(schedule_reply(number, [(0, 15.0)]))
-            desk.status("Differs")
-        expect("the totals", serving.totals(), (1, 0))
-        lines = replay(program, SITE, journal.text()).splitlines()
-    expect("the call", [line for line in lines if line.startswith("* ")][-1], f"* P1 {audit_call(number)}")
-    expect("the last answer", lines[-1], f"> {status_of('Differs', 1, 0)}")
-
-
 def tests():
     yield "a simulated point in step", simulated_in_step
     yield "a simulated point that forgot", simulated_that_forgot
@@ -216,4 +201,3 @@ def tests():
     yield "one audit at a time", one_at_a_time
     yield "changes between an audit and its reply", changes_between
     yield "a reply over another connection", another_connection
-    yield "the journal of an audit", journal_of_an_audit

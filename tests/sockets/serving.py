@@ -1,4 +1,5 @@
 """The program as it serves: on a free port, ended by its own process number."""
+import contextlib
 import os
 import re
 import resource
@@ -58,20 +59,16 @@ def limit(limits):
 class Serving:
     """`PROGRAM serve` of a site for so many connections. At the end of a `with` block it doesn't run any more.
 
-    `limits` are those of `resource.setrlimit` that the program has, by their kind. With a `journal` it writes one. Its
-    standard error is a pipe, or `error`. `environment` is what its environment has beside that of all.
+    `limits` are those of `resource.setrlimit` that the program has, by their kind. Its standard error is a pipe, or
+    `error`. `environment` is what its environment has beside that of all.
     """
 
-    def __init__(
-        self, program, site, sessions, workers=2, limits=None, journal=None, error=subprocess.PIPE,
-        environment=None,
-    ):
+    def __init__(self, program, site, sessions, workers=2, limits=None, error=subprocess.PIPE, environment=None):
         self.program = program
         self.site = site
         self.sessions = sessions
         self.workers = workers
         self.limits = limits or {}
-        self.options = [] if journal is None else ["--journal", journal]
         self.error = error
         self.environment = {**ENVIRONMENT, **(environment or {})}
         self.port = None
@@ -100,19 +97,25 @@ class Serving:
 
     def _started(self, path):
         address = f"127.0.0.1:{self.port}"
-        numbers = ["--workers", str(self.workers), "--sessions", str(self.sessions)]
-        command = [self.program, "serve", "--site", path, "--listen", address, *numbers, *self.options]
+        command = self._command(path, address)
         self.process = subprocess.Popen(
             command, stdout=subprocess.PIPE, stderr=self.error, env=self.environment,
             preexec_fn=lambda: limit(self.limits),
         )
         select.select([self.process.stdout], [], [], PATIENCE)
-        line = self.process.stdout.readline() if self.process.poll() is None else b""
+        line = self._first_line() if self.process.poll() is None else b""
         if line == f"listening {address}\n".encode():
             return True
         self.process.kill()
         self.said = (line, *self.process.communicate())
         return False
+
+    def _command(self, path, address):
+        numbers = ["--workers", str(self.workers), "--sessions", str(self.sessions)]
+        return [self.program, "serve", "--site", path, "--listen", address, *numbers]
+
+    def _first_line(self):
+        return self.process.stdout.readline()
 
     def peak_memory(self):
         """The most kilobytes that the program has had in memory at one time."""
@@ -154,10 +157,59 @@ class Serving:
         return int(found[1]), int(found[2])
 
 
-def until(what, is_so):
-    """Waits until something is so."""
-    end = time.monotonic() + PATIENCE
+class Running(Serving):
+    """`PROGRAM run` of a site with the journal of a folder. At the end of a `with` block it is killed.
+
+    `resumed` is what it says that it goes on with: points, profiles, transactions, calls. It runs below what `under` says.
+    """
+
+    def __init__(self, program, site, data, seats=None, under=(), call_timeout=None, keys=None, **more):
+        super().__init__(program, site, None, **more)
+        self.data = data
+        self.seats = seats
+        self.under = list(under)
+        self.call_timeout = call_timeout
+        self.keys = keys
+        self.resumed = None
+
+    def _command(self, path, address):
+        numbers = {"--seats": self.seats, "--call-timeout": self.call_timeout, "--keys": self.keys}
+        options = [word for name, number in numbers.items() if number is not None for word in (name, str(number))]
+        return [*self.under, self.program, "run", "--site", path, "--data", self.data, "--listen", address, *options]
+
+    def _first_line(self):
+        line = self.process.stdout.readline()
+        found = re.fullmatch(RESUMED, line)
+        if not found:
+            return line
+        self.resumed = tuple(map(int, found.groups()))
+        return self.process.stdout.readline()
+
+    def __exit__(self, *problem):
+        self.end_children()
+        super().__exit__(*problem)
+
+    def end_children(self):
+        """Kills what it runs below, if it does: that wouldn't take it along."""
+        if self.under and self.process.poll() is None:
+            with open(f"/proc/{self.process.pid}/task/{self.process.pid}/children", encoding="ascii") as file:
+                for child in file.read().split():
+                    with contextlib.suppress(ProcessLookupError):  # it may just have ended
+                        os.kill(int(child), signal.SIGKILL)
+
+    def kill(self):
+        """Kills it, at whatever it does. What it said on standard error."""
+        self.process.kill()
+        return self.process.communicate(timeout=PATIENCE)[1]
+
+
+RESUMED = rb"resumed (\d+) points, (\d+) profiles, (\d+) transactions, (\d+) calls waiting\n"
+
+
+def until(what, is_so, more=0.0):
+    """Waits until something is so, for so many seconds more than for anything else."""
+    end = time.monotonic() + PATIENCE + more
     while not is_so():
         if time.monotonic() > end:
-            raise Unexpected(f"after {PATIENCE:.0f} seconds not yet: {what}")
+            raise Unexpected(f"after {PATIENCE + more:.0f} seconds not yet: {what}")
         time.sleep(0.01)

@@ -1,5 +1,6 @@
-"""suite.py PROGRAM [SUBJECT..]: runs the tests of all subjects, or of some. The last line is 'N passed, M failed'.
+"""suite.py [--large] PROGRAM [SUBJECT..]: runs the tests of all subjects, or of some. The last line is 'N passed, M failed'.
 
+With --large those of `run_` are as large as they may be, and tell what they measured.
 Where the environment has UNPROVED, nothing is proved of the program, and the tests of NEED_A_PROOF are left out.
 """
 import asyncio
@@ -13,13 +14,18 @@ import crowds
 import days
 import endings
 import handshakes
-import journals
 import messages
 import node_clients
 import programs
 import reconnects
 import refusals
 import replays
+import run_crowds
+import run_deadlines
+import run_histories
+import run_keys
+import run_kills
+import runs
 from node_client import NodeClient
 
 SUBJECTS = {
@@ -32,7 +38,12 @@ SUBJECTS = {
     "node_clients": node_clients,
     "endings": endings,
     "programs": programs,
-    "journals": journals,
+    "runs": runs,
+    "run_histories": run_histories,
+    "run_kills": run_kills,
+    "run_crowds": run_crowds,
+    "run_deadlines": run_deadlines,
+    "run_keys": run_keys,
     "audits": audits,
     "refusals": refusals,
 }
@@ -40,7 +51,8 @@ SUBJECTS = {
 # What takes a program that is proved: others are too slow, have no thread to spare, or can't be
 # refused an allocation.
 NEED_A_PROOF = {
-    ("messages", "a message past the limit"), ("crowds", "64 texts of the limit"), ("endings", "no threads"),
+    ("messages", "a message past the limit"), ("runs", "the longest message"), ("crowds", "64 texts of the limit"), ("endings", "no threads"),
+    ("run_crowds", "idle seats"), ("run_crowds", "unfinished messages"), ("run_crowds", "hostile seats"),
     *(("refusals", name) for name, _ in refusals.tests()),
 }
 
@@ -68,11 +80,14 @@ def problem_of(test, program):
 
 
 def main():
-    if len(sys.argv) < 2 or any(name not in SUBJECTS for name in sys.argv[2:]):
+    words = [word for word in sys.argv[1:] if word != "--large"]
+    if not words or any(name not in SUBJECTS for name in words[1:]):
         sys.exit(f"{__doc__}\nsubjects: {', '.join(SUBJECTS)}")
-    program = os.path.abspath(sys.argv[1])
+    if len(words) < len(sys.argv) - 1:
+        os.environ["LARGE"] = "1"
+    program = os.path.abspath(words[0])
     passed = failed = 0
-    for subject in sys.argv[2:] or SUBJECTS:
+    for subject in words[1:] or SUBJECTS:
         began = time.monotonic()
         for name, test in SUBJECTS[subject].tests():
             if "UNPROVED" in os.environ and (subject, name) in NEED_A_PROOF:

@@ -3,13 +3,15 @@ use Rattle.std.specs.Prelude.{◌≡◌, ◌<◌, ◌≤◌, ◌^◌, Bool, true
 use Rattle.std.specs.Str.Parse.{IsNumeral, digits_value, without_leading_plus}
 use Rattle.meaning.specs.Limits.{max_duration}
 use Rattle.site_rules.specs.Limits.{max_connectors}
-use Rattle.replay.specs.Limits.{max_script_bytes}
 use Rattle.clap.specs.Words.{App, Kinds, Row, Rule, Text, all_of, fault_of, first_of, new_app, new_rule, one_of, subcommand_of, with_rule, with_subcommand}
 use Rattle.clap.specs.declared.builder.action.ArgAction.TheVariants.{Set, SetTrue}
 use Rattle.clap.specs.declared.builder.value_parser.ValueParser.TheVariants.{Unsigned}
 use Rattle.central.specs.declared.program.command_line.Job.{Job}
-use Rattle.central.specs.declared.program.command_line.Job.TheVariants.{Replay, Serve, Call, Point, Explain, Check, Show}
+use Rattle.central.specs.declared.program.command_line.Job.TheVariants.{Replay, Serve, Run, Journal, Key, Call, Point, Explain, Check, Show}
+use Rattle.central.specs.declared.program.command_line.Replaying.{Replaying}
 use Rattle.central.specs.declared.program.command_line.Serving.{Serving}
+use Rattle.central.specs.declared.program.command_line.Running.{Running}
+use Rattle.central.specs.declared.program.command_line.KeyMaking.{KeyMaking}
 use Rattle.central.specs.declared.program.command_line.Calling.{Calling}
 use Rattle.central.specs.declared.program.command_line.Asking.{Asking}
 use Rattle.central.specs.declared.program.command_line.Starting.{Starting}
@@ -24,6 +26,23 @@ max_workers = 8
 
 abbrev pub max_sessions : ℕ
 max_sessions = 64
+
+-- the most connections at a time; that many where it isn't said, and so many workers
+abbrev pub max_seats : ℕ
+max_seats = 1000
+
+abbrev pub default_seats : ℕ
+default_seats = 256
+
+abbrev pub default_workers : ℕ
+default_workers = 2
+
+-- how long a call may wait for its reply, in seconds; so long where it isn't said
+abbrev pub max_call_timeout : ℕ
+max_call_timeout = 3600
+
+abbrev pub default_call_timeout : ℕ
+default_call_timeout = 60
 
 -- ---- the commands
 
@@ -47,19 +66,45 @@ numbered least most rule = record rule { parser = Some (Unsigned least most) }
 abbrev pub flag : Text → Rule
 flag name = record (new_rule name) { long = Some name; action = Some SetTrue }
 
--- `replay --site F`
-abbrev pub replay_command : App
-replay_command = with_rule (new_app (codes "replay")) (needed (codes "site"))
+-- `run --site F --data DIR --listen A [--keys FILE] [--seats N] [--workers N]
+-- [--call-timeout SECONDS]`
+abbrev pub run_command : App
+run_command =
+    with_rule (with_rule (with_rule (with_rule (with_rule (with_rule (with_rule (new_app (codes "run"))
+    (needed (codes "site")))
+    (needed (codes "data")))
+    (needed (codes "listen")))
+    (optional (codes "keys")))
+    (numbered 1 max_seats (optional (codes "seats"))))
+    (numbered 1 max_workers (optional (codes "workers"))))
+    (numbered 1 max_call_timeout (optional (codes "call-timeout")))
 
--- `serve --site F --listen A --workers N --sessions K [--journal FILE]`
+-- `key --name NAME [--operator]`
+abbrev pub key_command : App
+key_command =
+    with_rule (with_rule (new_app (codes "key"))
+    (needed (codes "name")))
+    (flag (codes "operator"))
+
+-- `journal --data DIR`
+abbrev pub journal_command : App
+journal_command = with_rule (new_app (codes "journal")) (needed (codes "data"))
+
+-- `replay --site F [--data DIR]`
+abbrev pub replay_command : App
+replay_command =
+    with_rule (with_rule (new_app (codes "replay"))
+    (needed (codes "site")))
+    (optional (codes "data"))
+
+-- `serve --site F --listen A --workers N --sessions K`
 abbrev pub serve_command : App
 serve_command =
-    with_rule (with_rule (with_rule (with_rule (with_rule (new_app (codes "serve"))
+    with_rule (with_rule (with_rule (with_rule (new_app (codes "serve"))
     (needed (codes "site")))
     (needed (codes "listen")))
     (numbered 1 max_workers (needed (codes "workers"))))
-    (numbered 1 max_sessions (needed (codes "sessions"))))
-    (optional (codes "journal"))
+    (numbered 1 max_sessions (needed (codes "sessions")))
 
 -- an option that takes two whole numbers, for which the help has names
 abbrev pub optional_numbers : Text → ℕ → Rule
@@ -76,13 +121,15 @@ optional_values name = record (option name) {
   value_names = 3;
 }
 
--- `call --url U [--set-profile FILE] [--clear CRITERIA] [--remote-start CONNECTOR TAG [FILE]]
--- [--ask CONNECTOR SECONDS] [--audit CONNECTOR SECONDS] [--status]`
+-- `call --url U [--login FILE] [--set-profile FILE] [--clear CRITERIA]
+-- [--remote-start CONNECTOR TAG [FILE]] [--ask CONNECTOR SECONDS] [--audit CONNECTOR SECONDS]
+-- [--status]`
 abbrev pub call_command : App
 call_command =
-    with_rule (with_rule (with_rule (with_rule (with_rule (with_rule (with_rule
+    with_rule (with_rule (with_rule (with_rule (with_rule (with_rule (with_rule (with_rule
     (new_app (codes "call"))
     (needed (codes "url")))
+    (optional (codes "login")))
     (optional (codes "set-profile")))
     (optional (codes "clear")))
     (optional_values (codes "remote-start")))
@@ -90,43 +137,46 @@ call_command =
     (optional_numbers (codes "audit") 2147483647))
     (flag (codes "status"))
 
--- `point --url U --site F --id ID`
+-- `point --url U --site F --id ID [--login FILE]`
 abbrev pub point_command : App
 point_command =
-    with_rule (with_rule (with_rule (new_app (codes "point"))
+    with_rule (with_rule (with_rule (with_rule (new_app (codes "point"))
     (needed (codes "url")))
     (needed (codes "site")))
-    (needed (codes "id"))
+    (needed (codes "id")))
+    (optional (codes "login"))
 
--- A script has no more lines than bytes.
 -- `explain --site F --point ID --connector C --start INSTANT --duration D
--- [--at N] [--picture FILE] [--json]`
+-- [--data DIR] [--at PLACE] [--picture FILE] [--json]`
 abbrev pub explain_command : App
 explain_command =
-    with_rule (with_rule (with_rule (with_rule (with_rule (with_rule (with_rule (with_rule
+    with_rule (with_rule (with_rule (with_rule (with_rule (with_rule (with_rule (with_rule (with_rule
     (new_app (codes "explain"))
     (needed (codes "site")))
     (needed (codes "point")))
     (numbered 0 max_connectors (needed (codes "connector"))))
     (needed (codes "start")))
     (numbered 1 max_duration (needed (codes "duration"))))
-    (numbered 0 max_script_bytes (optional (codes "at"))))
+    (optional (codes "data")))
+    (optional (codes "at")))
     (optional (codes "picture")))
     (flag (codes "json"))
 
--- `check --site F [--trace]`
+-- `check --site F [--data DIR] [--trace]`
 abbrev pub check_command : App
 check_command =
-    with_rule (with_rule (new_app (codes "check"))
+    with_rule (with_rule (with_rule (new_app (codes "check"))
     (needed (codes "site")))
+    (optional (codes "data")))
     (flag (codes "trace"))
 
--- `show --site F [--at N] [--json]`
+-- `show --site F [--data DIR] [--at PLACE] [--json]`
 abbrev pub show_command : App
 show_command =
-    with_rule (with_rule (with_rule (new_app (codes "show"))
+    with_rule (with_rule (with_rule (with_rule (new_app (codes "show"))
     (needed (codes "site")))
-    (numbered 0 max_script_bytes (optional (codes "at"))))
+    (optional (codes "data")))
+    (optional (codes "at")))
     (flag (codes "json"))
 
 -- a command that prints its version, and needs one of its subcommands
@@ -136,13 +186,21 @@ top_command name =
       top = record (new_app name).top { has_version = true; subcommand_required = true };
     }
 
+-- the commands that have to do with sockets
+abbrev pub with_served : App → App
+with_served app =
+    with_subcommand (with_subcommand (with_subcommand (with_subcommand (with_subcommand app
+    run_command.top) key_command.top) serve_command.top) call_command.top) point_command.top
+
+-- the commands that read a script or a journal
+abbrev pub with_readers : App → App
+with_readers app =
+    with_subcommand (with_subcommand (with_subcommand (with_subcommand (with_subcommand app
+    journal_command.top) replay_command.top) explain_command.top) check_command.top) show_command.top
+
 -- the program's commands
 unfoldable pub central_app : App
-central_app =
-    with_subcommand (with_subcommand (with_subcommand (with_subcommand (with_subcommand
-    (with_subcommand (with_subcommand (top_command (codes "central"))
-    replay_command.top) serve_command.top) call_command.top) point_command.top)
-    explain_command.top) check_command.top) show_command.top
+central_app = with_readers (with_served (top_command (codes "central")))
 
 -- the kinds of error that the words give, none where clap takes them
 unfoldable pub line_faults : List Text → Kinds
@@ -185,7 +243,39 @@ pub record IsServing (rows : List Row) (serving : Serving) : Type 0 where
   pub some_workers : 1 ≤ serving.workers
   pub sessions : IsNumber (codes "sessions") rows serving.sessions
   pub some_sessions : 1 ≤ serving.sessions
-  pub journal : first_of (codes "journal") rows ≡ option_map (λ text. text.now) serving.journal
+
+-- which script is to be played, on which site
+pub record IsReplaying (rows : List Row) (replaying : Replaying) : Type 0 where
+  pub site : first_of (codes "site") rows ≡ Some replaying.site.now
+  pub folder : first_of (codes "data") rows ≡ option_map (λ text. text.now) replaying.folder
+
+abbrev pub number_or : ℕ → Option ℕ → ℕ
+number_or default None = default
+number_or default (Some number) = number
+
+-- the value of an option that is given as a number, or else this one
+pub record IsNumberOr (option : Text) (rows : List Row) (default number : ℕ) : Type 0 where
+  pub given : Option ℕ
+  pub is : IsOptionalNumber option rows given
+  pub value : number ≡ number_or default given
+
+-- how a site is to be run
+pub record IsRunning (rows : List Row) (running : Running) : Type 0 where
+  pub site : first_of (codes "site") rows ≡ Some running.site.now
+  pub folder : first_of (codes "data") rows ≡ Some running.folder.now
+  pub listen : first_of (codes "listen") rows ≡ Some running.listen.now
+  pub seats : IsNumberOr (codes "seats") rows default_seats running.seats
+  pub some_seats : 1 ≤ running.seats
+  pub workers : IsNumberOr (codes "workers") rows default_workers running.workers
+  pub some_workers : 1 ≤ running.workers
+  pub call_timeout :
+      IsNumberOr (codes "call-timeout") rows default_call_timeout running.call_timeout
+  pub keys : first_of (codes "keys") rows ≡ option_map (λ text. text.now) running.keys
+
+-- whose key is to be made
+pub record IsKeyMaking (rows : List Row) (making : KeyMaking) : Type 0 where
+  pub name : first_of (codes "name") rows ≡ Some making.name.now
+  pub operator : IsFlag (codes "operator") rows making.is_operator
 
 -- what is to be asked: the texts of the connector and the seconds
 abbrev pub IsAsking : Option (List Text) → Option Asking → Type 0
@@ -207,6 +297,7 @@ IsStarting given (Some starting) =
 -- what an operator's client is to send, where that isn't read from standard input
 pub record IsCalling (rows : List Row) (calling : Calling) : Type 0 where
   pub url : first_of (codes "url") rows ≡ Some calling.url.now
+  pub login : first_of (codes "login") rows ≡ option_map (λ text. text.now) calling.login
   pub set_profile :
       first_of (codes "set-profile") rows ≡ option_map (λ text. text.now) calling.set_profile
   pub clear : first_of (codes "clear") rows ≡ option_map (λ text. text.now) calling.clear
@@ -220,6 +311,7 @@ pub record IsPointing (rows : List Row) (pointing : Pointing) : Type 0 where
   pub url : first_of (codes "url") rows ≡ Some pointing.url.now
   pub site : first_of (codes "site") rows ≡ Some pointing.site.now
   pub id : first_of (codes "id") rows ≡ Some pointing.id.now
+  pub login : first_of (codes "login") rows ≡ option_map (λ text. text.now) pointing.login
 
 -- which schedule is to be explained, and how
 pub record IsExplaining (rows : List Row) (explaining : Explaining) : Type 0 where
@@ -228,25 +320,31 @@ pub record IsExplaining (rows : List Row) (explaining : Explaining) : Type 0 whe
   pub connector : IsNumber (codes "connector") rows explaining.connector
   pub start : first_of (codes "start") rows ≡ Some explaining.start.now
   pub duration : IsNumber (codes "duration") rows explaining.duration
-  pub last_line : IsOptionalNumber (codes "at") rows explaining.last_line
+  pub folder : first_of (codes "data") rows ≡ option_map (λ text. text.now) explaining.folder
+  pub at : first_of (codes "at") rows ≡ option_map (λ text. text.now) explaining.at
   pub picture : first_of (codes "picture") rows ≡ option_map (λ text. text.now) explaining.picture
   pub json : IsFlag (codes "json") rows explaining.json
 
 -- which site is to be checked, with a script
 pub record IsChecking (rows : List Row) (checking : Checking) : Type 0 where
   pub site : first_of (codes "site") rows ≡ Some checking.site.now
+  pub folder : first_of (codes "data") rows ≡ option_map (λ text. text.now) checking.folder
   pub trace : IsFlag (codes "trace") rows checking.trace
 
 -- which site is to be shown, after how many lines of a script, and how
 pub record IsShowing (rows : List Row) (showing : Showing) : Type 0 where
   pub site : first_of (codes "site") rows ≡ Some showing.site.now
-  pub last_line : IsOptionalNumber (codes "at") rows showing.last_line
+  pub folder : first_of (codes "data") rows ≡ option_map (λ text. text.now) showing.folder
+  pub at : first_of (codes "at") rows ≡ option_map (λ text. text.now) showing.at
   pub json : IsFlag (codes "json") rows showing.json
 
 -- what a subcommand with its options asks for
 abbrev pub IsJob : Text → List Row → Job → Type 0
-IsJob name rows (Replay site) =
-    (name ≡ codes "replay") × (first_of (codes "site") rows ≡ Some site.now)
+IsJob name rows (Replay replaying) = (name ≡ codes "replay") × IsReplaying rows replaying
+IsJob name rows (Run running) = (name ≡ codes "run") × IsRunning rows running
+IsJob name rows (Journal folder) =
+    (name ≡ codes "journal") × (first_of (codes "data") rows ≡ Some folder.now)
+IsJob name rows (Key making) = (name ≡ codes "key") × IsKeyMaking rows making
 IsJob name rows (Serve serving) = (name ≡ codes "serve") × IsServing rows serving
 IsJob name rows (Call calling) = (name ≡ codes "call") × IsCalling rows calling
 IsJob name rows (Point pointing) = (name ≡ codes "point") × IsPointing rows pointing

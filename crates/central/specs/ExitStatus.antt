@@ -1,13 +1,16 @@
--- The program's exit statuses: 0 done; 1 the site file has a fault; 2 the script has one; 3 a
--- device or a socket failed or memory ran out; 4 no such command line.
+-- The program's exit statuses: 0 done; 1 the site file or a journal has a fault; 2 the script has
+-- one; 3 a device or a socket failed or memory ran out; 4 no such command line, or another process
+-- runs on the folder. A file of keys has faults as a site file has.
 use Rattle.std.specs.Prelude.{ℕ, ◌==◌, if◌then◌else◌}
 use Rattle.replay.specs.declared.script.run.ReplayFault.{ReplayFault}
 use Rattle.replay.specs.declared.script.run.ReplayFault.TheVariants as replay_fault
 use Rattle.replay.specs.declared.script.run.Summary.{Summary}
+use Rattle.site_journal.specs.declared.restore_fault.RestoreFault.{RestoreFault}
+use Rattle.site_journal.specs.declared.restore_fault.RestoreFault.TheVariants as restore_fault
 use Rattle.client.specs.declared.fault.ClientFault.{ClientFault}
 use Rattle.client.specs.declared.fault.ClientFault.TheVariants as client_fault
 use Rattle.central.specs.declared.program.program_fault.ProgramFault.{ProgramFault}
-use Rattle.central.specs.declared.program.program_fault.ProgramFault.TheVariants.{Words, Site, SiteFile, Write, Replay, Serve, JournalExists, Journal, Client, File, NoSuchPoint, NoSuchConnector, NoInstant, NoNumber, PastCalendar, NoPicture, OutOfMemory}
+use Rattle.central.specs.declared.program.program_fault.ProgramFault.TheVariants.{Words, Site, SiteFile, Write, Replay, Serve, DataInUse, Data, Journal, JournalHeader, Unrestored, JournalLineTooLong, Clock, Client, File, NoSuchPoint, NoSuchConnector, NoInstant, NoScriptEnd, NoNumber, PastCalendar, NoPicture, NoKeys, Keys, KeyName, Random, OutOfMemory}
 
 abbrev pub replay_status : ReplayFault → ℕ
 replay_status replay_fault.Read = 3
@@ -21,6 +24,11 @@ client_status client_fault.Url = 4
 client_status client_fault.NotOperator = 4
 client_status _ = 3
 
+-- a failed allocation is no fault of the journal
+abbrev pub restore_status : RestoreFault → ℕ
+restore_status restore_fault.OutOfMemory = 3
+restore_status _ = 1
+
 abbrev pub fault_status : ProgramFault → ℕ
 fault_status Words = 4
 fault_status (Site fault) = 1
@@ -28,16 +36,26 @@ fault_status SiteFile = 3
 fault_status Write = 3
 fault_status (Replay fault) = replay_status fault
 fault_status (Serve fault) = 3
-fault_status JournalExists = 4
+fault_status DataInUse = 4
+fault_status Data = 3
 fault_status Journal = 3
+fault_status (JournalHeader line fault) = 1
+fault_status (Unrestored unrestored) = restore_status unrestored.fault
+fault_status JournalLineTooLong = 1
+fault_status Clock = 3
 fault_status (Client fault) = client_status fault
 fault_status File = 3
 fault_status NoSuchPoint = 4
 fault_status NoSuchConnector = 4
 fault_status NoInstant = 4
+fault_status NoScriptEnd = 4
 fault_status NoNumber = 4
 fault_status PastCalendar = 4
 fault_status NoPicture = 4
+fault_status NoKeys = 4
+fault_status (Keys fault) = 1
+fault_status KeyName = 4
+fault_status Random = 3
 fault_status OutOfMemory = 3
 
 abbrev pub summary_status : Summary → ℕ

@@ -1,6 +1,7 @@
 //! The central system as a program. `central replay` plays a script from standard input on a site,
-//! and writes its output to standard output. `central serve` serves the site to operators and
-//! charge points over WebSocket. `central call` and `central point` are the other ends: an
+//! and writes its output to standard output. `central run` serves the site to operators and charge
+//! points over WebSocket, and goes on where it stopped; `central serve` does for a number of
+//! connections, and keeps nothing. `central call` and `central point` are the other ends: an
 //! operator's client, and a simulated charge point.
 #![tactic(auto)]
 
@@ -10,17 +11,20 @@ use crate::program::calling::call_site;
 use crate::program::checking::check_file;
 use crate::program::command_line::{Job, job_of};
 use crate::program::explaining::explain_file;
+use crate::program::journal_script::print_journal;
+use crate::program::key_file::make_key;
 use crate::program::pages::Screen;
 use crate::program::pointing::run_point;
 use crate::program::program_fault::{ProgramFault, summary_status};
 use crate::program::replaying::replay_file;
+use crate::program::running::run_file;
 use crate::program::serving::serve_file;
 use crate::program::showing::show_file;
 use clap::error::ErrorKind;
 use std::alloc::AllocGlobal;
 use std::fs::File;
 use std::io::IsTerminal;
-use std::marker::Sync;
+use std::marker::{Send, Sync};
 use std::net::{Net, TcpListener, TcpStream};
 use std::process::ExitCode;
 use std::random::RandomSource;
@@ -46,8 +50,10 @@ fn run<
         + Threads
         + Wait
         + Sync
+        + Send
         + Copy
-        + Drop,
+        + Drop
+        + 'static,
 >(rt: &R, screen: Screen) -> u8 {
     match do_job(rt, screen) {
         Ok(status) => status,
@@ -68,12 +74,27 @@ fn do_job<
         + Threads
         + Wait
         + Sync
+        + Send
         + Copy
-        + Drop,
+        + Drop
+        + 'static,
 >(rt: &R, screen: Screen) -> Result<u8, ProgramFault> {
     let words = command_words(rt)?;
     match job_of(rt.alloc(), words.as_slice()) {
-        Ok(Job::Replay { site }) => Ok(summary_status(replay_file(rt, site)?)),
+        Ok(Job::Replay(replaying)) => Ok(summary_status(replay_file(rt, replaying)?)),
+        Ok(Job::Run(running)) => {
+            let run = run_file(rt, running);
+            naming(rt, running.site, run)?;
+            Ok(0)
+        }
+        Ok(Job::Journal { folder }) => {
+            print_journal(rt, folder)?;
+            Ok(0)
+        }
+        Ok(Job::Key(making)) => {
+            make_key(rt, making)?;
+            Ok(0)
+        }
         Ok(Job::Serve(serving)) => {
             serve_file(rt, serving)?;
             Ok(0)

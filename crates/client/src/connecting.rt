@@ -1,6 +1,7 @@
 //! Connections to a central system (OCPP-J 1.6, chapter 3.1).
 
 use crate::fault::ClientFault;
+use base64::engine::general_purpose::STANDARD;
 use http::{HeaderName, HeaderValue, Request};
 use std::alloc::{Alloc, Global};
 use std::net::{Net, TcpStream};
@@ -34,6 +35,22 @@ impl Address {
             return Err(ClientFault::NotOperator);
         }
         Ok(address)
+    }
+
+    /// The same address, at which the client tells who it is: by a name, a colon and a password (HTTP
+    /// Basic, RFC 7617).
+    pub fn with_login(self, alloc: Global, login: &str) -> Result<Address, ClientFault> {
+        let Address { mut request } = self;
+        let coded = STANDARD.encode(alloc, login.as_bytes())?;
+        let credentials = format!(in alloc; "Basic {coded}")?;
+        let Ok(value) = HeaderValue::from_str(alloc, credentials.as_str()) else {
+            return Err(ClientFault::OutOfMemory);
+        };
+        let name = HeaderName::from_static("authorization");
+        match request.headers_mut().insert(name, value) {
+            Ok(_) => Ok(Address { request }),
+            Err(_) => Err(ClientFault::OutOfMemory),
+        }
     }
 }
 

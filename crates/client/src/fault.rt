@@ -16,8 +16,9 @@ pub enum ClientFault {
     /// Nobody listens there.
     #[error("url: no connection")]
     Connection,
-    /// Whoever listens there doesn't speak WebSocket with the subprotocol of OCPP 1.6.
-    #[error("url: no OCPP 1.6 there")]
+    /// Whoever listens there doesn't speak WebSocket with the subprotocol of OCPP 1.6, or doesn't let
+    /// this client in.
+    #[error("url: no OCPP 1.6 there, or it wants a --login")]
     Handshake,
     /// The central system closed the connection before the end. It does so at once where its site
     /// has no such point.

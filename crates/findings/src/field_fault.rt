@@ -1,6 +1,6 @@
 //! The field at which a CALL is at fault: where it stands, what stands there and what is wanted.
 
-use crate::found::{ExpectedField, LIMIT, field_message};
+use crate::found::{ExpectedField, LIMIT, field_message, glance_at};
 use crate::payload_objects::{MAX_DEPTH, PayloadList, PayloadObject, row_named};
 use messages::{ActionKind, CallFault, FieldKind, FieldName, FieldRow, fields_of};
 use ocppj_frame::{Field, Node, tenths_field, whole_field};
@@ -38,7 +38,7 @@ pub(crate) fn field_fault_message(
         wanted: wanted_of(row),
         hint: None,
     };
-    let message = field_message(alloc, object.node.field(name), &expected)?;
+    let message = field_message(alloc, object.node.field(name).map(glance_at), &expected)?;
     format!(in alloc; "{code}: {path}{message}")
 }
 

@@ -7,6 +7,17 @@ use std::alloc::{AllocError, Global};
 /// What a limit is.
 pub(crate) const LIMIT: &str = "a number from 0 to 100000000.0 with at most one decimal";
 
+/// How a value looks from outside.
+#[derive(Clone, Copy)]
+pub(crate) enum Glance<'a> {
+    Null,
+    Bool,
+    Text(&'a str),
+    Number(&'a str),
+    List,
+    Object,
+}
+
 /// What is wanted at a field.
 #[derive(Clone, Copy)]
 pub(crate) struct ExpectedField<'a> {
@@ -19,14 +30,14 @@ pub(crate) struct ExpectedField<'a> {
 /// What is wrong with a field: what stands there, and what is wanted.
 pub(crate) fn field_message(
     alloc: Global,
-    node: Option<Node<'_, '_>>,
+    value: Option<Glance<'_>>,
     expected: &ExpectedField<'_>,
 ) -> Result<String, AllocError> {
     let field = expected.field;
     let wanted = expected.wanted;
-    let found = what_stands(alloc, node)?;
+    let found = what_stands(alloc, value)?;
     match expected.hint {
-        Some(hint) if node.is_none() => {
+        Some(hint) if value.is_none() => {
             let hint = excerpt(alloc, hint)?;
             format!(in alloc;
                 "{field}: {found}; {wanted} is wanted (is \"{hint}\" meant to be it?)"
@@ -42,30 +53,37 @@ pub(crate) fn message_of(alloc: Global, found: &str, wanted: &str) -> Result<Str
 }
 
 /// What stands at a place.
-pub(crate) fn what_stands(alloc: Global, node: Option<Node<'_, '_>>) -> Result<String, AllocError> {
-    let Some(node) = node else {
-        return String::from_str(alloc, "it is absent");
-    };
-    if let Some(text) = node.text() {
-        let text = excerpt(alloc, text)?;
-        return format!(in alloc; "\"{text}\" is a string");
+pub(crate) fn what_stands(alloc: Global, value: Option<Glance<'_>>) -> Result<String, AllocError> {
+    match value {
+        None => String::from_str(alloc, "it is absent"),
+        Some(Glance::Text(text)) => {
+            let text = excerpt(alloc, text)?;
+            format!(in alloc; "\"{text}\" is a string")
+        }
+        Some(Glance::Number(number)) => {
+            let number = excerpt(alloc, number)?;
+            format!(in alloc; "{number} is a number")
+        }
+        Some(Glance::Null) => String::from_str(alloc, "null counts as absent"),
+        Some(Glance::Object) => String::from_str(alloc, "an object stands there"),
+        Some(Glance::List) => String::from_str(alloc, "a list stands there"),
+        Some(Glance::Bool) => String::from_str(alloc, "true or false stands there"),
     }
-    if let Some(number) = node.number() {
-        let number = excerpt(alloc, number)?;
-        return format!(in alloc; "{number} is a number");
-    }
-    String::from_str(alloc, kind_that_stands(node))
 }
 
-/// What stands where there is no text and no number.
-fn kind_that_stands(node: Node<'_, '_>) -> &'static str {
-    if node.is_null() {
-        "null counts as absent"
+/// How the value of a node looks.
+pub(crate) fn glance_at<'memory>(node: Node<'_, 'memory>) -> Glance<'memory> {
+    if let Some(text) = node.text() {
+        Glance::Text(text)
+    } else if let Some(number) = node.number() {
+        Glance::Number(number)
+    } else if node.is_null() {
+        Glance::Null
     } else if node.is_object() {
-        "an object stands there"
+        Glance::Object
     } else if node.list().is_some() {
-        "a list stands there"
+        Glance::List
     } else {
-        "true or false stands there"
+        Glance::Bool
     }
 }

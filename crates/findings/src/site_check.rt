@@ -2,21 +2,28 @@
 
 use crate::broken_json::first_break;
 use crate::finding::{FaultName, Finding, Location};
-use crate::found::{ExpectedField, field_message, message_of, what_stands};
+use crate::found::{ExpectedField, Glance, field_message, message_of, what_stands};
 use crate::json_fault::json_fault_text;
-use crate::json_outline::outline_of;
-use crate::site_fields::{unknown_site_fields, warn_repeated_fields};
-use crate::site_point::{CheckedSite, KnownIds, check_point};
+use crate::site_fields::{SiteNames, site_names};
+use crate::site_json::{Verdict, verdict_on};
+use crate::site_parts::{PartFault, glance_from, read_glance};
+use crate::site_points::{PointsPart, read_points};
 use crate::text_place::place_in_text;
-use ocppj_frame::{
-    Entries, Field, FrameFault, Node, ReadingMemory, list_field, read_tree, text_field,
-};
+use json::{Reader, Scratch, Token};
+use ocppj_frame::{after_mark, mark_text};
 use profile::{Named, Unit};
-use site_rules::{MAX_SITE_BYTES, SiteFault};
+use site_rules::{MAX_SITE_BYTES, SiteFault, read_site};
 use std::alloc::{AllocError, Global};
 
 /// The most points of a site.
 const MAX_POINTS: usize = 1_000;
+
+/// What was read of the file's object: the last value of each field that counts.
+#[derive(Drop)]
+struct SiteParts<'a> {
+    unit: Option<Glance<'a>>,
+    points: Option<PointsPart<'a>>,
+}
 
 /// All faults of a site file in the order in which they are checked, and then the warnings and
 /// remarks. The first fault is the one that `site_rules::read_site` names, and there is none where
@@ -40,69 +47,139 @@ fn alone(alloc: Global, finding: Finding) -> Result<Vec<Finding>, AllocError> {
 
 fn too_large(alloc: Global, count: usize) -> Result<Finding, AllocError> {
     let message = format!(in alloc; "{count} bytes; at most {MAX_SITE_BYTES} are wanted")?;
-    Ok(site_fault(Location::File, SiteFault::TooLarge, message))
+    Ok(site_fault(SiteFault::TooLarge, message))
 }
 
 fn not_utf8(alloc: Global, offset: usize) -> Result<Finding, AllocError> {
     let message = format!(in alloc; "it isn't UTF-8 from the byte at offset {offset} on")?;
-    Ok(site_fault(Location::File, SiteFault::NotUtf8, message))
+    Ok(site_fault(SiteFault::NotUtf8, message))
 }
 
-fn site_fault(place: Location, fault: SiteFault, message: String) -> Finding {
-    Finding::fault(place, FaultName::Site(fault), message)
+/// A fault of the file that is no point's.
+fn site_fault(fault: SiteFault, message: String) -> Finding {
+    Finding::fault(Location::File, FaultName::Site(fault), message)
 }
 
 /// Checks a site file that is UTF-8.
 fn check_site_text(alloc: Global, text: &str) -> Result<Vec<Finding>, AllocError> {
-    let mut memory = ReadingMemory::new(alloc);
-    match read_tree(&mut memory, text) {
-        Ok(tree) => check_tree(alloc, text, tree.root()),
-        Err(FrameFault::OutOfMemory) => Err(AllocError),
-        Err(_) => alone(alloc, not_json(alloc, text)?),
+    let mut room = Vec::new(alloc);
+    let marked = mark_text(text, &mut room)?;
+    if !is_json(alloc, text, marked)? {
+        return alone(alloc, not_json(alloc, text)?);
     }
+    let names = site_names(alloc, text)?;
+    let mut findings = match check_marked(alloc, marked, &names) {
+        Ok(findings) => findings,
+        Err(PartFault::NotJson) => alone(alloc, not_json(alloc, text)?)?,
+        Err(PartFault::OutOfMemory) => return Err(AllocError),
+    };
+    names.warn(alloc, text, &mut findings)?;
+    Ok(findings)
 }
 
-/// Checks the tree of a site file.
-fn check_tree(alloc: Global, text: &str, root: Node<'_, '_>) -> Result<Vec<Finding>, AllocError> {
-    let outline = outline_of(alloc, text)?;
-    let names = unknown_site_fields(alloc, text, &outline)?;
-    let mut checked = CheckedSite {
-        alloc,
-        names: &names,
-        known: KnownIds::new(alloc),
-        findings: Vec::new(alloc),
-    };
-    check_root(&mut checked, root)?;
-    let CheckedSite { mut findings, .. } = checked;
-    names.warn(alloc, text, &mut findings)?;
-    warn_repeated_fields(alloc, text, &outline, &mut findings)?;
-    Ok(findings)
+/// Whether a tree is read from a text.
+fn is_json(alloc: Global, text: &str, marked: &str) -> Result<bool, AllocError> {
+    match verdict_on(alloc, marked)? {
+        Verdict::Json => Ok(true),
+        Verdict::NotJson => Ok(false),
+        // Nobody writes such a file. Reading it takes many times its size.
+        Verdict::Unsure => match read_site(alloc, text.as_bytes()) {
+            Err(SiteFault::OutOfMemory) => Err(AllocError),
+            Err(SiteFault::NotJson) => Ok(false),
+            Ok(_) | Err(_) => Ok(true),
+        },
+    }
 }
 
 /// Where the text breaks.
 fn not_json(alloc: Global, text: &str) -> Result<Finding, AllocError> {
     let fault = first_break(alloc, text)?;
     let place = place_in_text(text, fault.offset);
-    Ok(site_fault(place, SiteFault::NotJson, json_fault_text(alloc, &fault)?))
+    let message = json_fault_text(alloc, &fault)?;
+    Ok(Finding::fault(place, FaultName::Site(SiteFault::NotJson), message))
 }
 
-/// Checks the object of a site file.
-fn check_root(checked: &mut CheckedSite<'_, '_>, root: Node<'_, '_>) -> Result<(), AllocError> {
-    if !root.is_object() {
-        let found = what_stands(checked.alloc, Some(root))?;
-        let message = message_of(
-            checked.alloc,
-            &found,
-            "an object such as {\"unit\":\"A\",\"points\":[..]}",
-        )?;
-        return checked.fault(SiteFault::NotAnObject, message);
+/// All faults of a site file that is JSON, from its marked text, and the remarks on its points.
+fn check_marked(
+    alloc: Global,
+    marked: &str,
+    names: &SiteNames<'_>,
+) -> Result<Vec<Finding>, PartFault> {
+    let mut scratch = Scratch::new(alloc);
+    let mut reader = Reader::new(marked, &mut scratch)?;
+    let token = reader.next().ok_or(PartFault::NotJson)?;
+    if let Token::BeginObject = token {
+        let site = read_fields(alloc, names, &mut reader)?;
+        return Ok(check_fields(alloc, names, site)?);
     }
-    check_unit(checked, root)?;
-    check_points(checked, root)
+    let value = glance_from(token, &mut reader)?;
+    Ok(alone(alloc, not_an_object(alloc, value)?)?)
 }
 
-fn check_unit(checked: &mut CheckedSite<'_, '_>, root: Node<'_, '_>) -> Result<(), AllocError> {
-    if let Field::Value(text) = text_field(root, "unit") {
+fn not_an_object(alloc: Global, value: Glance<'_>) -> Result<Finding, AllocError> {
+    let found = what_stands(alloc, Some(value))?;
+    let wanted = "an object such as {\"unit\":\"A\",\"points\":[..]}";
+    let message = message_of(alloc, &found, wanted)?;
+    Ok(site_fault(SiteFault::NotAnObject, message))
+}
+
+fn read_fields<'a>(
+    alloc: Global,
+    names: &SiteNames<'_>,
+    reader: &mut Reader<'a>,
+) -> Result<SiteParts<'a>, PartFault> {
+    let mut site = SiteParts {
+        unit: None,
+        points: None,
+    };
+    while let Some(key) = reader.next_key()? {
+        let name = after_mark(key, b's');
+        if name == Some("points") {
+            // Of several the last one counts.
+            site.points = None;
+            site.points = Some(read_points(alloc, names, reader)?);
+        } else {
+            let value = read_glance(reader)?;
+            if name == Some("unit") {
+                site.unit = Some(value);
+            }
+        }
+    }
+    Ok(site)
+}
+
+fn check_fields(
+    alloc: Global,
+    names: &SiteNames<'_>,
+    site: SiteParts<'_>,
+) -> Result<Vec<Finding>, AllocError> {
+    let SiteParts { unit, points } = site;
+    let mut findings = Vec::new(alloc);
+    check_unit(alloc, names, unit, &mut findings)?;
+    match points {
+        Some(PointsPart::List(points)) => {
+            let count = points.count;
+            if count == 0 || count > MAX_POINTS {
+                let message = format!(in alloc;
+                    "points: {count} entries; 1 to {MAX_POINTS} are wanted"
+                )?;
+                findings.push(site_fault(SiteFault::BadPoints, message))?;
+            }
+            points.append_to(&mut findings)?;
+        }
+        Some(PointsPart::Other(value)) => findings.push(bad_points(alloc, names, Some(value))?)?,
+        None => findings.push(bad_points(alloc, names, None)?)?,
+    }
+    Ok(findings)
+}
+
+fn check_unit(
+    alloc: Global,
+    names: &SiteNames<'_>,
+    unit: Option<Glance<'_>>,
+    findings: &mut Vec<Finding>,
+) -> Result<(), AllocError> {
+    if let Some(Glance::Text(text)) = unit {
         if Unit::named(text).is_some() {
             return Ok(());
         }
@@ -110,62 +187,24 @@ fn check_unit(checked: &mut CheckedSite<'_, '_>, root: Node<'_, '_>) -> Result<(
     let expected = ExpectedField {
         field: "unit",
         wanted: "\"A\" or \"W\"",
-        hint: checked.names.hint(None, "unit"),
+        hint: names.hint(None, "unit"),
     };
-    let message = field_message(checked.alloc, root.field("unit"), &expected)?;
-    checked.fault(SiteFault::BadUnit, message)
-}
-
-fn check_points(checked: &mut CheckedSite<'_, '_>, root: Node<'_, '_>) -> Result<(), AllocError> {
-    let Field::Value(entries) = list_field(root, "points") else {
-        let expected = ExpectedField {
-            field: "points",
-            wanted: "a list of 1 to 1000 objects",
-            hint: checked.names.hint(None, "points"),
-        };
-        let message = field_message(checked.alloc, root.field("points"), &expected)?;
-        return checked.fault(SiteFault::BadPoints, message);
-    };
-    let count = entries.len();
-    if count == 0 || count > MAX_POINTS {
-        let message = format!(in checked.alloc;
-            "points: {count} entries; 1 to {MAX_POINTS} are wanted"
-        )?;
-        checked.fault(SiteFault::BadPoints, message)?;
-    }
-    check_entries(checked, entries)
-}
-
-/// Checks each point.
-fn check_entries(
-    checked: &mut CheckedSite<'_, '_>,
-    entries: Entries<'_, '_>,
-) -> Result<(), AllocError> {
-    let mut index: usize = 0;
-    for entry in entries.iter() {
-        check_entry(checked, index, entry)?;
-        index = index.saturating_add(1);
-    }
+    let message = field_message(alloc, unit, &expected)?;
+    findings.push(site_fault(SiteFault::BadUnit, message))?;
     Ok(())
 }
 
-fn check_entry(
-    checked: &mut CheckedSite<'_, '_>,
-    index: usize,
-    entry: Node<'_, '_>,
-) -> Result<(), AllocError> {
-    if entry.is_object() {
-        return check_point(checked, index, entry);
-    }
-    let found = what_stands(checked.alloc, Some(entry))?;
-    let message = message_of(
-        checked.alloc,
-        &found,
-        "an object with id, ceiling and connectors",
-    )?;
-    let place = Location::Point { index, id: None };
-    checked
-        .findings
-        .push(site_fault(place, SiteFault::BadPoints, message))?;
-    Ok(())
+/// That `points` is no list.
+fn bad_points(
+    alloc: Global,
+    names: &SiteNames<'_>,
+    points: Option<Glance<'_>>,
+) -> Result<Finding, AllocError> {
+    let expected = ExpectedField {
+        field: "points",
+        wanted: "a list of 1 to 1000 objects",
+        hint: names.hint(None, "points"),
+    };
+    let message = field_message(alloc, points, &expected)?;
+    Ok(site_fault(SiteFault::BadPoints, message))
 }

@@ -1,11 +1,11 @@
-//! Fields of a site file that nothing looks at.
+//! Fields of a site file that nothing looks at, and those that stand in their object twice.
 
-use crate::finding::Finding;
-use crate::json_outline::{Label, Outline, Part, Span};
-use crate::payload_fields::stands_before;
+use crate::finding::{Finding, Location};
+use crate::json_outline::Span;
 use crate::similar::similar_name;
 use crate::text_place::place_in_text;
 use crate::words::excerpt;
+use json::{Reader, Scratch, Token};
 use std::alloc::{AllocError, Global};
 
 /// The fields of a site.
@@ -14,8 +14,8 @@ const SITE_FIELDS: [&str; 2] = ["unit", "points"];
 /// The fields of a point.
 const POINT_FIELDS: [&str; 3] = ["id", "ceiling", "connectors"];
 
-/// The most unknown fields that are reported.
-const MAX_UNKNOWN: usize = 100;
+/// The most fields of either sort that are reported.
+const MAX_REPORTED: usize = 100;
 
 /// A field that nothing looks at.
 #[derive(Clone, Copy)]
@@ -27,40 +27,205 @@ struct UnknownField<'text> {
     offset: usize,
 }
 
-/// The fields of a site file that nothing looks at, a hundred at the most.
+/// A field that stands in its object before, too.
+#[derive(Clone, Copy)]
+struct RepeatedField {
+    name: &'static str,
+    /// Where its name begins, in bytes.
+    offset: usize,
+}
+
+/// The fields of a site file that nothing looks at, and those that are repeated, a hundred of each
+/// at the most.
 #[derive(Drop)]
 pub(crate) struct SiteNames<'text> {
     unknown: Vec<UnknownField<'text>>,
-    /// Whether there are more.
+    /// Whether there are more of them.
     more: bool,
-    /// For each, the field that is probably meant.
+    /// For each of them, the field that is probably meant.
     meant: Vec<Option<&'static str>>,
+    repeated: Vec<RepeatedField>,
 }
 
-/// The fields of a site file that nothing looks at.
-pub(crate) fn unknown_site_fields<'text>(
+/// What an object or a list is.
+#[derive(Clone, Copy)]
+enum Owner {
+    Site,
+    /// The list of points.
+    Points,
+    /// The point at this index.
+    Point(usize),
+    /// Nothing of which a field is looked at.
+    Other,
+}
+
+/// An object or a list whose end hasn't come.
+#[derive(Clone, Copy)]
+struct Open {
+    owner: Owner,
+    /// How many entries of a list have begun.
+    entries: usize,
+    /// Which of the fields that are looked at have stood in it.
+    seen: [bool; 3],
+}
+
+/// What was seen of a text so far.
+#[derive(Drop)]
+struct Walk<'text> {
     alloc: Global,
     text: &'text str,
-    outline: &Outline,
-) -> Result<SiteNames<'text>, AllocError> {
-    let mut names = SiteNames {
-        unknown: Vec::new(alloc),
-        more: false,
-        meant: Vec::new(alloc),
+    open: Vec<Open>,
+    /// The name that was read last.
+    name: Span,
+    names: SiteNames<'text>,
+}
+
+/// The fields of a site file that nothing looks at, and those that are repeated.
+pub(crate) fn site_names(alloc: Global, text: &str) -> Result<SiteNames<'_>, AllocError> {
+    let mut scratch = Scratch::new(alloc);
+    let mut reader = Reader::new(text, &mut scratch)?;
+    let mut walk = Walk {
+        alloc,
+        text,
+        open: Vec::new(alloc),
+        name: Span { start: 0, end: 0 },
+        names: SiteNames {
+            unknown: Vec::new(alloc),
+            more: false,
+            meant: Vec::new(alloc),
+            repeated: Vec::new(alloc),
+        },
     };
-    for part in &outline.parts {
-        if let Some(field) = unknown_field(text, outline, part) {
-            if names.unknown.len() >= MAX_UNKNOWN {
-                names.more = true;
-                break;
-            }
-            names
-                .meant
-                .push(similar_name(alloc, field.name, fields_of(field.point))?)?;
-            names.unknown.push(field)?;
+    // Each token has a byte at least.
+    for _ in 0..text.len() {
+        let start = reader.offset();
+        match reader.next() {
+            Some(token) => walk.take(start, token)?,
+            None => break,
         }
     }
+    let Walk { names, .. } = walk;
     Ok(names)
+}
+
+impl<'text> Walk<'text> {
+    /// Takes the token that begins at an offset.
+    fn take(&mut self, start: usize, token: Token<'_>) -> Result<(), AllocError> {
+        match token {
+            Token::BeginObject => {
+                let owner = self.object_that_begins();
+                self.begin(owner)
+            }
+            Token::BeginArray => {
+                let owner = self.list_that_begins();
+                self.begin(owner)
+            }
+            Token::EndObject | Token::EndArray => {
+                let _ = self.open.pop();
+                Ok(())
+            }
+            Token::Key(name) => {
+                let start = start.saturating_add(1);
+                let end = start.saturating_add(name.len());
+                self.name = Span { start, end };
+                self.take_name()
+            }
+            Token::String(_) | Token::Number(_) | Token::Bool(_) | Token::Null => {
+                self.count_entry();
+                Ok(())
+            }
+            Token::Bad => Ok(()),
+        }
+    }
+
+    /// What the object is that begins.
+    fn object_that_begins(&self) -> Owner {
+        match self.open.last() {
+            None => Owner::Site,
+            Some(open) => match open.owner {
+                Owner::Points => Owner::Point(open.entries),
+                _ => Owner::Other,
+            },
+        }
+    }
+
+    /// What the list is that begins.
+    fn list_that_begins(&self) -> Owner {
+        let Some(open) = self.open.last() else {
+            return Owner::Other;
+        };
+        match (open.owner, text_of(self.text, self.name)) {
+            (Owner::Site, Some("points")) => Owner::Points,
+            _ => Owner::Other,
+        }
+    }
+
+    /// An object or a list begins.
+    fn begin(&mut self, owner: Owner) -> Result<(), AllocError> {
+        self.count_entry();
+        self.open.push(Open {
+            owner,
+            entries: 0,
+            seen: [false; 3],
+        })?;
+        Ok(())
+    }
+
+    /// One more entry of the list that is open.
+    fn count_entry(&mut self) {
+        if let Some(open) = self.open.last_mut() {
+            open.entries = open.entries.saturating_add(1);
+        }
+    }
+
+    /// Takes the name that was read.
+    fn take_name(&mut self) -> Result<(), AllocError> {
+        let owner = match self.open.last() {
+            Some(open) => open.owner,
+            None => Owner::Other,
+        };
+        let point = match owner {
+            Owner::Site => None,
+            Owner::Point(index) => Some(index),
+            Owner::Points | Owner::Other => return Ok(()),
+        };
+        let Some(name) = text_of(self.text, self.name) else {
+            return Ok(());
+        };
+        let offset = self.name.start.saturating_sub(1);
+        for (place, field) in fields_of(point).iter().enumerate() {
+            if *field == name {
+                return self.take_field(
+                    place,
+                    RepeatedField {
+                        name: *field,
+                        offset,
+                    },
+                );
+            }
+        }
+        let field = UnknownField {
+            point,
+            name,
+            offset,
+        };
+        self.names.add_unknown(self.alloc, field)
+    }
+
+    /// Takes the name of a field that is looked at.
+    fn take_field(&mut self, place: usize, field: RepeatedField) -> Result<(), AllocError> {
+        let Some(open) = self.open.last_mut() else {
+            return Ok(());
+        };
+        let Some(seen) = open.seen.get_mut(place) else {
+            return Ok(());
+        };
+        if *seen && self.names.repeated.len() < MAX_REPORTED {
+            self.names.repeated.push(field)?;
+        }
+        *seen = true;
+        Ok(())
+    }
 }
 
 /// The fields that are looked at, of a point or of the site.
@@ -71,103 +236,29 @@ fn fields_of(point: Option<usize>) -> &'static [&'static str] {
     }
 }
 
-/// The field of this part, where it stands in a site or a point and nothing looks at it.
-fn unknown_field<'text>(
-    text: &'text str,
-    outline: &Outline,
-    part: &Part,
-) -> Option<UnknownField<'text>> {
-    let Label::Member(span) = part.label else {
-        return None;
-    };
-    let point = owner_of(text, outline, part.parent?)?;
-    let name = text_of(text, span)?;
-    // An escape in a name is rare, and such a name isn't judged.
-    if name.contains('\\') || fields_of(point).contains(&name) {
-        return None;
-    }
-    Some(UnknownField {
-        point,
-        name,
-        offset: span.start.saturating_sub(1),
-    })
-}
-
-/// Whose fields stand in the object of this index: the site's (`None`) or a point's.
-fn owner_of(text: &str, outline: &Outline, object: usize) -> Option<Option<usize>> {
-    let part = outline.parts.get(object)?;
-    let index = match part.label {
-        Label::Root => return Some(None),
-        Label::Entry(index) => index,
-        Label::Member(_) => return None,
-    };
-    let list = outline.parts.get(part.parent?)?;
-    let Label::Member(span) = list.label else {
-        return None;
-    };
-    let root = outline.parts.get(list.parent?)?;
-    if text_of(text, span)? == "points" && matches!(root.label, Label::Root) {
-        Some(Some(index))
-    } else {
-        None
-    }
-}
-
-/// Warns of duplicate fields of the site and of its points, a hundred at the most.
-pub(crate) fn warn_repeated_fields(
-    alloc: Global,
-    text: &str,
-    outline: &Outline,
-    findings: &mut Vec<Finding>,
-) -> Result<(), AllocError> {
-    let mut reported: usize = 0;
-    for (index, part) in outline.parts.iter().enumerate() {
-        if reported >= MAX_UNKNOWN {
-            break;
-        }
-        if let Some((name, offset)) = repeated_field(text, outline, index, part) {
-            reported += 1;
-            let place = place_in_text(text, offset);
-            let message = format!(in alloc;
-                "\"{name}\" is a duplicate field, and the last one counts"
-            )?;
-            findings.push(Finding::warning(place, message))?;
-        }
-    }
-    Ok(())
-}
-
-/// The name of this part, and where it begins, if it is a field of the site or of a point and
-/// stands there again.
-fn repeated_field(
-    text: &str,
-    outline: &Outline,
-    index: usize,
-    part: &Part,
-) -> Option<(&'static str, usize)> {
-    let Label::Member(span) = part.label else {
-        return None;
-    };
-    let point = owner_of(text, outline, part.parent?)?;
-    let found = text_of(text, span)?;
-    let name = fields_of(point)
-        .iter()
-        .copied()
-        .find(|name| *name == found)?;
-    if stands_before(text, outline, index, part, name) {
-        Some((name, span.start.saturating_sub(1)))
-    } else {
-        None
-    }
-}
-
 /// The text of a span.
 pub(crate) fn text_of(text: &str, span: Span) -> Option<&str> {
     let bytes = text.as_bytes().get(span.start..span.end)?;
     std::str::from_utf8(bytes).ok()
 }
 
-impl SiteNames<'_> {
+impl<'text> SiteNames<'text> {
+    /// Adds a field that nothing looks at.
+    fn add_unknown(&mut self, alloc: Global, field: UnknownField<'text>) -> Result<(), AllocError> {
+        // An escape in a name is rare, and such a name isn't judged.
+        if field.name.contains('\\') {
+            return Ok(());
+        }
+        if self.unknown.len() >= MAX_REPORTED {
+            self.more = true;
+            return Ok(());
+        }
+        self.meant
+            .push(similar_name(alloc, field.name, fields_of(field.point))?)?;
+        self.unknown.push(field)?;
+        Ok(())
+    }
+
     /// The unknown field beside an absent one that is probably meant to be it.
     pub(crate) fn hint(&self, point: Option<usize>, field: &str) -> Option<&str> {
         for (unknown, meant) in self.unknown.iter().zip(&self.meant) {
@@ -178,7 +269,7 @@ impl SiteNames<'_> {
         None
     }
 
-    /// Warns of each.
+    /// Warns of each of them.
     pub(crate) fn warn(
         &self,
         alloc: Global,
@@ -191,9 +282,16 @@ impl SiteNames<'_> {
             findings.push(Finding::warning(place, message))?;
         }
         if self.more {
-            let place = crate::finding::Location::File;
             let message = format!(in alloc;
-                "there are more than {MAX_UNKNOWN} fields that nothing looks at"
+                "there are more than {MAX_REPORTED} fields that nothing looks at"
+            )?;
+            findings.push(Finding::warning(Location::File, message))?;
+        }
+        for field in &self.repeated {
+            let place = place_in_text(text, field.offset);
+            let name = field.name;
+            let message = format!(in alloc;
+                "\"{name}\" is a duplicate field, and the last one counts"
             )?;
             findings.push(Finding::warning(place, message))?;
         }

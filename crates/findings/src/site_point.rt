@@ -1,12 +1,16 @@
 //! What is wrong with a point of a site file.
 
+ghost use Rattle.std.specs.Prelude.{◌<◌, OnOk, length};
+
 use crate::finding::{FaultName, Finding, Location};
-use crate::found::{ExpectedField, LIMIT, field_message, message_of, what_stands};
+use crate::found::{ExpectedField, Glance, LIMIT, field_message, message_of, what_stands};
 use crate::site_fields::SiteNames;
+use crate::site_parts::{PartFault, glance_from, read_glance};
+use crate::site_points::{CheckedPoints, MAX_FOUND};
 use crate::words::{excerpt, tenths_text};
-use indexmap::IndexMap;
+use json::{Reader, Token};
 use ocpp_scalars::read_tenths;
-use ocppj_frame::{Entries, Field, Node, list_field, tenths_field, text_field};
+use ocppj_frame::after_mark;
 use site_rules::SiteFault;
 use std::alloc::{AllocError, Global};
 
@@ -16,76 +20,44 @@ const MAX_CONNECTORS: usize = 64;
 /// The most characters of a point's identity.
 const MAX_ID_CHARACTERS: usize = 48;
 
-/// The identities of the points so far, and the index of the first point that has each.
+/// What was read of a point: the last value of each field that counts.
 #[derive(Drop)]
-pub(crate) struct KnownIds {
-    places: IndexMap<String, usize>,
+pub(crate) struct PointParts<'a> {
+    fields: PointFields<'a>,
+    connectors: Option<ConnectorsPart<'a>>,
 }
 
-impl KnownIds {
-    pub(crate) fn new(alloc: Global) -> KnownIds {
-        KnownIds {
-            places: IndexMap::new(alloc),
-        }
-    }
-
-    /// The index of the earlier point that has an identity, which is kept where there is none.
-    fn earlier(
-        &mut self,
-        alloc: Global,
-        id: &str,
-        index: usize,
-    ) -> Result<Option<usize>, AllocError> {
-        if let Some(earlier) = self.places.get(id) {
-            return Ok(Some(*earlier));
-        }
-        self.places.insert(String::from_str(alloc, id)?, index)?;
-        Ok(None)
-    }
-}
-
-/// A site file that is checked.
-#[derive(Drop)]
-pub(crate) struct CheckedSite<'names, 'text> {
-    pub alloc: Global,
-    pub names: &'names SiteNames<'text>,
-    pub known: KnownIds,
-    pub findings: Vec<Finding>,
-}
-
-impl CheckedSite<'_, '_> {
-    /// A fault of the file that is no point's.
-    pub(crate) fn fault(&mut self, fault: SiteFault, message: String) -> Result<(), AllocError> {
-        self.findings.push(Finding::fault(Location::File, FaultName::Site(fault), message))?;
-        Ok(())
-    }
-
-    /// A fault of a point.
-    fn point_fault(
-        &mut self,
-        point: PointFields<'_, '_>,
-        fault: SiteFault,
-        message: String,
-    ) -> Result<(), AllocError> {
-        let place = point.place(self.alloc)?;
-        self.findings
-            .push(Finding::fault(place, FaultName::Site(fault), message))?;
-        Ok(())
-    }
-}
-
-/// A point whose fields are checked.
+/// The index of a point, and its identity and ceiling as they were read.
 #[derive(Clone, Copy)]
-struct PointFields<'node, 'memory> {
+struct PointFields<'a> {
     index: usize,
-    fields: Node<'node, 'memory>,
+    id: Option<Glance<'a>>,
+    ceiling: Option<Glance<'a>>,
 }
 
-impl PointFields<'_, '_> {
+/// The value of `connectors`.
+#[derive(Drop)]
+enum ConnectorsPart<'a> {
+    List(Connectors),
+    Other(Glance<'a>),
+}
+
+/// The connectors of a point.
+#[derive(Drop)]
+struct Connectors {
+    /// How many there are.
+    count: usize,
+    /// The sum of the ceilings, in tenths, where they are ceilings.
+    together: Option<u64>,
+    /// What is wrong with those that are none.
+    wrong: Vec<String>,
+}
+
+impl PointFields<'_> {
     /// Where it stands, with its identity where that is a text.
     fn place(self, alloc: Global) -> Result<Location, AllocError> {
-        let id = match text_field(self.fields, "id") {
-            Field::Value(id) if !id.is_empty() => Some(excerpt(alloc, id)?),
+        let id = match self.id {
+            Some(Glance::Text(id)) if !id.is_empty() => Some(excerpt(alloc, id)?),
             _ => None,
         };
         Ok(Location::Point {
@@ -95,36 +67,137 @@ impl PointFields<'_, '_> {
     }
 }
 
-/// Checks a point, which is an object, and adds its faults to the findings.
-pub(crate) fn check_point(
-    checked: &mut CheckedSite<'_, '_>,
+/// Reads a point, whose object has begun.
+pub(crate) fn read_point<'a>(
+    alloc: Global,
     index: usize,
-    fields: Node<'_, '_>,
+    reader: &mut Reader<'a>,
+) -> Result<PointParts<'a>, PartFault>
+    ensures shorter { OnOk result (length reader.new < length reader.old) }
+{
+    let mut fields = PointFields {
+        index,
+        id: None,
+        ceiling: None,
+    };
+    let mut connectors = None;
+    while let Some(key) = reader.next_key()? {
+        let name = after_mark(key, b's');
+        if name == Some("connectors") {
+            // Of several the last one counts.
+            connectors = None;
+            connectors = Some(read_connectors(alloc, reader)?);
+        } else {
+            let value = read_glance(reader)?;
+            if name == Some("id") {
+                fields.id = Some(value);
+            } else if name == Some("ceiling") {
+                fields.ceiling = Some(value);
+            }
+        }
+    }
+    Ok(PointParts { fields, connectors })
+}
+
+fn read_connectors<'a>(
+    alloc: Global,
+    reader: &mut Reader<'a>,
+) -> Result<ConnectorsPart<'a>, PartFault>
+    ensures shorter { OnOk result (length reader.new < length reader.old) }
+{
+    let token = reader.next().ok_or(PartFault::NotJson)?;
+    if let Token::BeginArray = token {
+        return Ok(ConnectorsPart::List(read_ceilings(alloc, reader)?));
+    }
+    Ok(ConnectorsPart::Other(glance_from(token, reader)?))
+}
+
+fn read_ceilings(alloc: Global, reader: &mut Reader<'_>) -> Result<Connectors, PartFault>
+    ensures shorter { OnOk result (length reader.new < length reader.old) }
+{
+    let mut connectors = Connectors {
+        count: 0,
+        together: Some(0),
+        wrong: Vec::new(alloc),
+    };
+    while !reader.take_end_array() {
+        let value = read_glance(reader)?;
+        connectors.add(alloc, value)?;
+    }
+    Ok(connectors)
+}
+
+impl Connectors {
+    /// Adds the ceiling of one more connector, or what is wrong with it.
+    fn add(&mut self, alloc: Global, value: Glance<'_>) -> Result<(), AllocError> {
+        let place = self.count;
+        self.count = place.saturating_add(1);
+        if let Some(ceiling) = ceiling_of(value) {
+            self.together = self
+                .together
+                .map(|sum| sum.saturating_add(u64::from(ceiling)));
+            return Ok(());
+        }
+        self.together = None;
+        // One more than is kept, so that it is said that there are more.
+        if self.wrong.len() <= MAX_FOUND {
+            let found = what_stands(alloc, Some(value))?;
+            let found = format!(in alloc; "connectors[{place}]: {found}")?;
+            self.wrong.push(message_of(alloc, &found, LIMIT)?)?;
+        }
+        Ok(())
+    }
+}
+
+fn ceiling_of(value: Glance<'_>) -> Option<u32> {
+    match value {
+        Glance::Number(text) => read_tenths(text).ok(),
+        _ => None,
+    }
+}
+
+/// Checks a point, and adds what is found.
+pub(crate) fn check_point(
+    points: &mut CheckedPoints,
+    names: &SiteNames<'_>,
+    point: PointParts<'_>,
 ) -> Result<(), AllocError> {
-    let point = PointFields { index, fields };
-    check_id(checked, point)?;
-    let ceiling = check_ceiling(checked, point)?;
-    let together = check_connectors(checked, point)?;
+    let PointParts { fields, connectors } = point;
+    check_id(points, names, fields)?;
+    let ceiling = check_ceiling(points, names, fields)?;
+    let together = check_connectors(points, names, fields, connectors)?;
     if let (Some(ceiling), Some(together)) = (ceiling, together) {
         if together > u64::from(ceiling) {
-            let remark = remark_together(checked.alloc, point, ceiling, together)?;
-            checked.findings.push(remark)?;
+            let place = fields.place(points.alloc)?;
+            let remark = remark_together(points.alloc, place, ceiling, together)?;
+            points.add(remark)?;
         }
     }
     Ok(())
 }
 
-fn check_id(
-    checked: &mut CheckedSite<'_, '_>,
-    point: PointFields<'_, '_>,
+fn add_fault(
+    points: &mut CheckedPoints,
+    point: PointFields<'_>,
+    fault: SiteFault,
+    message: String,
 ) -> Result<(), AllocError> {
-    if let Field::Value(id) = text_field(point.fields, "id") {
+    let place = point.place(points.alloc)?;
+    points.add(Finding::fault(place, FaultName::Site(fault), message))
+}
+
+fn check_id(
+    points: &mut CheckedPoints,
+    names: &SiteNames<'_>,
+    point: PointFields<'_>,
+) -> Result<(), AllocError> {
+    if let Some(Glance::Text(id)) = point.id {
         if is_point_id(id) {
-            if let Some(earlier) = checked.known.earlier(checked.alloc, id, point.index)? {
-                let message = format!(in checked.alloc;
+            if let Some(earlier) = points.earlier(id, point.index)? {
+                let message = format!(in points.alloc;
                     "id: points[{earlier}] has it too; each point has its own"
                 )?;
-                checked.point_fault(point, SiteFault::SameId, message)?;
+                add_fault(points, point, SiteFault::SameId, message)?;
             }
             return Ok(());
         }
@@ -132,11 +205,10 @@ fn check_id(
     let expected = ExpectedField {
         field: "id",
         wanted: "a string of 1 to 48 of the characters A-Z, a-z, 0-9, `.`, `_`, `-` and `~`",
-        hint: checked.names.hint(Some(point.index), "id"),
+        hint: names.hint(Some(point.index), "id"),
     };
-    let message = field_message(checked.alloc, point.fields.field("id"), &expected)?;
-    checked.point_fault(point, SiteFault::BadId, message)?;
-    Ok(())
+    let message = field_message(points.alloc, point.id, &expected)?;
+    add_fault(points, point, SiteFault::BadId, message)
 }
 
 fn is_point_id(id: &str) -> bool {
@@ -149,88 +221,77 @@ fn is_id_byte(byte: u8) -> bool {
 
 /// Returns the ceiling, in tenths, where it is one.
 fn check_ceiling(
-    checked: &mut CheckedSite<'_, '_>,
-    point: PointFields<'_, '_>,
+    points: &mut CheckedPoints,
+    names: &SiteNames<'_>,
+    point: PointFields<'_>,
 ) -> Result<Option<u32>, AllocError> {
-    if let Field::Value(ceiling) = tenths_field(point.fields, "ceiling") {
-        return Ok(Some(ceiling));
+    if let Some(value) = point.ceiling {
+        if let Some(ceiling) = ceiling_of(value) {
+            return Ok(Some(ceiling));
+        }
     }
     let expected = ExpectedField {
         field: "ceiling",
         wanted: LIMIT,
-        hint: checked.names.hint(Some(point.index), "ceiling"),
+        hint: names.hint(Some(point.index), "ceiling"),
     };
-    let message = field_message(checked.alloc, point.fields.field("ceiling"), &expected)?;
-    checked.point_fault(point, SiteFault::BadCeiling, message)?;
+    let message = field_message(points.alloc, point.ceiling, &expected)?;
+    add_fault(points, point, SiteFault::BadCeiling, message)?;
     Ok(None)
 }
 
 /// Returns the sum of the connectors' ceilings, in tenths, where they are ceilings.
 fn check_connectors(
-    checked: &mut CheckedSite<'_, '_>,
-    point: PointFields<'_, '_>,
+    points: &mut CheckedPoints,
+    names: &SiteNames<'_>,
+    point: PointFields<'_>,
+    connectors: Option<ConnectorsPart<'_>>,
 ) -> Result<Option<u64>, AllocError> {
-    let Field::Value(entries) = list_field(point.fields, "connectors") else {
-        let expected = ExpectedField {
-            field: "connectors",
-            wanted: "a list of 1 to 64 ceilings, of connectors 1, 2, .., such as [32.0,32.0]",
-            hint: checked.names.hint(Some(point.index), "connectors"),
-        };
-        let message = field_message(checked.alloc, point.fields.field("connectors"), &expected)?;
-        checked.point_fault(point, SiteFault::BadConnectors, message)?;
-        return Ok(None);
+    let value = match connectors {
+        Some(ConnectorsPart::List(connectors)) => return check_list(points, point, connectors),
+        Some(ConnectorsPart::Other(value)) => Some(value),
+        None => None,
     };
-    let count = entries.len();
+    let expected = ExpectedField {
+        field: "connectors",
+        wanted: "a list of 1 to 64 ceilings, of connectors 1, 2, .., such as [32.0,32.0]",
+        hint: names.hint(Some(point.index), "connectors"),
+    };
+    let message = field_message(points.alloc, value, &expected)?;
+    add_fault(points, point, SiteFault::BadConnectors, message)?;
+    Ok(None)
+}
+
+fn check_list(
+    points: &mut CheckedPoints,
+    point: PointFields<'_>,
+    connectors: Connectors,
+) -> Result<Option<u64>, AllocError> {
+    let Connectors {
+        count,
+        together,
+        wrong,
+    } = connectors;
     if count == 0 || count > MAX_CONNECTORS {
-        let message = format!(in checked.alloc;
+        let message = format!(in points.alloc;
             "connectors: {count} entries; 1 to {MAX_CONNECTORS} are wanted"
         )?;
-        checked.point_fault(point, SiteFault::BadConnectors, message)?;
+        add_fault(points, point, SiteFault::BadConnectors, message)?;
     }
-    check_ceilings(checked, point, entries)
-}
-
-fn check_ceilings(
-    checked: &mut CheckedSite<'_, '_>,
-    point: PointFields<'_, '_>,
-    entries: Entries<'_, '_>,
-) -> Result<Option<u64>, AllocError> {
-    let mut together = Some(0u64);
-    let mut place: usize = 0;
-    for entry in entries.iter() {
-        match ceiling_of(entry) {
-            Some(ceiling) => {
-                together = together.map(|sum| sum.saturating_add(u64::from(ceiling)));
-            }
-            None => {
-                together = None;
-                let found = what_stands(checked.alloc, Some(entry))?;
-                let found = format!(in checked.alloc; "connectors[{place}]: {found}")?;
-                let message = message_of(checked.alloc, &found, LIMIT)?;
-                checked.point_fault(point, SiteFault::BadConnectors, message)?;
-            }
-        }
-        place = place.saturating_add(1);
+    for message in wrong {
+        add_fault(points, point, SiteFault::BadConnectors, message)?;
     }
     Ok(together)
-}
-
-fn ceiling_of(entry: Node<'_, '_>) -> Option<u32> {
-    match read_tenths(entry.number()?) {
-        Ok(ceiling) => Some(ceiling),
-        Err(_) => None,
-    }
 }
 
 /// The connectors of most points have more together than the point; it is worth a look all the
 /// same.
 fn remark_together(
     alloc: Global,
-    point: PointFields<'_, '_>,
+    place: Location,
     ceiling: u32,
     together: u64,
 ) -> Result<Finding, AllocError> {
-    let place = point.place(alloc)?;
     let together = tenths_text(alloc, together)?;
     let ceiling = tenths_text(alloc, u64::from(ceiling))?;
     let message = format!(in alloc;

@@ -1,5 +1,8 @@
 //! One connection, from its handshake on.
 
+ghost use Rattle.session.specs.Serving.{KeepsPass};
+
+use crate::entry::Entry;
 use crate::handshake::{ClientRequest, shake_hands};
 use crate::path::{PathPeer, peer_of_path};
 use ocpp_scalars::Moments;
@@ -11,7 +14,8 @@ use std::sync::ledger::Ledger;
 use tungstenite::{CloseCode, CloseFrame, NoMask, Utf8Bytes, WebSocket};
 use version_store::Pass;
 
-/// Serves a connection from its handshake until it ends. Gives back the pass.
+/// Serves a connection from its handshake until it ends. Gives back the pass, which counts no less
+/// than before.
 pub(crate) fn serve_connection<
     S: Read + Write + Drop,
     C: Ledger,
@@ -19,13 +23,15 @@ pub(crate) fn serve_connection<
     R: Wait,
     M: Moments,
     J: Journal,
->(context: &Context<'_, C, A, R, M, J>, stream: S, pass: Pass<C, A>) -> Pass<C, A> {
-    let Some((socket, asked)) = shake_hands(context.alloc, stream) else {
+>(context: &Context<'_, C, A, R, M, J>, stream: S, pass: Pass<C, A>) -> Pass<C, A>
+    ensures { KeepsPass pass result }
+{
+    let Some((socket, asked)) = shake_hands(context.alloc, Entry::Open, stream) else {
         return pass;
     };
-    match core_of(context, &asked) {
-        Ok(Some(core)) => {
-            let (_, pass) = serve_session(context, socket, core, pass);
+    match admit(context, &asked) {
+        Ok(Some(admitted)) => {
+            let (_, pass) = serve_session(context, socket, admitted.core, pass);
             pass
         }
         Ok(None) => {
@@ -36,28 +42,36 @@ pub(crate) fn serve_connection<
     }
 }
 
+/// A session that is admitted.
+#[derive(Drop)]
+pub(crate) struct Admitted {
+    pub(crate) core: SessionCore,
+    /// The place of its point in the site.
+    pub(crate) place: usize,
+}
+
 /// The session that a client asks for, if it speaks OCPP 1.6 and names a point of the site.
-fn core_of<C: Ledger, A: Ledger, R: Wait, M: Moments, J: Journal>(
+pub(crate) fn admit<C: Ledger, A: Ledger, R: Wait, M: Moments, J: Journal>(
     context: &Context<'_, C, A, R, M, J>,
     asked: &ClientRequest,
-) -> Result<Option<SessionCore>, AllocError> {
+) -> Result<Option<Admitted>, AllocError> {
     let peer = peer_of_path(asked.path.as_str());
     let (PathPeer::Operator(id) | PathPeer::Point(id)) = peer;
     let book = context.shared.lock(context.rt);
     let site = book.present().site();
-    if !asked.offers_ocpp || site.place_of(id).is_none() {
+    let (true, Some(place)) = (asked.offers_ocpp, site.place_of(id)) else {
         return Ok(None);
-    }
+    };
     let core = match peer {
         PathPeer::Operator(id) => SessionCore::operator(context.alloc, id, site.unit())?,
         PathPeer::Point(id) => SessionCore::point(context.alloc, id)?,
     };
-    Ok(Some(core))
+    Ok(Some(Admitted { core, place }))
 }
 
 /// Closes a socket whose client isn't served (RFC 6455, section 7.4.1, policy violation). Doesn't
 /// wait for its answer.
-fn close_at_once<S: Read + Write + Drop>(mut socket: WebSocket<S, NoMask>) {
+pub(crate) fn close_at_once<S: Read + Write + Drop>(mut socket: WebSocket<S, NoMask>) {
     let frame = CloseFrame {
         code: CloseCode::Policy,
         reason: Utf8Bytes::from_static(""),

@@ -1,7 +1,8 @@
 //! The handshake of a connection (RFC 6455, section 4.2): who connects, and whether in OCPP 1.6.
 
-use http::{HeaderMap, HeaderName, HeaderValue, Request, Response};
-use std::alloc::Global;
+use crate::entry::Entry;
+use http::{HeaderMap, HeaderName, HeaderValue, Request, Response, StatusCode};
+use std::alloc::{AllocError, Global};
 use std::io::{Read, Write};
 use tungstenite::handshake::server::ErrorResponse;
 use tungstenite::{Callback, NoMask, WebSocket, accept_hdr};
@@ -20,10 +21,14 @@ pub(crate) struct ClientRequest {
     pub(crate) offers_ocpp: bool,
 }
 
-/// Reads what a client asks for, and accepts OCPP 1.6 where that is offered.
+/// What a client without a right key is asked for (RFC 7617).
+const CHALLENGE: &str = "Basic realm=\"central\", charset=\"UTF-8\"";
+
+/// Reads what a client asks for. Refuses it, or accepts OCPP 1.6 where that is offered.
 #[derive(Drop)]
 struct Reading<'a> {
     alloc: Global,
+    entry: Entry<'a>,
     asked: &'a mut Option<ClientRequest>,
 }
 
@@ -33,22 +38,41 @@ impl Callback for Reading<'_> {
         request: &Request<()>,
         response: Response<()>,
     ) -> Result<Response<()>, ErrorResponse> {
-        let Reading { alloc, asked } = self;
-        let mut response = response;
-        let offers_ocpp = offers_ocpp(request.headers());
-        let Ok(path) = String::from_str(alloc, request.uri().path()) else {
-            return Ok(response);
-        };
-        if offers_ocpp {
-            let name = HeaderName::from_static(SUBPROTOCOLS);
-            let value = HeaderValue::from_static(OCPP_16);
-            let Ok(_) = response.headers_mut().insert(name, value) else {
-                return Ok(response);
-            };
+        let Reading {
+            alloc,
+            entry,
+            asked,
+        } = self;
+        match entry.refusal(alloc, request) {
+            Ok(None) => Ok(accepted(alloc, request, response, asked)),
+            Ok(Some(status)) => Err(refused(alloc, status)),
+            Err(AllocError) => Err(refused(alloc, StatusCode::SERVICE_UNAVAILABLE)),
         }
-        *asked = Some(ClientRequest { path, offers_ocpp });
-        Ok(response)
     }
+}
+
+/// Notes what a client asks for, in the response that accepts it. Where memory runs out nothing is
+/// noted.
+fn accepted(
+    alloc: Global,
+    request: &Request<()>,
+    response: Response<()>,
+    asked: &mut Option<ClientRequest>,
+) -> Response<()> {
+    let mut response = response;
+    let offers_ocpp = offers_ocpp(request.headers());
+    let Ok(path) = String::from_str(alloc, request.uri().path()) else {
+        return response;
+    };
+    if offers_ocpp {
+        let name = HeaderName::from_static(SUBPROTOCOLS);
+        let value = HeaderValue::from_static(OCPP_16);
+        let Ok(_) = response.headers_mut().insert(name, value) else {
+            return response;
+        };
+    }
+    *asked = Some(ClientRequest { path, offers_ocpp });
+    response
 }
 
 /// Whether OCPP 1.6 is among the subprotocols of all headers that offer any.
@@ -62,14 +86,38 @@ fn offers_ocpp(headers: &HeaderMap<HeaderValue>) -> bool {
         })
 }
 
-/// Shakes hands with a client. `None` where the handshake failed, or memory ran out.
+/// The response that refuses a request by this status. A header for which memory runs out is missing.
+fn refused(alloc: Global, status: StatusCode) -> ErrorResponse {
+    let mut response = Response::new(alloc, None);
+    *response.status_mut() = status;
+    let headers = response.headers_mut();
+    let _ = headers.insert(
+        HeaderName::from_static("connection"),
+        HeaderValue::from_static("close"),
+    );
+    let _ = headers.insert(
+        HeaderName::from_static("content-length"),
+        HeaderValue::from_static("0"),
+    );
+    if status == StatusCode::UNAUTHORIZED {
+        let _ = headers.insert(
+            HeaderName::from_static("www-authenticate"),
+            HeaderValue::from_static(CHALLENGE),
+        );
+    }
+    response
+}
+
+/// Shakes hands with a client. `None` where it isn't let in, the handshake failed, or memory ran out.
 pub(crate) fn shake_hands<S: Read + Write + Drop>(
     alloc: Global,
+    entry: Entry<'_>,
     stream: S,
 ) -> Option<(WebSocket<S, NoMask>, ClientRequest)> {
     let mut asked = None;
     let reading = Reading {
         alloc,
+        entry,
         asked: &mut asked,
     };
     let socket = accept_hdr(alloc, stream, reading).ok()?;

@@ -1,12 +1,28 @@
 //! The central system on sockets: operators and charge points connect over WebSocket (OCPP-J 1.6,
-//! chapter 3). Each is served on a thread of its own, and workers on other threads compile.
+//! chapter 3). Each is served on a thread of its own, and workers on other threads compile. `serve`
+//! ends after a number of connections; `run_seats` goes on, with so many at a time.
 #![tactic(auto)]
 
+mod accepting;
+mod attending;
 mod connection;
 mod connections;
+mod deadlines;
+mod entry;
+mod free_seats;
 mod handshake;
+mod incoming_stream;
+mod long_messages;
 mod path;
+mod present_streams;
+mod seat;
+mod seat_context;
+mod seats;
+mod seldom;
 mod serving;
 
 pub use path::{PathPeer, peer_of_path};
-pub use serving::{MAX_SESSIONS, MAX_WORKERS, ServeFault, serve, serve_noted};
+pub use seat::keep_seat;
+pub use seat_context::{SeatContext, SeatOptions};
+pub use seats::{MAX_SEATS, SeatedBook, run_seats};
+pub use serving::{MAX_SESSIONS, MAX_WORKERS, ServeFault, serve};

@@ -6,13 +6,13 @@ use crate::connections::{Served, serve_connections};
 use compile_pool::{MAX_JOBS, Open, run_pool};
 use crossbeam_channel::bounded;
 use ocpp_scalars::Moments;
-use session::{Context, Journal, NoJournal};
+use session::{Context, NoJournal};
 use site_rules::Site;
 use std::alloc::{AllocError, Global};
 use std::marker::{Brand, Send, Sync};
 use std::net::TcpListener;
-use std::sync::Wait;
 use std::sync::ledger::{Blank, Ledger};
+use std::sync::{Mutex, Wait};
 use std::thread;
 use std::thread::Threads;
 use thiserror::Error;
@@ -34,6 +34,12 @@ pub enum ServeFault {
     OutOfMemory,
 }
 
+impl From<AllocError> for ServeFault {
+    fn from(_: AllocError) -> ServeFault {
+        ServeFault::OutOfMemory
+    }
+}
+
 /// Serves a site: accepts N connections, each served on a thread of its own, and ends when all have
 /// ended. Workers on other threads compile. After the last one the listener is closed. Gives how
 /// many changes were made and answers handed out in all sessions.
@@ -49,45 +55,23 @@ pub fn serve<R: Threads + Wait + Sync, M: Moments + Sync>(
     requires workers { 1 ≤ workers }
     requires sessions { 1 ≤ sessions }
 {
-    serve_noted(
-        rt, alloc, site, listener, workers, sessions, clock, &NoJournal,
-    )
-}
-
-/// Does what `serve` does, and notes the messages that change or ask something, in the order in
-/// which their steps are made.
-pub fn serve_noted<R: Threads + Wait + Sync, M: Moments + Sync, J: Journal + Sync>(
-    rt: &R,
-    alloc: Global,
-    site: Site,
-    listener: TcpListener,
-    workers: usize,
-    sessions: u64,
-    clock: &M,
-    journal: &J,
-) -> Result<Totals, ServeFault>
-    requires workers { 1 ≤ workers }
-    requires sessions { 1 ≤ sessions }
-{
     let plan = Plan {
         alloc,
         workers,
         sessions,
         clock,
-        journal,
     };
     let (changes, answers) = (Blank::new(sessions), Blank::new(sessions));
-    serve_counted::<Brand, Brand, R, M, J>(rt, plan, site, listener, (changes, answers))
+    serve_counted::<Brand, Brand, R, M>(rt, plan, site, listener, (changes, answers))
 }
 
 /// How a site is served.
 #[derive(Drop)]
-struct Plan<'a, M, J> {
+struct Plan<'a, M> {
     alloc: Global,
     workers: usize,
     sessions: u64,
     clock: &'a M,
-    journal: &'a J,
 }
 
 /// Serves a site, whose changes and answers these two ledgers count.
@@ -96,10 +80,9 @@ fn serve_counted<
     A: Ledger + Send + Sync,
     R: Threads + Wait + Sync,
     M: Moments + Sync,
-    J: Journal + Sync,
 >(
     rt: &R,
-    plan: Plan<'_, M, J>,
+    plan: Plan<'_, M>,
     site: Site,
     listener: TcpListener,
     blanks: (Blank, Blank),
@@ -143,10 +126,9 @@ fn serve_beside_workers<
     A: Ledger + Send + Sync,
     R: Threads + Wait + Sync,
     M: Moments + Sync,
-    J: Journal + Sync,
 >(
     rt: &R,
-    plan: Plan<'_, M, J>,
+    plan: Plan<'_, M>,
     listener: TcpListener,
     shared: &Shared<C, A>,
     passes: Vec<Pass<C, A>>,
@@ -158,7 +140,6 @@ fn serve_beside_workers<
         alloc,
         workers,
         clock,
-        journal,
         ..
     } = plan;
     let (jobs, queue) = bounded(alloc, MAX_JOBS)?;
@@ -175,13 +156,15 @@ fn serve_beside_workers<
                 { run_pool(rt, alloc, workers, &queue, shared, &Open) },
             );
             drop(pool);
+            let reading = Mutex::new(());
             let context = Context {
                 rt,
                 alloc,
                 shared,
                 jobs: &jobs,
                 clock,
-                journal,
+                journal: &NoJournal,
+                reading: &reading,
             };
             let served = serve_connections(&context, listener, passes);
             shared.lock(rt).finish();

@@ -1,4 +1,6 @@
+pub mod AskedLemmas
 pub mod AuditLemmas
+pub mod NotingLemmas
 pub mod PerformLemmas
 pub mod ServedLemmas
 pub mod TodoLemmas

@@ -1,9 +1,20 @@
--- The answer to a request, from what was compared.
-use Rattle.std.proofs.Common.{◌≡◌, subst}
+-- The answer to a request, from what was compared, and to a message whose step can't be noted.
+use Rattle.std.proofs.Common.{◌≡◌, ℕ, List, Option, None, Result, Ok, Err, IfOk, option_map, string_bytes, inl, inr, subst, sym, ap, ◌∙◌}
 use Rattle.meaning.specs.declared.ask.Ask.{Ask}
 use Rattle.site_core.specs.Right.{IsRight}
 use Rattle.version_store.specs.Answers.{RequestedJob, HandedAnswer}
-use Rattle.session.specs.Served.{IsAnswerTo}
+use Rattle.version_store.specs.Passes.{PassState}
+use Rattle.texts.specs.SentText.{Sent, sent}
+use Rattle.messages.specs.declared.side.Side.{Side}
+use Rattle.site_core.specs.declared.step.Step.{Step}
+use Rattle.session.specs.declared.outcome.Outcome.{Outcome}
+use Rattle.session.specs.declared.serving.ended.Ended.{Ended}
+use Rattle.session.specs.declared.serving.served_text.Served.{Served}
+use Rattle.session.specs.declared.todo.Owed.{Owed}
+use Rattle.session.specs.declared.todo.Owed.TheVariants as owed
+use Rattle.session.specs.Served.{HasOutcome, IsAnswerTo, IsServed, IsUnmade}
+use Rattle.session.specs.Session.{SessionState, side_of, sent_by}
+use Rattle.session.specs.Todo.{TodoState, IsTodo, IsUnnoted, todo_of, answer_text}
 
 -- the answer that was compared with its request
 pub answered : (job : RequestedJob) (handed : HandedAnswer) → handed.number ≡ job.number
@@ -16,4 +27,78 @@ answered job handed number book ask right =
       ask = ask;
       right = subst (λ b. IsRight b job.ask handed.answer) book
           (subst (λ (a : Ask). IsRight handed.book a handed.answer) ask right);
+    }
+
+-- ---- a step that can't be noted
+
+has_no_outcome : (was : PassState) (text : Sent) (owes : Owed) (todo : TodoState)
+    → IsUnnoted owes todo → HasOutcome was text todo.step None
+has_no_outcome was text owed.Nothing todo is = absurd is
+has_no_outcome was text (owed.Response id response) todo is = absurd is
+has_no_outcome was text (owed.Outcome id kind) todo is =
+    subst (λ (t : TodoState). HasOutcome was text t.step None) (sym is) tt
+
+is_unnoted : (session : SessionState) (moment : ℕ) (frame : List ℕ) (first todo : TodoState)
+    → IsTodo session moment frame first → IsUnnoted first.owed todo
+    → IsUnnoted (todo_of session moment frame).owed todo
+is_unnoted session moment frame first todo (inl is) unnoted =
+    subst (λ (t : TodoState). IsUnnoted t.owed todo) is unnoted
+is_unnoted session moment frame first todo (inr short) unnoted =
+    absurd (subst (λ (t : TodoState). IsUnnoted t.owed todo) short.todo_is unnoted)
+
+-- the answer to a message whose step can't be noted
+pub unmade_served : (session : SessionState) (was : PassState) (moment : ℕ) (frame : List ℕ)
+    (first left : TodoState) (answer : Option (List ℕ))
+    → IsTodo session moment frame first → left ≡ record first { step = None }
+    → IsUnmade session left.owed answer
+    → IsServed session was (sent_by session moment frame) answer
+unmade_served session was moment frame first left answer asked left_is it =
+    let unnoted = subst (λ (t : TodoState). IsUnnoted t.owed it.todo) left_is it.unnoted in
+    record {
+      todo = it.todo;
+      outcome = None;
+      asked = inr (is_unnoted session moment frame first it.todo asked unnoted);
+      made = has_no_outcome was (sent_by session moment frame) left.owed it.todo it.unnoted;
+      answer_is = it.answer_is;
+    }
+
+pub unmade_if : (session : SessionState) (was : PassState) (moment : ℕ) (frame : List ℕ)
+    (first left : TodoState) (result : Result Served Ended)
+    → IsTodo session moment frame first → left ≡ record first { step = None }
+    → IfOk result (λ (served : Served). IsUnmade session left.owed (option_map string_bytes served.answer))
+    → IfOk result (λ (served : Served). IsServed session was (sent_by session moment frame)
+    (option_map string_bytes served.answer))
+unmade_if session was moment frame first left (Ok served) asked left_is it =
+    unmade_served session was moment frame first left (option_map string_bytes served.answer)
+    asked left_is it
+unmade_if session was moment frame first left (Err ended) asked left_is it = tt
+
+-- ---- a step that was made, or none
+
+same_sent : (session : SessionState) (moment : ℕ) (sender : Side) (point frame : List ℕ)
+    (text : Sent) → text ≡ sent moment sender point frame → sender ≡ side_of session.peer
+    → point ≡ session.point → text ≡ sent_by session moment frame
+same_sent session moment sender point frame text text_is sender_is point_is =
+    text_is ∙ (ap (λ (s : Side). sent moment s point frame) sender_is
+    ∙ ap (λ p. sent moment (side_of session.peer) p frame) point_is)
+
+-- the answer to a message whose step has its outcome
+pub text_served : (session : SessionState) (was : PassState) (moment : ℕ) (sender : Side)
+    (point frame : List ℕ) (text : Sent) (first left : TodoState) (step : Option Step)
+    (outcome : Option Outcome) (answer : Option (List ℕ))
+    → IsTodo session moment frame first → left ≡ record first { step = None }
+    → step ≡ first.step → text ≡ sent moment sender point frame → sender ≡ side_of session.peer
+    → point ≡ session.point → HasOutcome was text step outcome
+    → answer ≡ answer_text session left outcome
+    → IsServed session was (sent_by session moment frame) answer
+text_served session was moment sender point frame text first left step outcome answer asked left_is
+    step_is text_is sender_is point_is made answer_is =
+    let same = same_sent session moment sender point frame text text_is sender_is point_is in
+    record {
+      todo = first;
+      outcome = outcome;
+      asked = inl asked;
+      made = subst (λ (o : Option Step). HasOutcome was (sent_by session moment frame) o outcome) step_is
+          (subst (λ (t : Sent). HasOutcome was t step outcome) same made);
+      answer_is = subst (λ (t : TodoState). answer ≡ answer_text session t outcome) left_is answer_is;
     }

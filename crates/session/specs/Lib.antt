@@ -5,3 +5,4 @@ pub mod Perform
 pub mod Serving
 pub mod Audit
 pub mod Served
+pub mod Noting

@@ -1,6 +1,7 @@
 -- What a message of a session is answered, once its step was made on the book that all sessions
 -- share.
 use Rattle.std.specs.Prelude.{◌≡◌, ◌⊎◌, List, ℕ, Option, Some, None}
+use Rattle.ocpp_scalars.specs.declared.instant.Instant.{Instant}
 use Rattle.ocpp_scalars.specs.declared.refusal.Refusal.TheVariants.{OutOfMemory, UnknownRequest}
 use Rattle.site_core.specs.declared.step.Step.{Step}
 use Rattle.site_core.specs.Right.{IsRight}
@@ -8,6 +9,7 @@ use Rattle.version_store.specs.Answers.{RequestedJob, HandedAnswer}
 use Rattle.version_store.specs.Passes.{PassState}
 use Rattle.version_store.specs.Store.{StoreState, IsStore}
 use Rattle.texts.specs.SentText.{Sent}
+use Rattle.session.specs.declared.todo.Owed.{Owed}
 use Rattle.session.specs.declared.outcome.Outcome.{Outcome}
 use Rattle.session.specs.declared.outcome.Outcome.TheVariants.{Made, Answered, Refused}
 use Rattle.session.specs.declared.outcome.Performed.{Performed}
@@ -15,7 +17,7 @@ use Rattle.session.specs.declared.outcome.Performed.TheVariants as performs
 use Rattle.session.specs.Audit.{OpenAudit, audit_confirmed, JudgesReply}
 use Rattle.session.specs.Perform.{Performs}
 use Rattle.session.specs.Session.{SessionState}
-use Rattle.session.specs.Todo.{TodoState, IsTodo, answer_text}
+use Rattle.session.specs.Todo.{TodoState, IsTodo, IsUnnoted, todo_of, answer_text}
 
 -- An answer is that of a job: for the request of its number, with the book and the `Ask` that the
 -- Take of that request kept. It is right for these.
@@ -63,12 +65,24 @@ HasOutcome was text None None = Unit {0}
 HasOutcome was text (Some step) (Some outcome) = IsOutcomeOf was text step outcome
 HasOutcome was text _ _ = ⊥
 
+-- what a message asks for, or the answer alone where its step can't be noted
+abbrev pub IsTodoOrUnnoted : SessionState → Instant → List ℕ → TodoState → Type 0
+IsTodoOrUnnoted session now text todo =
+    IsTodo session now text todo ⊎ IsUnnoted (todo_of session now text).owed todo
+
+-- what answers a message whose step can't be noted, by what its sender is owed
+pub record IsUnmade (session : SessionState) (owed : Owed) (answer : Option (List ℕ))
+    : Type 0 where
+  pub todo : TodoState
+  pub unnoted : IsUnnoted owed todo
+  pub answer_is : answer ≡ answer_text session todo None
+
 -- what answers a message of a session with this pass: the message that is owed for what was asked,
 -- with the outcome of the step that was asked for
 pub record IsServed (session : SessionState) (was : PassState) (text : Sent)
     (answer : Option (List ℕ)) : Type 0 where
   pub todo : TodoState
   pub outcome : Option Outcome
-  pub asked : IsTodo session text.moment text.frame todo
+  pub asked : IsTodoOrUnnoted session text.moment text.frame todo
   pub made : HasOutcome was text todo.step outcome
   pub answer_is : answer ≡ answer_text session todo outcome

@@ -4,6 +4,7 @@ use Rattle.profile.specs.declared.unit.Unit.{Unit}
 use Rattle.profile.specs.declared.unit.Unit.TheVariants.{A}
 use Rattle.messages.specs.declared.side.Side as sides
 use Rattle.messages.specs.declared.side.Side.{Side}
+use Rattle.texts.specs.SentText.{Sent, sent}
 use Rattle.session.specs.declared.session_core.Peer.{Peer}
 use Rattle.session.specs.declared.session_core.Peer.TheVariants.{Operator, Point}
 
@@ -23,6 +24,10 @@ points id = record { point = id; peer = Point None }
 abbrev pub side_of : Peer → Side
 side_of (Operator unit) = sides.TheVariants.Operator
 side_of (Point link) = sides.TheVariants.Point
+
+-- a message of a session that comes at a moment
+abbrev pub sent_by : SessionState → ℕ → List ℕ → Sent
+sent_by session moment frame = sent moment (side_of session.peer) session.point frame
 
 -- The unit in which schedules are answered: the site's. A point asks for no schedule.
 abbrev pub answer_unit : Peer → Unit

@@ -62,6 +62,11 @@ pub record IsOutOfMemory (text : List ℕ) (todo : TodoState) : Type 0 where
 abbrev pub IsTodo : SessionState → Instant → List ℕ → TodoState → Type 0
 IsTodo session now text todo = (todo ≡ todo_of session now text) ⊎ IsOutOfMemory text todo
 
+-- A step that can't be noted isn't made: its CALL is answered as one that memory ran out for.
+abbrev pub IsUnnoted : Owed → TodoState → Type 0
+IsUnnoted (owed.Outcome id kind) todo = todo ≡ without_memory id
+IsUnnoted other todo = ⊥
+
 -- ---- answers
 
 -- the message that is owed, on a site of a unit, once the step has an outcome

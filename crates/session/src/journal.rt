@@ -1,15 +1,57 @@
-//! Where sessions note the messages that they serve.
+//! Where sessions note what their steps change.
 
-use texts::SentText;
+ghost use Rattle.std.specs.Prelude.{◌≡◌, Bool, true, IfOk, IfSome, OnOk};
+ghost use Rattle.site_journal.specs.Entry.{IsEntryOf};
+ghost use Rattle.site_journal.specs.Line.{noted_state};
+ghost use Rattle.site_journal.specs.NotedStep.{line_at};
+ghost use Rattle.session.specs.Noting.{IsOfMadeStep};
 
-/// Takes down the messages that sessions serve, in the order in which their steps are made.
+use ocpp_scalars::Instant;
+use site_journal::{Entry, Noted};
+use std::alloc::AllocError;
+
+/// Takes down the steps that change something, in the order in which they are made, and sees to it
+/// that they are kept before any message leaves that depends on them.
 pub trait Journal {
-    /// Notes a message. Whoever notes it has the book, so this waits for nothing that takes long.
-    fn note(&self, sent: &SentText<'_>);
+    /// What only a journal that has kept all tells: no message leaves without it.
+    ghost lets_leave: { Self → Bool } = { λ journal. true };
 
-    /// Writes out what is noted. The session doesn't have the book, and the message isn't answered
-    /// yet.
-    fn write_out(&self);
+    /// Makes the entry of a step that is about to be made, or none where nothing is noted. The
+    /// number that the step draws, if it draws one, is 0. Nobody has the book: a long message takes
+    /// its time here. On an error the step may not be made, since it couldn't be noted.
+    fn prepare(
+        &self,
+        moment: Instant,
+        point: &str,
+        noted: Noted<'_>,
+    ) -> Result<Option<Entry>, JournalFault>
+        ensures { IfOk result (λ entry. IfSome entry
+            (λ e. IsEntryOf e (line_at moment point.now (noted_state noted.entry)))) };
+
+    /// Notes a step that was made and changed something, with the number that it drew. Whoever
+    /// notes it has had the book since before the step, so this waits for nothing that takes long.
+    fn note(&self, entry: Entry, number: u64)
+        requires { IsOfMadeStep entry number };
+
+    /// Waits until all that is noted by now is kept, whoever noted it. The session doesn't have the
+    /// book. On an error no message may leave that depends on any of it.
+    fn write_out(&self) -> Result<(), JournalFault>
+        ensures { OnOk result (lets_leave self.now ≡ true) };
+}
+
+/// Why a step can't be noted, or what is noted can't be kept.
+#[derive(Clone, Copy, Debug, PartialEq, Eq)]
+pub enum JournalFault {
+    /// Nothing can be written at present.
+    Unwritable,
+    /// Memory ran out.
+    OutOfMemory,
+}
+
+impl From<AllocError> for JournalFault {
+    fn from(_: AllocError) -> JournalFault {
+        JournalFault::OutOfMemory
+    }
 }
 
 /// Notes nothing.
@@ -17,7 +59,18 @@ pub trait Journal {
 pub struct NoJournal;
 
 impl Journal for NoJournal {
-    fn note(&self, _sent: &SentText<'_>) {}
+    fn prepare(
+        &self,
+        _moment: Instant,
+        _point: &str,
+        _noted: Noted<'_>,
+    ) -> Result<Option<Entry>, JournalFault> {
+        Ok(None)
+    }
 
-    fn write_out(&self) {}
+    fn note(&self, _entry: Entry, _number: u64) {}
+
+    fn write_out(&self) -> Result<(), JournalFault> {
+        Ok(())
+    }
 }

@@ -12,12 +12,14 @@ mod step;
 mod todo;
 
 pub use context::Context;
-pub use journal::{Journal, NoJournal};
+pub use journal::{Journal, JournalFault, NoJournal};
 pub use outcome::{Outcome, Performed};
 pub use serving::{
-    Ended, Served, serve_noted_socket, serve_sent_text, serve_session, serve_socket,
+    Ended, Heard, Served, attach_session, end_session, send_call, serve_next, serve_noted_socket,
+    serve_sent_text, serve_session, serve_socket,
 };
 pub use session_core::{Peer, SessionCore};
+pub use site_journal::{Entry, Noted};
 pub use step::perform;
 pub use texts::{Asked, SentText, Unread, asked_of, hold_of, number_of, response_of};
 pub use todo::{Owed, Todo};

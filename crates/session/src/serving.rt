@@ -5,23 +5,27 @@ ghost use Rattle.session.specs.Serving.{KeepsPass};
 mod audits;
 mod calls;
 mod ended;
+mod heard;
+mod noting;
+mod reading;
 mod served_text;
 mod sockets;
 
 use crate::context::Context;
 use crate::journal::{Journal, NoJournal};
 use crate::session_core::SessionCore;
-use calls::{attach, lose};
+use calls::lose;
+pub use calls::{attach_session, send_call};
 use crossbeam_channel::Sender;
 pub use ended::Ended;
+pub use heard::Heard;
 use ocpp_scalars::Moments;
 use ocppj_frame::ReadingMemory;
-use served_text::serve_text;
-pub use served_text::{Served, serve_sent_text};
+pub use served_text::{Served, serve_next, serve_sent_text};
 use std::alloc::Global;
 use std::io::{Read, Write};
-use std::sync::Wait;
 use std::sync::ledger::Ledger;
+use std::sync::{Mutex, Wait};
 use tungstenite::{MaskKeys, WebSocket};
 use version_store::{Job, Pass, Shared};
 
@@ -54,9 +58,8 @@ pub fn serve_socket<
     )
 }
 
-/// Does what `serve_socket` does, and notes each message that has a step, and each that is followed
-/// by a call to its point, before it is answered. A message that is neither, as most Heartbeats,
-/// isn't noted.
+/// Does what `serve_socket` does, and notes each step that changes something, as it is made. No
+/// message leaves before all is kept that was noted by then.
 pub fn serve_noted_socket<
     S: Read + Write + Drop,
     K: MaskKeys + Drop,
@@ -78,6 +81,7 @@ pub fn serve_noted_socket<
 ) -> (Ended, Pass<C, A>)
     ensures { KeepsPass pass result.1 }
 {
+    let reading = Mutex::new(());
     let context = Context {
         rt,
         alloc,
@@ -85,6 +89,7 @@ pub fn serve_noted_socket<
         jobs,
         clock,
         journal,
+        reading: &reading,
     };
     serve_session(&context, socket, core, pass)
 }
@@ -107,16 +112,23 @@ pub fn serve_session<
     ensures { KeepsPass pass result.1 }
 {
     let (mut socket, mut core, mut pass) = (socket, core, pass);
-    let ended = match attach(context, &mut core, &mut pass) {
-        Ok(()) => serve_texts(context, &mut socket, &core, &mut pass),
-        Err(ended) => {
-            let _ = socket.close(None);
-            ended
-        }
-    };
-    lose(context, core);
-    context.journal.write_out();
+    if let Err(ended) = attach_session(context, &mut core, &mut pass) {
+        let _ = socket.close(None);
+        return (ended, pass);
+    }
+    let ended = serve_texts(context, &mut socket, &core, &mut pass);
+    end_session(context, core);
     (ended, pass)
+}
+
+/// Ends a session that has its link: a point's link is lost, and noted so.
+pub fn end_session<C: Ledger, A: Ledger, R: Wait, M: Moments, J: Journal>(
+    context: &Context<'_, C, A, R, M, J>,
+    core: SessionCore,
+) {
+    lose(context, core);
+    // What couldn't be kept now is kept before the next message that leaves, or none leaves.
+    let _ = context.journal.write_out();
 }
 
 /// Serves messages until the socket is closed or fails.
@@ -138,8 +150,11 @@ fn serve_texts<
 {
     let mut memory = ReadingMemory::new(context.alloc);
     for _text in context.rt.forever() {
-        if let Err(ended) = serve_text(context, socket, core, &mut memory, pass) {
-            return ended;
+        match serve_next(context, socket, core, &mut memory, pass) {
+            Ok(Heard::Message { .. } | Heard::Control { .. }) => {}
+            // Nobody waits here for a stream that gives up.
+            Ok(Heard::Nothing) => return Ended::Broken,
+            Err(ended) => return ended,
         }
     }
     unreachable!()

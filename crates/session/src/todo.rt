@@ -3,7 +3,7 @@
 ghost use Rattle.std.specs.Prelude.{◌≡◌, None, IfSome};
 ghost use Rattle.texts.specs.Asked.{AsksByCall};
 ghost use Rattle.session.specs.Perform.{IsOfText};
-ghost use Rattle.session.specs.Todo.{confirming, todo_asked, without_memory};
+ghost use Rattle.session.specs.Todo.{IsUnnoted, confirming, todo_asked, without_memory};
 
 use crate::session_core::Peer;
 use messages::{ActionKind, CallFault, Response};
@@ -79,6 +79,17 @@ impl Todo {
             id,
             response: Response::Error(CallFault::Refused(Refusal::OutOfMemory)),
         })
+    }
+
+    /// What is to be done where its step can't be noted: its CALL is answered that memory ran out.
+    /// None where no CALL asks for a step.
+    pub(crate) fn into_unnoted(self) -> Option<Todo>
+        ensures { IfSome result (IsUnnoted self.owed) }
+    {
+        match self.into_owed() {
+            Owed::Outcome { id, .. } => Some(Todo::without_memory(id)),
+            Owed::Nothing | Owed::Response { .. } => None,
+        }
     }
 
     fn without_step(owed: Owed) -> Todo

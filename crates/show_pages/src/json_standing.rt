@@ -1,7 +1,7 @@
 //! What stands at each charge point, as JSON, in OCPP's field names.
 
 use crate::call_of_point::{WaitingCall, state_name, state_of_call, waiting_calls};
-use crate::trace::Trace;
+use crate::standing::Standing;
 use crate::traced_calls::RejectedCall;
 use crate::words::instant_text;
 use json::{Reader, Scratch, Token, Writer};
@@ -9,20 +9,20 @@ use messages::{push_payload_fields, push_profile};
 use ocpp_scalars::Instant;
 use point_book::PointBook;
 use profile::Row;
-use replay::{Held, Playing};
+use replay::Held;
 use site_core::{Machine, Outbox, PointAudit, WaitingStart};
 use std::alloc::{AllocError, Global};
 use transactions::Transaction;
 
-/// What stands at each point after a script, in the order of the site file, which requests are
-/// held, and how many lines had a fault.
-pub fn standing_json(alloc: Global, trace: &Trace<'_>) -> Result<String, AllocError> {
+/// What stands at each point, in the order of the site file, which requests are held, and how many
+/// lines had a fault.
+pub fn standing_json(alloc: Global, standing: &Standing<'_>) -> Result<String, AllocError> {
     let mut page = Page {
         alloc,
         json: Writer::new(Vec::new(alloc)),
         scratch: Scratch::new(alloc),
     };
-    page.write_standing(trace)?;
+    page.write_standing(standing)?;
     // A writer's bytes are UTF-8, so that none is replaced.
     String::from_utf8_lossy(alloc, page.json.into_inner().as_slice())
 }
@@ -37,23 +37,22 @@ struct Page {
 }
 
 impl Page {
-    fn write_standing(&mut self, trace: &Trace<'_>) -> Result<(), AllocError> {
-        let playing = trace.playing();
-        let machine = playing.machine();
+    fn write_standing(&mut self, standing: &Standing<'_>) -> Result<(), AllocError> {
+        let machine = standing.machine;
         self.json.begin_object()?;
         self.json.key("lines")?;
-        self.json.u64(playing.next_line().saturating_sub(1))?;
+        self.json.u64(standing.lines)?;
         self.json.key("faults")?;
-        self.json.u64(playing.script_faults())?;
+        self.json.u64(standing.faults)?;
         self.json.key("points")?;
         self.json.begin_array()?;
-        for (place, calls) in trace.points().iter().enumerate() {
+        for (place, calls) in standing.points.iter().enumerate() {
             if let Some(point) = machine.site().point(place) {
                 self.write_point(machine, point.id, &calls.rejected)?;
             }
         }
         self.json.end_array()?;
-        self.write_held(playing)?;
+        self.write_held(machine, standing.held)?;
         self.json.end_object()
     }
 
@@ -228,11 +227,11 @@ impl Page {
     }
 
     /// The requests that are held.
-    fn write_held(&mut self, playing: &Playing<'_>) -> Result<(), AllocError> {
+    fn write_held(&mut self, machine: &Machine, requests: &[Held]) -> Result<(), AllocError> {
         self.json.key("held")?;
         self.json.begin_array()?;
-        for held in playing.held() {
-            self.write_request(playing.machine(), held)?;
+        for held in requests {
+            self.write_request(machine, held)?;
         }
         self.json.end_array()
     }

@@ -17,7 +17,7 @@ mod words;
 pub use ending::ending_text;
 pub use json_standing::standing_json;
 pub use row_changes::RowChange;
-pub use standing::standing_text;
+pub use standing::{Standing, standing_text};
 pub use table::Table;
 pub use trace::{Depth, HeldLine, Trace, TracedLine, trace_script, trace_text};
 pub use traced_calls::{AddedCall, PointCalls, RejectedCall, SentCall};

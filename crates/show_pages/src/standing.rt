@@ -3,28 +3,39 @@
 use crate::call_of_point::{WaitingCall, state_name, state_of_call, waiting_calls};
 use crate::profile_words::{from_text, kind_text, periods_text, until_text};
 use crate::table::Table;
-use crate::trace::Trace;
-use crate::traced_calls::RejectedCall;
+use crate::traced_calls::{PointCalls, RejectedCall};
 use crate::words::{instant_text, text};
 use messages::{CallBody, purpose_name, push_subject};
 use point_book::PointBook;
-use replay::Playing;
+use replay::Held;
 use site_core::{Machine, Outbox, PointAudit, WaitingStart};
 use std::alloc::{AllocError, Global};
 
-/// What each point has after a script, in the order of the site file, and which requests are held.
-/// A point has profiles, transactions, its audit, the remote starts and the calls that wait, and
-/// the calls that it rejected. A point with nothing has one line.
-pub fn standing_text(alloc: Global, trace: &Trace<'_>) -> Result<String, AllocError> {
-    let playing = trace.playing();
-    let machine = playing.machine();
+/// What is shown of a site, after the lines of a script or of a journal.
+#[derive(Clone, Copy)]
+pub struct Standing<'a> {
+    pub machine: &'a Machine,
+    /// What became of the calls to each point, in the order of the site file.
+    pub points: &'a [PointCalls],
+    /// The requests that are held.
+    pub held: &'a [Held],
+    /// How many lines there are, and how many of them have a fault.
+    pub lines: u64,
+    pub faults: u64,
+}
+
+/// What each point has, in the order of the site file, and which requests are held. A point has
+/// profiles, transactions, its audit, the remote starts and the calls that wait, and the calls that
+/// it rejected. A point with nothing has one line.
+pub fn standing_text(alloc: Global, standing: &Standing<'_>) -> Result<String, AllocError> {
+    let machine = standing.machine;
     let mut out = String::new(alloc);
-    for (place, calls) in trace.points().iter().enumerate() {
+    for (place, calls) in standing.points.iter().enumerate() {
         if let Some(point) = machine.site().point(place) {
             push_point(alloc, &mut out, machine, point.id, &calls.rejected)?;
         }
     }
-    push_held(alloc, &mut out, playing)?;
+    push_held(alloc, &mut out, machine, standing.held)?;
     Ok(out)
 }
 
@@ -248,16 +259,20 @@ fn subject_text(alloc: Global, body: &CallBody) -> Result<String, AllocError> {
 }
 
 /// Appends the requests that are held, if there are any.
-fn push_held(alloc: Global, out: &mut String, playing: &Playing<'_>) -> Result<(), AllocError> {
-    if playing.held().is_empty() {
+fn push_held(
+    alloc: Global,
+    out: &mut String,
+    machine: &Machine,
+    requests: &[Held],
+) -> Result<(), AllocError> {
+    if requests.is_empty() {
         return Ok(());
     }
     let mut table = Table::new(
         alloc,
         &["number", "id", "point", "connector", "start", "seconds"],
     )?;
-    let machine = playing.machine();
-    for held in playing.held() {
+    for held in requests {
         if let Some((place, ask)) = machine.request_asked(held.number) {
             let point = machine.site().point(place).map_or("-", |point| point.id);
             table.push([

@@ -4,6 +4,7 @@ ghost use Rattle.std.specs.Prelude.{◌≤◌, length};
 ghost use Rattle.replay.specs.Limits.{max_script_bytes};
 
 use crate::row_changes::{PointRows, RowChange};
+use crate::standing::Standing;
 use crate::table::Table;
 use crate::traced_calls::PointCalls;
 use crate::words::{cut, text};
@@ -132,6 +133,17 @@ impl<'a> Trace<'a> {
     /// The script, where it stands.
     pub fn playing(&self) -> &Playing<'a> {
         &self.playing
+    }
+
+    /// What is shown of it.
+    pub fn standing(&self) -> Standing<'_> {
+        Standing {
+            machine: self.playing.machine(),
+            points: self.points.as_slice(),
+            held: self.playing.held(),
+            lines: self.playing.next_line().saturating_sub(1),
+            faults: self.playing.script_faults(),
+        }
     }
 
     /// The lines that printed something, where they are kept.

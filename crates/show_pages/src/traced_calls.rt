@@ -3,6 +3,7 @@
 use crate::reply::rejection_in;
 use messages::{Call, push_subject};
 use ocppj_frame::ReadingMemory;
+use site_core::Outbox;
 use std::alloc::{AllocError, Global};
 
 /// A call that went out.
@@ -63,7 +64,7 @@ impl PointCalls {
     }
 
     /// The line of this number added the calls that come before the next number.
-    pub(crate) fn added(&mut self, next: u64, line: u64) -> Result<(), AllocError> {
+    pub fn added(&mut self, next: u64, line: u64) -> Result<(), AllocError> {
         for number in self.count..next {
             self.waiting.push(AddedCall {
                 number,
@@ -85,8 +86,22 @@ impl PointCalls {
         Ok(())
     }
 
+    /// The first call of the point's outbox went out, in the line of this number.
+    pub fn sent_first(
+        &mut self,
+        alloc: Global,
+        outbox: &Outbox,
+        line: u64,
+    ) -> Result<(), AllocError> {
+        let number = outbox.first_number();
+        match outbox.bodies(alloc)?.into_iter().next() {
+            Some(body) => self.sent(alloc, &Call { number, body }, line),
+            None => Ok(()),
+        }
+    }
+
     /// The call in flight was answered by this message of the point, in the line of this number.
-    pub(crate) fn confirmed(
+    pub fn confirmed(
         &mut self,
         alloc: Global,
         memory: &mut ReadingMemory,

@@ -18,6 +18,19 @@ const SITES: &str =
 {'unit':'A'} = NotJson
 {"unit":"\ud800"} = NotJson
 {"unit":1-2} = NotJson
+{"unit":"A","points":[{"id":"CP1","ceiling":63,"connectors":[1]}],"note":[{},[1,01,2]]} = NotJson
+{"note":01,"unit":"A","points":[{"id":"CP1","ceiling":63,"connectors":[1]}],"note":1} = -
+{"note":[{"a":01}],"unit":"A","points":[{"id":"CP1","ceiling":63,"connectors":[1]}],"note":1} = -
+{"note":{"a":{"b":01},"a":[01]},"unit":"A","points":[{"id":"CP1","ceiling":63,"connectors":[1]}]} = NotJson
+{"note":1,"unit":"A","points":[{"id":"CP1","ceiling":63,"connectors":[1]}],"note":01} = NotJson
+{"a":01,"b":02,"a":1,"b":2,"unit":"A","points":[{"id":"CP1","ceiling":63,"connectors":[1]}]} = -
+{"a":01,"b":02,"a":1,"unit":"A","points":[{"id":"CP1","ceiling":63,"connectors":[1]}]} = NotJson
+{"a":[{"b":01,"c":02,"b":0}],"a":0,"unit":"A","points":[{"id":"CP1","ceiling":63,"connectors":[1]}]} = -
+{"a":{1:2},"a":0,"unit":"A","points":[{"id":"CP1","ceiling":63,"connectors":[1]}]} = -
+{"a":{1:2},"b":0,"unit":"A","points":[{"id":"CP1","ceiling":63,"connectors":[1]}]} = NotJson
+{"points":[7],"unit":1,"points":[{"id":"CP1","ceiling":63,"connectors":[1]}],"unit":"A"} = -
+{"unit":"A","points":[{"id":"CP1","ceiling":63,"connectors":[1]}],"points":null} = BadPoints
+{"unit":"A","points":[{"connectors":2,"id":1,"connectors":[1],"ceiling":63,"id":"CP1"}]} = -
 {1:2} = NotJson
 {"unit":"A"} {} = NotJson
  = NotJson
@@ -208,4 +221,35 @@ fn large_files(rt: HostRuntime) {
     let spaces = vec![in alloc; b' '; 16_777_217].expect(&rt, "error");
     let wanted = "16777217 bytes; at most 16777216 are wanted";
     finds(&rt, alloc, &spaces, wanted);
+}
+
+/// A site file with so many numbers in the place of points.
+fn site_of_numbers(rt: &impl Abort, alloc: Global, count: usize) -> String {
+    let mut text = String::from_str(alloc, r#"{"unit":"A","points":[0"#).expect(rt, "error");
+    for _ in 1..count {
+        text.push_str(",7").expect(rt, "error");
+    }
+    text.push_str("]}").expect(rt, "error");
+    text
+}
+
+/// In so many numbers in the place of points there is so much to find, and this at last.
+fn many_faults(rt: &impl Abort, alloc: Global, points: usize, wanted: usize, last: &str) {
+    let text = site_of_numbers(rt, alloc, points);
+    let findings = found(rt, alloc, text.as_bytes());
+    holds(rt, findings.len() == wanted, "how many are found");
+    let behind = findings.as_slice().get(wanted.saturating_sub(1)..);
+    are(rt, alloc, behind.unwrap_or(&[]), last, "the last one");
+    holds(rt, exit_status(&findings) == 1, "the status");
+}
+
+/// Beside that they are too many, at most 2,000 are listed.
+#[test]
+fn faults_without_end(rt: HostRuntime) {
+    let alloc = rt.alloc();
+    many_faults(&rt, alloc, 1_000, 1_000, "points[999]: 7 is a number");
+    many_faults(&rt, alloc, 2_000, 2_001, "points[1999]: 7 is a number");
+    let more = "there are more than 2000 faults and remarks";
+    many_faults(&rt, alloc, 2_001, 2_002, more);
+    many_faults(&rt, alloc, 3_000, 2_002, more);
 }

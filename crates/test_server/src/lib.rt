@@ -3,8 +3,12 @@
 #![tactic(auto)]
 
 #[cfg(test)]
+mod clients;
+#[cfg(test)]
 mod loopback;
 #[cfg(test)]
 mod paths;
 #[cfg(test)]
 mod same;
+#[cfg(test)]
+mod seats;

@@ -69,14 +69,16 @@ pub(crate) const STARTED: &str = r#"[3,"4",{"idTagInfo":{"status":"Accepted"},"t
 
 pub(crate) const STATUS: &str = r#"[2,"d","PointStatus",{}]"#;
 
-/// What is noted of an operator who installs and asks.
+/// What is noted of an operator that installs and asks.
 pub(crate) const NOTED_OF_OPERATOR: &str =
-    r#"[2,"a","SetChargingProfile",{"connectorId":0,"csChargingProfiles":{"chargingProfileId":1,"stackLevel":0,"chargingProfilePurpose":"TxDefaultProfile","chargingProfileKind":"Absolute","chargingSchedule":{"startSchedule":"2025-01-01T00:00:00Z","chargingRateUnit":"A","chargingSchedulePeriod":[{"startPeriod":0,"limit":16}]}}}]
-[2,"b","GetCompositeSchedule",{"connectorId":1,"duration":60}]
+    r#"2025-01-01T00:00:10Z operator CP1 1 [2,"a","SetChargingProfile",{"connectorId":0,"csChargingProfiles":{"chargingProfileId":1,"stackLevel":0,"chargingProfilePurpose":"TxDefaultProfile","chargingProfileKind":"Absolute","chargingSchedule":{"startSchedule":"2025-01-01T00:00:00Z","chargingRateUnit":"A","chargingSchedulePeriod":[{"startPeriod":0,"limit":16}]}}}]
 "#;
 
 /// What is noted of a point that sends two Heartbeats, of which a call follows the first, and then
-/// its reply.
-pub(crate) const NOTED_OF_POINT: &str = r#"[2,"1","Heartbeat",{}]
-[3,"0",{"status":"Unknown"}]
+/// its reply, which the next call follows.
+pub(crate) const NOTED_OF_POINT: &str = r#"2025-01-01T00:00:10Z attached CP1 1
+2025-01-01T00:00:10Z sent CP1 1 0
+2025-01-01T00:00:10Z reply CP1 1 [3,"0",{"status":"Unknown"}]
+2025-01-01T00:00:10Z sent CP1 1 1
+2025-01-01T00:00:10Z lost CP1 1
 "#;

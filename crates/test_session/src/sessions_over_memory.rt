@@ -12,7 +12,10 @@ use crate::streams::{client_bytes, client_texts, messages_of, socket_of};
 use crossbeam_channel::{Sender, bounded};
 use ocpp_scalars::{Instant, Moments};
 use profile::Unit;
-use session::{Ended, Journal, SentText, SessionCore, serve_noted_socket, serve_socket};
+use session::{
+    Ended, Entry, Journal, JournalFault, Noted, SessionCore, serve_noted_socket, serve_socket,
+};
+use site_journal::Line;
 use site_rules::read_site;
 use std::alloc::Global;
 use std::marker::Brand;
@@ -380,6 +383,7 @@ fn ends_by_close(rt: &impl Abort, ended: Ended, was_closed: bool) -> bool {
             false
         }
         Ended::OutOfMemory => rt.panic("out of memory"),
+        Ended::Unsaved => rt.panic("unsaved"),
     }
 }
 
@@ -547,7 +551,7 @@ fn is_short(rt: &impl Abort, client: Client, served: &Served) {
     match served.ended {
         Ended::Closed => same(rt, served.texts.len() as u64, 2, "texts"),
         Ended::OutOfMemory => {}
-        Ended::Broken => rt.panic("broken"),
+        Ended::Broken | Ended::Unsaved => rt.panic("broken"),
     }
 }
 
@@ -630,15 +634,37 @@ fn texts_that_arent_read(rt: HostRuntime) {
     unread::<Brand, Brand, HostRuntime>(&rt, rt.alloc(), (Blank::new(2), Blank::new(2)));
 }
 
-/// What sessions noted, each message on a line of its own, and how much of it was written out.
+/// What a journal that fails doesn't do.
+#[derive(Clone, Copy, PartialEq, Eq)]
+enum Fails {
+    Nothing,
+    /// It can't note anything.
+    Noting,
+    /// It can't keep what is noted.
+    Keeping,
+}
+
+/// The lines that sessions noted, and how much of them was written out.
 #[derive(Drop)]
 struct Lines<'a, R: Wait> {
     rt: &'a R,
+    alloc: Global,
+    failing: Fails,
     noted: Mutex<String>,
     written: Mutex<usize>,
 }
 
-impl<R: Abort + Wait> Lines<'_, R> {
+impl<'a, R: Abort + Wait> Lines<'a, R> {
+    fn new(rt: &'a R, alloc: Global, failing: Fails) -> Lines<'a, R> {
+        Lines {
+            rt,
+            alloc,
+            failing,
+            noted: Mutex::new(String::new(alloc)),
+            written: Mutex::new(0),
+        }
+    }
+
     /// All that was noted is this, and is written out.
     fn are(&self, wanted: &str) {
         let noted = self.noted.lock(self.rt);
@@ -649,28 +675,49 @@ impl<R: Abort + Wait> Lines<'_, R> {
 }
 
 impl<R: Abort + Wait> Journal for Lines<'_, R> {
-    fn note(&self, sent: &SentText<'_>) {
-        let mut noted = self.noted.lock(self.rt);
-        noted.push_str(sent.frame()).expect(self.rt, "error");
-        noted.push_str("\n").expect(self.rt, "error");
+    fn prepare(
+        &self,
+        moment: Instant,
+        point: &str,
+        noted: Noted<'_>,
+    ) -> Result<Option<Entry>, JournalFault> {
+        if self.failing == Fails::Noting {
+            return Err(JournalFault::Unwritable);
+        }
+        let line = Line {
+            moment,
+            point,
+            noted,
+        };
+        Ok(Some(Entry::new(self.alloc, &line)?))
     }
 
-    fn write_out(&self) {
+    fn note(&self, entry: Entry, number: u64) {
+        let mut noted = self.noted.lock(self.rt);
+        entry.push(&mut noted, number).expect(self.rt, "error");
+    }
+
+    fn write_out(&self) -> Result<(), JournalFault> {
+        if self.failing == Fails::Keeping {
+            return Err(JournalFault::Unwritable);
+        }
         let noted = self.noted.lock(self.rt);
         let mut written = self.written.lock(self.rt);
         *written = noted.len();
+        Ok(())
     }
 }
 
 impl<C: Ledger, A: Ledger> Desk<C, A> {
-    /// Serves the next session over a client's messages, whose text messages these lines note.
+    /// Serves the next session over a client's messages, whose steps these lines note. Returns how
+    /// it ended, and what its client read.
     fn serve_noting<R: Abort + Wait>(
         &mut self,
         rt: &R,
         core: SessionCore,
         messages: Vec<Message>,
         lines: &Lines<'_, R>,
-    ) {
+    ) -> (Ended, Vec<String>) {
         let input = client_bytes(rt, self.alloc, messages);
         let mut output = Vec::new(self.alloc);
         let pass = self.passes.pop().expect(rt, "no pass");
@@ -679,11 +726,12 @@ impl<C: Ledger, A: Ledger> Desk<C, A> {
         let (ended, _) = serve_noted_socket(
             rt, self.alloc, socket, shared, jobs, core, pass, clock, lines,
         );
-        holds(rt, ended == Ended::Closed, "it ended by a close");
+        let (texts, _) = client_texts(self.alloc, output.as_slice());
+        (ended, texts)
     }
 }
 
-/// A message without a step is noted where a call follows it, and else isn't.
+/// Steps that change something are noted, those of links and calls too, and no others.
 fn noted<C: Ledger, A: Ledger, R: Abort + Wait>(rt: &R, alloc: Global, blanks: (Blank, Blank))
     requires changes { (blanks.0.name ≡ C.name) × (blanks.0.parts ≡ C.parts)
         × (blanks.0.parts ≡ 2) }
@@ -691,17 +739,17 @@ fn noted<C: Ledger, A: Ledger, R: Abort + Wait>(rt: &R, alloc: Global, blanks: (
         × (blanks.1.parts ≡ 2) }
 {
     let mut desk: Desk<C, A> = desk_of(rt, alloc, blanks, ten_past_midnight(rt));
-    let lines = Lines {
-        rt,
-        noted: Mutex::new(String::new(alloc)),
-        written: Mutex::new(0),
-    };
+    let lines = Lines::new(rt, alloc, Fails::Nothing);
     let operator = SessionCore::operator(alloc, "CP1", Unit::A).expect(rt, "error");
-    desk.serve_noting(rt, operator, messages_of_an_operator(rt, alloc), &lines);
+    let messages = messages_of_an_operator(rt, alloc);
+    let (ended, _) = desk.serve_noting(rt, operator, messages, &lines);
+    holds(rt, ended == Ended::Closed, "it ended by a close");
     lines.are(NOTED_OF_OPERATOR);
     let texts = [HEARTBEAT, HEARTBEAT, CLEARED, "no frame", HEARTBEAT];
     let point = SessionCore::point(alloc, "CP1").expect(rt, "error");
-    desk.serve_noting(rt, point, messages_of(rt, alloc, &texts, true), &lines);
+    let messages = messages_of(rt, alloc, &texts, true);
+    let (ended, _) = desk.serve_noting(rt, point, messages, &lines);
+    holds(rt, ended == Ended::Closed, "it ended by a close");
     let noted = concat(rt, alloc, NOTED_OF_OPERATOR, NOTED_OF_POINT);
     lines.are(noted.as_str());
 }
@@ -715,4 +763,50 @@ fn concat(rt: &impl Abort, alloc: Global, one: &str, other: &str) -> String {
 #[test]
 fn texts_are_noted_as_their_steps_are_made(rt: HostRuntime) {
     noted::<Brand, Brand, HostRuntime>(&rt, rt.alloc(), (Blank::new(2), Blank::new(2)));
+}
+
+/// An operator that installs and asks, with a journal that fails so. It is told this much, and the
+/// store has this version.
+fn failing_journal<C: Ledger, A: Ledger, R: Abort + Wait>(
+    rt: &R,
+    alloc: Global,
+    blanks: (Blank, Blank),
+    failing: Fails,
+    wanted: &[&str],
+    version: u64,
+)
+    requires changes { (blanks.0.name ≡ C.name) × (blanks.0.parts ≡ C.parts)
+        × (blanks.0.parts ≡ 2) }
+    requires answers { (blanks.1.name ≡ A.name) × (blanks.1.parts ≡ A.parts)
+        × (blanks.1.parts ≡ 2) }
+{
+    let mut desk: Desk<C, A> = desk_of(rt, alloc, blanks, ten_past_midnight(rt));
+    let lines = Lines::new(rt, alloc, failing);
+    let operator = SessionCore::operator(alloc, "CP1", Unit::A).expect(rt, "error");
+    let messages = messages_of_an_operator(rt, alloc);
+    let (ended, texts) = desk.serve_noting(rt, operator, messages, &lines);
+    let is_closed = ended == Ended::Closed;
+    holds(rt, is_closed == !wanted.is_empty(), "how it ended");
+    same(rt, texts.len() as u64, wanted.len() as u64, "texts");
+    for (text, wanted) in texts.iter().zip(wanted) {
+        same_text(rt, text.as_str(), wanted, "a text");
+    }
+    let found = desk.shared.lock(rt).version();
+    same(rt, found, version, "the version");
+}
+
+#[test]
+fn what_cant_be_noted_isnt_made(rt: HostRuntime) {
+    let (blanks, wanted) = (
+        (Blank::new(2), Blank::new(2)),
+        [INSTALL_SHORT, SCHEDULE_WITHOUT],
+    );
+    let failing = Fails::Noting;
+    failing_journal::<Brand, Brand, HostRuntime>(&rt, rt.alloc(), blanks, failing, &wanted, 0);
+}
+
+#[test]
+fn what_isnt_kept_isnt_told(rt: HostRuntime) {
+    let (blanks, failing) = ((Blank::new(2), Blank::new(2)), Fails::Keeping);
+    failing_journal::<Brand, Brand, HostRuntime>(&rt, rt.alloc(), blanks, failing, &[], 1);
 }

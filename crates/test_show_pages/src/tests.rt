@@ -27,7 +27,7 @@ fn table_of(
         return Err(AllocError);
     }
     let trace = trace_script(alloc, bytes, site, last_line, Depth::State)?;
-    standing_text(alloc, &trace)
+    standing_text(alloc, &trace.standing())
 }
 
 #[test]
@@ -51,7 +51,7 @@ fn json_of(alloc: Global, site: &str, script: &str) -> Result<String, AllocError
         return Err(AllocError);
     }
     let trace = trace_script(alloc, bytes, site, None, Depth::State)?;
-    standing_json(alloc, &trace)
+    standing_json(alloc, &trace.standing())
 }
 
 /// What the lines of a script printed, and what was left undone.

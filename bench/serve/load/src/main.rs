@@ -36,7 +36,7 @@ fn arguments() -> Option<Arguments> {
         address: address.clone(),
         process: process.parse().ok()?,
         mix: Mix::named(mix)?,
-        sessions: sessions.parse().ok().filter(|sessions| (1..=64).contains(sessions))?,
+        sessions: sessions.parse().ok().filter(|sessions| (1..=256).contains(sessions))?,
         seconds: seconds.parse().ok().filter(|seconds| *seconds > 0.0)?,
         rate: rate.parse().ok().filter(|rate| *rate >= 0.0)?,
     })
@@ -51,7 +51,7 @@ struct Cost {
 
 fn main() {
     let Some(given) = arguments() else {
-        eprintln!("serve_load ADDRESS PROCESS heartbeats|profiles|asks|day SESSIONS SECONDS RATE");
+        eprintln!("serve_load ADDRESS PROCESS heartbeats|profiles|asks|day|changes SESSIONS SECONDS RATE");
         std::process::exit(4);
     };
     let sides = given.mix.sides(given.sessions);

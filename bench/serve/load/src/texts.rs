@@ -8,6 +8,7 @@ pub enum Mix {
     Profiles,
     Asks,
     Day,
+    Changes,
 }
 
 #[derive(Clone, Copy, PartialEq, Eq)]
@@ -27,16 +28,21 @@ const ACCEPTED: &str = r#"{"status":"Accepted""#;
 
 impl Mix {
     pub fn named(name: &str) -> Option<Mix> {
-        [("heartbeats", Mix::Heartbeats), ("profiles", Mix::Profiles), ("asks", Mix::Asks), ("day", Mix::Day)]
-            .into_iter()
-            .find_map(|(own, mix)| (own == name).then_some(mix))
+        let named = [
+            ("heartbeats", Mix::Heartbeats),
+            ("profiles", Mix::Profiles),
+            ("asks", Mix::Asks),
+            ("day", Mix::Day),
+            ("changes", Mix::Changes),
+        ];
+        named.into_iter().find_map(|(own, mix)| (own == name).then_some(mix))
     }
 
     /// The side and the point's number of each session. Where calls arise each operator has its point beside it, so that
     /// they are confirmed; of one session, too.
     pub fn sides(self, sessions: usize) -> Vec<(Side, usize)> {
         match self {
-            Mix::Heartbeats => (0..sessions).map(|place| (Side::Point, place)).collect(),
+            Mix::Heartbeats | Mix::Changes => (0..sessions).map(|place| (Side::Point, place)).collect(),
             Mix::Asks => (0..sessions).map(|place| (Side::Operator, place)).collect(),
             Mix::Profiles | Mix::Day => (0..sessions.div_ceil(2))
                 .flat_map(|point| [(Side::Operator, point), (Side::Point, point)])
@@ -51,6 +57,8 @@ impl Mix {
             (Mix::Day, Side::Operator) if n % 4 == 0 => install(n / 4),
             (_, Side::Operator) => ask(n),
             (Mix::Day, Side::Point) => of_day(n, transaction),
+            (Mix::Changes, Side::Point) if n % 2 == 0 => start(n),
+            (Mix::Changes, Side::Point) => stop(n, transaction),
             (_, Side::Point) => heartbeat(),
         }
     }
@@ -60,32 +68,41 @@ fn heartbeat() -> Asked {
     Asked { action: "Heartbeat", payload: "{}".to_string(), answer: r#"{"currentTime":""# }
 }
 
+const STAMP: &str = "2025-01-01T00:00:00Z";
+
+fn start(n: usize) -> Asked {
+    Asked {
+        action: "StartTransaction",
+        payload: format!(r#"{{"connectorId":1,"idTag":"bench","meterStart":{n},"timestamp":"{STAMP}"}}"#),
+        answer: r#"{"idTagInfo":{"status":"Accepted"},"transactionId":"#,
+    }
+}
+
+fn stop(n: usize, transaction: u64) -> Asked {
+    Asked {
+        action: "StopTransaction",
+        payload: format!(r#"{{"transactionId":{transaction},"meterStop":{n},"timestamp":"{STAMP}"}}"#),
+        answer: "{}",
+    }
+}
+
 /// A charging session of a car every ten texts, with three reports of its meter.
 fn of_day(n: usize, transaction: u64) -> Asked {
-    let stamp = "2025-01-01T00:00:00Z";
     match n % 10 {
         1 => Asked {
             action: "StatusNotification",
             payload: r#"{"connectorId":1,"errorCode":"NoError","status":"Preparing"}"#.to_string(),
             answer: "{}",
         },
-        2 => Asked {
-            action: "StartTransaction",
-            payload: format!(r#"{{"connectorId":1,"idTag":"bench","meterStart":{n},"timestamp":"{stamp}"}}"#),
-            answer: r#"{"idTagInfo":{"status":"Accepted"},"transactionId":"#,
-        },
+        2 => start(n),
         3 | 5 | 7 => Asked {
             action: "MeterValues",
             payload: format!(
-                r#"{{"connectorId":1,"transactionId":{transaction},"meterValue":[{{"timestamp":"{stamp}","sampledValue":[{{"value":"{n}","unit":"Wh"}},{{"value":"16.0","measurand":"Current.Import","unit":"A"}}]}}]}}"#
+                r#"{{"connectorId":1,"transactionId":{transaction},"meterValue":[{{"timestamp":"{STAMP}","sampledValue":[{{"value":"{n}","unit":"Wh"}},{{"value":"16.0","measurand":"Current.Import","unit":"A"}}]}}]}}"#
             ),
             answer: "{}",
         },
-        8 => Asked {
-            action: "StopTransaction",
-            payload: format!(r#"{{"transactionId":{transaction},"meterStop":{n},"timestamp":"{stamp}"}}"#),
-            answer: "{}",
-        },
+        8 => stop(n, transaction),
         _ => heartbeat(),
     }
 }

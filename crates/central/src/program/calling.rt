@@ -1,6 +1,7 @@
 //! The job of `central call`.
 
 use crate::program::command_line::{Calling, Starting};
+use crate::program::login::logged_in;
 use crate::program::payload_file::read_payload_file;
 use crate::program::program_fault::ProgramFault;
 use client::{
@@ -59,6 +60,7 @@ pub fn call_site<
         + Drop,
 >(rt: &R, calling: Calling<'_>) -> Result<u8, ProgramFault> {
     let address = Address::of_operator(rt.alloc(), calling.url)?;
+    let address = logged_in(rt, address, calling.login)?;
     let files = read_files(rt, calling)?;
     let socket = connect(rt, rt.alloc(), address)?;
     let mut caller = Caller {

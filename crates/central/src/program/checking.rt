@@ -6,7 +6,7 @@ ghost use Rattle.replay.specs.Limits.{max_script_bytes};
 use crate::program::command_line::Checking;
 use crate::program::pages::print_page;
 use crate::program::program_fault::ProgramFault;
-use crate::program::script_input::read_script;
+use crate::program::script_input::read_script_of;
 use crate::program::site_file::read_site_bytes;
 use findings::{
     Finding, RowChange, ScriptCheck, Severity, check_change, check_printed, check_site,
@@ -16,11 +16,13 @@ use show_pages::{Depth, Trace, ending_text, trace_text};
 use site_rules::{Site, SiteFault, read_site};
 use std::alloc::{AllocError, AllocGlobal, Global};
 use std::fmt::Write;
+use std::fs::File;
 use std::rt::Files;
 
-/// Says everything that is wrong with the site of a file and with the script of standard input.
+/// Says everything that is wrong with the site of a file and with the script of standard input, or
+/// with the journal of a folder.
 /// Returns the exit status.
-pub fn check_file<R: Files + Input + Print + AllocGlobal>(
+pub fn check_file<R: Files<File = File> + Input + Print + Eprint + AllocGlobal>(
     rt: &R,
     checking: Checking<'_>,
 ) -> Result<u8, ProgramFault> {
@@ -30,8 +32,8 @@ pub fn check_file<R: Files + Input + Print + AllocGlobal>(
     // What is wrong with the site file is printed even if the script can't be read.
     let page = site_page(alloc, checking.site, findings.as_slice())?;
     print_page(rt, page.as_str())?;
-    let script = read_script(rt)?;
-    if let Some(site) = site_of(alloc, bytes.as_slice())? {
+    let script = read_script_of(rt, checking.folder)?;
+    if let Some(site) = site_of(alloc, bytes.as_slice(), findings.as_slice())? {
         let mut page = String::new(alloc);
         let mut more = push_played(&mut page, site, script.as_slice(), checking.trace)?;
         findings.append(&mut more)?;
@@ -51,7 +53,11 @@ fn site_page(alloc: Global, name: &str, findings: &[Finding]) -> Result<String, 
 }
 
 /// The site of a site file, where one is read from it. Else what is found in the file says why not.
-fn site_of(alloc: Global, bytes: &[u8]) -> Result<Option<Site>, AllocError> {
+fn site_of(alloc: Global, bytes: &[u8], findings: &[Finding]) -> Result<Option<Site>, AllocError> {
+    // None would be read, and of a file with a malformed number that takes many times its size.
+    if exit_status(findings) == 1 {
+        return Ok(None);
+    }
     match read_site(alloc, bytes) {
         Ok(site) => Ok(Some(site)),
         Err(SiteFault::OutOfMemory) => Err(AllocError),

@@ -2,7 +2,7 @@
 
 ghost use Rattle.std.specs.Prelude.{◌≡◌, IfOk, IfSome, IsSomeAnd, codes, map, option_map, string_bytes};
 ghost use Rattle.clap.specs.Words.{FailsBy, all_of, first_of, found_of, rows_of};
-ghost use Rattle.central.specs.CommandLine.{IsAsking, IsCalling, IsChecking, IsExplaining, IsFlag, IsJob, IsNumber, IsOptionalNumber, IsPointing, IsServing, IsShowing, IsStarting, line_faults, subcommand_named};
+ghost use Rattle.central.specs.CommandLine.{IsAsking, IsCalling, IsChecking, IsExplaining, IsFlag, IsJob, IsKeyMaking, IsNumber, IsOptionalNumber, IsPointing, IsReplaying, IsRunning, IsServing, IsShowing, IsStarting, line_faults, subcommand_named};
 
 use crate::program::commands::central_command;
 use clap::{ArgMatches, Error};
@@ -12,9 +12,15 @@ use std::alloc::{AllocError, Global};
 #[derive(Clone, Copy, Debug)]
 pub enum Job<'a> {
     /// To play a script on the site of a file.
-    Replay { site: &'a str },
+    Replay(Replaying<'a>),
     /// To serve the site of a file to those who connect.
     Serve(Serving<'a>),
+    /// To run the site of a file, and go on where that stopped.
+    Run(Running<'a>),
+    /// To print the journal of a folder as a script.
+    Journal { folder: &'a str },
+    /// To make a key.
+    Key(KeyMaking<'a>),
     /// To send an operator's calls.
     Call(Calling<'a>),
     /// To simulate a charge point.
@@ -38,8 +44,42 @@ pub struct Serving<'a> {
     pub workers: u64,
     /// After this many connections the program ends.
     pub sessions: u64,
-    /// The file of the journal to write, which isn't there yet.
-    pub journal: Option<&'a str>,
+}
+
+/// Which script is to be played, and on which site.
+#[derive(Clone, Copy, Debug)]
+pub struct Replaying<'a> {
+    /// The site's file.
+    pub site: &'a str,
+    /// The folder whose journal is the script, or else that is standard input.
+    pub folder: Option<&'a str>,
+}
+
+/// How a site is to be run.
+#[derive(Clone, Copy, Debug)]
+pub struct Running<'a> {
+    /// The site's file.
+    pub site: &'a str,
+    /// The folder of its journal.
+    pub folder: &'a str,
+    /// The address that is listened at: a host and a port.
+    pub listen: &'a str,
+    /// How many connections it serves at a time.
+    pub seats: u64,
+    /// How many workers compile schedules.
+    pub workers: u64,
+    /// For so many seconds a call waits for its reply.
+    pub call_timeout: u64,
+    /// The file of those who may come.
+    pub keys: Option<&'a str>,
+}
+
+/// Whose key is to be made.
+#[derive(Clone, Copy, Debug)]
+pub struct KeyMaking<'a> {
+    /// The point's identity, or the operator's name.
+    pub name: &'a str,
+    pub is_operator: bool,
 }
 
 /// What an operator's client sends: what is given here, or else the lines of standard input.
@@ -47,6 +87,8 @@ pub struct Serving<'a> {
 pub struct Calling<'a> {
     /// Where it connects.
     pub url: &'a str,
+    /// The file of its name and its key.
+    pub login: Option<&'a str>,
     /// The file of a SetChargingProfile's payload.
     pub set_profile: Option<&'a str>,
     /// A ClearChargingProfile's payload.
@@ -87,6 +129,8 @@ pub struct Pointing<'a> {
     pub site: &'a str,
     /// The point's identity.
     pub id: &'a str,
+    /// The file of its name and its key.
+    pub login: Option<&'a str>,
 }
 
 /// Which schedule is to be explained, and how.
@@ -102,8 +146,10 @@ pub struct Explaining<'a> {
     pub start: &'a str,
     /// For this many seconds.
     pub duration: u64,
-    /// So many lines of the script are played, or all.
-    pub last_line: Option<u64>,
+    /// The folder whose journal is the script, or else that is standard input.
+    pub folder: Option<&'a str>,
+    /// The text of how far the script is played: a number of lines, or an instant. Or all is.
+    pub at: Option<&'a str>,
     /// The file of the picture to write.
     pub picture: Option<&'a str>,
     /// Whether for programs.
@@ -115,6 +161,8 @@ pub struct Explaining<'a> {
 pub struct Checking<'a> {
     /// The file of the site.
     pub site: &'a str,
+    /// The folder whose journal is the script, or else that is standard input.
+    pub folder: Option<&'a str>,
     /// Whether to show whose answer each is.
     pub trace: bool,
 }
@@ -124,8 +172,10 @@ pub struct Checking<'a> {
 pub struct Showing<'a> {
     /// The file of the site.
     pub site: &'a str,
-    /// So many lines of the script are played, or all.
-    pub last_line: Option<u64>,
+    /// The folder whose journal is the script, or else that is standard input.
+    pub folder: Option<&'a str>,
+    /// The text of how far the script is played: a number of lines, or an instant. Or all is.
+    pub at: Option<&'a str>,
     /// Whether for programs.
     pub json: bool,
 }
@@ -141,6 +191,14 @@ impl Calling<'_> {
             || self.status
     }
 }
+
+/// How many connections are served at a time, and how many workers compile, where that isn't said.
+const SEATS: u64 = 256;
+
+const WORKERS: u64 = 2;
+
+/// For so many seconds a call waits for its reply, where that isn't said.
+const CALL_TIMEOUT: u64 = 60;
 
 /// The job of a command line, whose first word is the program's name.
 pub fn job_of<'a>(alloc: Global, words: &'a [String]) -> Result<Job<'a>, Error>
@@ -164,13 +222,17 @@ pub fn job_of<'a>(alloc: Global, words: &'a [String]) -> Result<Job<'a>, Error>
 fn job_named<'a>(name: &str, given: &ArgMatches<'a>) -> Option<Job<'a>>
     ensures { IfSome result (λ job. IsJob name.now (rows_of (found_of given.now)) job) }
 {
-    if name == "replay" {
-        let site = text_of(given, "site")?;
-        return Some(Job::Replay { site });
-    }
     if name == "serve" {
         let serving = serving_of(given)?;
         return Some(Job::Serve(serving));
+    }
+    if name == "run" {
+        let running = running_of(given)?;
+        return Some(Job::Run(running));
+    }
+    if name == "key" {
+        let making = key_making_of(given)?;
+        return Some(Job::Key(making));
     }
     if name == "call" {
         let calling = calling_of(given)?;
@@ -179,6 +241,21 @@ fn job_named<'a>(name: &str, given: &ArgMatches<'a>) -> Option<Job<'a>>
     if name == "point" {
         let pointing = pointing_of(given)?;
         return Some(Job::Point(pointing));
+    }
+    reader_named(name, given)
+}
+
+/// The job of a subcommand that reads a script or a journal, and prints what it has.
+fn reader_named<'a>(name: &str, given: &ArgMatches<'a>) -> Option<Job<'a>>
+    ensures { IfSome result (λ job. IsJob name.now (rows_of (found_of given.now)) job) }
+{
+    if name == "replay" {
+        let replaying = replaying_of(given)?;
+        return Some(Job::Replay(replaying));
+    }
+    if name == "journal" {
+        let folder = text_of(given, "data")?;
+        return Some(Job::Journal { folder });
     }
     page_named(name, given)
 }
@@ -212,20 +289,58 @@ fn serving_of<'a>(given: &ArgMatches<'a>) -> Option<Serving<'a>>
     if workers < 1 || sessions < 1 {
         return None;
     }
-    let journal = text_of(given, "journal");
     Some(Serving {
         site,
         listen,
         workers,
         sessions,
-        journal,
     })
+}
+
+fn replaying_of<'a>(given: &ArgMatches<'a>) -> Option<Replaying<'a>>
+    ensures { IfSome result (λ replaying. IsReplaying (rows_of (found_of given.now)) replaying) }
+{
+    let site = text_of(given, "site")?;
+    let folder = text_of(given, "data");
+    Some(Replaying { site, folder })
+}
+
+fn running_of<'a>(given: &ArgMatches<'a>) -> Option<Running<'a>>
+    ensures { IfSome result (λ running. IsRunning (rows_of (found_of given.now)) running) }
+{
+    let site = text_of(given, "site")?;
+    let folder = text_of(given, "data")?;
+    let seats = optional_number_of(given, "seats").unwrap_or(SEATS);
+    let workers = optional_number_of(given, "workers").unwrap_or(WORKERS);
+    let call_timeout = optional_number_of(given, "call-timeout").unwrap_or(CALL_TIMEOUT);
+    let keys = text_of(given, "keys");
+    if seats < 1 || workers < 1 {
+        return None;
+    }
+    Some(Running {
+        site,
+        folder,
+        listen: text_of(given, "listen")?,
+        seats,
+        workers,
+        call_timeout,
+        keys,
+    })
+}
+
+fn key_making_of<'a>(given: &ArgMatches<'a>) -> Option<KeyMaking<'a>>
+    ensures { IfSome result (λ making. IsKeyMaking (rows_of (found_of given.now)) making) }
+{
+    let name = text_of(given, "name")?;
+    let is_operator = is_given(given, "operator");
+    Some(KeyMaking { name, is_operator })
 }
 
 fn calling_of<'a>(given: &ArgMatches<'a>) -> Option<Calling<'a>>
     ensures { IfSome result (λ calling. IsCalling (rows_of (found_of given.now)) calling) }
 {
     let url = text_of(given, "url")?;
+    let login = text_of(given, "login");
     let set_profile = text_of(given, "set-profile");
     let clear = text_of(given, "clear");
     let remote_start = starting_of(given)?;
@@ -234,6 +349,7 @@ fn calling_of<'a>(given: &ArgMatches<'a>) -> Option<Calling<'a>>
     let status = is_given(given, "status");
     Some(Calling {
         url,
+        login,
         set_profile,
         clear,
         remote_start,
@@ -282,7 +398,13 @@ fn pointing_of<'a>(given: &ArgMatches<'a>) -> Option<Pointing<'a>>
     let url = text_of(given, "url")?;
     let site = text_of(given, "site")?;
     let id = text_of(given, "id")?;
-    Some(Pointing { url, site, id })
+    let login = text_of(given, "login");
+    Some(Pointing {
+        url,
+        site,
+        id,
+        login,
+    })
 }
 
 fn explaining_of<'a>(given: &ArgMatches<'a>) -> Option<Explaining<'a>>
@@ -294,7 +416,8 @@ fn explaining_of<'a>(given: &ArgMatches<'a>) -> Option<Explaining<'a>>
     let connector = number_of(given, "connector")?;
     let start = text_of(given, "start")?;
     let duration = number_of(given, "duration")?;
-    let last_line = optional_number_of(given, "at");
+    let folder = text_of(given, "data");
+    let at = text_of(given, "at");
     let picture = text_of(given, "picture");
     let json = is_given(given, "json");
     Some(Explaining {
@@ -303,7 +426,8 @@ fn explaining_of<'a>(given: &ArgMatches<'a>) -> Option<Explaining<'a>>
         connector,
         start,
         duration,
-        last_line,
+        folder,
+        at,
         picture,
         json,
     })
@@ -313,18 +437,25 @@ fn checking_of<'a>(given: &ArgMatches<'a>) -> Option<Checking<'a>>
     ensures { IfSome result (λ checking. IsChecking (rows_of (found_of given.now)) checking) }
 {
     let site = text_of(given, "site")?;
+    let folder = text_of(given, "data");
     let trace = is_given(given, "trace");
-    Some(Checking { site, trace })
+    Some(Checking {
+        site,
+        folder,
+        trace,
+    })
 }
 
 fn showing_of<'a>(given: &ArgMatches<'a>) -> Option<Showing<'a>>
     ensures { IfSome result (λ showing. IsShowing (rows_of (found_of given.now)) showing) }
 {
     let site = text_of(given, "site")?;
+    let folder = text_of(given, "data");
     let json = is_given(given, "json");
     Some(Showing {
         site,
-        last_line: optional_number_of(given, "at"),
+        folder,
+        at: text_of(given, "at"),
         json,
     })
 }

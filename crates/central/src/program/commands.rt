@@ -2,63 +2,132 @@
 
 ghost use Rattle.std.specs.Prelude.{◌≡◌, false, IfOk};
 ghost use Rattle.clap.specs.Words.{App, app_of, rule_of};
-ghost use Rattle.central.specs.CommandLine.{needed, numbered, option, optional, optional_numbers, optional_values, flag, central_app, replay_command, serve_command, call_command, point_command, explain_command, check_command, show_command};
+ghost use Rattle.central.specs.CommandLine.{needed, numbered, option, optional, optional_numbers, optional_values, flag, central_app, with_readers, with_served, run_command, journal_command, key_command, replay_command, serve_command, call_command, point_command, explain_command, check_command, show_command};
 
 use crate::program::help_text::{
-    ABOUT, ASK_HELP, ASK_VALUES, AT_HELP, AUDIT_HELP, CALL_ABOUT, CALL_NOTES, CHECK_ABOUT,
-    CHECK_NOTES, CLEAR_HELP, CONNECTOR_HELP, DURATION_HELP, EXPLAIN_ABOUT, EXPLAIN_NOTES, ID_HELP,
-    JOURNAL_HELP, JSON_HELP, LISTEN_HELP, OPERATOR_URL_HELP, PICTURE_HELP, POINT_ABOUT, POINT_HELP,
-    POINT_NOTES, POINT_URL_HELP, REMOTE_START_HELP, REPLAY_ABOUT, REPLAY_EXAMPLE, SERVE_ABOUT,
-    SERVE_NOTES, SESSIONS_HELP, SET_PROFILE_HELP, SHOW_ABOUT, SHOW_NOTES, SITE_HELP, START_HELP,
-    START_VALUES, STATUS_HELP, STATUSES, TRACE_HELP, VERSION, WORKERS_HELP,
+    ABOUT, ASK_HELP, ASK_VALUES, AT_HELP, AUDIT_HELP, CALL_ABOUT, CALL_NOTES, CALL_TIMEOUT_HELP,
+    CHECK_ABOUT, CHECK_NOTES, CLEAR_HELP, CONNECTOR_HELP, DATA_HELP, DURATION_HELP, EXPLAIN_ABOUT,
+    EXPLAIN_NOTES, ID_HELP, JOURNAL_ABOUT, JOURNAL_DATA_HELP, JOURNAL_NOTES, JSON_HELP, KEY_ABOUT,
+    KEY_NAME_HELP, KEY_NOTES, KEY_OPERATOR_HELP, KEYS_HELP, LISTEN_HELP, LOGIN_HELP,
+    OPERATOR_URL_HELP, PICTURE_HELP, POINT_ABOUT, POINT_HELP, POINT_NOTES, POINT_URL_HELP,
+    REMOTE_START_HELP, REPLAY_ABOUT, REPLAY_EXAMPLE, RUN_ABOUT, RUN_DATA_HELP, RUN_NOTES,
+    RUN_WORKERS_HELP, SEATS_HELP, SERVE_ABOUT, SERVE_NOTES, SESSIONS_HELP, SET_PROFILE_HELP,
+    SHOW_ABOUT, SHOW_NOTES, SITE_HELP, START_HELP, START_VALUES, STATUS_HELP, STATUSES, TRACE_HELP,
+    VERSION, WORKERS_HELP,
 };
 use clap::builder::ValueParser;
 use clap::{Arg, ArgAction, Command};
 use meaning::MAX_DURATION;
-use replay::MAX_SCRIPT_BYTES;
-use server::{MAX_SESSIONS, MAX_WORKERS};
+use server::{MAX_SEATS, MAX_SESSIONS, MAX_WORKERS};
 use std::alloc::{AllocError, Global};
 
 /// The most connectors of a point.
 const MAX_CONNECTORS: u64 = 64;
+
+/// The longest time for which a call waits for its reply, in seconds.
+const MAX_CALL_TIMEOUT: u64 = 3_600;
 
 /// The program's commands, with what the help says of them.
 #[tactic(auto, unfolding(crate::specs::CommandLine::central_app))]
 pub fn central_command<'a>(alloc: Global) -> Result<Command<'a>, AllocError>
     ensures { IfOk result (λ command. app_of command ≡ central_app) }
 {
-    let replay = replay(alloc)?;
-    let serve = serve(alloc)?;
-    let call = call(alloc)?;
-    let point = point(alloc)?;
-    let explain = explain(alloc)?;
-    let check = check(alloc)?;
-    let show = show(alloc)?;
-    Command::new(alloc, "central")
+    let top = Command::new(alloc, "central")
         .version(VERSION)
         .about(ABOUT)
         .after_help(STATUSES)
-        .subcommand_required(true)
-        .subcommand(replay)?
+        .subcommand_required(true);
+    let served = with_served(alloc, top)?;
+    with_readers(alloc, served)
+}
+
+/// Adds the commands that have to do with sockets.
+fn with_served<'a>(alloc: Global, command: Command<'a>) -> Result<Command<'a>, AllocError>
+    ensures { IfOk result (λ added. app_of added ≡ with_served (app_of command.entry)) }
+{
+    let run = run(alloc)?;
+    let key = key(alloc)?;
+    let serve = serve(alloc)?;
+    let call = call(alloc)?;
+    let point = point(alloc)?;
+    command
+        .subcommand(run)?
+        .subcommand(key)?
         .subcommand(serve)?
         .subcommand(call)?
-        .subcommand(point)?
+        .subcommand(point)
+}
+
+/// Adds the commands that read a script or a journal.
+fn with_readers<'a>(alloc: Global, command: Command<'a>) -> Result<Command<'a>, AllocError>
+    ensures { IfOk result (λ added. app_of added ≡ with_readers (app_of command.entry)) }
+{
+    let journal = journal(alloc)?;
+    let replay = replay(alloc)?;
+    let explain = explain(alloc)?;
+    let check = check(alloc)?;
+    let show = show(alloc)?;
+    command
+        .subcommand(journal)?
+        .subcommand(replay)?
         .subcommand(explain)?
         .subcommand(check)?
         .subcommand(show)
 }
 
-/// `replay --site F`.
+/// `run --site F --data DIR --listen A [--keys FILE] [--seats N] [--workers N]
+/// [--call-timeout SECONDS]`.
+fn run<'a>(alloc: Global) -> Result<Command<'a>, AllocError>
+    ensures { IfOk result (λ command. app_of command ≡ run_command) }
+{
+    let seats = optional(alloc, "seats", "N", SEATS_HELP);
+    let workers = optional(alloc, "workers", "N", RUN_WORKERS_HELP);
+    let call_timeout = optional(alloc, "call-timeout", "SECONDS", CALL_TIMEOUT_HELP);
+    Command::new(alloc, "run")
+        .about(RUN_ABOUT)
+        .after_help(RUN_NOTES)
+        .arg(needed(alloc, "site", "F", SITE_HELP))?
+        .arg(needed(alloc, "data", "DIR", RUN_DATA_HELP))?
+        .arg(needed(alloc, "listen", "A", LISTEN_HELP))?
+        .arg(optional(alloc, "keys", "FILE", KEYS_HELP))?
+        .arg(numbered(seats, 1, MAX_SEATS))?
+        .arg(numbered(workers, 1, MAX_WORKERS as u64))?
+        .arg(numbered(call_timeout, 1, MAX_CALL_TIMEOUT))
+}
+
+/// `journal --data DIR`.
+fn journal<'a>(alloc: Global) -> Result<Command<'a>, AllocError>
+    ensures { IfOk result (λ command. app_of command ≡ journal_command) }
+{
+    Command::new(alloc, "journal")
+        .about(JOURNAL_ABOUT)
+        .after_help(JOURNAL_NOTES)
+        .arg(needed(alloc, "data", "DIR", JOURNAL_DATA_HELP))
+}
+
+/// `key --name NAME [--operator]`.
+fn key<'a>(alloc: Global) -> Result<Command<'a>, AllocError>
+    ensures { IfOk result (λ command. app_of command ≡ key_command) }
+{
+    Command::new(alloc, "key")
+        .about(KEY_ABOUT)
+        .after_help(KEY_NOTES)
+        .arg(needed(alloc, "name", "NAME", KEY_NAME_HELP))?
+        .arg(flag(alloc, "operator", KEY_OPERATOR_HELP))
+}
+
+/// `replay --site F [--data DIR]`.
 fn replay<'a>(alloc: Global) -> Result<Command<'a>, AllocError>
     ensures { IfOk result (λ command. app_of command ≡ replay_command) }
 {
     Command::new(alloc, "replay")
         .about(REPLAY_ABOUT)
         .after_help(REPLAY_EXAMPLE)
-        .arg(needed(alloc, "site", "F", SITE_HELP))
+        .arg(needed(alloc, "site", "F", SITE_HELP))?
+        .arg(optional(alloc, "data", "DIR", DATA_HELP))
 }
 
-/// `serve --site F --listen A --workers N --sessions K [--journal FILE]`.
+/// `serve --site F --listen A --workers N --sessions K`.
 fn serve<'a>(alloc: Global) -> Result<Command<'a>, AllocError>
     ensures { IfOk result (λ command. app_of command ≡ serve_command) }
 {
@@ -76,12 +145,12 @@ fn serve<'a>(alloc: Global) -> Result<Command<'a>, AllocError>
             needed(alloc, "sessions", "K", SESSIONS_HELP),
             1,
             MAX_SESSIONS,
-        ))?
-        .arg(optional(alloc, "journal", "FILE", JOURNAL_HELP))
+        ))
 }
 
-/// `call --url U [--set-profile FILE] [--clear CRITERIA] [--remote-start CONNECTOR TAG [FILE]]
-/// [--ask CONNECTOR SECONDS] [--audit CONNECTOR SECONDS] [--status]`.
+/// `call --url U [--login FILE] [--set-profile FILE] [--clear CRITERIA]
+/// [--remote-start CONNECTOR TAG [FILE]] [--ask CONNECTOR SECONDS] [--audit CONNECTOR SECONDS]
+/// [--status]`.
 fn call<'a>(alloc: Global) -> Result<Command<'a>, AllocError>
     ensures { IfOk result (λ command. app_of command ≡ call_command) }
 {
@@ -89,6 +158,7 @@ fn call<'a>(alloc: Global) -> Result<Command<'a>, AllocError>
         .about(CALL_ABOUT)
         .after_help(CALL_NOTES)
         .arg(needed(alloc, "url", "U", OPERATOR_URL_HELP))?
+        .arg(optional(alloc, "login", "FILE", LOGIN_HELP))?
         .arg(optional(alloc, "set-profile", "FILE", SET_PROFILE_HELP))?
         .arg(optional(alloc, "clear", "CRITERIA", CLEAR_HELP))?
         .arg(starting(alloc, "remote-start"))?
@@ -97,7 +167,7 @@ fn call<'a>(alloc: Global) -> Result<Command<'a>, AllocError>
         .arg(flag(alloc, "status", STATUS_HELP))
 }
 
-/// `point --url U --site F --id ID`.
+/// `point --url U --site F --id ID [--login FILE]`.
 fn point<'a>(alloc: Global) -> Result<Command<'a>, AllocError>
     ensures { IfOk result (λ command. app_of command ≡ point_command) }
 {
@@ -106,11 +176,12 @@ fn point<'a>(alloc: Global) -> Result<Command<'a>, AllocError>
         .after_help(POINT_NOTES)
         .arg(needed(alloc, "url", "U", POINT_URL_HELP))?
         .arg(needed(alloc, "site", "F", SITE_HELP))?
-        .arg(needed(alloc, "id", "ID", ID_HELP))
+        .arg(needed(alloc, "id", "ID", ID_HELP))?
+        .arg(optional(alloc, "login", "FILE", LOGIN_HELP))
 }
 
 /// `explain --site F --point ID --connector C --start INSTANT --duration D
-/// [--at N] [--picture FILE] [--json]`.
+/// [--data DIR] [--at PLACE] [--picture FILE] [--json]`.
 fn explain<'a>(alloc: Global) -> Result<Command<'a>, AllocError>
     ensures { IfOk result (λ command. app_of command ≡ explain_command) }
 {
@@ -124,16 +195,13 @@ fn explain<'a>(alloc: Global) -> Result<Command<'a>, AllocError>
         .arg(numbered(connector, 0, MAX_CONNECTORS))?
         .arg(needed(alloc, "start", "INSTANT", START_HELP))?
         .arg(numbered(duration, 1, MAX_DURATION as u64))?
-        .arg(numbered(
-            optional(alloc, "at", "N", AT_HELP),
-            0,
-            MAX_SCRIPT_BYTES as u64,
-        ))?
+        .arg(optional(alloc, "data", "DIR", DATA_HELP))?
+        .arg(optional(alloc, "at", "PLACE", AT_HELP))?
         .arg(optional(alloc, "picture", "FILE", PICTURE_HELP))?
         .arg(flag(alloc, "json", JSON_HELP))
 }
 
-/// `check --site F [--trace]`.
+/// `check --site F [--data DIR] [--trace]`.
 fn check<'a>(alloc: Global) -> Result<Command<'a>, AllocError>
     ensures { IfOk result (λ command. app_of command ≡ check_command) }
 {
@@ -141,10 +209,11 @@ fn check<'a>(alloc: Global) -> Result<Command<'a>, AllocError>
         .about(CHECK_ABOUT)
         .after_help(CHECK_NOTES)
         .arg(needed(alloc, "site", "F", SITE_HELP))?
+        .arg(optional(alloc, "data", "DIR", DATA_HELP))?
         .arg(flag(alloc, "trace", TRACE_HELP))
 }
 
-/// `show --site F [--at N] [--json]`.
+/// `show --site F [--data DIR] [--at PLACE] [--json]`.
 fn show<'a>(alloc: Global) -> Result<Command<'a>, AllocError>
     ensures { IfOk result (λ command. app_of command ≡ show_command) }
 {
@@ -152,11 +221,8 @@ fn show<'a>(alloc: Global) -> Result<Command<'a>, AllocError>
         .about(SHOW_ABOUT)
         .after_help(SHOW_NOTES)
         .arg(needed(alloc, "site", "F", SITE_HELP))?
-        .arg(numbered(
-            optional(alloc, "at", "N", AT_HELP),
-            0,
-            MAX_SCRIPT_BYTES as u64,
-        ))?
+        .arg(optional(alloc, "data", "DIR", DATA_HELP))?
+        .arg(optional(alloc, "at", "PLACE", AT_HELP))?
         .arg(flag(alloc, "json", JSON_HELP))
 }
 

@@ -1,13 +1,15 @@
 //! The job of `central explain`.
 
-ghost use Rattle.std.specs.Prelude.{◌≤◌, length};
+ghost use Rattle.std.specs.Prelude.{◌≡◌, ◌≤◌, length};
 
 use crate::program::command_line::Explaining;
+use crate::program::followed_journal::{Following, follow_journal};
 use crate::program::pages::{Screen, note_refused_lines, print_page, write_file};
 use crate::program::picture_name::{PictureForm, picture_form};
 use crate::program::program_fault::ProgramFault;
+use crate::program::script_end::{ScriptEnd, script_end};
 use crate::program::script_input::read_script;
-use crate::program::site_file::read_site_file;
+use crate::program::site_file::read_digested_site;
 use explain_pages::{
     ExplainedAsk, not_counted, write_json, write_page, write_picture, write_table,
 };
@@ -16,40 +18,73 @@ use ocpp_scalars::read_instant;
 use point_book::PointBook;
 use profile::Unit;
 use replay::play_quietly;
+use site_core::Machine;
 use site_rules::Site;
 use std::alloc::AllocGlobal;
+use std::fs::File;
 use std::rt::Files;
 use sweep_compiler::{Turns, explain};
 
-/// Says why the limits of a connector are what they are after a script. Faults of a picture's name,
-/// the instants and the site file, and what isn't in it, are reported before the script is read.
-pub fn explain_file<R: Files + Input + Print + Eprint + AllocGlobal>(
+/// Says why the limits of a connector are what they are after a script or a journal. Faults of a
+/// picture's name, the instants and the site file, and what isn't in it, are reported before the
+/// script is read.
+pub fn explain_file<R: Files<File = File> + Input + Print + Eprint + AllocGlobal>(
     rt: &R,
     screen: Screen,
     explaining: Explaining<'_>,
 ) -> Result<(), ProgramFault> {
     let picture = picture_of(&explaining)?;
     let ask = ask_of(&explaining)?;
-    let site = read_site_file(rt, explaining.site)?;
+    let end = script_end(explaining.at)?;
+    let (site, digest) = read_digested_site(rt, explaining.site)?;
     check_connector(&site, explaining.point, ask.connector)?;
-    let unit = site.unit();
-    let script = read_script(rt)?;
-    let played = play_quietly(rt.alloc(), script.as_slice(), site, explaining.last_line)?;
-    let Some(book) = played.machine().book_of(explaining.point) else {
-        return Err(ProgramFault::NoSuchPoint);
-    };
-    // A book has the connectors of its point in the site: that is known from the check above,
-    // though no clause says it.
-    if ask.connector > book.connectors() {
-        return Err(ProgramFault::NoSuchConnector);
-    }
-    note_refused_lines(rt, &played);
+    let (folder, point) = (explaining.folder, explaining.point);
     let presentation = Presentation {
         explaining: &explaining,
-        unit,
+        screen,
+        unit: site.unit(),
         picture,
     };
-    print_explained(rt, screen, presentation, book, &ask)
+    let Some(folder) = folder else {
+        return explain_script(rt, presentation, end, site, &ask);
+    };
+    let following = Following {
+        site,
+        digest,
+        folder,
+        end,
+        point,
+        counted_from: Some(ask.start),
+    };
+    let followed = follow_journal(rt, following)?;
+    note_later_changes(rt, presentation.explaining, followed.changes());
+    print_explained(rt, presentation, followed.machine(), &ask)
+}
+
+/// Explains what a point has after the script of standard input.
+fn explain_script<R: Files + Input + Print + Eprint + AllocGlobal>(
+    rt: &R,
+    presentation: Presentation<'_>,
+    end: ScriptEnd,
+    site: Site,
+    ask: &Ask,
+) -> Result<(), ProgramFault> {
+    let script = read_script(rt)?;
+    let last_line = end.last_line(script.as_slice());
+    let played = play_quietly(rt.alloc(), script.as_slice(), site, last_line)?;
+    note_refused_lines(rt, &played);
+    print_explained(rt, presentation, played.machine(), ask)
+}
+
+/// Says where a journal has changes at the point that are later than the first instant: what is
+/// explained isn't what the point had then.
+fn note_later_changes<R: Eprint>(rt: &R, explaining: &Explaining<'_>, later: u64) {
+    if later > 0 {
+        let (point, start) = (explaining.point, explaining.start);
+        let _ = eprintln!(rt;
+            "central: {later} changes at {point} are later than --start: --at {start} is without them"
+        );
+    }
 }
 
 /// A picture that is wanted.
@@ -63,6 +98,7 @@ struct Picture<'a> {
 #[derive(Clone, Copy)]
 struct Presentation<'a> {
     explaining: &'a Explaining<'a>,
+    screen: Screen,
     unit: Unit,
     picture: Option<Picture<'a>>,
 }
@@ -108,10 +144,27 @@ fn ask_of(explaining: &Explaining<'_>) -> Result<Ask, ProgramFault> {
     }
 }
 
-/// Prints the explanation of a request, and writes its picture.
+/// Prints the explanation of a request by what the point has in this state, and writes its picture.
 fn print_explained<R: Files + Print + AllocGlobal>(
     rt: &R,
-    screen: Screen,
+    presentation: Presentation<'_>,
+    machine: &Machine,
+    ask: &Ask,
+) -> Result<(), ProgramFault> {
+    let Some(book) = machine.book_of(presentation.explaining.point) else {
+        return Err(ProgramFault::NoSuchPoint);
+    };
+    // A book has the connectors of its point in the site: that is known from the check before, though
+    // no clause says it.
+    if ask.connector > book.connectors() {
+        return Err(ProgramFault::NoSuchConnector);
+    }
+    print_explanation(rt, presentation, book, ask)
+}
+
+/// Prints the explanation of a request at a connector of the book, and writes its picture.
+fn print_explanation<R: Files + Print + AllocGlobal>(
+    rt: &R,
     presentation: Presentation<'_>,
     book: &PointBook,
     ask: &Ask,
@@ -140,7 +193,7 @@ fn print_explained<R: Files + Print + AllocGlobal>(
     let page = if presentation.explaining.json {
         write_json(alloc, &explained)?
     } else {
-        write_table(alloc, &explained, screen.columns())?
+        write_table(alloc, &explained, presentation.screen.columns())?
     };
     print_page(rt, page.as_str())
 }

@@ -12,13 +12,38 @@ from a script.";
 /// The program's exit statuses.
 pub const STATUSES: &str = "Exit statuses:
   0  the whole script was played, and no line of it has a fault; or all sessions have ended
-  1  the site file has a fault: 'central: site: NAME' on standard error
+  1  the site file has a fault: 'central: site: NAME' on standard error; or a line of the journal of
+     --data is none, or doesn't fit the site: 'central: journal: line LINE: ..'; or a line of the file
+     of --keys is no key: 'central: keys: line LINE: ..'
   2  the whole script was played, and lines '! LINE NAME' of the output name its faults;
      or the script has more than 16,777,216 bytes: 'central: script: ScriptTooLong'
   3  a file or a device can't be read or written: 'central: device: read' or 'central: device: write';
      or the address can't be listened at, or no connection accepted there: 'central: device: socket';
      or memory ran out: 'central: OutOfMemory'
-  4  the command line isn't one of these";
+  4  the command line isn't one of these, or another process runs on the folder of --data";
+
+/// What `key` does.
+pub const KEY_ABOUT: &str =
+    "Makes a key, by which a point or an operator may come to a site that is run.";
+
+/// What `--name` names.
+pub const KEY_NAME_HELP: &str = "The identity of a charge point, or an operator's name";
+
+/// What `--operator` says.
+pub const KEY_OPERATOR_HELP: &str =
+    "The key is an operator's, which opens /operator/ID for each point";
+
+/// What `key` prints, and a call of it.
+pub const KEY_NOTES: &str =
+    "It prints a line for the file of 'central run --keys', which has a salt and a digest. The key itself
+it tells once, on standard error, as NAME:KEY, 40 hex digits. A charge point has it as its
+AuthorizationKey, an operator's client as its password (HTTP Basic). A user may have several lines:
+each key opens.
+
+Example:
+  central key --name CP1 >> site.keys
+
+The exit statuses are those of 'central --help'.";
 
 /// What `replay` does.
 pub const REPLAY_ABOUT: &str = "Plays a script of messages on a site, and prints the answers.";
@@ -39,10 +64,6 @@ pub const WORKERS_HELP: &str = "How many workers compile schedules, from 1 to 8"
 /// What `--sessions` counts.
 pub const SESSIONS_HELP: &str = "It ends after this number of connections, from 1 to 64";
 
-/// What `--journal` names.
-pub const JOURNAL_HELP: &str =
-    "Write each message that changes or requests something to FILE, a new one, as a script";
-
 /// Who connects to `serve`, and a call of it.
 pub const SERVE_NOTES: &str = "F is a site file; 'central replay --help' shows one. It prints
   listening A                    once clients may connect
@@ -53,11 +74,72 @@ and each client offers the subprotocol ocpp1.6 at one of these paths:
 A client with neither is closed at once, and counts as a connection. There is no encryption and no
 password: put it behind a proxy that has both, and let it listen at the loopback address.
 
-FILE is a script that 'central explain', 'show', 'check' and 'replay' read, while it is written too. It holds
-the messages in the order in which they took effect. 'serve' doesn't read it: a restart begins empty.
+It keeps everything in memory: a restart begins empty. 'central run' is for a site that goes on.
 
 Example:
   central serve --site site.json --listen 127.0.0.1:9000 --workers 2 --sessions 64
+
+The exit statuses are those of 'central --help'.";
+
+/// What `run` does.
+pub const RUN_ABOUT: &str =
+    "Runs a site over WebSocket, and goes on where it stopped when it is started again.";
+
+/// What `--data` of `run` names.
+pub const RUN_DATA_HELP: &str =
+    "The folder that keeps what the site has; made where it isn't there";
+
+/// What `--seats` counts.
+pub const SEATS_HELP: &str =
+    "It serves so many connections at a time, from 1 to 1000; 256 if not said";
+
+/// What `--workers` of `run` counts.
+pub const RUN_WORKERS_HELP: &str = "How many workers compile schedules, from 1 to 8; 2 if not said";
+
+/// What `--keys` names.
+pub const KEYS_HELP: &str =
+    "The file of those who may come, by 'central key'; without it A has to be of this machine alone";
+
+/// What `--call-timeout` is.
+pub const CALL_TIMEOUT_HELP: &str =
+    "A point has so many seconds to reply to a call, or its connection is closed; 60 if not said";
+
+/// What `run` prints and keeps, and a call of it.
+pub const RUN_NOTES: &str = "F is a site file; 'central replay --help' shows one. It prints
+  resumed P points, R profiles, T transactions, C calls waiting
+  listening A                    once clients may connect
+Clients connect as to 'central serve', any number one after another. Above N at a time one is answered
+HTTP 503. Where a point connects anew, its older connection is closed.
+
+DIR/journal has a line for each step that changed something, written and synced before it is answered.
+A start makes these steps again, each with the number that it drew. A journal whose last line is torn
+is cut there: that was never answered. With another site file they are tried: the first line that doesn't
+fit is named. One process at a time runs on a folder.
+Where the device is full, what changes something is answered InternalError until there is room. Where
+the journal can't be written otherwise, the program ends with status 3. It may be killed at any moment.
+
+Example:
+  central run --site site.json --data /var/lib/central --listen 127.0.0.1:9000
+
+The exit statuses are those of 'central --help'.";
+
+/// What `journal` does.
+pub const JOURNAL_ABOUT: &str = "Prints the journal of a site that is run as a script.";
+
+/// What `--data` of `journal` names.
+pub const JOURNAL_DATA_HELP: &str = "The folder of 'central run'";
+
+/// What `--data` of the commands that read a script names.
+pub const DATA_HELP: &str =
+    "Read the journal of this folder of 'central run' in place of standard input";
+
+/// What `journal` prints, and a call of it.
+pub const JOURNAL_NOTES: &str =
+    "The script is one for 'central replay': the messages that changed something, in the order in which
+they took effect. It may be printed while the site is run.
+
+Example:
+  central journal --data /var/lib/central
 
 The exit statuses are those of 'central --help'.";
 
@@ -67,6 +149,10 @@ pub const CALL_ABOUT: &str =
 
 /// What `--url` of `call` names.
 pub const OPERATOR_URL_HELP: &str = "The operator's URL, ws://HOST:PORT/operator/ID";
+
+/// What `--login` names.
+pub const LOGIN_HELP: &str =
+    "A file that has NAME:KEY, where the central system wants to know who comes (HTTP Basic)";
 
 /// What `--set-profile` names.
 pub const SET_PROFILE_HELP: &str = "Sends SetChargingProfile with the payload that this file holds";
@@ -169,7 +255,8 @@ pub const START_HELP: &str = "From when on, such as 2025-01-03T12:00:00Z";
 pub const DURATION_HELP: &str = "For how many seconds, from 1 to 2678400";
 
 /// What `--at` counts.
-pub const AT_HELP: &str = "After this number of lines of the script, not after all";
+pub const AT_HELP: &str =
+    "After this number of lines of the script or journal, or at this instant, not after all";
 
 /// What `--picture` names.
 pub const PICTURE_HELP: &str = "Write a picture too: FILE.svg, or a page with it: FILE.html";
@@ -179,10 +266,10 @@ pub const JSON_HELP: &str = "Print it for programs, as JSON";
 
 /// What `explain` reads and prints.
 pub const EXPLAIN_NOTES: &str =
-    "The script is standard input, as of 'central replay'; its lines are played and not printed. Then the
-limits of the connector are printed, one line for each interval in which the limit and its cause
-stay the same: from, to, how long, the limit, and what sets it. Below stand the profiles of the point that
-never set it in this time, each with the reason.
+    "The script is standard input, as of 'central replay', or the journal of --data; its lines are played
+and not printed. Then the limits of the connector are printed, one line for each interval in which the
+limit and its cause stay the same: from, to, how long, the limit, and what sets it. Below stand the
+profiles of the point that never set it in this time, each with the reason.
 
 Example:
   central explain --site site.json --point CP1 --connector 1 --start 2025-01-03T12:00:00Z --duration 86400 < script
@@ -198,8 +285,8 @@ pub const TRACE_HELP: &str = "Show what each line of the script is answered";
 
 /// What `check` reads and prints.
 pub const CHECK_NOTES: &str =
-    "The script is standard input, as of 'central replay'; without one give it /dev/null. Each finding is a line:
-where it is, what was found, and what is wanted.
+    "The script is standard input, as of 'central replay', or the journal of --data; without one give it
+/dev/null. Each finding is a line: where it is, what was found, and what is wanted.
 
 Example:
   central check --site site.json < script
@@ -212,12 +299,13 @@ pub const SHOW_ABOUT: &str = "Shows what each point of a site has after a script
 
 /// What `show` reads and prints.
 pub const SHOW_NOTES: &str =
-    "The script is standard input, as of 'central replay'; its lines are played and not printed. Then the
-profiles, transactions, audit, remote starts and waiting calls of each point are printed, and the requests
-that are held.
+    "The script is standard input, as of 'central replay', or the journal of --data; its lines are played
+and not printed. Then the profiles, transactions, audit, remote starts and waiting calls of each point are
+printed, and the requests that are held.
 
-Example:
+Examples:
   central show --site site.json < script
+  central show --site site.json --data /var/lib/central
 
 The exit statuses are those of 'central --help'.";
 

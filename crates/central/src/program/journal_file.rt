@@ -1,159 +1,414 @@
-//! The journal of a site that is served: a file with the lines of a script.
+//! The journal of a site that is run: what sessions note, written to a file and synced.
 
-use crate::program::program_fault::ProgramFault;
-use messages::Side;
-use ocpp_scalars::push_instant;
-use session::{Journal, SentText};
+use crate::program::data_folder::OpenJournal;
+use crate::program::named_file::NamedFile;
+use crate::program::reserve_file::ReserveFile;
+use ocpp_scalars::Instant;
+use session::{Entry, Journal, JournalFault, Noted};
+use site_journal::Line;
 use std::alloc::{AllocError, AllocGlobal, Global};
 use std::fs::File;
 use std::io::{ErrorKind, Write};
-use std::rt::Files;
-use std::sync::{Mutex, Wait};
-use std::{fs, mem};
+use std::rt::Clock;
+use std::sync::{Condvar, Mutex, Wait};
+use std::time::Duration;
+use std::{io, mem};
 
-/// A file to which sessions write the messages that they serve, each as a line of a script
-/// (`replay`), or nothing where no file is named. Once it can't be written, or memory runs out for
-/// a line, nothing is written any more.
+/// Room for so many entries is kept free: more than all sessions together have prepared and not
+/// noted yet. So a step that was made is always noted.
+const FREE_ENTRIES: usize = 2_048;
+
+/// A text of lines that grew longer isn't kept for the next lines.
+const LONGEST_KEPT_TEXT: usize = 1_048_576;
+
+/// After so many seconds it is tried again to write where the device was full.
+const RETRY_SECONDS: u64 = 1;
+
+/// A journal that sessions share. Each notes what it changes while it has the book. Whoever waits
+/// for it writes and syncs for all that wait. Where the device is full nothing is noted any more,
+/// and it is tried again until there is room; where it isn't known what stands in the file, it is
+/// broken for good.
 #[derive(Drop)]
-pub struct JournalFile<'a, R> {
-    rt: &'a R,
+pub struct JournalFile<R> {
+    rt: R,
     alloc: Global,
-    /// None where nothing is written.
-    file: Mutex<Option<File>>,
-    noted: Mutex<Noted>,
+    /// The file's name, for what is said of it.
+    path: String,
+    noted: Mutex<NotedEntries>,
+    written: Mutex<WrittenLines>,
+    /// Whoever waits for the journal to be broken waits here.
+    broken: Condvar,
 }
 
-/// What is noted and not written yet.
+/// An entry, with the number that its step drew.
 #[derive(Drop)]
-struct Noted {
-    lines: String,
-    /// Whether no more is noted: nothing is written any more, or memory ran out for a line.
-    is_ended: bool,
+struct NumberedEntry {
+    entry: Entry,
+    number: u64,
 }
 
-impl<'a, R: Files<File = File> + AllocGlobal> JournalFile<'a, R> {
-    /// The journal in the file of a name, which isn't there yet.
-    pub fn make(rt: &'a R, path: Option<&str>) -> Result<JournalFile<'a, R>, ProgramFault> {
-        let file = match path {
-            Some(path) => Some(new_file(rt, path)?),
-            None => None,
+/// What is noted and not taken to be written yet.
+#[derive(Drop)]
+struct NotedEntries {
+    entries: Vec<NumberedEntry>,
+    /// How many entries were noted in all, and how many of these are on the disk.
+    noted: u64,
+    kept: u64,
+    state: JournalState,
+}
+
+/// Whether anything may be noted.
+#[derive(Clone, Copy, Debug, PartialEq, Eq)]
+enum JournalState {
+    Open,
+    /// The device is full.
+    Full,
+    /// It isn't known what stands in the file, or an entry is missing.
+    Broken,
+}
+
+/// What was taken to be written, and how far it is.
+#[derive(Drop)]
+struct WrittenLines {
+    file: File,
+    /// How many bytes of the file are on the disk.
+    synced: u64,
+    /// Whether a write or a sync failed, so that it isn't known what stands behind these.
+    is_broken: bool,
+    reserve: ReserveFile,
+    /// Entries that were taken and have no text yet. Room for entries is kept free.
+    taken: Vec<NumberedEntry>,
+    /// How many were taken in all.
+    taken_count: u64,
+    /// Lines of which the file has the first bytes.
+    lines: String,
+    in_file: usize,
+}
+
+/// What came of an attempt to keep all that was noted.
+#[derive(Drop)]
+enum Kept {
+    /// It is on the disk.
+    All,
+    /// It is on the disk, and the device has room again.
+    AllAndRoom,
+    /// It is on the disk, in the place of the reserve: the device is full.
+    AllButFull(io::Error),
+}
+
+/// Why lines aren't on the disk.
+#[derive(Drop)]
+enum KeepFault {
+    /// The device is full. The file has what it had, and the first bytes of what was to be written.
+    Full(io::Error),
+    /// It isn't known what stands in the file.
+    Broken(io::Error),
+    /// It wasn't known before, and nothing was tried.
+    BrokenBefore,
+    OutOfMemory,
+}
+
+impl From<AllocError> for KeepFault {
+    fn from(_: AllocError) -> KeepFault {
+        KeepFault::OutOfMemory
+    }
+}
+
+impl<R: Wait + Clock + Eprint + AllocGlobal + Drop> JournalFile<R> {
+    /// The journal in an open file, to which these lines are to be added.
+    pub fn make(rt: R, opened: OpenJournal, lines: String) -> Result<JournalFile<R>, AllocError> {
+        let alloc = rt.alloc();
+        let OpenJournal {
+            lines: NamedFile { file, path },
+            length,
+            reserve,
+        } = opened;
+        let noted = NotedEntries {
+            entries: Vec::with_capacity(alloc, FREE_ENTRIES)?,
+            noted: 0,
+            kept: 0,
+            state: JournalState::Open,
         };
-        let noted = Noted {
-            lines: String::new(rt.alloc()),
-            is_ended: file.is_none(),
+        let written = WrittenLines {
+            file,
+            synced: length,
+            is_broken: false,
+            reserve,
+            taken: Vec::with_capacity(alloc, FREE_ENTRIES)?,
+            taken_count: 0,
+            lines,
+            in_file: 0,
         };
         Ok(JournalFile {
             rt,
-            alloc: rt.alloc(),
-            file: Mutex::new(file),
+            alloc,
+            path,
             noted: Mutex::new(noted),
+            written: Mutex::new(written),
+            broken: Condvar::new(),
         })
     }
-}
 
-/// Refuses a name of a journal at which something is there already, before anything else is done.
-pub fn refuse_existing<R: Files>(rt: &R, path: Option<&str>) -> Result<(), ProgramFault> {
-    // Where that can't be said, making the file says what is wrong.
-    match path {
-        Some(path) if fs::exists(rt, path).unwrap_or(false) => Err(ProgramFault::JournalExists),
-        _ => Ok(()),
+    /// Writes and syncs all that was noted by now.
+    pub fn keep_all(&self) -> Result<(), JournalFault> {
+        let mut written = self.written.lock(&self.rt);
+        let kept = self.keep_with(&mut written);
+        // Whoever says what came of it may be held up: the sessions that write next aren't.
+        drop(written);
+        self.say(kept)
     }
-}
 
-/// Removes a journal in which nothing was written, so that the same command line may be tried
-/// again.
-pub fn remove_if_empty<R: Files>(rt: &R, path: Option<&str>) {
-    let Some(path) = path else {
-        return;
-    };
-    if let Ok(found) = fs::metadata(rt, path) {
-        if found.len() == 0 {
-            // Where it can't be removed, it is in the way of the next start and no more.
-            let _ = rt.remove_file(path);
+    /// Waits until so many entries are on the disk. Who waits for the file finds most often that
+    /// another has written its entries too.
+    fn keep_up_to(&self, wanted: u64) -> Result<(), JournalFault> {
+        let mut written = self.written.lock(&self.rt);
+        let (kept, state) = self.kept();
+        if kept >= wanted {
+            return Ok(());
+        }
+        if state == JournalState::Broken {
+            return Err(JournalFault::Unwritable);
+        }
+        let kept = self.keep_with(&mut written);
+        drop(written);
+        self.say(kept)
+    }
+
+    /// How many entries are on the disk, and whether more may be noted.
+    fn kept(&self) -> (u64, JournalState) {
+        let noted = self.noted.lock(&self.rt);
+        (noted.kept, noted.state)
+    }
+
+    /// Returns once the journal is broken. Until then it is tried again now and then to write where
+    /// the device was full.
+    pub fn until_broken(&self) {
+        for _ in self.rt.forever() {
+            let noted = self.noted.lock(&self.rt);
+            let (noted, _) = self.broken.wait_timeout_while(
+                &self.rt,
+                noted,
+                Duration::from_secs(RETRY_SECONDS),
+                |noted| noted.state != JournalState::Broken,
+            );
+            let state = noted.state;
+            drop(noted);
+            match state {
+                JournalState::Broken => return,
+                JournalState::Full => {
+                    let _ = self.keep_all();
+                }
+                JournalState::Open => {}
+            }
         }
     }
-}
 
-/// A file that isn't there yet, so that no other journal is lost.
-fn new_file<R: Files<File = File>>(rt: &R, path: &str) -> Result<File, ProgramFault> {
-    match File::create_new(rt, path) {
-        Ok(file) => Ok(file),
-        Err(error) if error.kind() == ErrorKind::AlreadyExists => Err(ProgramFault::JournalExists),
-        Err(_) => Err(ProgramFault::Journal),
-    }
-}
-
-impl<R: Wait + Eprint> Journal for JournalFile<'_, R> {
-    fn note(&self, sent: &SentText<'_>) {
-        let mut noted = self.noted.lock(self.rt);
-        if noted.is_ended {
-            return;
-        }
-        let Ok(line) = line_of(self.alloc, sent) else {
-            noted.is_ended = true;
-            return;
-        };
-        if noted.lines.push_str(line.as_str()).is_err() {
-            noted.is_ended = true;
-        }
-    }
-
-    /// Whoever writes has the file from before it takes the lines until they are written, so that
-    /// these stay in order.
-    fn write_out(&self) {
-        let mut file = self.file.lock(self.rt);
-        let Some(open) = &mut *file else {
-            return;
-        };
-        let mut noted = self.noted.lock(self.rt);
-        let lines = mem::replace(&mut noted.lines, String::new(self.alloc));
-        let is_ended = noted.is_ended;
+    /// Writes and syncs all that was noted by now. Whoever has the file does it for all that wait.
+    fn keep_with(&self, written: &mut WrittenLines) -> Result<Kept, KeepFault> {
+        // Those that there was no memory for come first.
+        written.put_into_words()?;
+        self.take_noted(written);
+        written.put_into_words()?;
+        let kept = written.write_and_sync()?;
+        let mut noted = self.noted.lock(&self.rt);
+        noted.kept = written.taken_count;
+        let was_full = noted.state == JournalState::Full;
         drop(noted);
-        let is_written = open.write_all(lines.as_bytes()).is_ok();
-        if is_written && !is_ended {
-            return;
+        // While it is full nobody notes anything, so there is time for the reserve.
+        if was_full && matches!(kept, Kept::All) && written.reserve.fill() {
+            return Ok(Kept::AllAndRoom);
         }
-        *file = None;
-        // Whoever says it may be held up: the sessions that write next aren't.
-        drop(file);
-        let mut noted = self.noted.lock(self.rt);
-        noted.is_ended = true;
+        Ok(kept)
+    }
+
+    /// Takes what was noted by now. What was taken before has its text.
+    fn take_noted(&self, written: &mut WrittenLines) {
+        let mut noted = self.noted.lock(&self.rt);
+        mem::swap(&mut noted.entries, &mut written.taken);
+        written.taken_count = noted.noted;
+    }
+
+    /// Takes note of what came of writing, and says it where it is new.
+    fn say(&self, kept: Result<Kept, KeepFault>) -> Result<(), JournalFault> {
+        match kept {
+            Ok(Kept::All) => Ok(()),
+            Ok(Kept::AllAndRoom) => {
+                if self.turns(JournalState::Open) {
+                    let _ = eprintln!(self.rt; "central: {}: there is room again", self.path);
+                }
+                Ok(())
+            }
+            Ok(Kept::AllButFull(error)) => {
+                self.say_error(JournalState::Full, &error);
+                Ok(())
+            }
+            Err(KeepFault::OutOfMemory) => Err(JournalFault::OutOfMemory),
+            Err(KeepFault::BrokenBefore) => Err(JournalFault::Unwritable),
+            Err(KeepFault::Full(error)) => {
+                self.say_error(JournalState::Full, &error);
+                Err(JournalFault::Unwritable)
+            }
+            Err(KeepFault::Broken(error)) => {
+                self.say_error(JournalState::Broken, &error);
+                Err(JournalFault::Unwritable)
+            }
+        }
+    }
+
+    /// Says why the journal is full or broken, where that is new.
+    fn say_error(&self, state: JournalState, error: &io::Error) {
+        if self.turns(state) {
+            let _ = eprintln!(self.rt; "central: {}: {error}", self.path);
+            self.broken.notify_all();
+        }
+    }
+
+    /// Takes note of whether anything may be noted. Returns whether that is new. What is broken stays
+    /// so.
+    fn turns(&self, state: JournalState) -> bool {
+        let mut noted = self.noted.lock(&self.rt);
+        let is_new = noted.state != state && noted.state != JournalState::Broken;
+        if is_new {
+            noted.state = state;
+        }
+        is_new
+    }
+}
+
+impl WrittenLines {
+    /// Makes the text of what was taken, behind the lines that aren't on the disk yet. Afterwards
+    /// there is room for entries. Where memory runs out the lines are as they were.
+    fn put_into_words(&mut self) -> Result<(), AllocError> {
+        let mut lines = String::new(*self.lines.allocator());
+        for numbered in &self.taken {
+            numbered.entry.push(&mut lines, numbered.number)?;
+        }
+        self.lines.push_str(lines.as_str())?;
+        self.taken.clear();
+        self.taken.reserve(FREE_ENTRIES)
+    }
+
+    /// Writes the lines that aren't in the file, and syncs it. Once that fails, but for want of room,
+    /// it isn't tried again: a second sync would tell nothing. The file is cut to what is on the
+    /// disk then, so that a start doesn't read what may stand in the system's memory alone.
+    fn write_and_sync(&mut self) -> Result<Kept, KeepFault> {
+        if self.is_broken {
+            return Err(KeepFault::BrokenBefore);
+        }
+        if self.lines.is_empty() {
+            return Ok(Kept::All);
+        }
+        let kept = self.write_with_reserve();
+        if let Err(KeepFault::Broken(_)) = &kept {
+            self.is_broken = true;
+            let _ = self.file.set_len(self.synced);
+        }
+        kept
+    }
+
+    /// Writes the lines that aren't in the file, and syncs it. Where the device is full the reserve
+    /// is given up for them.
+    fn write_with_reserve(&mut self) -> Result<Kept, KeepFault> {
+        match self.write_lines() {
+            Ok(()) => {
+                self.sync()?;
+                Ok(Kept::All)
+            }
+            Err(KeepFault::Full(error)) if self.reserve.give_up() => {
+                self.write_lines()?;
+                self.sync()?;
+                Ok(Kept::AllButFull(error))
+            }
+            Err(fault) => Err(fault),
+        }
+    }
+
+    /// Writes the lines that aren't in the file yet.
+    fn write_lines(&mut self) -> Result<(), KeepFault> {
+        for _write in 0..u64::MAX {
+            let Some(rest) = self.lines.as_bytes().get(self.in_file..) else {
+                return Ok(());
+            };
+            if rest.is_empty() {
+                return Ok(());
+            }
+            match self.file.write(rest) {
+                Ok(0) => return Err(KeepFault::Full(io::Error::from(ErrorKind::WriteZero))),
+                Ok(count) => self.in_file = self.in_file.saturating_add(count),
+                Err(error) if error.kind() == ErrorKind::Interrupted => {}
+                Err(error) => return Err(fault_of_write(error)),
+            }
+        }
+        Err(KeepFault::Full(io::Error::from(ErrorKind::Interrupted)))
+    }
+
+    /// Syncs the file, which has all lines.
+    fn sync(&mut self) -> Result<(), KeepFault> {
+        match self.file.sync_data() {
+            Ok(()) => {}
+            Err(error) => return Err(KeepFault::Broken(error)),
+        }
+        self.synced = self.synced.saturating_add(self.lines.len() as u64);
+        self.in_file = 0;
+        if self.lines.capacity() > LONGEST_KEPT_TEXT {
+            self.lines = String::new(*self.lines.allocator());
+        } else {
+            self.lines.clear();
+        }
+        Ok(())
+    }
+}
+
+/// Where there is no room, a write took nothing. What other errors leave isn't known.
+fn fault_of_write(error: io::Error) -> KeepFault {
+    match error.kind() {
+        ErrorKind::StorageFull | ErrorKind::QuotaExceeded | ErrorKind::FileTooLarge => {
+            KeepFault::Full(error)
+        }
+        _ => KeepFault::Broken(error),
+    }
+}
+
+impl<R: Wait + Clock + Eprint + AllocGlobal + Drop> Journal for JournalFile<R> {
+    fn prepare(
+        &self,
+        moment: Instant,
+        point: &str,
+        noted: Noted<'_>,
+    ) -> Result<Option<Entry>, JournalFault> {
+        let line = Line {
+            moment,
+            point,
+            noted,
+        };
+        let entry = Entry::new(self.alloc, &line)?;
+        let mut noted = self.noted.lock(&self.rt);
+        if noted.state != JournalState::Open {
+            return Err(JournalFault::Unwritable);
+        }
+        noted.entries.reserve(FREE_ENTRIES)?;
+        Ok(Some(entry))
+    }
+
+    fn note(&self, entry: Entry, number: u64) {
+        let mut noted = self.noted.lock(&self.rt);
+        let numbered = NumberedEntry { entry, number };
+        if noted.entries.push(numbered).is_err() {
+            noted.state = JournalState::Broken;
+        }
+        noted.noted = noted.noted.saturating_add(1);
+    }
+
+    fn write_out(&self) -> Result<(), JournalFault> {
+        let noted = self.noted.lock(&self.rt);
+        let (wanted, kept, state) = (noted.noted, noted.kept, noted.state);
         drop(noted);
-        let _ = eprintln!(self.rt; "central: the journal ends here; the site is served on");
-    }
-}
-
-/// A longer message has no room on a line of a script.
-const LONGEST_FRAME: usize = 1_048_576 - 128;
-
-/// A message as a line of a script. A line break in it is written as a tab, which is to JSON what a
-/// line break is: a blank, and nothing that a string may have. A message that is too long for a
-/// line is written as `[]`.
-fn line_of(alloc: Global, sent: &SentText<'_>) -> Result<String, AllocError> {
-    let mut line = String::new(alloc);
-    push_instant(&mut line, sent.moment())?;
-    line.push_str(word_of(sent.sender()))?;
-    line.push_str(sent.point())?;
-    line.push_str(" ")?;
-    let frame = if sent.frame().len() > LONGEST_FRAME {
-        "[]"
-    } else {
-        sent.frame()
-    };
-    for (number, piece) in frame.lines().enumerate() {
-        if number > 0 {
-            line.push_str("\t")?;
+        if state == JournalState::Broken {
+            return Err(JournalFault::Unwritable);
         }
-        line.push_str(piece)?;
-    }
-    line.push_str("\n")?;
-    Ok(line)
-}
-
-/// Who sends the message of a line.
-fn word_of(sender: Side) -> &'static str {
-    match sender {
-        Side::Operator => " operator ",
-        Side::Point => " point ",
+        if kept >= wanted {
+            return Ok(());
+        }
+        self.keep_up_to(wanted)
     }
 }

@@ -1,6 +1,7 @@
 //! The job of `central point`.
 
 use crate::program::command_line::Pointing;
+use crate::program::login::logged_in;
 use crate::program::program_fault::ProgramFault;
 use crate::program::site_file::read_site_file;
 use crate::program::system_clock::SystemClock;
@@ -19,6 +20,7 @@ pub fn run_point<
     R: Files
         + Input
         + Print
+        + Eprint
         + AllocGlobal
         + Clock
         + Net<Stream = TcpStream>
@@ -31,6 +33,7 @@ pub fn run_point<
     let base = pointing.url.trim_end_matches('/');
     let url = format!(in alloc; "{base}/{}", pointing.id)?;
     let address = Address::of_url(alloc, url.as_str())?;
+    let address = logged_in(rt, address, pointing.login)?;
     let site = read_site_file(rt, pointing.site)?;
     let point = point_of_site(alloc, &site, pointing.id)?;
     let socket = connect(rt, alloc, address)?;

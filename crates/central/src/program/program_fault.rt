@@ -6,8 +6,10 @@ ghost use Rattle.central.specs.ExitStatus.{fault_status, summary_status};
 use client::ClientFault;
 use replay::{ReplayFault, Summary};
 use server::ServeFault;
+use site_journal::{HeaderFault, RestoreFault, Unrestored};
+use site_keys::{KeysFault, NewKeyFault};
 use site_rules::SiteFault;
-use std::alloc::AllocError;
+use std::alloc::{AllocError, AllocFailed};
 
 /// Why the program stops, in the words of its one line on standard error.
 #[derive(Debug, Drop, thiserror::Error)]
@@ -30,12 +32,27 @@ pub enum ProgramFault {
     /// The sockets failed, or there was no memory for them.
     #[error("central: {0}")]
     Serve(ServeFault),
-    /// The file of the journal is there already.
-    #[error("central: command line: the file of --journal is there already")]
-    JournalExists,
-    /// The file of the journal can't be made.
+    /// Another process runs on the folder of the data.
+    #[error("central: command line: another process runs on the folder of --data")]
+    DataInUse,
+    /// The journal can't be read.
+    #[error("central: device: read")]
+    Data,
+    /// The journal can't be written.
     #[error("central: device: write")]
     Journal,
+    /// A line of the journal that is to name a site file doesn't: the first one has to.
+    #[error("central: journal: line {line}: {fault}")]
+    JournalHeader { line: u64, fault: HeaderFault },
+    /// A line of the journal is no line, or its step isn't made as it was.
+    #[error("central: journal: {0}")]
+    Unrestored(Unrestored),
+    /// A line of the journal is longer than any.
+    #[error("central: journal: a line has more than 4194304 bytes")]
+    JournalLineTooLong,
+    /// The clock can't be read.
+    #[error("central: device: clock")]
+    Clock,
     /// A client stopped.
     #[error("central: {0}")]
     Client(ClientFault),
@@ -52,6 +69,9 @@ pub enum ProgramFault {
     /// The command line names no instant.
     #[error("central: command line: --start is no instant, such as 2025-01-01T12:00:00Z")]
     NoInstant,
+    /// The command line names neither a number of lines nor an instant.
+    #[error("central: command line: --at is no number of lines, and no instant")]
+    NoScriptEnd,
     /// The connector of a remote start is no number.
     #[error("central: command line: the CONNECTOR of --remote-start is no whole number from 0 on")]
     NoNumber,
@@ -61,6 +81,18 @@ pub enum ProgramFault {
     /// The name of a picture's file ends in neither form.
     #[error("central: command line: the name of a picture's file ends in .svg or .html")]
     NoPicture,
+    /// Without keys nobody from elsewhere may connect.
+    #[error("central: command line: without --keys it listens at this machine alone, such as 127.0.0.1:9000")]
+    NoKeys,
+    /// A line of the file of keys is no key.
+    #[error("central: keys: {0}")]
+    Keys(KeysFault),
+    /// A key is to be made for a name that none may have.
+    #[error("central: command line: --name is empty, or has a blank, a colon or a control character")]
+    KeyName,
+    /// The system gives no random bytes.
+    #[error("central: device: random")]
+    Random,
     /// Memory ran out.
     #[error("central: OutOfMemory")]
     OutOfMemory,
@@ -72,16 +104,26 @@ impl ProgramFault {
         ensures { result ≡ fault_status self.now }
     {
         match self {
-            ProgramFault::Site(_) => 1,
+            ProgramFault::Site(_) | ProgramFault::JournalHeader { .. } => 1,
+            ProgramFault::Unrestored(
+                Unrestored {
+                    fault: RestoreFault::OutOfMemory,
+                    ..
+                },
+            ) => 3,
+            ProgramFault::Unrestored(_) | ProgramFault::JournalLineTooLong => 1,
             ProgramFault::Replay(ReplayFault::ScriptTooLong) => 2,
             ProgramFault::Replay(_) => 3,
             ProgramFault::SiteFile | ProgramFault::Write | ProgramFault::OutOfMemory => 3,
             ProgramFault::Serve(_) | ProgramFault::File | ProgramFault::Journal => 3,
+            ProgramFault::Data | ProgramFault::Clock | ProgramFault::Random => 3,
+            ProgramFault::Keys(_) => 1,
             ProgramFault::Client(ClientFault::Url | ClientFault::NotOperator) => 4,
             ProgramFault::Client(_) => 3,
             ProgramFault::Words | ProgramFault::NoSuchPoint | ProgramFault::NoSuchConnector => 4,
             ProgramFault::NoInstant | ProgramFault::PastCalendar | ProgramFault::NoPicture => 4,
-            ProgramFault::JournalExists | ProgramFault::NoNumber => 4,
+            ProgramFault::DataInUse | ProgramFault::NoNumber | ProgramFault::NoScriptEnd => 4,
+            ProgramFault::NoKeys | ProgramFault::KeyName => 4,
         }
     }
 }
@@ -107,9 +149,33 @@ impl From<SiteFault> for ProgramFault {
     }
 }
 
+impl From<KeysFault> for ProgramFault {
+    fn from(fault: KeysFault) -> ProgramFault {
+        match fault {
+            KeysFault::OutOfMemory => ProgramFault::OutOfMemory,
+            fault => ProgramFault::Keys(fault),
+        }
+    }
+}
+
+impl From<NewKeyFault> for ProgramFault {
+    fn from(fault: NewKeyFault) -> ProgramFault {
+        match fault {
+            NewKeyFault::Name => ProgramFault::KeyName,
+            NewKeyFault::OutOfMemory => ProgramFault::OutOfMemory,
+        }
+    }
+}
+
 impl From<ClientFault> for ProgramFault {
     fn from(fault: ClientFault) -> ProgramFault {
         ProgramFault::Client(fault)
+    }
+}
+
+impl<T: Drop> From<AllocFailed<T>> for ProgramFault {
+    fn from(_failed: AllocFailed<T>) -> ProgramFault {
+        ProgramFault::OutOfMemory
     }
 }
 

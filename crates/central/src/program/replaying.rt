@@ -1,23 +1,42 @@
 //! The job of `central replay`.
 
+use crate::program::command_line::Replaying;
+use crate::program::journal_script::read_journal_script;
 use crate::program::program_fault::ProgramFault;
 use crate::program::site_file::read_site_file;
 use replay::{Summary, replay};
+use site_rules::Site;
 use std::alloc::AllocGlobal;
+use std::fs::File;
 use std::io;
-use std::io::{BufWriter, Write};
+use std::io::{BufWriter, Read, Write};
 use std::rt::Files;
 
-/// Plays the script of standard input on the site of a file.
-pub fn replay_file<R: Files + Input + Print + AllocGlobal>(
+/// Plays the journal of a folder or the script of standard input on the site of a file.
+pub fn replay_file<R: Files<File = File> + Input + Print + Eprint + AllocGlobal>(
     rt: &R,
-    path: &str,
+    replaying: Replaying<'_>,
 ) -> Result<Summary, ProgramFault> {
-    let site = read_site_file(rt, path)?;
+    let site = read_site_file(rt, replaying.site)?;
+    match replaying.folder {
+        Some(folder) => {
+            let script = read_journal_script(rt, folder)?;
+            replay_from(rt, &mut script.as_slice(), site)
+        }
+        None => replay_from(rt, &mut rt.reader(), site),
+    }
+}
+
+/// Plays a script on a site.
+fn replay_from<R: Print + AllocGlobal, S: Read>(
+    rt: &R,
+    script: &mut S,
+    site: Site,
+) -> Result<Summary, ProgramFault> {
     let Ok(mut writer) = BufWriter::new(rt.alloc(), io::writer(rt)) else {
         return Err(ProgramFault::OutOfMemory);
     };
-    match replay(rt.alloc(), &mut rt.reader(), &mut writer, site) {
+    match replay(rt.alloc(), script, &mut writer, site) {
         Ok(summary) => Ok(summary),
         Err(fault) => {
             // What was answered before the fault is worth having; where it can't be written, the

@@ -3,14 +3,12 @@
 ghost use Rattle.std.specs.Prelude.{◌≤◌};
 
 use crate::program::command_line::Serving;
-use crate::program::journal_file::{JournalFile, refuse_existing, remove_if_empty};
 use crate::program::program_fault::ProgramFault;
 use crate::program::site_file::read_site_file;
 use crate::program::system_clock::SystemClock;
-use server::{ServeFault, serve_noted};
+use server::{ServeFault, serve};
 use site_rules::Site;
 use std::alloc::AllocGlobal;
-use std::fs::File;
 use std::marker::Sync;
 use std::net::{TcpListener, TcpStream};
 use std::rt::{Clock, Files, Net};
@@ -21,9 +19,8 @@ use version_store::Totals;
 /// Serves the site of a file, and prints where it listens, and in the end how many changes were
 /// made and answers handed out.
 pub fn serve_file<
-    R: Files<File = File>
+    R: Files
         + Print
-        + Eprint
         + AllocGlobal
         + Clock
         + Net<Listener = TcpListener, Stream = TcpStream>
@@ -34,46 +31,31 @@ pub fn serve_file<
     requires workers { 1 ≤ serving.workers }
     requires sessions { 1 ≤ serving.sessions }
 {
-    refuse_existing(rt, serving.journal)?;
     let site = read_site_file(rt, serving.site)?;
     let Ok(listener) = TcpListener::bind(rt, serving.listen) else {
         return Err(ProgramFault::Serve(ServeFault::Socket));
     };
-    let journal = JournalFile::make(rt, serving.journal)?;
-    match serve_listening(rt, serving, site, listener, &journal) {
-        Ok(totals) => print_totals(rt, totals),
-        Err(fault) => {
-            remove_if_empty(rt, serving.journal);
-            Err(fault)
-        }
-    }
+    let totals = serve_listening(rt, serving, site, listener)?;
+    print_totals(rt, totals)
 }
 
 /// Serves a site on a listener, and prints where that listens.
 fn serve_listening<
-    R: Files<File = File>
-        + Print
-        + Eprint
+    R: Print
         + AllocGlobal
         + Clock
         + Net<Listener = TcpListener, Stream = TcpStream>
         + Threads
         + Wait
         + Sync,
->(
-    rt: &R,
-    serving: Serving<'_>,
-    site: Site,
-    listener: TcpListener,
-    journal: &JournalFile<'_, R>,
-) -> Result<Totals, ProgramFault>
+>(rt: &R, serving: Serving<'_>, site: Site, listener: TcpListener) -> Result<Totals, ProgramFault>
     requires workers { 1 ≤ serving.workers }
     requires sessions { 1 ≤ serving.sessions }
 {
     if println!(rt; "listening {}", serving.listen).is_err() {
         return Err(ProgramFault::Write);
     }
-    match serve_noted(
+    match serve(
         rt,
         rt.alloc(),
         site,
@@ -81,7 +63,6 @@ fn serve_listening<
         serving.workers as usize,
         serving.sessions,
         &SystemClock { rt },
-        journal,
     ) {
         Ok(totals) => Ok(totals),
         Err(fault) => Err(ProgramFault::Serve(fault)),

@@ -1,34 +1,63 @@
 //! The job of `central show`.
 
 use crate::program::command_line::Showing;
+use crate::program::followed_journal::{Following, follow_journal};
 use crate::program::pages::{note_refused_lines, print_page};
 use crate::program::program_fault::ProgramFault;
+use crate::program::script_end::{ScriptEnd, script_end};
 use crate::program::script_input::read_script;
-use crate::program::site_file::read_site_file;
-use show_pages::{Depth, standing_json, standing_text, trace_script};
+use crate::program::site_file::read_digested_site;
+use show_pages::{Depth, Standing, standing_json, standing_text, trace_script};
+use site_rules::Site;
 use std::alloc::AllocGlobal;
+use std::fs::File;
 use std::rt::Files;
 
-/// Shows what each point of a site has after a script.
-pub fn show_file<R: Files + Input + Print + Eprint + AllocGlobal>(
+/// Shows what each point of a site has after a script or a journal.
+pub fn show_file<R: Files<File = File> + Input + Print + Eprint + AllocGlobal>(
     rt: &R,
     showing: Showing<'_>,
 ) -> Result<(), ProgramFault> {
-    let alloc = rt.alloc();
-    let site = read_site_file(rt, showing.site)?;
-    let script = read_script(rt)?;
-    let trace = trace_script(
-        alloc,
-        script.as_slice(),
-        site,
-        showing.last_line,
-        Depth::State,
-    )?;
-    let page = if showing.json {
-        standing_json(alloc, &trace)?
-    } else {
-        standing_text(alloc, &trace)?
+    let end = script_end(showing.at)?;
+    let (site, digest) = read_digested_site(rt, showing.site)?;
+    let Some(folder) = showing.folder else {
+        return show_script(rt, showing, end, site);
     };
+    let following = Following {
+        site,
+        digest,
+        folder,
+        end,
+        point: "",
+        counted_from: None,
+    };
+    let followed = follow_journal(rt, following)?;
+    print_standing(rt, showing, &followed.standing())
+}
+
+/// Shows what each point has after the script of standard input.
+fn show_script<R: Input + Print + Eprint + AllocGlobal>(
+    rt: &R,
+    showing: Showing<'_>,
+    end: ScriptEnd,
+    site: Site,
+) -> Result<(), ProgramFault> {
+    let script = read_script(rt)?;
+    let last_line = end.last_line(script.as_slice());
+    let trace = trace_script(rt.alloc(), script.as_slice(), site, last_line, Depth::State)?;
     note_refused_lines(rt, trace.playing());
+    print_standing(rt, showing, &trace.standing())
+}
+
+fn print_standing<R: Print + AllocGlobal>(
+    rt: &R,
+    showing: Showing<'_>,
+    standing: &Standing<'_>,
+) -> Result<(), ProgramFault> {
+    let page = if showing.json {
+        standing_json(rt.alloc(), standing)?
+    } else {
+        standing_text(rt.alloc(), standing)?
+    };
     print_page(rt, page.as_str())
 }

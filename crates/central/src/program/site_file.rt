@@ -2,10 +2,12 @@
 
 ghost use Rattle.std.specs.Prelude.{◌≡◌, ℕ, List, Ok, IfOk, IfErr};
 ghost use Rattle.site_rules.specs.ByCases.SiteReading.{site_of};
+ghost use Rattle.sha2.specs.Sha256.{sha256};
 ghost use Rattle.central.specs.SiteStop.{IsSiteStop};
 
 use crate::program::program_fault::ProgramFault;
 use replay::{InputFault, read_all};
+use sha2::{Digest, Sha256};
 use site_rules::{MAX_SITE_BYTES, Site, SiteFault, read_site};
 use std::alloc::AllocGlobal;
 use std::fs;
@@ -19,6 +21,20 @@ pub fn read_site_file<R: Files + AllocGlobal>(rt: &R, path: &str) -> Result<Site
 {
     let bytes = read_site_bytes(rt, path)?;
     Ok(read_site(rt.alloc(), bytes.as_slice())?)
+}
+
+/// Reads the site of a file, and the SHA-256 of its bytes.
+pub fn read_digested_site<R: Files + AllocGlobal>(
+    rt: &R,
+    path: &str,
+) -> Result<(Site, [u8; 32]), ProgramFault>
+    ensures site { IfOk result (λ read. (bytes : List ℕ) × (site_of bytes ≡ Ok read.0)
+        × (read.1 ≡ sha256 bytes)) }
+    ensures stop { IfErr result IsSiteStop }
+{
+    let bytes = read_site_bytes(rt, path)?;
+    let site = read_site(rt.alloc(), bytes.as_slice())?;
+    Ok((site, Sha256::digest(bytes.as_slice())))
 }
 
 /// Reads the bytes of a site file.

@@ -1,22 +1,27 @@
 //! A point's reply to its audit: which audit that is, and the verdict on it.
 
-ghost use Rattle.std.specs.Prelude.{◌≡◌, IfOk};
+ghost use Rattle.std.specs.Prelude.{◌≡◌, IfOk, IsTrue, OnOk};
 ghost use Rattle.session.specs.Audit.{BringsVerdict, IsJudgedBy, MakesOrRefuses, audit_confirmed, audit_to_judge};
+ghost use Rattle.site_core.specs.declared.reply.Reply.{Reply};
 ghost use Rattle.site_core.specs.declared.step.Step.TheVariants as steps;
+ghost use Rattle.version_store.specs.Calls.{Makes};
 
 use crate::context::Context;
 use crate::journal::Journal;
 use crate::outcome::{Outcome, Performed};
+use crate::serving::ended::{Ended, ended_unsaved};
+use crate::serving::reading::read_reply;
 use meaning::Said;
 use ocpp_scalars::Moments;
 use ocppj_frame::ReadingMemory;
 use site_core::{PointId, Reply, Step};
+use site_journal::{Noted, UNREAD_REPLY};
 use std::alloc::{AllocError, Global};
 use std::marker::Model;
 use std::sync::Wait;
 use std::sync::ledger::Ledger;
 use sweep_compiler::{AuditJob, Judged};
-use texts::{SentText, said_of};
+use texts::SentText;
 use version_store::Book;
 
 /// An audit that has no verdict yet.
@@ -78,51 +83,71 @@ pub(crate) fn audit_to_judge(performed: &Performed, audit: Option<OpenAudit>) ->
 /// - An Install or a Clear, or a new link, changes nothing: the book of the audit is kept.
 /// - A Finish stopped the store. Then the verdict is refused.
 ///
-/// A refused verdict is dropped, for lack of memory too: the audit then has none. The journal notes
-/// the message where its call is confirmed, and a replay judges it there. So its verdict may be
-/// another one, if a Start, a Stop or an AuditPoint is noted in between. A PointStatus in between is
-/// answered Waiting, but by a replay with the verdict.
+/// A refused verdict is dropped, for lack of memory too: the audit then has none. The journal has a
+/// line for the reply, where its call is confirmed, and one for the verdict, where that is kept. The
+/// latter has a reply that isn't read where memory ran out for this one: a restore comes to the same
+/// verdict then. Where the verdict couldn't be noted the audit has none, and the session ends.
 pub(crate) fn judge_reply<C: Ledger, A: Ledger, R: Wait, M: Moments, J: Journal>(
     context: &Context<'_, C, A, R, M, J>,
     memory: &mut ReadingMemory,
     sent: &SentText<'_>,
     audit: OpenAudit,
-)
-    ensures { BringsVerdict sent.now audit }
+) -> Result<(), Ended>
+    ensures { OnOk result (BringsVerdict sent.now audit) }
 {
     let OpenAudit { point, call, job } = audit;
-    let judged = judged_by(context.alloc, memory, sent, job);
+    let (judged, is_short) = judged_by(context, memory, sent, job);
+    let frame = if is_short { UNREAD_REPLY } else { sent.frame() };
+    let noted = Noted::Verdict { call, frame };
+    let prepared = context
+        .journal
+        .prepare(sent.moment(), point.as_str(), noted);
+    let entry = match prepared {
+        Ok(entry) => entry,
+        Err(fault) => return Err(ended_unsaved(fault)),
+    };
     let mut book = context.shared.lock(context.rt);
-    bring_verdict(&mut book, point, call, judged);
+    let is_kept = bring_verdict(&mut book, point, call, judged);
+    if let (true, Some(entry)) = (is_kept, entry) {
+        context.journal.note(entry, call);
+    }
+    Ok(())
 }
 
 /// Keeps a verdict on the audit of a point whose call has this number. What is refused is dropped.
+/// Returns whether it is kept.
 fn bring_verdict<C: Ledger, A: Ledger>(
     book: &mut Book<C, A>,
     point: PointId,
     call: u64,
     judged: Judged,
-)
-    ensures { MakesOrRefuses book.old (steps.Judge point call judged) book.new }
+) -> bool
+    ensures either { MakesOrRefuses book.old (steps.Judge point call judged) book.new }
+    ensures made { IsTrue result
+        → Makes book.old (steps.Judge point call judged) Reply.VerdictKept book.new }
 {
     match book.judge(point, call, judged) {
-        Ok(()) => {}
-        Err((_refusal, _judged)) => {}
+        Ok(()) => true,
+        Err((_refusal, _judged)) => false,
     }
 }
 
-/// The verdict on what a message says. What can't be read for lack of memory is judged as unread.
-fn judged_by(
-    alloc: Global,
+/// The verdict on what a message says, and whether memory ran out for it. What can't be read for
+/// lack of memory is judged as unread.
+fn judged_by<C: Ledger, A: Ledger, R: Wait, M: Moments, J: Journal>(
+    context: &Context<'_, C, A, R, M, J>,
     memory: &mut ReadingMemory,
     sent: &SentText<'_>,
     job: AuditJob,
-) -> Judged
-    ensures { IsJudgedBy sent.now job result }
+) -> (Judged, bool)
+    ensures { IsJudgedBy sent.now job result.0 }
 {
-    let said = match said_of(alloc, memory, sent) {
-        Ok(said) => said,
-        Err(AllocError) => Said::Unread,
-    };
-    Judged::make(alloc, job, said)
+    match read_reply(context, memory, sent) {
+        Ok(said) => {
+            let judged = Judged::make(context.alloc, job, said);
+            let is_short = judged.short();
+            (judged, is_short)
+        }
+        Err(AllocError) => (Judged::make(context.alloc, job, Said::Unread), true),
+    }
 }

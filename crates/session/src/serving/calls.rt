@@ -4,22 +4,23 @@ ghost use Rattle.session.specs.Serving.{KeepsPass};
 
 use crate::context::Context;
 use crate::journal::Journal;
-use crate::serving::ended::Ended;
-use crate::serving::sockets::send_text;
+use crate::serving::ended::{Ended, ended_unsaved};
+use crate::serving::noting::prepare_link;
+use crate::serving::sockets::{clear_to_leave, send_text};
 use crate::session_core::{Peer, SessionCore};
 use messages::{Call, push_call};
-use ocpp_scalars::{Moments, Refusal};
+use ocpp_scalars::{Instant, Moments, Refusal};
 use site_core::PointId;
+use site_journal::{Noted, noted_steps_are_restored};
 use std::alloc::{AllocError, Global};
 use std::io::{Read, Write};
 use std::sync::Wait;
 use std::sync::ledger::Ledger;
-use texts::SentText;
 use tungstenite::{MaskKeys, WebSocket};
 use version_store::Pass;
 
-/// Gives a point's session its link, before its first message. Without one it ends.
-pub(crate) fn attach<C: Ledger, A: Ledger, R: Wait, M: Moments, J: Journal>(
+/// Gives a point's session its link, before its first message, and notes it. Without one it ends.
+pub fn attach_session<C: Ledger, A: Ledger, R: Wait, M: Moments, J: Journal>(
     context: &Context<'_, C, A, R, M, J>,
     core: &mut SessionCore,
     pass: &mut Pass<C, A>,
@@ -29,11 +30,21 @@ pub(crate) fn attach<C: Ledger, A: Ledger, R: Wait, M: Moments, J: Journal>(
     if let Peer::Operator { .. } = core.peer() {
         return Ok(());
     }
+    let noted = Noted::Attached { link: 0 };
+    let entry = match prepare_link(context, core.point_id().as_str(), noted) {
+        Ok(entry) => entry,
+        Err(fault) => return Err(ended_unsaved(fault)),
+    };
     let Ok(point) = core.point_id().copy(context.alloc) else {
         return Err(Ended::OutOfMemory);
     };
+    // A law: nothing runs.
+    noted_steps_are_restored();
     let mut book = context.shared.lock(context.rt);
     let attached = book.attach(pass, point);
+    if let (Ok(link), Some(entry)) = (&attached, entry) {
+        context.journal.note(entry, *link);
+    }
     drop(book);
     match attached {
         Ok(link) => {
@@ -45,9 +56,9 @@ pub(crate) fn attach<C: Ledger, A: Ledger, R: Wait, M: Moments, J: Journal>(
     }
 }
 
-/// Sends the call that waits for a point over its link, if one does and none is in flight. The
-/// message that it follows is noted, where it isn't yet.
-pub(crate) fn send_call<
+/// Sends the call that waits for a point over its link, if one does and none is in flight. Returns
+/// its number.
+pub fn send_call<
     S: Read + Write + Drop,
     K: MaskKeys + Drop,
     C: Ledger,
@@ -59,42 +70,54 @@ pub(crate) fn send_call<
     context: &Context<'_, C, A, R, M, J>,
     socket: &mut WebSocket<S, K>,
     core: &SessionCore,
-    sent: &SentText<'_>,
-    is_noted: bool,
-) -> Result<(), Ended> {
+    moment: Instant,
+) -> Result<Option<u64>, Ended> {
     let Peer::Point { link: Some(link) } = core.peer() else {
-        return Ok(());
+        return Ok(None);
     };
-    let Some(call) = next_call(context, core.point_id(), link, sent, is_noted)? else {
-        return Ok(());
-    };
-    context.journal.write_out();
-    match text_of_call(context.alloc, &call) {
-        Ok(text) => send_text(context.alloc, socket, text.as_str()),
-        Err(AllocError) => Err(Ended::OutOfMemory),
+    // Most often there is nothing to send, or the point has a later link.
+    let book = context.shared.lock(context.rt);
+    let link_to_send = book.link_to_send(core.point_id().as_str());
+    drop(book);
+    if link_to_send != Some(link) {
+        return Ok(None);
     }
+    let Some(call) = next_call(context, core.point_id(), link, moment)? else {
+        return Ok(None);
+    };
+    let Ok(text) = text_of_call(context.alloc, &call) else {
+        return Err(Ended::OutOfMemory);
+    };
+    let cleared = clear_to_leave(context.journal, text.as_str())?;
+    send_text(context.alloc, socket, cleared)?;
+    Ok(Some(call.number))
 }
 
-/// The first call that waits for a point, which is in flight from then on.
+/// The first call that waits for a point, which is in flight from then on, and noted so. None where
+/// the point has a later link by now.
 fn next_call<C: Ledger, A: Ledger, R: Wait, M: Moments, J: Journal>(
     context: &Context<'_, C, A, R, M, J>,
     point: &PointId,
     link: u64,
-    sent: &SentText<'_>,
-    is_noted: bool,
+    moment: Instant,
 ) -> Result<Option<Call>, Ended> {
-    let mut book = context.shared.lock(context.rt);
-    // Most often there is nothing to send, or the point has a later link.
-    if book.link_to_send(point.as_str()) != Some(link) {
-        return Ok(None);
-    }
+    let noted = Noted::Sent { link, call: 0 };
+    let entry = match context.journal.prepare(moment, point.as_str(), noted) {
+        Ok(entry) => entry,
+        Err(fault) => return Err(ended_unsaved(fault)),
+    };
     let Ok(point) = point.copy(context.alloc) else {
         return Err(Ended::OutOfMemory);
     };
-    if !is_noted {
-        context.journal.note(sent);
+    // A law: nothing runs.
+    noted_steps_are_restored();
+    let mut book = context.shared.lock(context.rt);
+    let call = book.send(point, link);
+    if let (Ok(Some(call)), Some(entry)) = (&call, entry) {
+        context.journal.note(entry, call.number);
     }
-    match book.send(point, link) {
+    drop(book);
+    match call {
         Ok(call) => Ok(call),
         Err(Refusal::OutOfMemory) => Err(Ended::OutOfMemory),
         Err(_) => Ok(None),
@@ -107,14 +130,25 @@ fn text_of_call(alloc: Global, call: &Call) -> Result<String, AllocError> {
     Ok(text)
 }
 
-/// The link of a point's session is lost: a call that was in flight over it waits again. What the
-/// book refuses is dropped: the point has a later link.
+/// The link of a point's session is lost, and noted so: a call that was in flight over it waits
+/// again. What the book refuses is dropped: the point has a later link. Where it can't be noted the
+/// point keeps the link, until it has a later one.
 pub(crate) fn lose<C: Ledger, A: Ledger, R: Wait, M: Moments, J: Journal>(
     context: &Context<'_, C, A, R, M, J>,
     core: SessionCore,
 ) {
-    if let Peer::Point { link: Some(link) } = core.peer() {
-        let mut book = context.shared.lock(context.rt);
-        let _ = book.lost(core.into_point_id(), link);
+    let Peer::Point { link: Some(link) } = core.peer() else {
+        return;
+    };
+    let noted = Noted::Lost { link };
+    let Ok(entry) = prepare_link(context, core.point_id().as_str(), noted) else {
+        return;
+    };
+    // A law: nothing runs.
+    noted_steps_are_restored();
+    let mut book = context.shared.lock(context.rt);
+    let lost = book.lost(core.into_point_id(), link);
+    if let (Ok(()), Some(entry)) = (lost, entry) {
+        context.journal.note(entry, 0);
     }
 }

@@ -1,5 +1,6 @@
 //! How sessions end.
 
+use crate::journal::JournalFault;
 use tungstenite::Error;
 
 /// How a session ended.
@@ -12,6 +13,16 @@ pub enum Ended {
     Broken,
     /// Memory ran out where no answer could say so.
     OutOfMemory,
+    /// What the next message depends on couldn't be noted or kept, so it wasn't sent.
+    Unsaved,
+}
+
+/// How a session ends whose step can't be noted, or whose message depends on what isn't kept.
+pub(crate) fn ended_unsaved(fault: JournalFault) -> Ended {
+    match fault {
+        JournalFault::OutOfMemory => Ended::OutOfMemory,
+        JournalFault::Unwritable => Ended::Unsaved,
+    }
 }
 
 /// How a session ends with an error of its socket.

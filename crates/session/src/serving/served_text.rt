@@ -1,24 +1,31 @@
 //! One message of a session: its step, its answer, and the call that follows a point's message.
 
 ghost use Rattle.std.specs.Prelude.{◌≡◌, ◌↔◌, IsTrue, IfOk, IfSome, option_map, string_bytes};
+ghost use Rattle.session.specs.Noting.{IsEntryFor, IsEntryToNote, is_confirm};
 ghost use Rattle.session.specs.Perform.{IsOfText};
-ghost use Rattle.session.specs.Served.{HasOutcome, IsOutcomeOf, IsOutcomeOfJob, IsPerformed, IsServed};
+ghost use Rattle.session.specs.Served.{HasOutcome, IsOutcomeOf, IsOutcomeOfJob, IsPerformed, IsServed, IsUnmade};
 ghost use Rattle.session.specs.Serving.{KeepsPass};
+ghost use Rattle.session.specs.Session.{sent_by};
 
 use crate::context::Context;
-use crate::journal::Journal;
+use crate::journal::{Journal, JournalFault};
 use crate::outcome::{Outcome, Performed};
 use crate::serving::audits::{OpenAudit, audit_confirmed, audit_to_judge, judge_reply};
 use crate::serving::calls::send_call;
-use crate::serving::ended::Ended;
-use crate::serving::sockets::{read_text, send_text};
+use crate::serving::ended::{Ended, ended_unsaved};
+use crate::serving::heard::{Heard, Incoming};
+use crate::serving::noting::{note_performed, prepare_message};
+use crate::serving::reading::read_message;
+use crate::serving::sockets::{clear_to_leave, read_next, send_text};
 use crate::session_core::SessionCore;
 use crate::step::perform;
+use crate::todo::Todo;
 use compile_pool::{answer_job, wait_answer};
 use meaning::Ask;
-use ocpp_scalars::{Moments, Refusal};
+use ocpp_scalars::{Instant, Moments, Refusal};
 use ocppj_frame::ReadingMemory;
 use site_core::Step;
+use site_journal::Entry;
 use std::io::{Read, Write};
 use std::sync::Wait;
 use std::sync::ledger::Ledger;
@@ -26,8 +33,9 @@ use texts::SentText;
 use tungstenite::{MaskKeys, WebSocket};
 use version_store::{Job, Pass};
 
-/// Serves the next WebSocket message, if it is a text message. An error ends the session.
-pub(crate) fn serve_text<
+/// Waits for the next WebSocket message, and serves it if it is a text message. Where nothing comes
+/// for as long as the stream lets a read wait, says so. An error ends the session.
+pub fn serve_next<
     S: Read + Write + Drop,
     K: MaskKeys + Drop,
     C: Ledger,
@@ -41,21 +49,25 @@ pub(crate) fn serve_text<
     core: &SessionCore,
     memory: &mut ReadingMemory,
     pass: &mut Pass<C, A>,
-) -> Result<(), Ended>
+) -> Result<Heard, Ended>
     ensures { KeepsPass pass.old pass.new }
 {
-    let Some(text) = read_text(socket)? else {
-        return Ok(());
+    let text = match read_next(socket)? {
+        Incoming::Text(text) => text,
+        Incoming::Binary => return Ok(Heard::Message { sent: None }),
+        Incoming::Control(bytes) => return Ok(Heard::Control { bytes }),
+        Incoming::Nothing => return Ok(Heard::Nothing),
     };
     let Some(now) = context.clock.now() else {
         return Err(Ended::Broken);
     };
-    let sent = SentText::new(now, core.side(), core.point_id().as_str(), text.as_str());
-    let Served { answer, is_noted } = serve_sent_text(context, core, memory, pass, &sent)?;
+    let Served { answer } = serve_sent_text(context, core, memory, pass, now, text.as_str())?;
     if let Some(answer) = &answer {
-        send_text(context.alloc, socket, answer.as_str())?;
+        let cleared = clear_to_leave(context.journal, answer.as_str())?;
+        send_text(context.alloc, socket, cleared)?;
     }
-    send_call(context, socket, core, &sent, is_noted)
+    let sent = send_call(context, socket, core, now)?;
+    Ok(Heard::Message { sent })
 }
 
 /// What came of a message.
@@ -63,34 +75,58 @@ pub(crate) fn serve_text<
 pub struct Served {
     /// The message that answers it, if one does.
     pub answer: Option<String>,
-    /// Whether it had a step, and so is noted.
-    pub is_noted: bool,
 }
 
-/// Makes the step of a message, if it has one, and gives the message that answers it. A request for
-/// a schedule is answered by what is right for what its point had when this very request was taken,
-/// and for what was asked. The answer to another request is never handed on: it ends the session.
+/// Makes the step of a message of this session that comes at this moment, if it has one, and gives
+/// the message that answers it. A request for a schedule is answered by what is right for what its
+/// point had when this very request was taken, and for what was asked. The answer to another request
+/// is never handed on: it ends the session. A step that couldn't be noted isn't made: the message is
+/// answered as one that memory ran out for.
+#[tactic(auto, using(crate::proofs::AskedLemmas::asks_for))]
 pub fn serve_sent_text<C: Ledger, A: Ledger, R: Wait, M: Moments, J: Journal>(
     context: &Context<'_, C, A, R, M, J>,
     core: &SessionCore,
     memory: &mut ReadingMemory,
     pass: &mut Pass<C, A>,
-    sent: &SentText<'_>,
+    moment: Instant,
+    frame: &str,
 ) -> Result<Served, Ended>
     ensures pass { KeepsPass pass.old pass.new }
-    ensures served { IfOk result (λ served.
-        IsServed core.now pass.old sent.now (option_map string_bytes served.answer)) }
+    ensures served { IfOk result (λ served. IsServed core.now pass.old
+        (sent_by core.now moment frame.now) (option_map string_bytes served.answer)) }
 {
-    let Ok(mut todo) = core.read_text(memory, sent.moment(), sent.frame()) else {
+    let Ok(mut todo) = read_message(context, core, memory, moment, frame) else {
         return Err(Ended::OutOfMemory);
     };
+    let sent = SentText::new(moment, core.side(), core.point_id().as_str(), frame);
     let step = todo.take_step();
-    let is_noted = step.is_some();
-    let outcome = outcome_of(context, memory, pass, sent, step)?;
+    let entry = match prepare_message(context, &sent, &step) {
+        Ok(entry) => entry,
+        Err(fault) => return served_unmade(core, todo, fault),
+    };
+    let outcome = outcome_of(context, memory, pass, &sent, step, entry)?;
     let is_short = matches!(outcome, Some(Outcome::Refused(Refusal::OutOfMemory)));
-    match core.answer(todo, outcome) {
-        Ok(None) if is_short => Err(Ended::OutOfMemory),
-        Ok(answer) => Ok(Served { answer, is_noted }),
+    let Ok(answer) = core.answer(todo, outcome) else {
+        return Err(Ended::OutOfMemory);
+    };
+    if is_short && answer.is_none() {
+        return Err(Ended::OutOfMemory);
+    }
+    Ok(Served { answer })
+}
+
+/// The answer to a message whose step isn't made, since it couldn't be noted: that of a CALL that
+/// memory ran out for. A reply has none, and the session ends: its call goes out again over the
+/// point's next link.
+fn served_unmade(core: &SessionCore, todo: Todo, fault: JournalFault) -> Result<Served, Ended>
+    ensures { IfOk result
+        (λ served. IsUnmade core.now todo.owed (option_map string_bytes served.answer)) }
+{
+    let Some(unnoted) = todo.into_unnoted() else {
+        return Err(ended_unsaved(fault));
+    };
+    match core.answer(unnoted, None) {
+        Ok(answer) => Ok(Served { answer }),
         Err(_) => Err(Ended::OutOfMemory),
     }
 }
@@ -102,13 +138,18 @@ fn outcome_of<C: Ledger, A: Ledger, R: Wait, M: Moments, J: Journal>(
     pass: &mut Pass<C, A>,
     sent: &SentText<'_>,
     step: Option<Step>,
+    entry: Option<Entry>,
 ) -> Result<Option<Outcome>, Ended>
-    requires { IfSome step IsOfText }
+    requires of_text { IfSome step IsOfText }
+    requires entry { IsEntryFor step entry }
     ensures pass { KeepsPass pass.old pass.new }
     ensures outcome { IfOk result (HasOutcome pass.old sent.now step) }
 {
     match step {
-        Some(step) => Ok(Some(outcome_of_step(context, memory, pass, sent, step)?)),
+        Some(step) => {
+            let outcome = outcome_of_step(context, memory, pass, sent, step, entry)?;
+            Ok(Some(outcome))
+        }
         None => Ok(None),
     }
 }
@@ -121,14 +162,16 @@ fn outcome_of_step<C: Ledger, A: Ledger, R: Wait, M: Moments, J: Journal>(
     pass: &mut Pass<C, A>,
     sent: &SentText<'_>,
     step: Step,
+    entry: Option<Entry>,
 ) -> Result<Outcome, Ended>
-    requires { IsOfText step }
+    requires of_text { IsOfText step }
+    requires entry { IfSome entry (IsEntryToNote step) }
     ensures pass { KeepsPass pass.old pass.new }
     ensures outcome { IfOk result (IsOutcomeOf pass.old sent.now step) }
 {
-    let (performed, audit) = perform_noted(context, pass, sent, step)?;
+    let (performed, audit) = perform_noted(context, pass, step, entry)?;
     if let Some(audit) = audit_to_judge(&performed, audit) {
-        judge_reply(context, memory, sent, audit);
+        judge_reply(context, memory, sent, audit)?;
     }
     match performed {
         Performed::Job(job) => answer_of(context, pass, job),
@@ -136,30 +179,37 @@ fn outcome_of_step<C: Ledger, A: Ledger, R: Wait, M: Moments, J: Journal>(
     }
 }
 
-/// Makes the one call on the shared book that the step of a message stands for, and notes the
-/// message. In a reply to the point's audit, what that asked is read before: nobody else has the
-/// book in between, so it is the audit whose call is confirmed. If there is no memory for it, the
-/// call isn't confirmed, nothing is noted, and the session ends.
+/// Makes the one call on the shared book that the step of a message stands for, and notes it behind
+/// that, if it changed something. In a reply to the point's audit, what that asked is read before:
+/// nobody else has the book in between, so it is the audit whose call is confirmed. If there is no
+/// memory for it, the call isn't confirmed, nothing is noted, and the session ends.
 fn perform_noted<C: Ledger, A: Ledger, R: Wait, M: Moments, J: Journal>(
     context: &Context<'_, C, A, R, M, J>,
     pass: &mut Pass<C, A>,
-    sent: &SentText<'_>,
     step: Step,
+    entry: Option<Entry>,
 ) -> Result<(Performed, Option<OpenAudit>), Ended>
-    requires { IsOfText step }
+    requires of_text { IsOfText step }
+    requires entry { IfSome entry (IsEntryToNote step) }
     ensures pass { KeepsPass pass.old pass.new }
     ensures performed { IfOk result
         (λ performed. IsPerformed pass.old step performed.0 performed.1) }
 {
+    let confirms = is_confirm(&step);
     let mut book = context.shared.lock(context.rt);
     let Ok(audit) = audit_confirmed(context.alloc, &book, &step) else {
         return Err(Ended::OutOfMemory);
     };
-    context.journal.note(sent);
     let performed = perform(&mut book, pass, step);
+    note_performed(context.journal, &book, entry, confirms, &performed);
     drop(book);
-    context.journal.write_out();
     Ok((performed, audit))
+}
+
+fn is_confirm(step: &Step) -> bool
+    ensures { result ≡ is_confirm step.now }
+{
+    matches!(step, Step::Confirm { .. })
 }
 
 /// The answer to a request that is kept: compiled by a worker, or here where none takes it. No lock

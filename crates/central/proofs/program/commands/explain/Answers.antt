@@ -3,7 +3,6 @@ use Rattle.std.proofs.Common.{◌≡◌, ◌∙◌, ap, codes}
 use Rattle.meaning.specs.Limits.{max_duration}
 use Rattle.site_rules.specs.Limits.{max_connectors}
 use Rattle.clap.specs.Words.{app_of, new_app}
-use Rattle.replay.specs.Limits.{max_script_bytes}
 use Rattle.central.specs.CommandLine.{numbered}
 use Rattle.central.proofs.CommandLineLemmas.{argued, on_ok}
 use Rattle.central.proofs.program.commands.explain.Goals as goal
@@ -18,7 +17,7 @@ returns c =
     let start = argued _ _ _ _ _ c.in_ok-arg-4.ensures c.needed-3.ensures.global connector c.needed-3.ensures.rule in
     let duration = argued _ _ _ _ _ c.in_ok-arg-5.ensures (c.numbered-2.ensures.global ∙ c.needed-duration.ensures.global) start
     (c.numbered-2.ensures.rule ∙ ap (numbered 1 max_duration) c.needed-duration.ensures.rule) in
-    let last_line = argued _ _ _ _ _ c.in_ok-arg-6.ensures (c.numbered-3.ensures.global ∙ c.optional.ensures.global) duration
-    (c.numbered-3.ensures.rule ∙ ap (numbered 0 max_script_bytes) c.optional.ensures.rule) in
-    let picture = argued _ _ _ _ _ c.in_ok-arg-7.ensures c.optional-2.ensures.global last_line c.optional-2.ensures.rule in
-    on_ok _ _ c.arg-8.result (λ x added. argued _ x _ _ _ added c.flag.ensures.global picture c.flag.ensures.rule) c.arg-8.ensures
+    let folder = argued _ _ _ _ _ c.in_ok-arg-6.ensures c.optional.ensures.global duration c.optional.ensures.rule in
+    let at = argued _ _ _ _ _ c.in_ok-arg-7.ensures c.optional-2.ensures.global folder c.optional-2.ensures.rule in
+    let picture = argued _ _ _ _ _ c.in_ok-arg-8.ensures c.optional-3.ensures.global at c.optional-3.ensures.rule in
+    on_ok _ _ c.arg-9.result (λ x added. argued _ x _ _ _ added c.flag.ensures.global picture c.flag.ensures.rule) c.arg-9.ensures

@@ -12,6 +12,5 @@ returns c =
     let listen = argued _ _ _ _ _ c.in_ok-arg-2.ensures c.needed-2.ensures.global site c.needed-2.ensures.rule in
     let workers = argued _ _ _ _ _ c.in_ok-arg-3.ensures (c.numbered.ensures.global ∙ c.needed-3.ensures.global) listen
     (c.numbered.ensures.rule ∙ ap (numbered 1 max_workers) c.needed-3.ensures.rule) in
-    let sessions = argued _ _ _ _ _ c.in_ok-arg-4.ensures (c.numbered-2.ensures.global ∙ c.needed-4.ensures.global) workers
-    (c.numbered-2.ensures.rule ∙ ap (numbered 1 max_sessions) c.needed-4.ensures.rule) in
-    on_ok _ _ c.arg-5.result (λ x added. argued _ x _ _ _ added c.optional.ensures.global sessions c.optional.ensures.rule) c.arg-5.ensures
+    on_ok _ _ c.arg-4.result (λ x added. argued _ x _ _ _ added (c.numbered-2.ensures.global ∙ c.needed-4.ensures.global) workers
+    (c.numbered-2.ensures.rule ∙ ap (numbered 1 max_sessions) c.needed-4.ensures.rule)) c.arg-4.ensures

@@ -1,0 +1,96 @@
+//! The folder of a site that is run: its journal, which one process at a time has.
+
+use crate::program::named_file::{NamedFile, or_stop};
+use crate::program::program_fault::ProgramFault;
+use crate::program::reserve_file::ReserveFile;
+use std::alloc::{AllocError, AllocGlobal, Global};
+use std::fs::{File, OpenOptions, TryLockError};
+use std::io::ErrorKind;
+use std::rt::Files;
+use std::{fs, io};
+
+/// The journal of a folder, open and locked: no other process runs on it.
+#[derive(Drop)]
+pub struct OpenJournal {
+    pub lines: NamedFile,
+    /// How many bytes its whole lines have, once these were read.
+    pub length: u64,
+    pub reserve: ReserveFile,
+}
+
+/// Opens the journal of a folder, for this process alone. What isn't there yet is made.
+pub fn open_journal<R: Files<File = File> + Eprint + AllocGlobal>(
+    rt: &R,
+    folder: &str,
+) -> Result<OpenJournal, ProgramFault> {
+    make_folder(rt, folder)?;
+    let path = journal_path(rt.alloc(), folder)?;
+    let mut options = OpenOptions::new();
+    let opened = options
+        .read(true)
+        .append(true)
+        .create(true)
+        .open(rt, path.as_str());
+    let file = or_stop(rt, path.as_str(), opened, ProgramFault::Journal)?;
+    match file.try_lock() {
+        Ok(()) => {}
+        Err(TryLockError::WouldBlock) => return Err(ProgramFault::DataInUse),
+        Err(TryLockError::Error(error)) => {
+            or_stop(rt, path.as_str(), Err(error), ProgramFault::Journal)?
+        }
+    }
+    // The folder is to have the file after a power cut, too.
+    let synced = sync_folder(rt, folder);
+    or_stop(rt, folder, synced, ProgramFault::Journal)?;
+    let reserve = path_in(rt.alloc(), folder, "reserve")?;
+    Ok(OpenJournal {
+        lines: NamedFile { file, path },
+        length: 0,
+        reserve: ReserveFile::make(rt, reserve.as_str()),
+    })
+}
+
+/// Makes a folder where it isn't there. The one above it is to have it after a power cut, too.
+fn make_folder<R: Files<File = File> + Eprint + AllocGlobal>(
+    rt: &R,
+    folder: &str,
+) -> Result<(), ProgramFault> {
+    match fs::create_dir(rt, folder) {
+        Ok(()) => {}
+        Err(error) if error.kind() == ErrorKind::AlreadyExists => return Ok(()),
+        Err(error) => return or_stop(rt, folder, Err(error), ProgramFault::Journal),
+    }
+    let above = path_in(rt.alloc(), folder, "..")?;
+    let synced = sync_folder(rt, above.as_str());
+    or_stop(rt, above.as_str(), synced, ProgramFault::Journal)
+}
+
+/// Opens the journal of a folder to read it, while it is written too.
+pub fn open_to_read<R: Files<File = File> + Eprint + AllocGlobal>(
+    rt: &R,
+    folder: &str,
+) -> Result<NamedFile, ProgramFault> {
+    let path = journal_path(rt.alloc(), folder)?;
+    let opened = File::open(rt, path.as_str());
+    let file = or_stop(rt, path.as_str(), opened, ProgramFault::Data)?;
+    Ok(NamedFile { file, path })
+}
+
+/// The name of the journal in a folder.
+fn journal_path(alloc: Global, folder: &str) -> Result<String, AllocError> {
+    path_in(alloc, folder, "journal")
+}
+
+/// The name of a file in a folder.
+fn path_in(alloc: Global, folder: &str, name: &str) -> Result<String, AllocError> {
+    let mut path = String::from_str(alloc, folder)?;
+    if !folder.ends_with('/') {
+        path.push_str("/")?;
+    }
+    path.push_str(name)?;
+    Ok(path)
+}
+
+fn sync_folder<R: Files<File = File>>(rt: &R, folder: &str) -> io::Result<()> {
+    File::open(rt, folder)?.sync_all()
+}

@@ -1,0 +1,194 @@
+//! A journal as a script: for people, and for the commands that read one.
+
+ghost use Rattle.std.specs.Prelude.{◌≤◌, IfOk, vec_len};
+ghost use Rattle.replay.specs.Limits.{max_script_bytes};
+
+use crate::program::data_folder::open_to_read;
+use crate::program::journal_lines::{JournalLines, Lines};
+use crate::program::named_file::NamedFile;
+use crate::program::pages::print_page;
+use crate::program::program_fault::ProgramFault;
+use messages::Side;
+use ocpp_scalars::push_instant;
+use replay::{MAX_SCRIPT_BYTES, ReplayFault};
+use site_journal::{Line, LineFault, Noted, RestoreFault, Unrestored, read_bytes, split_line};
+use std::alloc::{AllocError, AllocGlobal, Global};
+use std::fs::File;
+use std::rt::Files;
+
+/// A message that the point of a call may have sent before it. It changes nothing.
+const BEFORE_A_CALL: &str = "[2,\"\",\"Heartbeat\",{}]";
+
+/// A longer message has no room on a line of a script.
+const LONGEST_FRAME: usize = 1_048_576 - 128;
+
+/// Prints the journal of a folder as a script.
+pub fn print_journal<R: Files<File = File> + Print + Eprint + AllocGlobal>(
+    rt: &R,
+    folder: &str,
+) -> Result<(), ProgramFault> {
+    let mut file = open_to_read(rt, folder)?;
+    let mut reading = ScriptReading::new(rt.alloc());
+    for _part in 0..u64::MAX {
+        let Some(script) = reading.next(rt, &mut file)? else {
+            break;
+        };
+        print_page(rt, script.as_str())?;
+    }
+    say_torn(rt, &file, &reading.journal);
+    Ok(())
+}
+
+/// The journal of a folder as a script, which may have as many bytes as any.
+pub fn read_journal_script<R: Files<File = File> + Eprint + AllocGlobal>(
+    rt: &R,
+    folder: &str,
+) -> Result<Vec<u8>, ProgramFault>
+    ensures short { IfOk result (λ script. vec_len script ≤ max_script_bytes) }
+{
+    let mut file = open_to_read(rt, folder)?;
+    let mut reading = ScriptReading::new(rt.alloc());
+    let mut bytes = Vec::new(rt.alloc());
+    for _part in 0..u64::MAX {
+        let Some(script) = reading.next(rt, &mut file)? else {
+            break;
+        };
+        bytes.extend_from_slice(script.as_str().as_bytes())?;
+        if bytes.len() > MAX_SCRIPT_BYTES {
+            break;
+        }
+    }
+    if bytes.len() > MAX_SCRIPT_BYTES {
+        return Err(ProgramFault::Replay(ReplayFault::ScriptTooLong));
+    }
+    say_torn(rt, &file, &reading.journal);
+    Ok(bytes)
+}
+
+/// Says that a journal ends in a line that is torn, if it does. Whoever runs on it may be writing
+/// that line.
+pub fn say_torn<R: Eprint>(rt: &R, file: &NamedFile, journal: &JournalLines) {
+    let torn = journal.torn();
+    if torn > 0 {
+        let _ = eprintln!(rt;
+            "central: {}: its last line is torn, and isn't read: {torn} bytes",
+            file.path
+        );
+    }
+}
+
+/// A line of this number that isn't one of a journal.
+pub fn unread(line: u64, fault: LineFault) -> ProgramFault {
+    ProgramFault::Unrestored(Unrestored {
+        line,
+        fault: RestoreFault::Line(fault),
+    })
+}
+
+/// A journal whose lines become those of a script.
+#[derive(Drop)]
+struct ScriptReading {
+    alloc: Global,
+    journal: JournalLines,
+    /// The point whose message is the script's last line, if that is a point's.
+    sender: Option<String>,
+}
+
+impl ScriptReading {
+    fn new(alloc: Global) -> ScriptReading {
+        ScriptReading {
+            alloc,
+            journal: JournalLines::new(alloc),
+            sender: None,
+        }
+    }
+
+    /// The script's lines for the next lines of the journal, or None behind the last one.
+    fn next<R: Eprint>(
+        &mut self,
+        rt: &R,
+        file: &mut NamedFile,
+    ) -> Result<Option<String>, ProgramFault> {
+        let mut script = String::new(self.alloc);
+        match self.journal.next(rt, file)? {
+            Some(lines) => {
+                push_lines(&mut script, lines, &mut self.sender)?;
+                Ok(Some(script))
+            }
+            None => Ok(None),
+        }
+    }
+}
+
+/// Appends the script's lines for lines of a journal. The sender is the point whose message is the
+/// script's last line.
+fn push_lines(
+    script: &mut String,
+    lines: Lines<'_>,
+    sender: &mut Option<String>,
+) -> Result<(), ProgramFault> {
+    let (mut rest, mut number) = (lines.bytes, lines.first);
+    for _line in 0..lines.bytes.len() {
+        let Some((line, others)) = split_line(rest) else {
+            break;
+        };
+        match read_bytes(line) {
+            Ok(line) => push_line(script, &line, sender)?,
+            Err(fault) => return Err(unread(number, fault)),
+        }
+        rest = others;
+        number = number.saturating_add(1);
+    }
+    Ok(())
+}
+
+/// Appends the script's line for a line of a journal, if it has one. A call goes out behind each
+/// message of a point. So where it went out otherwise, the point says something before it.
+fn push_line(
+    script: &mut String,
+    line: &Line<'_>,
+    sender: &mut Option<String>,
+) -> Result<(), AllocError> {
+    let (side, frame) = match line.noted {
+        Noted::Message { sender, frame, .. } => (sender, frame),
+        Noted::Reply { frame, .. } => (Side::Point, frame),
+        Noted::Sent { .. } if is_of(sender, line.point) => return Ok(()),
+        Noted::Sent { .. } => (Side::Point, BEFORE_A_CALL),
+        Noted::Verdict { .. } | Noted::Attached { .. } | Noted::Lost { .. } => return Ok(()),
+    };
+    *sender = match side {
+        Side::Operator => None,
+        Side::Point => Some(String::from_str(*script.allocator(), line.point)?),
+    };
+    push_message(script, line, side, frame)
+}
+
+/// Whether the sender of the script's last line is this point.
+fn is_of(sender: &Option<String>, point: &str) -> bool {
+    match sender {
+        Some(sender) => sender.as_str() == point,
+        None => false,
+    }
+}
+
+/// Appends a message as a line of a script. One that is too long for a line becomes `[]`.
+fn push_message(
+    script: &mut String,
+    line: &Line<'_>,
+    side: Side,
+    frame: &str,
+) -> Result<(), AllocError> {
+    push_instant(script, line.moment)?;
+    script.push_str(match side {
+        Side::Operator => " operator ",
+        Side::Point => " point ",
+    })?;
+    script.push_str(line.point)?;
+    script.push_str(" ")?;
+    script.push_str(if frame.len() > LONGEST_FRAME {
+        "[]"
+    } else {
+        frame
+    })?;
+    script.push_str("\n")
+}

@@ -1,0 +1,45 @@
+//! A file with its name, for what is said of it.
+
+use crate::program::program_fault::ProgramFault;
+use std::fs::File;
+use std::io;
+use std::io::{ErrorKind, Read};
+
+/// An open file, and its name.
+#[derive(Drop)]
+pub struct NamedFile {
+    pub file: File,
+    pub path: String,
+}
+
+impl NamedFile {
+    /// Appends the next bytes of the file, so many where it has them. Returns how many came: fewer
+    /// at its end.
+    pub fn append_to<R: Eprint>(
+        &mut self,
+        rt: &R,
+        bytes: &mut Vec<u8>,
+        most: u64,
+    ) -> Result<usize, ProgramFault> {
+        let read = self.file.by_ref().take(most).read_to_end(bytes);
+        or_stop(rt, self.path.as_str(), read, ProgramFault::Data)
+    }
+}
+
+/// What the system did with a file or an address of this name. Where it didn't, the name and the
+/// system's cause are said on standard error, and the program stops by this fault.
+pub fn or_stop<T, R: Eprint>(
+    rt: &R,
+    name: &str,
+    done: io::Result<T>,
+    fault: ProgramFault,
+) -> Result<T, ProgramFault> {
+    match done {
+        Ok(value) => Ok(value),
+        Err(error) if error.kind() == ErrorKind::OutOfMemory => Err(ProgramFault::OutOfMemory),
+        Err(error) => {
+            let _ = eprintln!(rt; "central: {name}: {error}");
+            Err(fault)
+        }
+    }
+}

@@ -1,0 +1,149 @@
+//! The book of a site that is run, from the journal of its folder.
+
+use crate::program::data_folder::OpenJournal;
+use crate::program::journal_lines::{JournalLines, Lines};
+use crate::program::named_file::{NamedFile, or_stop};
+use crate::program::program_fault::ProgramFault;
+use ocpp_scalars::Instant;
+use site_core::Machine;
+use site_journal::{Unrestored, lose_links, push_header, restore};
+use std::alloc::AllocGlobal;
+use std::fs::File;
+use std::rt::Files;
+use std::sync::ledger::Ledger;
+use version_store::{Book, Pass};
+
+/// The number of a part's first line, as the part is counted.
+const FIRST_OF_PART: u64 = 2;
+
+/// What a site has when it is run.
+#[derive(Clone, Copy, Debug, PartialEq, Eq)]
+pub struct Resumed {
+    pub points: u64,
+    pub profiles: u64,
+    pub transactions: u64,
+    /// Calls that points haven't confirmed.
+    pub calls: u64,
+}
+
+/// Restores a book from its journal, each step with what it drew, and takes the links from all
+/// points. A journal that is new, or was written with another site file, gets a line that names this
+/// one. A last line that is torn is cut: nothing that it says was answered. Returns the lines that
+/// are to be added to the journal.
+pub fn restore_book<C: Ledger, A: Ledger, R: Files<File = File> + AllocGlobal + Eprint>(
+    rt: &R,
+    opened: &mut OpenJournal,
+    digest: &[u8; 32],
+    book: &mut Book<C, A>,
+    pass: &mut Pass<C, A>,
+    now: Instant,
+) -> Result<String, ProgramFault> {
+    let alloc = rt.alloc();
+    let mut journal = JournalLines::new(alloc);
+    let restored = restore_lines(rt, &mut opened.lines, &mut journal, book, pass);
+    let is_of_this_site = say_other_site(rt, &opened.lines, &journal, digest);
+    restored?;
+    opened.length = journal.length();
+    cut_torn(rt, opened, journal.torn())?;
+    let mut added = String::new(alloc);
+    if !is_of_this_site {
+        push_header(alloc, &mut added, digest)?;
+    }
+    match lose_links(alloc, book, now, &mut added) {
+        Ok(()) => Ok(added),
+        // Each point that has a link may lose it, if memory lasts.
+        Err(_) => Err(ProgramFault::OutOfMemory),
+    }
+}
+
+/// Restores a book from the lines of a journal.
+fn restore_lines<C: Ledger, A: Ledger, R: AllocGlobal + Eprint>(
+    rt: &R,
+    file: &mut NamedFile,
+    journal: &mut JournalLines,
+    book: &mut Book<C, A>,
+    pass: &mut Pass<C, A>,
+) -> Result<(), ProgramFault> {
+    for _part in 0..u64::MAX {
+        let Some(Lines { first, bytes }) = journal.next(rt, file)? else {
+            break;
+        };
+        if let Err(Unrestored { line, fault }) = restore(rt.alloc(), book, pass, bytes) {
+            // Each part is counted as if one line stood before it.
+            let line = line.saturating_sub(FIRST_OF_PART).saturating_add(first);
+            return Err(ProgramFault::Unrestored(Unrestored { line, fault }));
+        }
+    }
+    Ok(())
+}
+
+/// Cuts a last line that is torn off the file. All that is left is on the disk afterwards: it may
+/// have been written by a process that was killed before it synced it.
+fn cut_torn<R: Eprint>(rt: &R, opened: &OpenJournal, torn: usize) -> Result<(), ProgramFault> {
+    let NamedFile { file, path } = &opened.lines;
+    if torn > 0 {
+        or_stop(
+            rt,
+            path.as_str(),
+            file.set_len(opened.length),
+            ProgramFault::Journal,
+        )?;
+        let _ = eprintln!(rt; "central: {path}: its last line is torn, and was cut: {torn} bytes");
+    }
+    or_stop(rt, path.as_str(), file.sync_data(), ProgramFault::Journal)
+}
+
+/// Returns whether the lines that were read go on with the site file of this digest. Says so where
+/// they were written with another one.
+pub fn say_other_site<R: Eprint>(
+    rt: &R,
+    file: &NamedFile,
+    journal: &JournalLines,
+    digest: &[u8; 32],
+) -> bool {
+    match journal.site() {
+        Some(site) if site == *digest => true,
+        Some(_) => {
+            let _ = eprintln!(rt;
+                "central: {}: it was begun with another site file; its lines are tried with this one",
+                file.path
+            );
+            false
+        }
+        None => false,
+    }
+}
+
+/// What the points of a site have.
+pub fn count_resumed(machine: &Machine) -> Resumed {
+    let site = machine.site();
+    let mut resumed = Resumed {
+        points: site.len() as u64,
+        profiles: 0,
+        transactions: 0,
+        calls: 0,
+    };
+    for place in 0..site.len() {
+        if let Some(point) = site.point(place) {
+            resumed.add_point(machine, point.id);
+        }
+    }
+    resumed
+}
+
+impl Resumed {
+    /// Adds what the point of an identity has.
+    fn add_point(&mut self, machine: &Machine, point: &str) {
+        self.calls = self.calls.saturating_add(machine.outbox_len(point) as u64);
+        let Some(book) = machine.book_of(point) else {
+            return;
+        };
+        let view = book.view();
+        self.profiles = self.profiles.saturating_add(view.rows.len() as u64);
+        for start in view.starts {
+            if start.is_some() {
+                self.transactions = self.transactions.saturating_add(1);
+            }
+        }
+    }
+}

@@ -1,0 +1,221 @@
+//! The job of `central run`.
+
+ghost use Rattle.std.specs.Prelude.{◌≡◌, ◌≤◌, ◌+◌};
+
+use crate::program::command_line::Running;
+use crate::program::data_folder::{OpenJournal, open_journal};
+use crate::program::journal_file::JournalFile;
+use crate::program::key_file::read_key_file;
+use crate::program::named_file::or_stop;
+use crate::program::program_fault::ProgramFault;
+use crate::program::restoring::{Resumed, count_resumed, restore_book};
+use crate::program::site_file::read_digested_site;
+use crate::program::system_clock::SystemClock;
+use ocpp_scalars::Moments;
+use server::{SeatContext, SeatOptions, SeatedBook, ServeFault, run_seats};
+use site_keys::Keys;
+use site_rules::Site;
+use std::alloc::{AllocError, AllocGlobal, Global};
+use std::fs::File;
+use std::marker::{Brand, Send, Sync};
+use std::net::{Net, TcpListener, TcpStream};
+use std::rt::{Clock, Files};
+use std::sync::ledger::{Blank, Ledger};
+use std::sync::{Arc, Wait};
+use std::thread::Threads;
+use version_store::{Pass, Shared};
+
+/// What is run.
+#[derive(Drop)]
+struct Plan<'a> {
+    site: Site,
+    /// The SHA-256 of the site file.
+    digest: [u8; 32],
+    opened: OpenJournal,
+    listener: TcpListener,
+    listen: &'a str,
+    seats: u64,
+    workers: u64,
+    options: SeatOptions,
+}
+
+/// Runs the site of a file with the journal of a folder: goes on where that stopped. Returns only
+/// where it can't go on.
+pub fn run_file<
+    R: Files<File = File>
+        + Print
+        + Eprint
+        + AllocGlobal
+        + Clock
+        + Net<Listener = TcpListener, Stream = TcpStream>
+        + Threads
+        + Wait
+        + Copy
+        + Send
+        + Sync
+        + Drop
+        + 'static,
+>(rt: &R, running: Running<'_>) -> Result<(), ProgramFault>
+    requires workers { 1 ≤ running.workers }
+    requires seats { 1 ≤ running.seats }
+{
+    let (site, digest) = read_digested_site(rt, running.site)?;
+    let keys = read_keys(rt, running.keys)?;
+    let opened = open_journal(rt, running.folder)?;
+    let listener = listen(rt, running.listen, keys.is_some())?;
+    let plan = Plan {
+        site,
+        digest,
+        opened,
+        listener,
+        listen: running.listen,
+        seats: running.seats,
+        workers: running.workers,
+        options: SeatOptions {
+            call_timeout: running.call_timeout,
+            keys,
+        },
+    };
+    // One pass more than seats: the restore has it.
+    let Some(passes) = running.seats.checked_add(1) else {
+        return Err(ProgramFault::OutOfMemory);
+    };
+    let blanks = (Blank::new(passes), Blank::new(passes));
+    run_counted::<Brand, Brand, R>(rt, plan, blanks)
+}
+
+/// The keys of a file, if one is given.
+fn read_keys<R: Files<File = File> + Eprint + AllocGlobal>(
+    rt: &R,
+    path: Option<&str>,
+) -> Result<Option<Keys>, ProgramFault> {
+    match path {
+        Some(path) => Ok(Some(read_key_file(rt, path)?)),
+        None => Ok(None),
+    }
+}
+
+/// Listens at an address: without keys at one of this machine alone.
+fn listen<R: Eprint + Net<Listener = TcpListener, Stream = TcpStream>>(
+    rt: &R,
+    address: &str,
+    has_keys: bool,
+) -> Result<TcpListener, ProgramFault> {
+    let bound = TcpListener::bind(rt, address);
+    let listener = or_stop(rt, address, bound, ProgramFault::Serve(ServeFault::Socket))?;
+    let told = listener.local_addr();
+    let local = or_stop(rt, address, told, ProgramFault::Serve(ServeFault::Socket))?;
+    if has_keys || local.ip().is_loopback() {
+        Ok(listener)
+    } else {
+        Err(ProgramFault::NoKeys)
+    }
+}
+
+/// Runs a site, whose changes and answers these two ledgers count.
+fn run_counted<
+    C: Ledger + Send + Sync + Drop + 'static,
+    A: Ledger + Send + Sync + Drop + 'static,
+    R: Files<File = File>
+        + Print
+        + Eprint
+        + AllocGlobal
+        + Clock
+        + Threads
+        + Wait
+        + Copy
+        + Send
+        + Sync
+        + Drop
+        + 'static,
+>(rt: &R, plan: Plan<'_>, blanks: (Blank, Blank)) -> Result<(), ProgramFault>
+    requires workers { 1 ≤ plan.workers }
+    requires changes { (blanks.0.name ≡ C.name) × (blanks.0.parts ≡ C.parts)
+        × (blanks.0.parts ≡ plan.seats + 1) }
+    requires answers { (blanks.1.name ≡ A.name) × (blanks.1.parts ≡ A.parts)
+        × (blanks.1.parts ≡ plan.seats + 1) }
+{
+    let Plan {
+        site,
+        digest,
+        opened,
+        listener,
+        listen,
+        seats,
+        workers,
+        options,
+    } = plan;
+    let book: SeatedBook<C, A> = SeatedBook::make(rt.alloc(), blanks, site, seats)?;
+    let SeatedBook {
+        shared,
+        restoring,
+        seats,
+    } = book;
+    let journal = restore_shared(rt, opened, &digest, &shared, restoring)?;
+    let context = context_of(rt, shared, journal, options)?;
+    if let Err(fault) = run_seats(&context, listener, seats, workers as usize) {
+        return Err(ProgramFault::Serve(fault));
+    }
+    if println!(rt; "listening {listen}").is_err() {
+        return Err(ProgramFault::Write);
+    }
+    context.journal().until_broken();
+    Err(ProgramFault::Journal)
+}
+
+/// What the threads share that serve this book.
+fn context_of<C: Ledger, A: Ledger, R: Clock + Wait + Eprint + AllocGlobal + Copy + Drop>(
+    rt: &R,
+    shared: Shared<C, A>,
+    journal: JournalFile<R>,
+    options: SeatOptions,
+) -> Result<Arc<SeatContext<C, A, R, SystemClock<R>, JournalFile<R>>, Global>, AllocError> {
+    let alloc = rt.alloc();
+    let clock = SystemClock { rt: *rt };
+    let context = SeatContext::make(*rt, alloc, shared, clock, journal, options)?;
+    Ok(Arc::new(alloc, context)?)
+}
+
+/// Restores the book that sessions will share, with a pass of its own, and prints what it has.
+/// Returns its journal, in which all stands.
+fn restore_shared<
+    C: Ledger,
+    A: Ledger,
+    R: Files<File = File> + Print + Eprint + AllocGlobal + Clock + Wait + Copy + Drop,
+>(
+    rt: &R,
+    opened: OpenJournal,
+    digest: &[u8; 32],
+    shared: &Shared<C, A>,
+    pass: Pass<C, A>,
+) -> Result<JournalFile<R>, ProgramFault> {
+    let (mut opened, mut pass) = (opened, pass);
+    let Some(now) = (SystemClock { rt }).now() else {
+        return Err(ProgramFault::Clock);
+    };
+    let mut book = shared.lock(rt);
+    let added = restore_book(rt, &mut opened, digest, &mut book, &mut pass, now)?;
+    let resumed = count_resumed(book.present());
+    drop(book);
+    let journal = JournalFile::make(*rt, opened, added)?;
+    if journal.keep_all().is_err() {
+        return Err(ProgramFault::Journal);
+    }
+    print_resumed(rt, resumed)?;
+    Ok(journal)
+}
+
+fn print_resumed<R: Print>(rt: &R, resumed: Resumed) -> Result<(), ProgramFault> {
+    let Resumed {
+        points,
+        profiles,
+        transactions,
+        calls,
+    } = resumed;
+    match println!(rt;
+        "resumed {points} points, {profiles} profiles, {transactions} transactions, {calls} calls waiting"
+    ) {
+        Ok(()) => Ok(()),
+        Err(_) => Err(ProgramFault::Write),
+    }
+}

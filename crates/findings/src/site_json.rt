@@ -1,0 +1,125 @@
+//! Whether a site file is JSON, as far as that is told without a tree of it.
+
+ghost use Rattle.std.specs.Prelude.{◌<◌, OnOk, length};
+
+use json::{Invalid, Reader, Scratch, Token};
+use ocpp_scalars::is_number_text;
+use ocppj_frame::after_mark;
+use std::alloc::{AllocError, Global};
+
+/// How deep lists and objects may nest.
+const MAX_DEPTH: usize = 127;
+
+/// Whether a tree is read from a text.
+#[derive(Clone, Copy, Debug, PartialEq, Eq)]
+pub(crate) enum Verdict {
+    Json,
+    /// It is no JSON, or has a malformed number.
+    NotJson,
+    /// It has malformed numbers in two fields of an object, of which one stands there again.
+    Unsure,
+}
+
+/// Whether a tree is read from a marked text. Of several fields of a name the last one counts, so
+/// that a malformed number may stand in those before it.
+pub(crate) fn verdict_on(alloc: Global, marked: &str) -> Result<Verdict, AllocError> {
+    let mut scratch = Scratch::new(alloc);
+    let mut reader = Reader::new(marked, &mut scratch)?;
+    match judge_value(&mut reader, MAX_DEPTH) {
+        Ok(verdict) if reader.next().is_none() => Ok(verdict),
+        Ok(_) | Err(_) => Ok(Verdict::NotJson),
+    }
+}
+
+/// Reads the next value. An error says that the text breaks otherwise than in a number.
+#[cycle(judge)]
+fn judge_value(reader: &mut Reader<'_>, depth: usize) -> Result<Verdict, Invalid>
+    ensures shorter { OnOk result (length reader.new < length reader.old) }
+{
+    let token = reader.next().ok_or(Invalid)?;
+    match token {
+        Token::String(marked) => Ok(judge_string(marked)),
+        Token::Bool(_) | Token::Null => Ok(Verdict::Json),
+        Token::BeginArray if depth > 0 => judge_items(reader, depth - 1),
+        Token::BeginObject if depth > 0 => judge_members(reader, depth - 1),
+        _ => Err(Invalid),
+    }
+}
+
+/// A text is one in any case, a number by its grammar.
+fn judge_string(marked: &str) -> Verdict {
+    match after_mark(marked, b'n') {
+        Some(number) if !is_number_text(number) => Verdict::NotJson,
+        _ => Verdict::Json,
+    }
+}
+
+#[cycle(judge)]
+fn judge_items(reader: &mut Reader<'_>, depth: usize) -> Result<Verdict, Invalid>
+    ensures shorter { OnOk result (length reader.new < length reader.old) }
+{
+    let mut verdict = Verdict::Json;
+    while !reader.take_end_array() {
+        let item = judge_value(reader, depth)?;
+        verdict = match (verdict, item) {
+            (Verdict::NotJson, _) | (_, Verdict::NotJson) => Verdict::NotJson,
+            (Verdict::Unsure, _) | (_, Verdict::Unsure) => Verdict::Unsure,
+            (Verdict::Json, Verdict::Json) => Verdict::Json,
+        };
+    }
+    Ok(verdict)
+}
+
+#[cycle(judge)]
+fn judge_members(reader: &mut Reader<'_>, depth: usize) -> Result<Verdict, Invalid>
+    ensures shorter { OnOk result (length reader.new < length reader.old) }
+{
+    let mut members = Members {
+        broken: None,
+        has_broken_key: false,
+        is_unsure: false,
+    };
+    while let Some(key) = reader.next_key()? {
+        let value = judge_value(reader, depth)?;
+        members.take(key, value);
+    }
+    Ok(members.verdict())
+}
+
+/// The members of an object so far.
+#[derive(Clone, Copy)]
+struct Members<'a> {
+    /// The key of one of which the last value is broken.
+    broken: Option<&'a str>,
+    /// Whether a number stands in the place of a key.
+    has_broken_key: bool,
+    /// Whether another value was broken, or may have been.
+    is_unsure: bool,
+}
+
+impl<'a> Members<'a> {
+    /// Takes one more member.
+    fn take(&mut self, key: &'a str, value: Verdict) {
+        if after_mark(key, b's').is_none() {
+            self.has_broken_key = true;
+        }
+        if self.broken == Some(key) {
+            self.broken = None;
+        }
+        match value {
+            Verdict::Json => {}
+            Verdict::NotJson if self.broken.is_none() => self.broken = Some(key),
+            Verdict::NotJson | Verdict::Unsure => self.is_unsure = true,
+        }
+    }
+
+    fn verdict(self) -> Verdict {
+        if self.has_broken_key || self.broken.is_some() {
+            Verdict::NotJson
+        } else if self.is_unsure {
+            Verdict::Unsure
+        } else {
+            Verdict::Json
+        }
+    }
+}

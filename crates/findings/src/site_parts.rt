@@ -1,0 +1,97 @@
+//! Reading a marked site file value by value: a tree of it would take many times its size.
+
+ghost use Rattle.std.specs.Prelude.{◌<◌, ◌≤◌, OnOk, length};
+
+use crate::found::Glance;
+use json::{Invalid, Reader, Token};
+use ocppj_frame::after_mark;
+use std::alloc::{AllocError, AllocFailed};
+
+/// How deep a value may nest that is passed. The file was read as JSON before.
+const MAX_DEPTH: usize = 127;
+
+/// Why a site file isn't read to its end.
+#[derive(Clone, Copy, Drop)]
+pub(crate) enum PartFault {
+    NotJson,
+    OutOfMemory,
+}
+
+impl From<Invalid> for PartFault {
+    fn from(_error: Invalid) -> PartFault {
+        PartFault::NotJson
+    }
+}
+
+impl From<AllocError> for PartFault {
+    fn from(_error: AllocError) -> PartFault {
+        PartFault::OutOfMemory
+    }
+}
+
+impl<T: Drop> From<AllocFailed<T>> for PartFault {
+    fn from(_refused: AllocFailed<T>) -> PartFault {
+        PartFault::OutOfMemory
+    }
+}
+
+/// Reads the next value.
+pub(crate) fn read_glance<'a>(reader: &mut Reader<'a>) -> Result<Glance<'a>, PartFault>
+    ensures shorter { OnOk result (length reader.new < length reader.old) }
+{
+    let token = reader.next().ok_or(PartFault::NotJson)?;
+    glance_from(token, reader)
+}
+
+/// Reads the value that begins with this token, which was read.
+pub(crate) fn glance_from<'a>(
+    token: Token<'a>,
+    reader: &mut Reader<'a>,
+) -> Result<Glance<'a>, PartFault>
+    ensures shorter { OnOk result (length reader.new ≤ length reader.old) }
+{
+    match token {
+        Token::String(marked) => Ok(glance_of_string(marked)),
+        Token::Bool(_) => Ok(Glance::Bool),
+        Token::Null => Ok(Glance::Null),
+        Token::BeginArray => {
+            pass_items(reader)?;
+            Ok(Glance::List)
+        }
+        Token::BeginObject => {
+            pass_members(reader)?;
+            Ok(Glance::Object)
+        }
+        Token::EndObject | Token::EndArray | Token::Key(_) | Token::Number(_) | Token::Bad => {
+            Err(PartFault::NotJson)
+        }
+    }
+}
+
+/// The text or the number that a marked string stands for.
+fn glance_of_string(marked: &str) -> Glance<'_> {
+    match after_mark(marked, b'n') {
+        Some(number) => Glance::Number(number),
+        None => Glance::Text(after_mark(marked, b's').unwrap_or(marked)),
+    }
+}
+
+/// Passes the items of a list.
+fn pass_items(reader: &mut Reader<'_>) -> Result<(), PartFault>
+    ensures shorter { OnOk result (length reader.new < length reader.old) }
+{
+    while !reader.take_end_array() {
+        reader.skip_value(MAX_DEPTH)?;
+    }
+    Ok(())
+}
+
+/// Passes the members of an object.
+fn pass_members(reader: &mut Reader<'_>) -> Result<(), PartFault>
+    ensures shorter { OnOk result (length reader.new < length reader.old) }
+{
+    while let Some(_) = reader.next_key()? {
+        reader.skip_value(MAX_DEPTH)?;
+    }
+    Ok(())
+}

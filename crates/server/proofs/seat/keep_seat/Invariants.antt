@@ -1,0 +1,6 @@
+-- What the seat counts so far is no less than what it counted before its first connection.
+use Rattle.session.specs.Serving.{KeepsPass}
+use Rattle.server.proofs.seat.keep_seat.Given as goal
+
+abbrev pub invariant-loop-connection : goal.invariant-loop-connection
+invariant-loop-connection g l = KeepsPass l.initial.pass l.pass

@@ -1,0 +1,2 @@
+pub mod PathRole
+pub mod PresentLink

@@ -1,0 +1,86 @@
+//! Connections are accepted: each for a free seat, or it is answered that there is none.
+
+use crate::free_seats::FreeSeats;
+use crate::seldom::Seldom;
+use crossbeam_channel::Sender;
+use std::io::{Read, Write};
+use std::net::{Shutdown, TcpListener, TcpStream};
+use std::rt::Clock;
+use std::sync::Wait;
+use std::thread;
+use std::time::Duration;
+
+/// So many milliseconds pass before the next try where a connection couldn't be accepted, as for
+/// lack of file descriptors.
+const PAUSE: u64 = 100;
+
+/// The answer to a connection for which there is no seat.
+const NO_SEAT: &[u8] =
+    b"HTTP/1.1 503 Service Unavailable\r\nConnection: close\r\nContent-Length: 0\r\n\r\n";
+
+/// Accepts connections for ever, and sends each to a free seat. Where none is free, it is answered
+/// so and closed.
+pub(crate) fn accept_connections<R: Wait + Clock + Eprint>(
+    rt: &R,
+    free: &FreeSeats,
+    listener: &TcpListener,
+    streams: &Sender<TcpStream>,
+) {
+    let (mut full, mut failed) = (Seldom::new(), Seldom::new());
+    for _connection in rt.forever() {
+        let Some(stream) = accept_next(rt, listener, &mut failed) else {
+            continue;
+        };
+        if free.take(rt) {
+            // A seat waits for it, so there is room on the way.
+            if streams.send(rt, stream).is_err() {
+                return;
+            }
+        } else {
+            refuse(stream);
+            say_full(rt, &mut full);
+        }
+    }
+}
+
+/// The next connection. None where it couldn't be accepted, after a pause: a file descriptor may be
+/// free then.
+fn accept_next<R: Wait + Clock + Eprint>(
+    rt: &R,
+    listener: &TcpListener,
+    failed: &mut Seldom,
+) -> Option<TcpStream> {
+    match listener.accept() {
+        Ok((stream, _)) => Some(stream),
+        Err(error) => {
+            if failed.is_due(rt) {
+                let _ = eprintln!(rt; "central: a connection can't be accepted: {error}");
+            }
+            thread::sleep(rt, Duration::from_millis(PAUSE));
+            None
+        }
+    }
+}
+
+/// Says that all seats are taken.
+fn say_full<R: Clock + Eprint>(rt: &R, full: &mut Seldom) {
+    if full.is_due(rt) {
+        let _ = eprintln!(rt;
+            "central: all seats are taken: connections are turned away (HTTP 503)"
+        );
+    }
+}
+
+/// Answers a connection that there is no seat for it, and closes it. Waits for nothing: the next
+/// connection isn't to wait for this one.
+fn refuse(stream: TcpStream) {
+    let mut stream = stream;
+    if stream.set_nonblocking(true).is_err() {
+        return;
+    }
+    let _ = stream.write(NO_SEAT);
+    let _ = stream.shutdown(Shutdown::Write);
+    // What came already is read, or the close would cut off the answer.
+    let mut request = [0u8; 1_024];
+    let _ = stream.read(&mut request);
+}

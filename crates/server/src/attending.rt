@@ -1,0 +1,185 @@
+//! A session over a stream that waits no longer than it has to.
+
+ghost use Rattle.session.specs.Serving.{KeepsPass};
+
+use crate::deadlines::{LONGEST_SILENCE, SILENCE_BEFORE_CALL, SILENCE_BEFORE_PING, TICK};
+use crate::incoming_stream::{IncomingStream, seconds_since};
+use bytes::Bytes;
+use ocpp_scalars::Moments;
+use ocppj_frame::ReadingMemory;
+use session::{Context, Ended, Heard, Journal, SessionCore, send_call, serve_next};
+use std::rt::Clock;
+use std::sync::Wait;
+use std::sync::ledger::Ledger;
+use std::time::Instant;
+use tungstenite::{Message, NoMask, WebSocket};
+use version_store::Pass;
+
+/// What a seat knows of the client that it serves.
+#[derive(Drop)]
+struct Attention {
+    /// For so many seconds a call waits for its reply.
+    call_timeout: u64,
+    begun: Instant,
+    /// Whether a message came.
+    has_spoken: bool,
+    /// When it was looked last whether a call waits for it.
+    looked: Instant,
+    /// Whether it was pinged since it was heard.
+    is_pinged: bool,
+    /// The last call that was sent to it.
+    sent: Option<SentCall>,
+}
+
+/// A call that was sent to a point.
+#[derive(Clone, Copy, Debug)]
+struct SentCall {
+    number: u64,
+    moment: Instant,
+}
+
+/// Serves messages until the socket is closed or fails, the client is silent for too long, or a call
+/// to it has no reply in time.
+pub(crate) fn attend_session<C: Ledger, A: Ledger, R: Wait + Clock, M: Moments, J: Journal>(
+    context: &Context<'_, C, A, R, M, J>,
+    call_timeout: u64,
+    socket: &mut WebSocket<IncomingStream<'_, R>, NoMask>,
+    core: &SessionCore,
+    pass: &mut Pass<C, A>,
+)
+    ensures { KeepsPass pass.old pass.new }
+{
+    let Ok(now) = Instant::now(context.rt) else {
+        return;
+    };
+    let mut memory = ReadingMemory::new(context.alloc);
+    let mut attention = Attention {
+        call_timeout,
+        begun: now,
+        has_spoken: false,
+        looked: now,
+        is_pinged: false,
+        sent: None,
+    };
+    for _message in context.rt.forever() {
+        if attend_next(context, socket, core, &mut memory, &mut attention, pass).is_err() {
+            return;
+        }
+    }
+    unreachable!()
+}
+
+/// Serves the next message, or does what is due where none comes. An error ends the session.
+fn attend_next<C: Ledger, A: Ledger, R: Wait + Clock, M: Moments, J: Journal>(
+    context: &Context<'_, C, A, R, M, J>,
+    socket: &mut WebSocket<IncomingStream<'_, R>, NoMask>,
+    core: &SessionCore,
+    memory: &mut ReadingMemory,
+    attention: &mut Attention,
+    pass: &mut Pass<C, A>,
+) -> Result<(), Ended>
+    ensures { KeepsPass pass.old pass.new }
+{
+    let sent = match serve_next(context, socket, core, memory, pass)? {
+        Heard::Message { sent } => {
+            socket.get_mut().end_message();
+            attention.has_spoken = true;
+            sent
+        }
+        Heard::Control { bytes } => {
+            socket.get_mut().end_control(bytes);
+            // Whoever pings all the time leaves no time without a byte.
+            if seconds_since(context.rt, attention.looked) < TICK {
+                None
+            } else {
+                send_to_silent(context, socket, core, attention)?
+            }
+        }
+        Heard::Nothing => {
+            keep_alive(socket, attention)?;
+            send_to_silent(context, socket, core, attention)?
+        }
+    };
+    if let Some(number) = sent {
+        attention.note_sent(context.rt, number);
+    }
+    if attention.is_overdue(context, core) || socket.get_ref().is_in_the_way() {
+        let _ = socket.close(None);
+        return Err(Ended::Broken);
+    }
+    Ok(())
+}
+
+/// Pings a client that is silent, once. After a longer silence the session ends.
+fn keep_alive<R: Wait + Clock>(
+    socket: &mut WebSocket<IncomingStream<'_, R>, NoMask>,
+    attention: &mut Attention,
+) -> Result<(), Ended> {
+    let silence = socket.get_ref().silence();
+    if silence >= LONGEST_SILENCE {
+        let _ = socket.close(None);
+        return Err(Ended::Broken);
+    }
+    if silence < SILENCE_BEFORE_PING {
+        attention.is_pinged = false;
+        return Ok(());
+    }
+    if attention.is_pinged {
+        return Ok(());
+    }
+    attention.is_pinged = true;
+    match socket.send(Message::Ping(Bytes::from_static(b""))) {
+        Ok(()) => Ok(()),
+        Err(_) => Err(Ended::Broken),
+    }
+}
+
+/// Sends the call that waits for a point, which has nothing to say itself. Returns its number. A
+/// point that has just connected is left the time for its BootNotification.
+fn send_to_silent<C: Ledger, A: Ledger, R: Wait + Clock, M: Moments, J: Journal>(
+    context: &Context<'_, C, A, R, M, J>,
+    socket: &mut WebSocket<IncomingStream<'_, R>, NoMask>,
+    core: &SessionCore,
+    attention: &mut Attention,
+) -> Result<Option<u64>, Ended> {
+    if let Ok(now) = Instant::now(context.rt) {
+        attention.looked = now;
+    }
+    if !attention.has_spoken && seconds_since(context.rt, attention.begun) < SILENCE_BEFORE_CALL {
+        return Ok(None);
+    }
+    match context.clock.now() {
+        Some(now) => send_call(context, socket, core, now),
+        None => Err(Ended::Broken),
+    }
+}
+
+impl Attention {
+    /// A call was sent just now. Without a clock nobody waits for its reply.
+    fn note_sent<R: Clock>(&mut self, rt: &R, number: u64) {
+        self.sent = match Instant::now(rt) {
+            Ok(moment) => Some(SentCall { number, moment }),
+            Err(_) => None,
+        };
+    }
+
+    /// Whether the last call has no reply, though it was sent long enough ago.
+    fn is_overdue<C: Ledger, A: Ledger, R: Wait + Clock, M: Moments, J: Journal>(
+        &mut self,
+        context: &Context<'_, C, A, R, M, J>,
+        core: &SessionCore,
+    ) -> bool {
+        let Some(call) = self.sent else {
+            return false;
+        };
+        if seconds_since(context.rt, call.moment) < self.call_timeout {
+            return false;
+        }
+        self.sent = None;
+        let book = context.shared.lock(context.rt);
+        match book.present().outbox_of(core.point_id().as_str()) {
+            Some(outbox) => outbox.is_number_in_flight(call.number),
+            None => false,
+        }
+    }
+}

@@ -1,0 +1,93 @@
+//! Who is let in.
+
+ghost use Rattle.std.specs.Prelude.{◌≡◌, ◌↔◌, List, ℕ, None, IfOk, option_copied};
+ghost use Rattle.site_keys.specs.Admission.{IsAdmittedAs, MayCome};
+ghost use Rattle.server.specs.PathRole.{identity_of, role_of};
+
+use crate::path::{PathPeer, peer_of_path};
+use http::{Request, StatusCode};
+use site_keys::{Admission, Keys, Role};
+use std::alloc::{AllocError, Global};
+
+/// Each page of a browser sends it (RFC 6455, section 10.2).
+const ORIGIN: &str = "origin";
+
+const AUTHORIZATION: &str = "authorization";
+
+/// Whom a server lets in.
+#[derive(Clone, Copy, Debug)]
+pub(crate) enum Entry<'a> {
+    /// Whoever comes.
+    Open,
+    /// No web page; and where there are keys, only whom they let come.
+    Guarded(Option<&'a Keys>),
+}
+
+impl Entry<'_> {
+    /// The status that refuses a request (RFC 9110, sections 15.5.2 and 15.5.4), or None where it is
+    /// let in.
+    pub(crate) fn refusal(
+        self,
+        alloc: Global,
+        request: &Request<()>,
+    ) -> Result<Option<StatusCode>, AllocError> {
+        let Entry::Guarded(keys) = self else {
+            return Ok(None);
+        };
+        let headers = request.headers();
+        if headers.contains_key(ORIGIN) {
+            return Ok(Some(StatusCode::FORBIDDEN));
+        }
+        let Some(keys) = keys else {
+            return Ok(None);
+        };
+        let peer = peer_of_path(request.uri().path());
+        match headers.get(AUTHORIZATION) {
+            Some(value) => refusal_by_keys(alloc, keys, peer, Some(value.as_bytes())),
+            None => refusal_by_keys(alloc, keys, peer, None),
+        }
+    }
+}
+
+/// The same for whom a path names.
+fn refusal_by_keys(
+    alloc: Global,
+    keys: &Keys,
+    peer: PathPeer<'_>,
+    authorization: Option<&[u8]>,
+) -> Result<Option<StatusCode>, AllocError>
+    ensures { IfOk result (λ refusal. (refusal ≡ None) ↔ ((user : List ℕ)
+        × MayCome keys.now (role_of peer.entry) (identity_of peer.entry)
+        (option_copied authorization.entry) user)) }
+{
+    let admission = admission_of(alloc, keys, peer, authorization)?;
+    Ok(refusal_of(&admission))
+}
+
+/// What comes of whom a path names: a point comes with its own key, an operator with an operator's.
+fn admission_of(
+    alloc: Global,
+    keys: &Keys,
+    peer: PathPeer<'_>,
+    authorization: Option<&[u8]>,
+) -> Result<Admission, AllocError>
+    ensures { IfOk result (λ admission. (user : List ℕ) → IsAdmittedAs admission user
+        ↔ MayCome keys.now (role_of peer.entry) (identity_of peer.entry)
+        (option_copied authorization.entry) user) }
+{
+    match peer {
+        PathPeer::Point(id) => keys.admit(alloc, Role::Point, id, authorization),
+        PathPeer::Operator(id) => keys.admit(alloc, Role::Operator, id, authorization),
+    }
+}
+
+/// The status of who isn't admitted.
+fn refusal_of(admission: &Admission) -> Option<StatusCode>
+    ensures { (result ≡ None) ↔ ((user : List ℕ) × IsAdmittedAs admission.now user) }
+{
+    match admission {
+        Admission::Admitted(_) => None,
+        Admission::Unauthorized => Some(StatusCode::UNAUTHORIZED),
+        Admission::Forbidden => Some(StatusCode::FORBIDDEN),
+    }
+}

@@ -1,0 +1,220 @@
+//! The stream of a connection that may be shut from another thread, and that waits no longer for its
+//! client than it has to.
+
+use crate::deadlines::{LONGEST_HANDSHAKE, LONGEST_MESSAGE, LONGEST_WRITE, TICK};
+use crate::long_messages::LongMessages;
+use std::alloc::Global;
+use std::io::{ErrorKind, Read, Write};
+use std::net::{Shutdown, TcpStream};
+use std::rt::Clock;
+use std::sync::{Arc, Wait};
+use std::time::{Duration, Instant};
+use std::{io, thread};
+
+/// A message of so many bytes needs no place of its own.
+const LONGEST_WITHOUT_PLACE: usize = 65_536;
+
+/// A client's control frame has so many bytes beside its payload (RFC 6455, section 5.2).
+const CONTROL_HEAD: usize = 6;
+
+/// A stream that whoever has a share of it may shut.
+pub(crate) type SharedStream = Arc<TcpStream, Global>;
+
+/// The stream of a connection. Its handshake, and later each message, has to be whole by a deadline,
+/// so that nobody holds it up by a byte now and then. With its first long message it takes one of the
+/// places that all connections share, and keeps that, since what the message took in memory is kept.
+#[derive(Drop)]
+pub(crate) struct IncomingStream<'a, R> {
+    rt: &'a R,
+    stream: SharedStream,
+    places: &'a LongMessages,
+    has_place: bool,
+    /// Until when the handshake has to be whole, while it isn't.
+    handshake: Option<Instant>,
+    /// When the last byte came, or else the handshake began.
+    heard: Instant,
+    unfinished: Option<Unfinished>,
+}
+
+/// A message that isn't whole.
+#[derive(Clone, Copy, Debug)]
+struct Unfinished {
+    /// When its first byte came.
+    begun: Instant,
+    bytes: usize,
+}
+
+impl<'a, R: Clock + Wait> IncomingStream<'a, R> {
+    /// A connection whose handshake begins now. None where the system can't bound it.
+    pub(crate) fn new(
+        rt: &'a R,
+        alloc: Global,
+        places: &'a LongMessages,
+        stream: TcpStream,
+    ) -> Option<IncomingStream<'a, R>> {
+        let now = Instant::now(rt).ok()?;
+        let deadline = now.checked_add(Duration::from_secs(LONGEST_HANDSHAKE))?;
+        // An answer leaves at once. Where that can't be set, it leaves later.
+        let _ = stream.set_nodelay(true);
+        let longest_write = Duration::from_secs(LONGEST_WRITE);
+        stream.set_write_timeout(Some(longest_write)).ok()?;
+        let stream = Arc::new(alloc, stream).ok()?;
+        Some(IncomingStream {
+            rt,
+            stream,
+            places,
+            has_place: false,
+            handshake: Some(deadline),
+            heard: now,
+            unfinished: None,
+        })
+    }
+
+    /// Its handshake is whole: from now on a read waits for a tick. False where the system doesn't
+    /// let it.
+    pub(crate) fn end_handshake(&mut self) -> bool {
+        self.handshake = None;
+        self.unfinished = None;
+        let tick = Duration::from_secs(TICK);
+        self.stream.set_read_timeout(Some(tick)).is_ok()
+    }
+
+    /// The message that came is whole.
+    pub(crate) fn end_message(&mut self) {
+        self.unfinished = None;
+    }
+
+    /// A control frame came with so many bytes, perhaps within a message.
+    pub(crate) fn end_control(&mut self, payload: usize) {
+        let Some(message) = self.unfinished else {
+            return;
+        };
+        let bytes = message
+            .bytes
+            .saturating_sub(payload.saturating_add(CONTROL_HEAD));
+        self.unfinished = if bytes == 0 {
+            None
+        } else {
+            Some(Unfinished { bytes, ..message })
+        };
+    }
+
+    /// Whether it is to end, since it has a place that another connection waits for, and no
+    /// unfinished message.
+    pub(crate) fn is_in_the_way(&self) -> bool {
+        self.has_place && self.unfinished.is_none() && self.places.take_wish(self.rt)
+    }
+
+    /// The connection ends: its place is free again.
+    pub(crate) fn end(&mut self) {
+        if self.has_place {
+            self.has_place = false;
+            self.places.give_back(self.rt);
+        }
+    }
+
+    /// For how many seconds nothing has come.
+    pub(crate) fn silence(&self) -> u64 {
+        seconds_since(self.rt, self.heard)
+    }
+
+    /// A share of the stream, by which another thread may shut it.
+    pub(crate) fn share(&self) -> Option<SharedStream> {
+        Arc::try_clone(&self.stream).ok()
+    }
+
+    /// Lets the next read wait until the deadline of the handshake and no longer.
+    fn bound_handshake(&self, deadline: Instant) -> io::Result<()> {
+        let now = Instant::now(self.rt)?;
+        match deadline.checked_duration_since(now) {
+            Some(left) if !left.is_zero() => self.stream.set_read_timeout(Some(left)),
+            _ => Err(io::Error::from(ErrorKind::TimedOut)),
+        }
+    }
+
+    /// Lets more of an unfinished message come while it isn't overdue, and once a long one has a
+    /// place. While it waits for that, its deadline waits too.
+    fn bound_message(&mut self, message: Unfinished) -> io::Result<()> {
+        if seconds_since(self.rt, message.begun) >= LONGEST_MESSAGE {
+            return Err(io::Error::from(ErrorKind::TimedOut));
+        }
+        if message.bytes < LONGEST_WITHOUT_PLACE || self.has_place {
+            return Ok(());
+        }
+        if self.places.take(self.rt) {
+            self.has_place = true;
+            return Ok(());
+        }
+        let before = Instant::now(self.rt)?;
+        thread::sleep(self.rt, Duration::from_secs(TICK));
+        let waited = Instant::now(self.rt)?.checked_duration_since(before);
+        if let Some(begun) = message.begun.checked_add(waited.unwrap_or_default()) {
+            self.unfinished = Some(Unfinished { begun, ..message });
+        }
+        Err(io::Error::from(ErrorKind::WouldBlock))
+    }
+
+    /// So many bytes came.
+    fn hear(&mut self, bytes: usize) -> io::Result<()> {
+        let now = Instant::now(self.rt)?;
+        self.heard = now;
+        let (begun, before) = match self.unfinished {
+            Some(message) => (message.begun, message.bytes),
+            None => (now, 0),
+        };
+        self.unfinished = Some(Unfinished {
+            begun,
+            bytes: before.saturating_add(bytes),
+        });
+        Ok(())
+    }
+}
+
+/// How many whole seconds ago a moment was. 0 where no clock tells it.
+pub(crate) fn seconds_since<R: Clock>(rt: &R, moment: Instant) -> u64 {
+    let Ok(now) = Instant::now(rt) else {
+        return 0;
+    };
+    match now.checked_duration_since(moment) {
+        Some(since) => since.as_secs(),
+        None => 0,
+    }
+}
+
+impl<R: Clock + Wait> Read for IncomingStream<'_, R> {
+    fn read(&mut self, buf: &mut [u8]) -> io::Result<usize> {
+        if let Some(deadline) = self.handshake {
+            self.bound_handshake(deadline)?;
+        } else if let Some(message) = self.unfinished {
+            self.bound_message(message)?;
+        }
+        let mut stream: &TcpStream = &self.stream;
+        let bytes = stream.read(buf)?;
+        if bytes > 0 {
+            self.hear(bytes)?;
+        }
+        Ok(bytes)
+    }
+}
+
+impl<R: Clock> Write for IncomingStream<'_, R> {
+    fn write(&mut self, buf: &[u8]) -> io::Result<usize> {
+        let mut stream: &TcpStream = &self.stream;
+        match stream.write(buf) {
+            // Its client doesn't read. Else the socket would wait for it once more.
+            Err(error) if error.kind() == ErrorKind::WouldBlock => {
+                Err(io::Error::from(ErrorKind::TimedOut))
+            }
+            written => written,
+        }
+    }
+
+    fn flush(&mut self) -> io::Result<()> {
+        Ok(())
+    }
+}
+
+/// Shuts a stream: whoever reads it finds its end. It may have ended already.
+pub(crate) fn shut(stream: &SharedStream) {
+    let _ = stream.shutdown(Shutdown::Both);
+}

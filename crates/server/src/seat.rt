@@ -1,0 +1,140 @@
+//! A seat: it serves one connection after another.
+
+ghost use Rattle.session.specs.Serving.{KeepsPass};
+
+use crate::attending::attend_session;
+use crate::connection::{Admitted, admit, close_at_once};
+use crate::entry::Entry;
+use crate::handshake::shake_hands;
+use crate::incoming_stream::IncomingStream;
+use crate::seat_context::SeatContext;
+use crossbeam_channel::{Receiver, Sender};
+use ocpp_scalars::Moments;
+use session::{Context, Journal, Peer, attach_session, end_session};
+use std::alloc::AllocError;
+use std::net::TcpStream;
+use std::rt::Clock;
+use std::sync::Wait;
+use std::sync::ledger::Ledger;
+use tungstenite::{NoMask, WebSocket, WebSocketConfig};
+use version_store::{Job, Pass};
+
+/// A longer message is refused while it comes in.
+const LONGEST_MESSAGE_BYTES: usize = 1_048_576;
+
+/// Each read of a stream asks for so many bytes, for which each connection has room.
+const READ_BYTES: usize = 8_192;
+
+/// Serves one connection after another, each with the seat's pass, until no more are sent. Gives
+/// back the pass, which counts no less than before.
+pub fn keep_seat<C: Ledger, A: Ledger, R: Wait + Clock, M: Moments, J: Journal>(
+    seats: &SeatContext<C, A, R, M, J>,
+    jobs: &Sender<Job>,
+    streams: &Receiver<TcpStream>,
+    pass: Pass<C, A>,
+) -> Pass<C, A>
+    ensures { KeepsPass pass result }
+{
+    let context = Context {
+        rt: &seats.rt,
+        alloc: seats.alloc,
+        shared: &seats.shared,
+        jobs,
+        clock: &seats.clock,
+        journal: &seats.journal,
+        reading: &seats.reading,
+    };
+    let mut pass = pass;
+    for _connection in seats.rt.forever() {
+        let Ok(stream) = streams.recv(&seats.rt) else {
+            return pass;
+        };
+        pass = serve_incoming(seats, &context, stream, pass);
+        seats.free.add(&seats.rt);
+    }
+    unreachable!()
+}
+
+/// Serves a connection from its handshake until it ends. Gives back the pass.
+fn serve_incoming<C: Ledger, A: Ledger, R: Wait + Clock, M: Moments, J: Journal>(
+    seats: &SeatContext<C, A, R, M, J>,
+    context: &Context<'_, C, A, R, M, J>,
+    stream: TcpStream,
+    pass: Pass<C, A>,
+) -> Pass<C, A>
+    ensures { KeepsPass pass result }
+{
+    let Some(stream) = IncomingStream::new(context.rt, context.alloc, &seats.long_messages, stream)
+    else {
+        return pass;
+    };
+    let entry = Entry::Guarded(seats.options.keys.as_ref());
+    let Some((mut socket, asked)) = shake_hands(context.alloc, entry, stream) else {
+        return pass;
+    };
+    if !socket.get_mut().end_handshake() {
+        return pass;
+    }
+    socket.set_config(limits());
+    match admit(context, &asked) {
+        Ok(Some(admitted)) => serve_admitted(seats, context, socket, admitted, pass),
+        Ok(None) => {
+            close_at_once(socket);
+            pass
+        }
+        Err(AllocError) => pass,
+    }
+}
+
+/// What a connection may take up.
+fn limits() -> WebSocketConfig {
+    WebSocketConfig::default()
+        .read_buffer_size(READ_BYTES)
+        .max_message_size(Some(LONGEST_MESSAGE_BYTES))
+        .max_frame_size(Some(LONGEST_MESSAGE_BYTES))
+}
+
+/// Serves a session after its handshake. A point's older connection is shut once this one has its
+/// link, and this one is shut once a later one has. Gives back the pass.
+fn serve_admitted<C: Ledger, A: Ledger, R: Wait + Clock, M: Moments, J: Journal>(
+    seats: &SeatContext<C, A, R, M, J>,
+    context: &Context<'_, C, A, R, M, J>,
+    socket: WebSocket<IncomingStream<'_, R>, NoMask>,
+    admitted: Admitted,
+    pass: Pass<C, A>,
+) -> Pass<C, A>
+    ensures { KeepsPass pass result }
+{
+    let Admitted { mut core, place } = admitted;
+    let (mut socket, mut pass) = (socket, pass);
+    // Before the link: whoever has that has to be found when a later one comes.
+    let Some(share) = socket.get_ref().share() else {
+        return pass;
+    };
+    if attach_session(context, &mut core, &mut pass).is_err() {
+        let _ = socket.close(None);
+        return pass;
+    }
+    let link = match core.peer() {
+        Peer::Point { link } => link,
+        Peer::Operator { .. } => None,
+    };
+    if let Some(link) = link {
+        seats.present.enter(context.rt, place, link, share);
+    }
+    attend_session(
+        context,
+        seats.options.call_timeout,
+        &mut socket,
+        &core,
+        &mut pass,
+    );
+    // What its messages took in memory is free before its place is.
+    let mut stream = socket.into_inner();
+    stream.end();
+    end_session(context, core);
+    if let Some(link) = link {
+        seats.present.leave(context.rt, place, link);
+    }
+    pass
+}

@@ -1,0 +1,77 @@
+//! What all seats of a site share.
+
+use crate::free_seats::FreeSeats;
+use crate::long_messages::LongMessages;
+use crate::present_streams::PresentStreams;
+use ocpp_scalars::Moments;
+use session::Journal;
+use site_keys::Keys;
+use std::alloc::{AllocError, Global};
+use std::rt::Clock;
+use std::sync::ledger::Ledger;
+use std::sync::{Arc, Mutex, Wait};
+use version_store::Shared;
+
+/// What whoever runs a site may choose.
+#[derive(Debug, Drop)]
+pub struct SeatOptions {
+    /// For so many seconds a call waits for its reply. Then its connection is closed.
+    pub call_timeout: u64,
+    /// The keys of all who may come. Without them anybody may, but for web pages.
+    pub keys: Option<Keys>,
+}
+
+/// What all threads share that serve a site.
+#[derive(Drop)]
+pub struct SeatContext<C: Ledger, A: Ledger, R, M, J> {
+    pub(crate) rt: R,
+    pub(crate) alloc: Global,
+    pub(crate) shared: Arc<Shared<C, A>, Global>,
+    pub(crate) clock: M,
+    pub(crate) journal: J,
+    pub(crate) present: PresentStreams,
+    pub(crate) free: FreeSeats,
+    pub(crate) long_messages: LongMessages,
+    pub(crate) options: SeatOptions,
+    /// Whoever reads a long message has this.
+    pub(crate) reading: Mutex<()>,
+}
+
+impl<
+    C: Ledger,
+    A: Ledger,
+    R: Wait + Clock + Drop,
+    M: Moments + Drop,
+    J: Journal + Drop,
+> SeatContext<C, A, R, M, J> {
+    /// What threads share that serve this book, by this clock and with this journal.
+    pub fn make(
+        rt: R,
+        alloc: Global,
+        shared: Shared<C, A>,
+        clock: M,
+        journal: J,
+        options: SeatOptions,
+    ) -> Result<SeatContext<C, A, R, M, J>, AllocError> {
+        let book = shared.lock(&rt);
+        let points = book.present().site().len();
+        drop(book);
+        Ok(SeatContext {
+            rt,
+            alloc,
+            shared: Arc::new(alloc, shared)?,
+            clock,
+            journal,
+            present: PresentStreams::make(alloc, points)?,
+            free: FreeSeats::new(),
+            long_messages: LongMessages::new(),
+            options,
+            reading: Mutex::new(()),
+        })
+    }
+
+    /// The journal of what is served.
+    pub fn journal(&self) -> &J {
+        &self.journal
+    }
+}

@@ -1,0 +1,187 @@
+//! A server that goes on: it serves N connections at a time, and any number one after another.
+
+ghost use Rattle.std.specs.Prelude.{◌≡◌, ◌≤◌, ◌+◌, IfOk, length};
+
+use crate::accepting::accept_connections;
+use crate::seat::keep_seat;
+use crate::seat_context::SeatContext;
+use crate::serving::ServeFault;
+use compile_pool::{MAX_JOBS, Open, run_pool};
+use crossbeam_channel::{Receiver, Sender, bounded};
+use ocpp_scalars::Moments;
+use session::Journal;
+use site_rules::Site;
+use std::alloc::{AllocError, Global};
+use std::marker::{Send, Sync};
+use std::net::{TcpListener, TcpStream};
+use std::rt::Clock;
+use std::sync::ledger::{Blank, Ledger};
+use std::sync::{Arc, Wait};
+use std::thread;
+use std::thread::Threads;
+use version_store::{Job, Pass, Shared};
+
+/// The most connections at a time.
+pub const MAX_SEATS: u64 = 1_000;
+
+/// The stack of a thread that serves connections.
+const SEAT_STACK: usize = 2 * 1_048_576;
+
+/// The book of a site that is to be served by seats, and its passes.
+#[derive(Drop)]
+pub struct SeatedBook<C: Ledger, A: Ledger> {
+    pub shared: Shared<C, A>,
+    /// The pass of whoever restores the book before it is served.
+    pub restoring: Pass<C, A>,
+    /// A pass for each seat.
+    pub seats: Vec<Pass<C, A>>,
+}
+
+impl<C: Ledger, A: Ledger> SeatedBook<C, A> {
+    /// The book of a site where nothing was done yet, with so many seats. The two ledgers are to
+    /// count its changes and its answers.
+    pub fn make(
+        alloc: Global,
+        blanks: (Blank, Blank),
+        site: Site,
+        seats: u64,
+    ) -> Result<SeatedBook<C, A>, AllocError>
+        requires changes { (blanks.0.name ≡ C.name) × (blanks.0.parts ≡ C.parts)
+            × (blanks.0.parts ≡ seats + 1) }
+        requires answers { (blanks.1.name ≡ A.name) × (blanks.1.parts ≡ A.parts)
+            × (blanks.1.parts ≡ seats + 1) }
+        ensures { IfOk result (λ book. length book.seats.items ≡ seats) }
+    {
+        let (changes, answers) = blanks;
+        // It never fails: each ledger has so many parts.
+        let Some(count) = seats.checked_add(1) else {
+            return Err(AllocError);
+        };
+        let (shared, passes) = Shared::make(alloc, changes, answers, site, count)?;
+        let mut passes = passes;
+        let Some(restoring) = passes.pop() else {
+            unreachable!()
+        };
+        Ok(SeatedBook {
+            shared,
+            restoring,
+            seats: passes,
+        })
+    }
+}
+
+/// Begins to serve a site on a listener, with a seat for each pass: a thread that keeps the pass
+/// and serves one connection after another. Workers on other threads compile. It goes on when this
+/// returns, for as long as the program runs. Returns how many seats there are: fewer where a thread
+/// couldn't be made, and one at least.
+pub fn run_seats<
+    C: Ledger + Send + Sync + Drop + 'static,
+    A: Ledger + Send + Sync + Drop + 'static,
+    R: Threads + Wait + Clock + Eprint + Copy + Send + Sync + Drop + 'static,
+    M: Moments + Send + Sync + Drop + 'static,
+    J: Journal + Send + Sync + Drop + 'static,
+>(
+    context: &Arc<SeatContext<C, A, R, M, J>, Global>,
+    listener: TcpListener,
+    passes: Vec<Pass<C, A>>,
+    workers: usize,
+) -> Result<usize, ServeFault>
+    requires workers { 1 ≤ workers }
+    ensures some { IfOk result (λ seats. 1 ≤ seats) }
+    ensures at_most { IfOk result (λ seats. seats ≤ length passes.items) }
+{
+    let wanted = passes.len();
+    let jobs = begin_workers(context, workers)?;
+    let (streams, queue) = bounded(context.alloc, wanted)?;
+    let seats = begin_seats(context, &jobs, &queue, passes)?;
+    if seats == 0 {
+        return Err(ServeFault::OutOfMemory);
+    }
+    if seats < wanted {
+        let _ = eprintln!(context.rt;
+            "central: {seats} seats of {wanted}: for the others no thread could be made"
+        );
+    }
+    let own = Arc::try_clone(context)?;
+    let accepting = thread::Builder::new().spawn(&context.rt, move || {
+        accept_connections(&own.rt, &own.free, &listener, &streams)
+    });
+    match accepting {
+        Ok(_) => Ok(seats),
+        Err(_) => Err(ServeFault::OutOfMemory),
+    }
+}
+
+/// Begins the workers on a thread of their own. Returns the way to them. Where no thread can be
+/// made nobody takes the jobs, and sessions compile themselves.
+fn begin_workers<
+    C: Ledger + Send + Sync + Drop + 'static,
+    A: Ledger + Send + Sync + Drop + 'static,
+    R: Threads + Wait + Copy + Send + Sync + Drop + 'static,
+    M: Send + Sync + Drop + 'static,
+    J: Send + Sync + Drop + 'static,
+>(
+    context: &Arc<SeatContext<C, A, R, M, J>, Global>,
+    workers: usize,
+) -> Result<Sender<Job>, ServeFault>
+    requires { 1 ≤ workers }
+{
+    let (jobs, queue) = bounded(context.alloc, MAX_JOBS)?;
+    let (rt, alloc) = (context.rt, context.alloc);
+    let shared = Arc::try_clone(&context.shared)?;
+    let pool = thread::Builder::new().spawn(
+        &context.rt,
+        move || -> usize
+            requires { 1 ≤ workers }
+        { run_pool(&rt, alloc, workers, &queue, &shared, &Open) },
+    );
+    drop(pool);
+    Ok(jobs)
+}
+
+/// Begins a seat for each pass. Returns how many threads could be made for them.
+fn begin_seats<
+    C: Ledger + Send + Sync + Drop + 'static,
+    A: Ledger + Send + Sync + Drop + 'static,
+    R: Threads + Wait + Clock + Copy + Send + Sync + Drop + 'static,
+    M: Moments + Send + Sync + Drop + 'static,
+    J: Journal + Send + Sync + Drop + 'static,
+>(
+    context: &Arc<SeatContext<C, A, R, M, J>, Global>,
+    jobs: &Sender<Job>,
+    queue: &Receiver<TcpStream>,
+    passes: Vec<Pass<C, A>>,
+) -> Result<usize, ServeFault>
+    ensures { IfOk result (λ seats. seats ≤ length passes.items) }
+{
+    let mut seats = 0usize;
+    for pass in passes {
+        if begin_seat(context, jobs, queue, pass)? {
+            // It is free before a connection is let in.
+            context.free.add(&context.rt);
+            seats += 1;
+        }
+    }
+    Ok(seats)
+}
+
+/// Begins a seat. False where no thread can be made for it.
+fn begin_seat<
+    C: Ledger + Send + Sync + Drop + 'static,
+    A: Ledger + Send + Sync + Drop + 'static,
+    R: Threads + Wait + Clock + Copy + Send + Sync + Drop + 'static,
+    M: Moments + Send + Sync + Drop + 'static,
+    J: Journal + Send + Sync + Drop + 'static,
+>(
+    context: &Arc<SeatContext<C, A, R, M, J>, Global>,
+    jobs: &Sender<Job>,
+    queue: &Receiver<TcpStream>,
+    pass: Pass<C, A>,
+) -> Result<bool, ServeFault> {
+    let own = Arc::try_clone(context)?;
+    let (jobs, queue) = (jobs.clone()?, queue.clone()?);
+    let seat = thread::Builder::new()
+        .stack_size(SEAT_STACK)
+        .spawn(&context.rt, move || keep_seat(&own, &jobs, &queue, pass));
+    Ok(seat.is_ok())
+}

@@ -1,0 +1,311 @@
+-- The line of a step that was made leads where the step led.
+use Rattle.std.proofs.Common.{◌≡◌, ℕ, List, Bool, true, false, Some, None, Option, Result, Ok, Err, IfSome, IfOk, option_map, inl, inr, refl, sym, subst, ◌∙◌}
+use Rattle.ocpp_scalars.specs.declared.refusal.Refusal.{Refusal}
+use Rattle.messages.specs.declared.call.Call.{Call}
+use Rattle.messages.specs.declared.side.Side.{Side}
+use Rattle.messages.specs.declared.action_kind.ActionKind.{ActionKind}
+use Rattle.sweep_compiler.specs.Judged.{Judgement}
+use Rattle.site_core.specs.declared.step.Step.{Step}
+use Rattle.site_core.specs.declared.step.Step.TheVariants as steps
+use Rattle.site_core.specs.declared.reply.Reply.{Reply}
+use Rattle.site_core.specs.declared.reply.Reply.TheVariants as replies
+use Rattle.site_core.specs.Step.{Made}
+use Rattle.version_store.specs.Passes.{PassState}
+use Rattle.version_store.specs.Store.{StoreState, IsStore}
+use Rattle.version_store.specs.Calls.{Calls, Makes, sending}
+use Rattle.site_journal.specs.Entry.{EntryState, IsEntryOf}
+use Rattle.site_journal.specs.Line.{NotedState, noted_state}
+use Rattle.site_journal.specs.Line as kinds
+use Rattle.site_journal.specs.declared.line.Noted.{Noted}
+use Rattle.site_journal.specs.NotedStep.{ChangesAreRestored, LinksAreRestored, SendsAreRestored, LossesAreRestored, IsStep, line_at, noted_by}
+use Rattle.site_journal.specs.Restore.{is_change, number_drawn}
+use Rattle.texts.specs.declared.asked.Asked.TheVariants as asked
+use Rattle.texts.specs.Asked.{asked_of}
+use Rattle.texts.specs.SentText.{Sent}
+use Rattle.session.specs.declared.journal.JournalFault.{JournalFault}
+use Rattle.session.specs.declared.outcome.Outcome.TheVariants as outcomes
+use Rattle.session.specs.declared.outcome.Performed.{Performed}
+use Rattle.session.specs.declared.outcome.Performed.TheVariants.{Outcome}
+use Rattle.session.specs.Noting.{IsOfMadeStep, IsEntryAt, IsEntryFor, IsEntryToNote, AsksFor, IsNotable, is_confirm}
+use Rattle.session.specs.Perform.{Performs}
+
+-- ---- a call on the book is the machine's step
+
+abbrev after : Reply → StoreState → Made
+after told new = record { reply = told; after = new.present }
+
+made_step : (old new : StoreState) (step : Step) (told : Reply) → Makes old step told new
+    → IsStep old.present step (after told new)
+made_step old new step told (inl adds) = adds.made
+made_step old new step told (inr alone) =
+    subst (λ (s : StoreState). IsStep old.present step (after told s)) (sym alone.kept) alone.made
+
+-- ---- links
+
+attached_made : (point : List ℕ) (entry : EntryState) (link : ℕ) (old new : StoreState)
+    → LinksAreRestored → IsEntryAt point (kinds.attached 0) entry → IsStore old
+    → Makes old (steps.Attach point) (replies.Attached link) new → IsOfMadeStep entry link
+attached_made point entry link old new law at store makes = record {
+  line = line_at at.0 point (kinds.attached 0);
+  entry_is = at.1;
+  old = old;
+  new = new;
+  step = steps.Attach point;
+  told = replies.Attached link;
+  store = store;
+  makes = makes;
+  leads = law old.present at.0 point link (after (replies.Attached link) new)
+      (made_step old new (steps.Attach point) (replies.Attached link) makes) refl;
+}
+
+-- a link that a point got, as the code has it
+pub attached_noted : (point there : List ℕ) (maybe : Option EntryState) (entry : EntryState)
+    (link : ℕ) (result : Result ℕ Refusal) (locked old new : StoreState) (was pass : PassState)
+    → LinksAreRestored → IfSome maybe (IsEntryAt there (kinds.attached 0)) → maybe ≡ Some entry
+    → there ≡ point → IsStore locked → old ≡ locked
+    → IfOk result (λ (l : ℕ). Calls old was (steps.Attach point) (replies.Attached l) new pass)
+    → result ≡ Ok link → IsOfMadeStep entry link
+attached_noted point there maybe entry link result locked old new was pass law at entry_is same store
+    locked_is calls result_is =
+    let made = subst (λ (r : Result ℕ Refusal). IfOk r (λ (l : ℕ).
+    Calls old was (steps.Attach point) (replies.Attached l) new pass)) result_is calls in
+    attached_made point entry link old new law
+    (subst (λ p. IsEntryAt p (kinds.attached 0) entry) same
+    (subst (λ (e : Option EntryState). IfSome e (IsEntryAt there (kinds.attached 0))) entry_is at))
+    (subst IsStore (sym locked_is) store) made.makes
+
+sent_made : (moment : ℕ) (point : List ℕ) (link : ℕ) (entry : EntryState) (call : Call)
+    (old new : StoreState)
+    → SendsAreRestored → IsEntryOf entry (line_at moment point (kinds.sent link 0)) → IsStore old
+    → Makes old (steps.Send point link) (replies.Sent call) new
+    → IsOfMadeStep entry call.number
+sent_made moment point link entry call old new law entry_is store makes = record {
+  line = line_at moment point (kinds.sent link 0);
+  entry_is = entry_is;
+  old = old;
+  new = new;
+  step = steps.Send point link;
+  told = replies.Sent call;
+  store = store;
+  makes = makes;
+  leads = law old.present moment point link call (after (replies.Sent call) new)
+      (made_step old new (steps.Send point link) (replies.Sent call) makes) refl;
+}
+
+-- a call that went out
+pub sent_noted : (moment : ℕ) (point there : List ℕ) (link : ℕ) (maybe : Option EntryState)
+    (entry : EntryState) (call : Call) (result : Result (Option Call) Refusal)
+    (locked old new : StoreState)
+    → SendsAreRestored
+    → IfSome maybe (λ (e : EntryState). IsEntryOf e (line_at moment there (kinds.sent link 0)))
+    → maybe ≡ Some entry → there ≡ point → IsStore locked → old ≡ locked
+    → IfOk result (λ (c : Option Call). Makes old (steps.Send point link) (sending c) new)
+    → result ≡ Ok (Some call) → IsOfMadeStep entry call.number
+sent_noted moment point there link maybe entry call result locked old new law at entry_is same store
+    locked_is makes result_is =
+    sent_made moment point link entry call old new law
+    (subst (λ p. IsEntryOf entry (line_at moment p (kinds.sent link 0))) same
+    (subst (λ (m : Option EntryState). IfSome m (λ (e : EntryState).
+    IsEntryOf e (line_at moment there (kinds.sent link 0)))) entry_is at))
+    (subst IsStore (sym locked_is) store)
+    (subst (λ (r : Result (Option Call) Refusal). IfOk r (λ (c : Option Call).
+    Makes old (steps.Send point link) (sending c) new)) result_is makes)
+
+lost_made : (point : List ℕ) (link : ℕ) (entry : EntryState) (old new : StoreState)
+    → LossesAreRestored → IsEntryAt point (kinds.lost link) entry → IsStore old
+    → Makes old (steps.Lost point link) replies.LinkLost new → IsOfMadeStep entry 0
+lost_made point link entry old new law at store makes = record {
+  line = line_at at.0 point (kinds.lost link);
+  entry_is = at.1;
+  old = old;
+  new = new;
+  step = steps.Lost point link;
+  told = replies.LinkLost;
+  store = store;
+  makes = makes;
+  leads = law old.present at.0 point link (after replies.LinkLost new)
+      (made_step old new (steps.Lost point link) replies.LinkLost makes);
+}
+
+-- a link that was lost
+pub lost_noted : (point there : List ℕ) (link : ℕ) (maybe : Option EntryState)
+    (entry : EntryState) (result : Result (Unit {0}) Refusal) (done : Unit {0})
+    (locked old new : StoreState)
+    → LossesAreRestored → IfSome maybe (IsEntryAt there (kinds.lost link)) → maybe ≡ Some entry
+    → there ≡ point → IsStore locked → old ≡ locked
+    → IfOk result (λ (d : Unit {0}). Makes old (steps.Lost point link) replies.LinkLost new)
+    → result ≡ Ok done → IsOfMadeStep entry 0
+lost_noted point there link maybe entry result done locked old new law at entry_is same store
+    locked_is makes result_is =
+    lost_made point link entry old new law
+    (subst (λ p. IsEntryAt p (kinds.lost link) entry) same
+    (subst (λ (e : Option EntryState). IfSome e (IsEntryAt there (kinds.lost link))) entry_is at))
+    (subst IsStore (sym locked_is) store)
+    (subst (λ (r : Result (Unit {0}) Refusal). IfOk r (λ (d : Unit {0}).
+    Makes old (steps.Lost point link) replies.LinkLost new)) result_is makes)
+
+-- a verdict that was kept
+pub verdict_noted : (moment : ℕ) (there point : List ℕ) (call : ℕ) (frame : List ℕ)
+    (judged : Judgement) (maybe : Option EntryState) (entry : EntryState)
+    (locked old new : StoreState)
+    → IfSome maybe (λ (e : EntryState). IsEntryOf e (line_at moment there (kinds.verdict call frame)))
+    → maybe ≡ Some entry → IsStore locked → old ≡ locked
+    → Makes old (steps.Judge point call judged) replies.VerdictKept new → IsOfMadeStep entry call
+verdict_noted moment there point call frame judged maybe entry locked old new at entry_is store
+    locked_is makes = record {
+      line = line_at moment there (kinds.verdict call frame);
+      entry_is = subst (λ (m : Option EntryState). IfSome m (λ (e : EntryState).
+          IsEntryOf e (line_at moment there (kinds.verdict call frame)))) entry_is at;
+      old = old;
+      new = new;
+      step = steps.Judge point call judged;
+      told = replies.VerdictKept;
+      store = subst IsStore (sym locked_is) store;
+      makes = makes;
+      leads = tt;
+    }
+
+-- ---- messages
+
+to_note : (text : Sent) (step : Step) (noted : Noted) (entry : EntryState)
+    → AsksFor text step → Some (noted_state noted) ≡ noted_by step text.sender text.frame
+    → IsEntryOf entry (line_at text.moment text.point (noted_state noted))
+    → IsEntryToNote step entry
+to_note text step noted entry asks by entry_is = record {
+  text = text;
+  asks = asks;
+  noted = noted_state noted;
+  noted_is = sym by;
+  entry_is = entry_is;
+}
+
+for_some : (text : Sent) (step : Step) (noted : Noted)
+    (result : Result (Option EntryState) JournalFault)
+    → AsksFor text step → Some (noted_state noted) ≡ noted_by step text.sender text.frame
+    → IfOk result (λ (entry : Option EntryState). IfSome entry (λ (e : EntryState).
+    IsEntryOf e (line_at text.moment text.point (noted_state noted))))
+    → IfOk result (IsEntryFor (Some step))
+for_some text step noted (Ok None) asks by entry_is = tt
+for_some text step noted (Ok (Some entry)) asks by entry_is =
+    to_note text step noted entry asks by entry_is
+for_some text step noted (Err fault) asks by entry_is = tt
+
+-- the entry of a message that asks for a step
+pub prepared : (text : Sent) (maybe : Option Step) (step : Step) (found : Option Noted)
+    (noted : Noted) (moment : ℕ) (point : List ℕ)
+    (result : Result (Option EntryState) JournalFault)
+    → IfSome maybe (AsksFor text) → maybe ≡ Some step
+    → option_map noted_state found ≡ noted_by step text.sender text.frame → found ≡ Some noted
+    → moment ≡ text.moment → point ≡ text.point
+    → IfOk result (λ (entry : Option EntryState). IfSome entry (λ (e : EntryState).
+    IsEntryOf e (line_at moment point (noted_state noted))))
+    → IfOk result (IsEntryFor maybe)
+prepared text maybe step found noted moment point result asks step_is by found_is moment_is point_is
+    entry_is =
+    subst (λ (m : Option Step). IfOk result (IsEntryFor m)) (sym step_is)
+    (for_some text step noted result
+    (subst (λ (m : Option Step). IfSome m (AsksFor text)) step_is asks)
+    (subst (λ (f : Option Noted). option_map noted_state f
+    ≡ noted_by step text.sender text.frame) found_is by)
+    (subst (λ m. IfOk result (λ (entry : Option EntryState). IfSome entry (λ (e : EntryState).
+    IsEntryOf e (line_at m text.point (noted_state noted))))) moment_is
+    (subst (λ p. IfOk result (λ (entry : Option EntryState). IfSome entry (λ (e : EntryState).
+    IsEntryOf e (line_at moment p (noted_state noted))))) point_is entry_is)))
+
+-- a change is what it performs, and is noted with its message
+performs_makes : (old : StoreState) (was : PassState) (step : Step) (told : Reply)
+    (new : StoreState) (pass : PassState) → is_change step ≡ true
+    → Performs old was step (Outcome (outcomes.Made told)) new pass → Makes old step told new
+performs_makes old was (steps.Take take) told new pass change performs = absurd performs
+performs_makes old was (steps.Confirm point link call accepted) told new pass change performs =
+    absurd (cc)
+performs_makes old was step told new pass change performs = performs.makes
+
+noted_message : (step : Step) (side : Side) (frame : List ℕ) (noted : NotedState)
+    → is_confirm step ≡ false → noted_by step side frame ≡ Some noted
+    → (is_change step ≡ true) × (kinds.message side 0 frame ≡ noted)
+noted_message (steps.Install point row) side frame noted is by = (refl, cc)
+noted_message (steps.Clear point criteria) side frame noted is by = (refl, cc)
+noted_message (steps.Start point connector begin) side frame noted is by = (refl, cc)
+noted_message (steps.Stop point number) side frame noted is by = (refl, cc)
+noted_message (steps.Audit point connector duration) side frame noted is by = (refl, cc)
+noted_message (steps.RemoteStart point connector id_tag profile) side frame noted is by =
+    (refl, cc)
+noted_message step side frame noted is by = absurd (cc)
+
+asks_by_a_call : (text : Sent) (step : Step) → is_confirm step ≡ false → AsksFor text step
+    → (id : List ℕ) × (kind : ActionKind) × (asked_of text ≡ asked.Step id kind step)
+asks_by_a_call text (steps.Confirm point link call accepted) is asks = absurd (cc)
+asks_by_a_call text step is asks = asks
+
+change_made : (entry : EntryState) (told : Reply) (new : StoreState) (number : ℕ)
+    → ChangesAreRestored → IsNotable entry false (Outcome (outcomes.Made told)) new
+    → number_drawn told new.present.numbers.version ≡ Some number → IsOfMadeStep entry number
+change_made entry told new number law notable drawn =
+    let it = notable.entry_is in
+    let no_confirm = sym notable.confirms_is in
+    let noted = noted_message notable.step it.text.sender it.text.frame it.noted no_confirm it.noted_is in
+    let asks = asks_by_a_call it.text notable.step no_confirm it.asks in
+    let makes = performs_makes notable.old notable.was notable.step told new notable.pass noted.0 notable.performs in
+    record {
+      line = line_at it.text.moment it.text.point (kinds.message it.text.sender 0 it.text.frame);
+      entry_is = subst (λ n. IsEntryOf entry (line_at it.text.moment it.text.point n)) (sym noted.1) it.entry_is;
+      old = notable.old;
+      new = new;
+      step = notable.step;
+      told = told;
+      store = notable.store;
+      makes = makes;
+      leads = law notable.old.present it.text asks.0 asks.1 notable.step (after told new) number
+          asks.2 noted.0 (made_step notable.old new notable.step told makes) drawn;
+    }
+
+-- what was performed and is noted, as the code has it
+abbrev AreNotable : Option EntryState → Bool → Performed → StoreState → Type 0
+AreNotable maybe confirms performed new =
+    IfSome maybe (λ (e : EntryState). IsNotable e confirms performed new)
+
+pub change_noted : (maybe : Option EntryState) (entry : EntryState) (confirms : Bool)
+    (performed : Performed) (told : Reply) (new : StoreState) (number : ℕ)
+    → ChangesAreRestored → AreNotable maybe confirms performed new
+    → maybe ≡ Some entry → confirms ≡ false → performed ≡ Outcome (outcomes.Made told)
+    → number_drawn told new.present.numbers.version ≡ Some number → IsOfMadeStep entry number
+change_noted maybe entry confirms performed told new number law notable entry_is confirms_is
+    performed_is drawn =
+    change_made entry told new number law
+    (subst (λ (p : Performed). IsNotable entry false p new) performed_is
+    (subst (λ b. IsNotable entry b performed new) confirms_is
+    (subst (λ (m : Option EntryState). AreNotable m confirms performed new) entry_is notable)))
+    drawn
+
+-- a confirm is what it performs, and is noted with its reply
+confirm_made : (step : Step) (entry : EntryState) (told : Reply) (old new : StoreState)
+    (was pass : PassState) → IsEntryToNote step entry → is_confirm step ≡ true → IsStore old
+    → Performs old was step (Outcome (outcomes.Made told)) new pass → IsOfMadeStep entry 0
+confirm_made (steps.Confirm point link call accepted) entry told old new was pass it is store
+    performs =
+    let same : it.noted ≡ kinds.reply link it.text.frame = cc (it.noted_is) in
+    record {
+      line = line_at it.text.moment it.text.point (kinds.reply link it.text.frame);
+      entry_is = subst (λ n. IsEntryOf entry (line_at it.text.moment it.text.point n)) same it.entry_is;
+      old = old;
+      new = new;
+      step = steps.Confirm point link call accepted;
+      told = told;
+      store = store;
+      makes = performs.0;
+      leads = tt;
+    }
+confirm_made step entry told old new was pass it is store performs = absurd (cc)
+
+pub confirm_noted : (maybe : Option EntryState) (entry : EntryState) (confirms : Bool)
+    (performed : Performed) (told : Reply) (new : StoreState)
+    → AreNotable maybe confirms performed new
+    → maybe ≡ Some entry → confirms ≡ true → performed ≡ Outcome (outcomes.Made told)
+    → IsOfMadeStep entry 0
+confirm_noted maybe entry confirms performed told new notable entry_is confirms_is performed_is =
+    let it = subst (λ (p : Performed). IsNotable entry true p new) performed_is
+    (subst (λ b. IsNotable entry b performed new) confirms_is
+    (subst (λ (m : Option EntryState). AreNotable m confirms performed new) entry_is notable)) in
+    confirm_made it.step entry told it.old new it.was it.pass it.entry_is (sym it.confirms_is)
+    it.store it.performs

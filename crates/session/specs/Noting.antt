@@ -1,0 +1,81 @@
+-- What a session notes of a step that it made: a line that leads where the step led.
+use Rattle.std.specs.Prelude.{ℕ, ◌≡◌, Bool, true, false, List, Option, Some, None, Ok}
+use Rattle.messages.specs.declared.action_kind.ActionKind.{ActionKind}
+use Rattle.site_core.specs.declared.step.Step.{Step}
+use Rattle.site_core.specs.declared.step.Step.TheVariants as steps
+use Rattle.site_core.specs.declared.reply.Reply.{Reply}
+use Rattle.site_core.specs.Step.{Made}
+use Rattle.version_store.specs.Passes.{PassState}
+use Rattle.version_store.specs.Store.{StoreState, IsStore}
+use Rattle.version_store.specs.Calls.{Makes}
+use Rattle.site_journal.specs.Entry.{EntryState, IsEntryOf, numbered}
+use Rattle.site_journal.specs.Line.{NotedState, LineState, reply, verdict}
+use Rattle.site_journal.specs.NotedStep.{LeadsTo, line_at, noted_by}
+use Rattle.texts.specs.declared.asked.Asked.TheVariants as asked
+use Rattle.texts.specs.Asked.{asked_of}
+use Rattle.texts.specs.SentText.{Sent}
+use Rattle.session.specs.declared.outcome.Performed.{Performed}
+use Rattle.session.specs.Perform.{Performs}
+
+-- ---- a line of a step that was made
+
+-- a line leads where a step led; of what a point replied nothing is said
+abbrev pub LeadsWith : StoreState → LineState → NotedState → Made → Type 0
+LeadsWith old line (reply link frame) made = Unit {0}
+LeadsWith old line (verdict call frame) made = Unit {0}
+LeadsWith old line noted made = LeadsTo old.present line made
+
+-- A step was made on the book while the session had it, and the entry with this number is a line that
+-- leads where the step led.
+pub record IsOfMadeStep (entry : EntryState) (number : ℕ) : Type 0 where
+  pub line : LineState
+  pub entry_is : IsEntryOf entry line
+  pub old : StoreState
+  pub new : StoreState
+  pub step : Step
+  pub told : Reply
+  pub store : IsStore old
+  pub makes : Makes old step told new
+  pub leads : LeadsWith old (numbered line number) line.noted
+      (record { reply = told; after = new.present })
+
+-- an entry of what is noted of a point, at some moment
+abbrev pub IsEntryAt : List ℕ → NotedState → EntryState → Type 0
+IsEntryAt point noted entry = (moment : ℕ) × IsEntryOf entry (line_at moment point noted)
+
+-- ---- what is noted of a message
+
+-- what a message asks for is this step; of a confirm nothing is said
+abbrev pub AsksFor : Sent → Step → Type 0
+AsksFor text (steps.Confirm point link call accepted) = Unit {0}
+AsksFor text step = (id : List ℕ) × (kind : ActionKind) × (asked_of text ≡ asked.Step id kind step)
+
+-- an entry of what is noted of a step, for which a message asks
+pub record IsEntryToNote (step : Step) (entry : EntryState) : Type 0 where
+  pub text : Sent
+  pub asks : AsksFor text step
+  pub noted : NotedState
+  pub noted_is : noted_by step text.sender text.frame ≡ Some noted
+  pub entry_is : IsEntryOf entry (line_at text.moment text.point noted)
+
+-- no entry, or that of the step
+abbrev pub IsEntryFor : Option Step → Option EntryState → Type 0
+IsEntryFor step None = Unit {0}
+IsEntryFor None (Some entry) = ⊥
+IsEntryFor (Some step) (Some entry) = IsEntryToNote step entry
+
+abbrev pub is_confirm : Step → Bool
+is_confirm (steps.Confirm point link call accepted) = true
+is_confirm step = false
+
+-- A step was performed on the book, which is this one since, and the entry is to note it.
+pub record IsNotable (entry : EntryState) (confirms : Bool) (performed : Performed)
+    (new : StoreState) : Type 0 where
+  pub step : Step
+  pub entry_is : IsEntryToNote step entry
+  pub confirms_is : confirms ≡ is_confirm step
+  pub old : StoreState
+  pub was : PassState
+  pub pass : PassState
+  pub store : IsStore old
+  pub performs : Performs old was step performed new pass

@@ -1,0 +1,85 @@
+//! What is noted of a session's steps: those that change something.
+
+ghost use Rattle.std.specs.Prelude.{◌≡◌, IfOk, IfSome};
+ghost use Rattle.site_journal.specs.Line.{noted_state};
+ghost use Rattle.session.specs.declared.outcome.Outcome.{Outcome};
+ghost use Rattle.session.specs.declared.outcome.Performed.{Performed};
+ghost use Rattle.session.specs.Noting.{AsksFor, IsEntryAt, IsEntryFor, IsNotable};
+
+use crate::context::Context;
+use crate::journal::{Journal, JournalFault};
+use crate::outcome::{Outcome, Performed};
+use ocpp_scalars::{Instant, Moments};
+use site_core::{Reply, Step};
+use site_journal::{Entry, Noted, noted_by, noted_steps_are_restored, number_drawn};
+use std::sync::Wait;
+use std::sync::ledger::Ledger;
+use texts::SentText;
+use version_store::Book;
+
+/// Makes the entry of a message whose step may change something, or none. A request for a schedule
+/// or for a status changes nothing.
+pub(crate) fn prepare_message<C: Ledger, A: Ledger, R: Wait, M: Moments, J: Journal>(
+    context: &Context<'_, C, A, R, M, J>,
+    sent: &SentText<'_>,
+    step: &Option<Step>,
+) -> Result<Option<Entry>, JournalFault>
+    requires { IfSome step.now (AsksFor sent.now) }
+    ensures { IfOk result (IsEntryFor step.now) }
+{
+    let Some(step) = step else {
+        return Ok(None);
+    };
+    let Some(noted) = noted_by(step, sent.sender(), sent.frame()) else {
+        return Ok(None);
+    };
+    context.journal.prepare(sent.moment(), sent.point(), noted)
+}
+
+/// Makes the entry of what becomes of a point's link.
+pub(crate) fn prepare_link<C: Ledger, A: Ledger, R: Wait, M: Moments, J: Journal>(
+    context: &Context<'_, C, A, R, M, J>,
+    point: &str,
+    noted: Noted<'_>,
+) -> Result<Option<Entry>, JournalFault>
+    ensures { IfOk result (λ entry. IfSome entry (IsEntryAt point.now (noted_state noted.entry))) }
+{
+    // Moments are noted and never compared, so one is as good as none.
+    let Some(moment) = context.clock.now().or(Instant::try_new(0)) else {
+        unreachable!()
+    };
+    context.journal.prepare(moment, point, noted)
+}
+
+/// Notes the step of a message, if it was made and changed something. Nobody else has had the book
+/// since before it.
+pub(crate) fn note_performed<C: Ledger, A: Ledger, J: Journal>(
+    journal: &J,
+    book: &Book<C, A>,
+    entry: Option<Entry>,
+    confirms: bool,
+    performed: &Performed,
+)
+    requires { IfSome entry (λ e. IsNotable e confirms performed.now book.now) }
+{
+    // A law: nothing runs.
+    noted_steps_are_restored();
+    let (Some(entry), Some(reply)) = (entry, reply_made(performed)) else {
+        return;
+    };
+    if confirms {
+        journal.note(entry, 0);
+    } else if let Some(number) = number_drawn(reply, book.version()) {
+        journal.note(entry, number);
+    }
+}
+
+/// The reply of a step that was made.
+fn reply_made(performed: &Performed) -> Option<&Reply>
+    ensures { IfSome result (λ reply. performed.now ≡ Performed.Outcome (Outcome.Made reply.now)) }
+{
+    match performed {
+        Performed::Outcome(Outcome::Made(reply)) => Some(reply),
+        _ => None,
+    }
+}

@@ -1,0 +1,10 @@
+pub mod LineWriting
+pub mod LineCodec
+pub mod LinePieces
+pub mod LineEnds
+pub mod StepLemmas
+pub mod RestoreLemmas
+pub mod NotedLemmas
+pub mod LostLemmas
+pub mod JournalLemmas
+pub mod ForgettingLemmas

@@ -1,0 +1,11 @@
+pub mod Line
+pub mod Lines
+pub mod Entry
+pub mod Header
+pub mod RestoreFault
+pub mod Restore
+pub mod NotedStep
+pub mod Journal
+pub mod LostLinks
+pub mod Forgetting
+pub mod ByCases

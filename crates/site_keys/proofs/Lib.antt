@@ -1,0 +1,10 @@
+pub mod DigestLemmas
+pub mod NameLemmas
+pub mod CutLemmas
+pub mod FileLemmas
+pub mod CredentialsLemmas
+pub mod KeyLemmas
+pub mod LineLemmas
+pub mod KeyFileLemmas
+pub mod AdmissionLemmas
+pub mod NewKeyLemmas

@@ -1,0 +1,4 @@
+pub mod Key
+pub mod KeyFile
+pub mod Credentials
+pub mod Admission

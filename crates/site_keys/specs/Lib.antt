@@ -1,0 +1,11 @@
+pub mod Bytes
+pub mod Limits
+pub mod OptionSteps
+pub mod ResultSteps
+pub mod Key
+pub mod KeyFile
+pub mod KeysFault
+pub mod Credentials
+pub mod Admission
+pub mod NewKey
+pub mod ByCases

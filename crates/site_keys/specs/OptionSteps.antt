@@ -1,0 +1,7 @@
+-- One step and then the next, up to the first that has no value: `do` for `Option`.
+use Rattle.std.specs.Prelude.{Option, Some, None}
+
+infixl 10 ◌>>=◌
+abbrev pub ◌>>=◌ : {A B : Type 0} → Option A → (A → Option B) → Option B
+None >>= next = None
+(Some a) >>= next = next a

@@ -1,0 +1,87 @@
+//! Who may come.
+
+ghost use Rattle.std.specs.Prelude.{◌≡◌, Some, IfOk};
+ghost use Rattle.site_keys.specs.ByCases.Admission.{decided_of, decided_of_user, decision, is_own};
+ghost use Rattle.site_keys.specs.ByCases.Credentials.{credentials_of};
+ghost use Rattle.site_keys.specs.Admission.{Decides};
+
+use crate::credentials::{credentials_of, sent_bytes};
+use crate::key::{Key, has_right_key};
+use crate::role::Role;
+use std::alloc::{AllocError, Global};
+
+/// What comes of the credentials of an HTTP request.
+#[derive(Debug, Drop)]
+pub enum Admission {
+    /// This user may come.
+    Admitted(String),
+    /// 401: there are no credentials of the scheme Basic, or they aren't right.
+    Unauthorized,
+    /// 403: the credentials are right, but the identity is another's.
+    Forbidden,
+}
+
+/// Decides by the keys of a site.
+pub(crate) fn decide(
+    alloc: Global,
+    keys: &[Key],
+    role: Role,
+    identity: &str,
+    header: &[u8],
+) -> Result<Admission, AllocError>
+    ensures { IfOk result (λ admission.
+        Decides admission keys.now role identity.now (Some header.now)) }
+{
+    match sent_bytes(alloc, header)? {
+        Some(bytes) => decide_by(alloc, keys, role, identity, bytes.as_slice()),
+        None => Ok(Admission::Unauthorized),
+    }
+}
+
+/// Decides by the user and the password that were sent, parted by a colon.
+fn decide_by(
+    alloc: Global,
+    keys: &[Key],
+    role: Role,
+    identity: &str,
+    bytes: &[u8],
+) -> Result<Admission, AllocError>
+    ensures { IfOk result (λ admission. decision admission
+        ≡ decided_of keys.now role identity.now (credentials_of bytes.now)) }
+{
+    let Some(sent) = credentials_of(bytes) else {
+        return Ok(Admission::Unauthorized);
+    };
+    if has_right_key(keys, role, sent.user, sent.password) {
+        decide_of_user(alloc, role, identity, sent.user)
+    } else {
+        Ok(Admission::Unauthorized)
+    }
+}
+
+/// Decides of a user with right credentials.
+fn decide_of_user(
+    alloc: Global,
+    role: Role,
+    identity: &str,
+    user: &str,
+) -> Result<Admission, AllocError>
+    ensures { IfOk result (λ admission. decision admission
+        ≡ decided_of_user role identity.now user.now) }
+{
+    if is_own(role, identity, user) {
+        Ok(Admission::Admitted(String::from_str(alloc, user)?))
+    } else {
+        Ok(Admission::Forbidden)
+    }
+}
+
+/// Whether a user of this role comes for itself, or may come for others.
+fn is_own(role: Role, identity: &str, user: &str) -> bool
+    ensures { result ≡ is_own role identity.now user.now }
+{
+    match role {
+        Role::Point => user == identity,
+        Role::Operator => true,
+    }
+}

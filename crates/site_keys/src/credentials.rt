@@ -1,0 +1,67 @@
+//! HTTP Basic (RFC 7617): the user and the password of an Authorization header.
+
+ghost use Rattle.std.specs.Prelude.{ℕ, ◌≡◌, ◌↔◌, List, Some, IfOk};
+ghost use Rattle.std.specs.Option.{option_copied, option_map};
+ghost use Rattle.site_keys.specs.ByCases.Credentials.{credentials_of, credentials_view, token_in};
+ghost use Rattle.site_keys.specs.Credentials.{HasSent, IsBase64};
+
+use crate::bytes::{cut, without_spaces};
+use crate::name::text_in;
+use base64::DecodeAllocError;
+use base64::engine::general_purpose::STANDARD;
+use std::alloc::{AllocError, Global};
+
+/// A user and a password.
+#[derive(Clone, Copy)]
+pub(crate) struct Credentials<'a> {
+    pub(crate) user: &'a str,
+    pub(crate) password: &'a [u8],
+}
+
+/// The bytes that a header with the scheme Basic has in base64.
+pub(crate) fn sent_bytes(alloc: Global, header: &[u8]) -> Result<Option<Vec<u8>>, AllocError>
+    ensures { IfOk result (λ sent. (bytes : List ℕ)
+        → (option_map (λ v. v.items) sent ≡ Some bytes) ↔ HasSent header.now bytes) }
+{
+    match token_in(header) {
+        Some(token) => base64_bytes(alloc, token),
+        None => Ok(None),
+    }
+}
+
+/// What stands behind the scheme Basic of a header, if it has that.
+fn token_in(header: &[u8]) -> Option<&[u8]>
+    ensures { option_copied result ≡ token_in header.entry.now }
+{
+    match cut(header, b' ') {
+        Some((scheme, rest)) => {
+            if scheme.eq_ignore_ascii_case(b"basic") {
+                Some(without_spaces(rest))
+            } else {
+                None
+            }
+        }
+        None => None,
+    }
+}
+
+/// The bytes of which a text is the base64.
+fn base64_bytes(alloc: Global, text: &[u8]) -> Result<Option<Vec<u8>>, AllocError>
+    ensures { IfOk result (λ decoded. (bytes : List ℕ)
+        → (option_map (λ v. v.items) decoded ≡ Some bytes) ↔ IsBase64 text.now bytes) }
+{
+    match STANDARD.decode(alloc, text) {
+        Ok(bytes) => Ok(Some(bytes)),
+        Err(DecodeAllocError::DecodeError(_)) => Ok(None),
+        Err(DecodeAllocError::OutOfMemory) => Err(AllocError),
+    }
+}
+
+/// The user before the first colon, and the password behind it.
+pub(crate) fn credentials_of(bytes: &[u8]) -> Option<Credentials<'_>>
+    ensures { option_map credentials_view result ≡ credentials_of bytes.entry.now }
+{
+    let (user, password) = cut(bytes, b':')?;
+    let user = text_in(user)?;
+    Some(Credentials { user, password })
+}

@@ -1,0 +1,77 @@
+//! A key, and which password it opens for.
+
+ghost use Rattle.std.specs.Prelude.{◌≡◌};
+ghost use Rattle.site_keys.specs.ByCases.Key.{has_right_key, is_of, is_same_role, opens};
+
+use crate::digest::{digest_of, is_same};
+use crate::role::Role;
+use std::marker::Model;
+
+/// A key: the digest of its user's password under a salt.
+#[derive(Debug, Drop)]
+pub(crate) struct Key {
+    pub(crate) role: Role,
+    pub(crate) user: String,
+    pub(crate) salt: [u8; 16],
+    pub(crate) digest: [u8; 32],
+}
+
+impl Model for Key {
+    ghost use Rattle.std.specs.String.{string_bytes};
+    ghost use Rattle.site_keys.specs.Key.{KeyState};
+
+    ghost Value = { KeyState };
+
+    ghost view = { λ k. record {
+      role = k.role;
+      user = string_bytes k.user;
+      salt = k.salt;
+      digest = k.digest;
+    } };
+}
+
+impl Key {
+    /// Whether it is a key of this role and user.
+    fn is_of(&self, role: Role, user: &str) -> bool
+        ensures { result ≡ is_of role user.now self.now }
+    {
+        is_same_role(self.role, role) && self.user.as_str() == user
+    }
+
+    /// Whether this is its password.
+    fn opens(&self, password: &[u8]) -> bool
+        ensures { result ≡ opens password.now self.now }
+    {
+        is_same(&digest_of(&self.salt, password), &self.digest)
+    }
+}
+
+fn is_same_role(one: Role, other: Role) -> bool
+    ensures { result ≡ is_same_role one other }
+{
+    match (one, other) {
+        (Role::Point, Role::Point) | (Role::Operator, Role::Operator) => true,
+        _ => false,
+    }
+}
+
+/// Whether this is a password of this user in this role. Each of the user's keys is tried. For an
+/// unknown user a digest is made and compared all the same, so that the time tells less of who is
+/// known; that it tells nothing isn't claimed.
+pub(crate) fn has_right_key(keys: &[Key], role: Role, user: &str, password: &[u8]) -> bool
+    ensures { result ≡ has_right_key role user.now password.now keys.now }
+{
+    let mut is_known = false;
+    let mut is_right = false;
+    for key in keys {
+        if key.is_of(role, user) {
+            is_known = true;
+            is_right |= key.opens(password);
+        }
+    }
+    if !is_known {
+        // Nothing is right yet, and nothing becomes right here.
+        is_right &= is_same(&digest_of(&[0; 16], password), &[0; 32]);
+    }
+    is_right
+}

@@ -1,0 +1,156 @@
+//! How a line of a file of keys is read.
+
+ghost use Rattle.std.specs.Prelude.{◌≡◌};
+ghost use Rattle.std.specs.Result.{result_map_both};
+ghost use Rattle.site_keys.specs.ByCases.KeyFile.{digest_in, key_in, line_in, name_in, role_named, salt_in, word_at, words_of, words_view};
+ghost use Rattle.site_keys.specs.KeyFile.{is_left_out};
+
+use crate::bytes::cut;
+use crate::line_fault::LineFault;
+use crate::name::{is_name, text_in};
+use crate::role::Role;
+use hex::FromHex;
+use std::marker::Model;
+
+/// A line with a key.
+#[derive(Debug, Drop)]
+pub(crate) struct KeyLine<'a> {
+    pub(crate) role: Role,
+    pub(crate) user: &'a str,
+    pub(crate) salt: [u8; 16],
+    pub(crate) digest: [u8; 32],
+}
+
+impl<'a> Model for KeyLine<'a> {
+    ghost use Rattle.site_keys.specs.Key.{KeyState};
+
+    ghost Value = { KeyState };
+
+    ghost view = { λ l. record {
+      role = l.role;
+      user = l.user.now;
+      salt = l.salt;
+      digest = l.digest;
+    } };
+}
+
+/// The words of a line.
+#[derive(Clone, Copy)]
+struct Words<'a> {
+    role: &'a [u8],
+    user: &'a [u8],
+    salt: &'a [u8],
+    /// What stands behind the salt.
+    digest: &'a [u8],
+}
+
+/// Reads a line, without its line end. None if it is left out.
+pub(crate) fn read_line(line: &[u8]) -> Result<Option<KeyLine<'_>>, LineFault>
+    ensures { result ≡ line_in line.entry.now }
+{
+    if is_left_out(line) {
+        return Ok(None);
+    }
+    Ok(Some(read_key(line)?))
+}
+
+/// Whether a line is left out.
+fn is_left_out(line: &[u8]) -> bool
+    ensures { result ≡ is_left_out line.now }
+{
+    match line.first() {
+        Some(first) => *first == b'#',
+        None => true,
+    }
+}
+
+/// Reads a line with a key.
+#[tactic(auto, unfolding(crate::specs::ByCases::KeyFile::key_in))]
+fn read_key(line: &[u8]) -> Result<KeyLine<'_>, LineFault>
+    ensures { result ≡ key_in line.entry.now }
+{
+    let words = split_words(line)?;
+    let role = role_named(words.role)?;
+    let user = read_name(words.user)?;
+    let salt = read_salt(words.salt)?;
+    let digest = read_digest(words.digest)?;
+    Ok(KeyLine {
+        role,
+        user,
+        salt,
+        digest,
+    })
+}
+
+/// The words of a line.
+fn split_words(line: &[u8]) -> Result<Words<'_>, LineFault>
+    ensures { result_map_both words_view (λ fault. fault) result ≡ words_of line.entry.now }
+{
+    let (role, rest) = split_word(line)?;
+    let (user, rest) = split_word(rest)?;
+    let (salt, digest) = split_word(rest)?;
+    Ok(Words {
+        role,
+        user,
+        salt,
+        digest,
+    })
+}
+
+/// The word before the first space, and what stands behind that.
+fn split_word(text: &[u8]) -> Result<(&[u8], &[u8]), LineFault>
+    ensures { result_map_both (λ parts. (parts.0.now, parts.1.now)) (λ fault. fault) result
+        ≡ word_at text.entry.now }
+{
+    match cut(text, b' ') {
+        Some(parts) => Ok(parts),
+        None => Err(LineFault::Words),
+    }
+}
+
+/// The role that a word names.
+fn role_named(word: &[u8]) -> Result<Role, LineFault>
+    ensures { result ≡ role_named word.now }
+{
+    if word == b"point".as_slice() {
+        Ok(Role::Point)
+    } else if word == b"operator".as_slice() {
+        Ok(Role::Operator)
+    } else {
+        Err(LineFault::Role)
+    }
+}
+
+/// The user's name that bytes are.
+fn read_name(bytes: &[u8]) -> Result<&str, LineFault>
+    ensures { result_map_both (λ name. name.now) (λ fault. fault) result ≡ name_in bytes.entry.now }
+{
+    let Some(name) = text_in(bytes) else {
+        return Err(LineFault::Name);
+    };
+    if is_name(name) {
+        Ok(name)
+    } else {
+        Err(LineFault::Name)
+    }
+}
+
+/// The salt of 32 hex digits.
+fn read_salt(digits: &[u8]) -> Result<[u8; 16], LineFault>
+    ensures { result ≡ salt_in digits.now }
+{
+    match <[u8; 16] as FromHex>::from_hex(digits) {
+        Ok(salt) => Ok(salt),
+        Err(_) => Err(LineFault::Salt),
+    }
+}
+
+/// The digest of 64 hex digits.
+fn read_digest(digits: &[u8]) -> Result<[u8; 32], LineFault>
+    ensures { result ≡ digest_in digits.now }
+{
+    match <[u8; 32] as FromHex>::from_hex(digits) {
+        Ok(digest) => Ok(digest),
+        Err(_) => Err(LineFault::Digest),
+    }
+}

@@ -1,0 +1,25 @@
+//! The keys of a site: who may come by HTTP Basic (OCPP-J 1.6, 6.2), by a file of salted digests.
+//! What the file says stands in `specs/KeyFile.antt`, who may come in `specs/Admission.antt`.
+#![tactic(auto)]
+
+mod admission;
+mod bytes;
+mod credentials;
+mod digest;
+mod key;
+mod key_line;
+mod keys;
+mod keys_fault;
+mod line_fault;
+mod name;
+mod new_key;
+mod role;
+mod written_keys;
+
+pub use admission::Admission;
+pub use keys::Keys;
+pub use keys_fault::KeysFault;
+pub use line_fault::LineFault;
+pub use new_key::{KeyText, NewKeyFault, write_key};
+pub use role::Role;
+pub use written_keys::written_keys_open;

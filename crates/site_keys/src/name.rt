@@ -1,0 +1,39 @@
+//! Names of users.
+
+ghost use Rattle.std.specs.Prelude.{◌≡◌};
+ghost use Rattle.std.specs.List.{list_all};
+ghost use Rattle.std.specs.Option.{option_copied};
+ghost use Rattle.site_keys.specs.Bytes.{text_in};
+ghost use Rattle.site_keys.specs.KeyFile.{is_name, is_name_byte};
+
+/// The text that bytes are, if they are UTF-8.
+pub(crate) fn text_in(bytes: &[u8]) -> Option<&str>
+    ensures { option_copied result ≡ text_in bytes.entry.now }
+{
+    match std::str::from_utf8(bytes) {
+        Ok(text) => Some(text),
+        Err(_) => None,
+    }
+}
+
+/// Whether a text can be a user's name.
+#[tactic(auto, unfolding(crate::specs::KeyFile::is_name))]
+pub(crate) fn is_name(name: &str) -> bool
+    ensures { result ≡ is_name name.now }
+{
+    !name.is_empty() && has_name_bytes(name.as_bytes())
+}
+
+/// Whether a name can have each of these bytes.
+fn has_name_bytes(name: &[u8]) -> bool
+    ensures { result ≡ list_all is_name_byte name.now }
+{
+    name.iter().all(|b| is_name_byte(*b))
+}
+
+/// Whether a name can have this byte.
+fn is_name_byte(byte: u8) -> bool
+    ensures { result ≡ is_name_byte byte }
+{
+    byte > b' ' && byte != b':' && byte != 0x7f
+}

@@ -1,0 +1,22 @@
+//! What new keys are good for: a law of definitions alone.
+
+ghost use Rattle.std.specs.Prelude.{ℕ, ◌≡◌, List, [], ◌∷◌, Some, Option};
+ghost use Rattle.site_keys.specs.declared.role.Role.{Role};
+ghost use Rattle.site_keys.specs.Admission.{MayCome};
+ghost use Rattle.site_keys.specs.Credentials.{IsBasic};
+ghost use Rattle.site_keys.specs.KeyFile.{AreKeysOf};
+ghost use Rattle.site_keys.specs.NewKey.{CanBeSent, CanBeWritten, OpensAlone, SendsKey, basic_header, key_line, new_key};
+
+/// A line that was written is a file of that key alone. With it comes whoever sends its name and
+/// the key, as hex digits or as it is, and nobody of another name or in another role. Each name and
+/// each password can be sent.
+pub fn written_keys_open()
+    ensures read { (role : Role) (name salt key : List ℕ) → CanBeWritten name salt key
+        → AreKeysOf (key_line (new_key role name salt key)) (new_key role name salt key ∷ []) }
+    ensures opens { (role : Role) (name salt key header : List ℕ) → CanBeWritten name salt key
+        → SendsKey header name key
+        → MayCome (new_key role name salt key ∷ []) role name (Some header) name }
+    ensures alone { (role : Role) (name salt key : List ℕ) → OpensAlone role name salt key }
+    ensures headers { (name password : List ℕ) → CanBeSent name password
+        → IsBasic (basic_header name password) name password }
+{}
