@@ -12,8 +12,9 @@ from run_data import SITE, Data, size, tell
 from serving import PATIENCE, Running, Unexpected, expect, until
 from texts import CALL_0, OCPP, accepted, call, heartbeat, install, install_call, plain_site, profile
 
-# Kilobytes, of the proved program. Our aims are 60 and 300 MiB; it took 68 and 427.
-IDLE_MEMORY, HOSTILE_MEMORY, GROWTH = 80 * 1024, 640 * 1024, 20 * 1024
+# Kilobytes, of the proved program. The aims of 60 and 300 MiB are missed: it took 68, and 427 to 546. Hostile clients are held
+# to what the systemd unit allows.
+IDLE_MEMORY, HOSTILE_MEMORY, GROWTH = 80 * 1024, 1024 * 1024, 20 * 1024
 
 
 def memory(running):
@@ -204,11 +205,13 @@ def hostile_seats(program):
     count = size(256, 16, 256)
     with Data(in_memory=True) as data, Running(program, SITE, data.path) as running:
         clients = [RawClient.connected(running, "/operator/P1") for _ in range(count)]
-        threads = [threading.Thread(target=is_hostile, args=(client, number)) for number, client in enumerate(clients)]
+        faults = []
+        threads = [threading.Thread(target=is_hostile, args=(client, number, faults)) for number, client in enumerate(clients)]
         for thread in threads:
             thread.start()
         for thread in threads:
             thread.join()
+        expect("clients that weren't answered", faults, [])
         until("it does nothing any more", lambda: running.until_idle() is None)
         used, most = memory(running), running.peak_memory()
         tell(f"{count} hostile seats: {used} kB, {most} kB at most")
@@ -217,10 +220,14 @@ def hostile_seats(program):
         is_at_most(most, HOSTILE_MEMORY)
 
 
-def is_hostile(client, number):
+def is_hostile(client, number, faults):
     text = LONG_TEXTS[number % len(LONG_TEXTS)].encode()
-    client.send_frame(TEXT, text)
-    expect("the answer", client.read_text()[:9], '[4,"long"')
+    try:
+        client.send_frame(TEXT, text)
+        expect("the answer", client.read_text()[:9], '[4,"long"')
+    except Exception as fault:  # whatever it is, the test has failed
+        faults.append(f"{number}: {type(fault).__name__}: {fault}")
+        return
     try:
         client.send_frame(TEXT, text[:1_048_000], is_final=False)
         client.send_bytes(frame_bytes(CONTINUATION, text[1_048_000:])[:-10])

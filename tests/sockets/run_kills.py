@@ -2,12 +2,14 @@
 import itertools
 import random
 import shutil
+import signal
+import subprocess
 import tempfile
 import threading
 import time
 
-from run_data import NO_LEAKS, Data, size, tell
-from serving import PATIENCE, Running, Unexpected, expect
+from run_data import NO_LEAKS, Data, SiteFile, run_words, size, tell
+from serving import ENVIRONMENT, PATIENCE, Running, Unexpected, expect
 from stations import Cut, Station, stations_site
 
 # What is counted: the calls of the journal alone, which has a file name, and all of sockets.
@@ -156,6 +158,32 @@ def fails_at(program, name, fault, count, status, said):
             go_on("behind it", station, running)
 
 
+def start_that_fails(program):
+    """A start is killed at its own sync, or that fails: it serves nobody, and the next one goes on where the site was."""
+    if not shutil.which("strace"):
+        return
+    for fault, status in (("signal=SIGKILL", -signal.SIGKILL), ("error=EIO", 3)):
+        station = Station("P1", seed=11, turns=True)
+        with Data(in_memory=True) as data:
+            with Running(program, stations_site(1), data.path, environment=NO_LEAKS) as running:
+                station.connect(running)
+                for _ in range(40):
+                    station.step()
+            station.pair.cut()
+            before = data.bytes()
+            under = ("strace", "-f", "-qq", "-o", "/dev/null", "-P", data.journal, "-e", "trace=fdatasync", "-e")
+            with SiteFile(stations_site(1)) as path:
+                done = subprocess.run(
+                    [*under, f"inject=fdatasync:{fault}:when=1", *run_words(program, data, path)], capture_output=True,
+                    timeout=PATIENCE, check=False, env={**ENVIRONMENT, **NO_LEAKS},
+                )
+            expect(f"{fault}: its status", done.returncode, status)
+            expect(f"{fault}: whether it listened", b"listening" in done.stdout, False)
+            expect(f"{fault}: what stays of the journal", data.bytes()[:len(before)], before)
+            with Running(program, stations_site(1), data.path, environment=NO_LEAKS) as running:
+                go_on(f"a start with {fault}", station, running)
+
+
 def play_on(station, running, steps):
     """Plays a day, also where sessions end without an answer, until the program ends."""
     for _ in range(10):
@@ -259,4 +287,5 @@ def tests():
     yield "killed at calls of two", killed_at_calls_of_two
     yield "synced before each send", synced_before_each_send
     yield "failing device", failing_device
+    yield "a start that fails", start_that_fails
     yield "soak", soak
