@@ -1,7 +1,8 @@
 //! Compiled answers, each with the book and the request that it is right for.
 
-ghost use Rattle.std.specs.Prelude.{◌≡◌, ◌≤◌, length, Ok};
+ghost use Rattle.std.specs.Prelude.{◌≡◌, ◌≤◌, length, Ok, Err};
 ghost use Rattle.std.specs.Arc.{arc_value};
+ghost use Rattle.ocpp_scalars.specs.declared.refusal.Refusal.{Refusal};
 ghost use Rattle.sweep_compiler.specs.Right.{IsCompiledFor};
 
 use crate::compiler::compile;
@@ -59,6 +60,21 @@ impl Compiled {
                 answer: Err(refusal),
                 again: Err(refusal),
             },
+        }
+    }
+
+    /// The answer to a request that nobody waits for any more: that memory ran out, which is right for each. It takes
+    /// neither time nor memory.
+    pub fn unmade(book: Arc<PointBook>, ask: Ask) -> Compiled
+        ensures book { result.book ≡ arc_value book }
+        ensures ask { result.ask ≡ ask }
+        ensures answer { result.answer ≡ Err Refusal.OutOfMemory }
+    {
+        Compiled {
+            book,
+            ask,
+            answer: Err(Refusal::OutOfMemory),
+            again: Err(Refusal::OutOfMemory),
         }
     }
 

@@ -1,6 +1,6 @@
 //! The book as threads share it.
 
-ghost use Rattle.std.specs.Prelude.{◌≡◌, ◌<◌, ◌≤◌, false, IfOk, IfErr, All, length};
+ghost use Rattle.std.specs.Prelude.{◌≡◌, ◌<◌, ◌≤◌, false, IfOk, IfErr, IfSome, All, length};
 ghost use Rattle.std.specs.Sync.Mutex.{mutex_guard_value};
 ghost use Rattle.version_store.specs.Answers.{awaits};
 ghost use Rattle.version_store.specs.Store.{IsStore};
@@ -13,8 +13,10 @@ use crate::totals::Totals;
 use site_rules::Site;
 use std::alloc::{AllocError, Global};
 use std::marker::Model;
+use std::rt::Clock;
 use std::sync::ledger::{Blank, Ledger};
 use std::sync::{Condvar, Mutex, MutexGuard, Wait};
+use std::time::Duration;
 
 /// The book of the central system, which one thread at a time has. Each of its calls is made by
 /// whoever has it, so all that is said of a book holds between any calls of any threads.
@@ -127,6 +129,27 @@ impl<C: Ledger, A: Ledger> Shared<C, A> {
         let book = place.wait_while(rt, book, |book| book.awaits(number));
         book.stored();
         book
+    }
+
+    /// The same, where it is so within a time.
+    pub fn until_answered_within<R: Wait + Clock>(
+        &self,
+        rt: &R,
+        number: u64,
+        time: Duration,
+    ) -> Option<MutexGuard<'_, Book<C, A>>>
+        ensures store { IfSome result (λ book. IsStore (mutex_guard_value book)) }
+        ensures answered { IfSome result
+            (λ book. awaits (mutex_guard_value book).present number ≡ false) }
+    {
+        let book = self.lock(rt);
+        let place = self.place_of(number);
+        let (book, waited) = place.wait_timeout_while(rt, book, time, |book| book.awaits(number));
+        if waited.timed_out() {
+            return None;
+        }
+        book.stored();
+        Some(book)
     }
 
     /// Ends the book. With all passes that were made, the numbers of changes that were made and of
