@@ -46,7 +46,7 @@ def worst_asks(field):
         field.answers += 1
     alone = time.monotonic() - began
     field.witness.begin()
-    clients = field.strangers(30)
+    clients = field.strangers(30 if IS_PROVED else 6)
     for client in clients:
         client.send_text(worst)
     time.sleep(max(field.seconds, min(2 * alone, 10)))

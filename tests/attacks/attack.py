@@ -21,5 +21,7 @@ class Attack:
     is_repeated: bool = False
     # Whether it means something without a proof: allocations can't be refused there.
     needs_proof: bool = False
+    # Whether it isn't held yet: the short form leaves it out, and in the whole one it fails.
+    is_open: bool = False
     # What the program has: limits, an environment, its standard error, a clock that moves.
     more: Callable = dict

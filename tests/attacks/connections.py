@@ -5,14 +5,14 @@ import contextlib
 import os
 import socket
 import struct
+import threading
 import time
 
 from attack import KEYS, RUN, SERVE, Attack
-from field import PROTOCOL, all_end, close_all, has_ended, in_threads
-from raw_client import RawClient
+from field import PROTOCOL, all_end, close_all, has_ended
 from run_keys import basic
-from serving import Unexpected, expect, until
-from texts import ask, heartbeat
+from serving import expect, until
+from texts import heartbeat
 
 # Seconds, as the program has them.
 LONGEST_HANDSHAKE, LONGEST_SILENCE = 10, 660
@@ -43,6 +43,34 @@ def slow_handshakes(field):
         expect("connections that ended early", sum(map(has_ended, clients)), 0)
         all_end(clients, 5)
     field.serves_a_newcomer(5)
+
+
+def slow_handshakes_again(field):
+    """Whoever is closed connects anew at once, so that all seats have slow handshakes all the time. A newcomer finds a seat."""
+    is_over = threading.Event()
+
+    def slow(_):
+        while not is_over.is_set():
+            with contextlib.suppress(OSError), field.plain() as client:
+                client.send_bytes(b"GET /P2 HTTP/1.1\r\n")
+                client.socket.settimeout(0.5)
+                while not is_over.is_set():
+                    with contextlib.suppress(TimeoutError):
+                        client.socket.recv(1 << 10)
+                        break
+
+    threads = [threading.Thread(target=slow, args=(number,), daemon=True) for number in range(field.seats + 50)]
+    for thread in threads:
+        thread.start()
+    try:
+        until("all seats are taken", field.is_full)
+        for _ in range(field.size(3, 1)):
+            field.serves_a_newcomer(5)
+            time.sleep(1)
+    finally:
+        is_over.set()
+        for thread in threads:
+            thread.join()
 
 
 def are_cleared_away(field, clients):
@@ -176,10 +204,10 @@ def web_pages(field):
 
 
 SEATS_FOR_A_WHILE = "all seats for a while"
-CLOSED = "closed after {}; then there is room"
 
 ATTACKS = (
-    Attack("slow handshakes", f"{SEATS_FOR_A_WHILE}", "others get 503; closed after 10 s", slow_handshakes, (RUN, KEYS, SERVE)),
+    Attack("slow handshakes", SEATS_FOR_A_WHILE, "others get 503; closed after 10 s", slow_handshakes, (RUN, KEYS, SERVE)),
+    Attack("slow handshakes, again and again", "nothing", "a newcomer finds a seat", slow_handshakes_again, (RUN, KEYS), is_open=True),
     Attack("silent connections", SEATS_FOR_A_WHILE, "closed after 660 s", silent_connections, more=lambda: {"moves_clock": True}, may_cut=True),
     Attack("silent connections of serve", "its connections", "the others are served", silent_connections, (SERVE,)),
     Attack("half-open connections", SEATS_FOR_A_WHILE, "closed after 660 s", half_open, more=lambda: {"moves_clock": True}, may_cut=True),

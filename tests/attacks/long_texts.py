@@ -1,5 +1,4 @@
 """Attacks by texts: JSON of each odd shape, line breaks, the longest ones on all seats, and answers that nobody reads."""
-import json
 import threading
 import time
 
@@ -7,8 +6,8 @@ from attack import RUN, SERVE, Attack
 from field import IS_PROVED, all_end, close_all, in_threads, sent_until_full
 from raw_client import CONTINUATION, TEXT, frame_bytes
 from run_crowds import filled, is_hostile
-from serving import Unexpected, expect
-from texts import CALL_0, accepted, ask, call, install, profile
+from serving import expect
+from texts import accepted, call, install, profile
 
 # Characters and elements of a long text. What isn't proved is too slow for the longest ones.
 LONG = 1_000_000 if IS_PROVED else 50_000

@@ -4,16 +4,18 @@ import fcntl
 import json
 import os
 import resource
+import shutil
 import signal
+import subprocess
 import time
 
-from attack import RUN, SERVE, Attack
-from field import PROTOCOL, SITE, Watch, close_all, in_threads
+from attack import Attack
+from field import PROTOCOL, SITE, close_all, in_threads
 from long_texts import ODD_TEXTS
-from raw_client import TEXT, RawClient
+from raw_client import RawClient
 from refusals import ALL, SHORT, Refusing, texts_or_end
-from run_data import Data
-from serving import Running, Serving, Unexpected, expect, until
+from run_data import NO_LEAKS, Data
+from serving import Running, Unexpected, expect, until
 from texts import CALL_0, accepted, ask, call, heartbeat, install, profile
 
 
@@ -137,6 +139,34 @@ def unread_standard_error(field):
     field.serves_a_newcomer(10)
 
 
+def broken_journal(field):
+    """Nobody reads the standard error, and a sync of the journal fails: the program ends, so that it is started anew."""
+    if not shutil.which("strace"):
+        print("  strace isn't installed, so no sync fails", flush=True)
+        return
+    pipe = FullPipe()
+    with Data(in_memory=True) as data:
+        with Running(field.program, SITE, data.path, environment=NO_LEAKS):
+            pass  # the journal has its first line
+        under = f"strace -f -qq -o /dev/null -P {data.journal} -e trace=fdatasync -e inject=fdatasync:error=EIO:when=3+".split()
+        with Running(field.program, SITE, data.path, under=under, error=pipe, environment=NO_LEAKS) as running:
+            told = []
+            with contextlib.suppress(OSError, Unexpected), RawClient.connected(running, "/operator/P2") as operator:
+                operator.socket.settimeout(10)
+                for number in range(5):
+                    told += operator.texts_of(install(f"i{number}", profile(1, [number])))
+            expect("whether it ends", is_ended(running.process, 10), True)
+        kept = [line for line in data.lines() if line.startswith("operator P2 ")]
+        expect("whether what it was told is there", len(kept) >= len(told) > 0, True)
+
+
+def is_ended(process, seconds):
+    """Whether a process ends within so many seconds."""
+    with contextlib.suppress(subprocess.TimeoutExpired):
+        process.wait(seconds)
+    return process.poll() is not None
+
+
 def clock_back(field):
     """The clock goes back by two hours, and on again. A ChargePointMaxProfile without startSchedule doesn't count meanwhile."""
     fuse = profile(1, [10.0], purpose="ChargePointMaxProfile", kind="Relative")
@@ -168,6 +198,8 @@ ATTACKS = (
     Attack("stopped and continued", "the time in which it is stopped", "all go on", stop_and_continue),
     Attack(
         "standard error that nobody reads", "what it says", "newcomers are served", unread_standard_error, more=lambda: {"error": FullPipe()},
+        is_open=True,
     ),
+    Attack("a journal that breaks, unread", "a restart", "the program ends", broken_journal, is_open=True),
     Attack("a clock that goes back", "a fuse limit that begins at its install", "it counts again", clock_back, more=lambda: {"moves_clock": True}),
 )
