@@ -25,3 +25,8 @@ class Attack:
     is_open: bool = False
     # What the program has: limits, an environment, its standard error, a clock that moves.
     more: Callable = dict
+
+
+def moves_clock():
+    """What the program has whose clock an attack moves."""
+    return {"moves_clock": True}

@@ -8,7 +8,7 @@ import struct
 import threading
 import time
 
-from attack import KEYS, RUN, SERVE, Attack
+from attack import KEYS, RUN, SERVE, Attack, moves_clock
 from field import PROTOCOL, all_end, close_all, has_ended
 from run_keys import basic
 from serving import expect, until
@@ -92,21 +92,17 @@ def silent_connections(field):
 
 def half_open(field):
     """Clients on all seats that are gone without a word, as if their cable was cut."""
-    ends = []
-    for _ in range(field.seats):
-        client = field.stranger()
+    clients = field.strangers(field.seats)
+    time.sleep(0.5)  # all that was sent is acknowledged: otherwise the program would hear that nobody is there
+    for client in clients:
         try:
             client.socket.setsockopt(socket.IPPROTO_TCP, TCP_REPAIR, 1)
         except PermissionError:
             print("  no connection can be left half open here: they stay silent", flush=True)
-            ends.append(client)
-            continue
+            break
         client.socket.close()
     time.sleep(field.seconds)
-    if field.clock is None:
-        close_all(ends)
-        return
-    until("all seats are taken", field.is_full)
+    expect("whether all seats are taken", field.is_full(), True)
     field.clock.move(going_on=LONGEST_SILENCE + 5)
     field.serves_a_newcomer(20)
 
@@ -207,14 +203,14 @@ SEATS_FOR_A_WHILE = "all seats for a while"
 
 ATTACKS = (
     Attack("slow handshakes", SEATS_FOR_A_WHILE, "others get 503; closed after 10 s", slow_handshakes, (RUN, KEYS, SERVE)),
-    Attack("slow handshakes, again and again", "nothing", "a newcomer finds a seat", slow_handshakes_again, (RUN, KEYS), is_open=True),
-    Attack("silent connections", SEATS_FOR_A_WHILE, "closed after 660 s", silent_connections, more=lambda: {"moves_clock": True}, may_cut=True),
+    Attack("slow handshakes, again and again", "nothing", "a newcomer has a seat", slow_handshakes_again, (RUN, KEYS), is_open=True),
+    Attack("silent connections", SEATS_FOR_A_WHILE, "closed after 660 s", silent_connections, more=moves_clock, may_cut=True),
     Attack("silent connections of serve", "its connections", "the others are served", silent_connections, (SERVE,)),
-    Attack("half-open connections", SEATS_FOR_A_WHILE, "closed after 660 s", half_open, more=lambda: {"moves_clock": True}, may_cut=True),
+    Attack("half-open connections", SEATS_FOR_A_WHILE, "closed after 660 s", half_open, more=moves_clock, may_cut=True),
     Attack("10,000 connects", "seats for a moment", "a newcomer is served", many_connects, (RUN, KEYS, SERVE)),
     Attack("resets", "seats for a moment", "a newcomer is served", resets, (RUN,), is_repeated=True),
-    Attack("takeover without keys", "the point's connection, again and again", "no call is lost, each comes in order", takeover, may_cut=True),
+    Attack("takeover without keys", "the point's connections", "it has all calls, in order", takeover, may_cut=True),
     Attack("takeover with keys", "nothing", "401 or 403, always", takeover_with_keys, (KEYS,)),
-    Attack("a point on all seats", "one seat", "its older connections are closed", newest_of_its_own, (RUN, KEYS), is_repeated=True),
+    Attack("a point on all seats", "one seat", "its older ones are closed", newest_of_its_own, (RUN, KEYS), is_repeated=True),
     Attack("web pages", "nothing", "403, always", web_pages, (RUN, KEYS), is_repeated=True),
 )

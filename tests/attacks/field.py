@@ -29,7 +29,8 @@ class Witness:
 
     def __init__(self, port, headers):
         words = [sys.executable, os.path.join(HERE, "witness.py"), str(port), json.dumps(headers)]
-        self.process = subprocess.Popen(words, stdin=subprocess.PIPE, stdout=subprocess.PIPE, text=True)
+        # In a session of its own it has its own share of the processors.
+        self.process = subprocess.Popen(words, stdin=subprocess.PIPE, stdout=subprocess.PIPE, text=True, start_new_session=True)
 
     def __enter__(self):
         expect("what the witness says first", self.process.stdout.readline(), "ready\n")
@@ -107,6 +108,8 @@ class Field:
         # What attackers changed and were answered, where they did; texts of operators of P2 that were accepted.
         self.changes = self.answers = 0
         self.accepted = []
+        # How many links of P1 they had.
+        self.more_links = 0
         self.figures = []
 
     def __enter__(self):
@@ -225,7 +228,8 @@ class Field:
         changes, answers = self.server.totals()
         made = len(seen["installs"]) + self.changes
         expect(f"{changes} changes are {made}, or some unsure ones more", made <= changes <= made + len(seen["unsure"]), True)
-        expect(f"{answers} answers are {seen['answers'] + self.answers}, or one more", answers - seen["answers"] - self.answers in (0, 1), True)
+        told = seen["answers"] + self.answers
+        expect(f"{answers} answers are {told}, or one more", answers - told in (0, 1), True)
 
     def _journal_is(self, seen):
         status, script, said = read(self.program, self.data, "journal", of=SITE)
@@ -233,17 +237,18 @@ class Field:
         lines = [line.partition(" ")[2] for line in script.split("\n")]
         kept = [line[len("operator P1 "):] for line in lines if line.startswith("operator P1 ")]
         unsure = set(seen["unsure"])
-        expect("installs that the journal hasn't, or has in another order", [text for text in kept if text not in unsure], seen["installs"])
+        kept = [text for text in kept if text not in unsure]
+        expect("installs that the journal hasn't, or has in another order", kept, seen["installs"])
         accepted = [line[len("operator P2 "):] for line in lines if line.startswith("operator P2 ")]
         expect("texts of others that the journal hasn't", [text for text in self.accepted if text not in accepted], [])
-        expect("links that others had", sum(line.startswith("attached P1 ") for line in self.data.lines()) - 1 - seen["point"]["cuts"], self.more_links)
-
-    more_links = 0
+        links = sum(line.startswith("attached P1 ") for line in self.data.lines())
+        expect("links of P1 that others had", links - 1 - seen["point"]["cuts"], self.more_links)
 
     def _start_has(self, seen):
         shown = json.loads(read(self.program, self.data, "show", "--json", of=SITE)[1])["points"][0]
-        limits = [period["limit"] for row in shown["profiles"] for period in row["csChargingProfiles"]["chargingSchedule"]["chargingSchedulePeriod"]]
-        expect("the limit of the journal", limits in ([seen["limit"]], *([limit_of(text)] for text in seen["unsure"])), True)
+        limits = [limit_of(row) for row in shown["profiles"]]
+        told = [[seen["limit"]], *([limit_of(json.loads(text)[3])] for text in seen["unsure"])]
+        expect(f"whether {limits} are those of {told}", limits in told, True)
         # The reply to the last call may not be on the disk, since nothing left that depends on it.
         missing = seen["confirmed"] + 1 - shown["confirmed"]
         expect(f"{missing} of the calls that P1 confirmed are missing, at most one", missing in (0, 1), True)
@@ -256,8 +261,8 @@ class Field:
                 expect("the version", json.loads(text)[2]["status"], "Accepted")
 
 
-def limit_of(text):
-    return json.loads(text)[3]["csChargingProfiles"]["chargingSchedule"]["chargingSchedulePeriod"][0]["limit"]
+def limit_of(install):
+    return install["csChargingProfiles"]["chargingSchedule"]["chargingSchedulePeriod"][0]["limit"]
 
 
 def in_threads(count, work, patience=PATIENCE):

@@ -46,10 +46,11 @@ def heads(field):
 
 # What is no request for a WebSocket.
 JUNK = (
-    b"", b"\0" * 1_000, b"\x16\x03\x01\x02\x00\x01\x00\x01\xfc\x03\x03" + bytes(500), b"GET / HTTP/1.1\r\n\r\n", b"GET /P2 HTTP/1.0\r\n\r\n",
-    b"GET http://127.0.0.1/P2 HTTP/1.1\r\nHost: a\r\n\r\n", b"POST /P2 HTTP/1.1\r\nContent-Length: 9999999999\r\n\r\n", b"PRI * HTTP/2.0\r\n\r\nSM\r\n\r\n",
-    b"\r\n" * 500, b"SSH-2.0-x\r\n\r\n", b"GET " + b"/" * 70_000, b"GET /%00 HTTP/1.1\r\nHost: a\r\n\r\n", b"\xff\xfe" * 500 + b"\r\n\r\n",
-    frame_bytes(1, b"[]"),
+    b"", b"\0" * 1_000, b"\x16\x03\x01\x02\x00\x01\x00\x01\xfc\x03\x03" + bytes(500), b"GET / HTTP/1.1\r\n\r\n",
+    b"GET /P2 HTTP/1.0\r\n\r\n", b"GET http://127.0.0.1/P2 HTTP/1.1\r\nHost: a\r\n\r\n",
+    b"POST /P2 HTTP/1.1\r\nContent-Length: 9999999999\r\n\r\n", b"PRI * HTTP/2.0\r\n\r\nSM\r\n\r\n",
+    b"\r\n" * 500, b"SSH-2.0-x\r\n\r\n", b"GET " + b"/" * 70_000, b"GET /%00 HTTP/1.1\r\nHost: a\r\n\r\n",
+    b"\xff\xfe" * 500 + b"\r\n\r\n", frame_bytes(1, b"[]"),
 )
 
 

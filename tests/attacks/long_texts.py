@@ -3,7 +3,7 @@ import threading
 import time
 
 from attack import RUN, SERVE, Attack
-from field import IS_PROVED, all_end, close_all, in_threads, sent_until_full
+from field import IS_PROVED, all_end, close_all, in_threads
 from raw_client import CONTINUATION, TEXT, frame_bytes
 from run_crowds import filled, is_hostile
 from serving import expect

@@ -9,7 +9,7 @@ import signal
 import subprocess
 import time
 
-from attack import Attack
+from attack import Attack, moves_clock
 from field import PROTOCOL, SITE, close_all, in_threads
 from long_texts import ODD_TEXTS
 from raw_client import RawClient
@@ -191,15 +191,15 @@ def clock_back(field):
 ATTACKS = (
     Attack("no file descriptors", "newcomers, for a while", "accepted once there are some", no_descriptors),
     Attack(
-        "little address space", "whoever has long messages", "told so or ended; later as before", little_address_space, may_cut=True, may_refuse=True,
-        needs_proof=True,
+        "little address space", "whoever needs memory", "told so or ended; later as before", little_address_space, may_cut=True,
+        may_refuse=True, needs_proof=True,
     ),
     Attack("each allocation refused", "that session", "told so or ended", each_allocation, needs_proof=True),
     Attack("stopped and continued", "the time in which it is stopped", "all go on", stop_and_continue),
     Attack(
-        "standard error that nobody reads", "what it says", "newcomers are served", unread_standard_error, more=lambda: {"error": FullPipe()},
-        is_open=True,
+        "standard error that nobody reads", "what it says", "a newcomer is served", unread_standard_error,
+        more=lambda: {"error": FullPipe()}, is_open=True,
     ),
     Attack("a journal that breaks, unread", "a restart", "the program ends", broken_journal, is_open=True),
-    Attack("a clock that goes back", "a fuse limit that begins at its install", "it counts again", clock_back, more=lambda: {"moves_clock": True}),
+    Attack("a clock that goes back", "a fuse limit without startSchedule", "it counts again", clock_back, more=moves_clock),
 )

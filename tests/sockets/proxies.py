@@ -1,4 +1,4 @@
-"""A site that is run behind a proxy, as RUNNING has it for nginx and haproxy: it encrypts, and who may come is the program's to say."""
+"""A site that is run behind nginx and haproxy, as RUNNING has them: they encrypt, and the program says who may come."""
 import os
 import re
 import shutil
@@ -13,9 +13,11 @@ from raw_client import RawClient
 from run_data import Data
 from run_keys import Keys, basic
 from serving import PATIENCE, Running, Unexpected, expect, free_port
-from texts import CALL_0, accepted, ask, heartbeat, plain_site
+from texts import CALL_0, ask, heartbeat, plain_site
 
 RUNNING = os.path.join(os.path.dirname(os.path.abspath(__file__)), os.pardir, os.pardir, "docs", "RUNNING.md")
+
+SEATS = 10
 
 # What a file in /etc/nginx/conf.d is read within, without what belongs to the machine.
 AROUND_NGINX = """daemon off; master_process off; pid F/nginx.pid; error_log F/log;
@@ -75,8 +77,9 @@ class Proxy:
     def _configuration(self):
         """The page's file, at a port of this machine and with this certificate."""
         text = recipe(self.name)
+        listen, anywhere = ("listen", "") if self.name == "nginx" else ("bind", ":")
         changes = [
-            ("listen 443 " if self.name == "nginx" else "bind :443 ", f"{'listen' if self.name == 'nginx' else 'bind'} 127.0.0.1:{self.port} "),
+            (f"{listen} {anywhere}443 ", f"{listen} 127.0.0.1:{self.port} "),
             ("127.0.0.1:9000", f"127.0.0.1:{self.program_port}"), ("/etc/central/", self.folder.name + "/"),
         ]
         for old, new in changes:
@@ -142,13 +145,22 @@ def nobody_becomes_another(proxy, keys):
                 expect(f"{proxy.name}: {other} with the key of {login}", seen, wanted)
 
 
+def slow_requests_take_no_seat(proxy, keys):
+    """Of requests that aren't whole the program hears nothing: with more of them than it has seats, others are served."""
+    clients = [EncryptedClient(proxy) for _ in range(2 * SEATS)]
+    for client in clients:
+        client.send_bytes(b"GET /P1 HTTP/1.1\r\nHost: ")
+    is_served(proxy, keys)
+    for client in clients:
+        client.socket.close()
+
+
 def is_served(proxy, keys):
     """A point and its operator have a session each through the proxy."""
     with EncryptedClient(proxy) as point, EncryptedClient(proxy) as operator:
         expect("the point", point.shake_hands("/P1", [PROTOCOL, basic("P1", keys.of["P1"].encode())]).status, 101)
         expect("the operator", operator.shake_hands("/operator/P1", [PROTOCOL, basic("ann", keys.of["ann"].encode())]).status, 101)
-        expect("its first call", point.texts_of(heartbeat("h"))[1:], [CALL_0])
-        expect("its reply", point.texts_of(accepted("0")), [])
+        expect("the point's texts", [text[:7] for text in point.texts_of(heartbeat("h"))], ['[3,"h",', CALL_0[:7]])
         expect("a schedule", operator.texts_of(ask("a"))[0][:7], '[3,"a",')
 
 
@@ -159,11 +171,11 @@ def behind(name):
             print(f"  {name} or openssl isn't installed, so nothing is tried behind it", flush=True)
             return
         site = plain_site(3)
-        with Keys(program) as keys, Data() as data, Running(program, site, data.path, keys=keys.path) as running:
+        with Keys(program) as keys, Data() as data, Running(program, site, data.path, SEATS, keys=keys.path) as running:
             with Proxy(name, running.port) as proxy:
                 who_may_come(proxy, keys)
                 nobody_becomes_another(proxy, keys)
-                is_served(proxy, keys)
+                slow_requests_take_no_seat(proxy, keys)
     return test
 
 
