@@ -17,6 +17,7 @@ import handshakes
 import messages
 import node_clients
 import programs
+import proxies
 import reconnects
 import refusals
 import replays
@@ -44,6 +45,7 @@ SUBJECTS = {
     "run_crowds": run_crowds,
     "run_deadlines": run_deadlines,
     "run_keys": run_keys,
+    "proxies": proxies,
     "audits": audits,
     "refusals": refusals,
 }
