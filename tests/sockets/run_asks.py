@@ -107,6 +107,7 @@ def others_beside_long_requests(program):
         asks, beats = [], []
         with RawClient.connected(running, "/operator/P2") as operator, RawClient.connected(running, "/P2") as point:
             expect("call 0", point.texts_of(heartbeat("h"))[1:], [CALL_0])
+            expect("its reply", point.texts_of(accepted("0")), [])
             for _ in range(size(20, 10, 100)):
                 asks.append(answered(operator, ask("a", 1, DAY), "a"))
                 beats.append(answered(point, heartbeat("h"), "h"))

@@ -63,7 +63,16 @@ pub(crate) fn attend_session<C: Ledger, A: Ledger, R: Wait + Clock, M: Moments, 
         sent: None,
     };
     for _message in context.rt.forever() {
-        if attend_next(context, &mut socket, core, &mut memory, &mut attention, pass).is_err() {
+        if attend_next(
+            context,
+            &mut socket,
+            core,
+            &mut memory,
+            &mut attention,
+            pass,
+        )
+        .is_err()
+        {
             return;
         }
     }

@@ -18,10 +18,11 @@ const LONGEST_WITHOUT_PLACE: usize = 65_536;
 /// A client's control frame has so many bytes beside its payload (RFC 6455, section 5.2).
 const CONTROL_HEAD: usize = 6;
 
-/// A read waits for so many milliseconds while its session looks at it.
+/// While its session looks at it, a read waits for so many milliseconds. One of a long message that
+/// finds no place waits for a tick all the same.
 const LOOK: u64 = 1;
 
-/// And so many reads may be made in a look.
+/// And it is read so often at most in a look.
 const READS_OF_LOOK: u32 = 64;
 
 /// A stream that whoever has a share of it may shut.
@@ -185,9 +186,12 @@ pub(crate) fn seconds_since<R: Clock>(rt: &R, moment: Instant) -> u64 {
 
 impl<R: Clock + Wait> Watched for IncomingStream<'_, R> {
     fn begin_look(&mut self) -> bool {
-        self.reads_left = Some(READS_OF_LOOK);
         let look = Duration::from_millis(LOOK);
-        self.stream.set_read_timeout(Some(look)).is_ok()
+        let can_look = self.stream.set_read_timeout(Some(look)).is_ok();
+        if can_look {
+            self.reads_left = Some(READS_OF_LOOK);
+        }
+        can_look
     }
 
     fn end_look(&mut self) -> bool {

@@ -284,35 +284,31 @@ fn play_beside<C: Ledger + Send + Sync, A: Ledger + Send + Sync, R: Abort + Thre
     let Ways { short, long } = Ways::new(alloc)?;
     let ((short, of_short), (long, of_long)) = (short, long);
     let (of_short, of_long) = (&of_short, &of_long);
-    thread::scope(
-        thread::scope_env(),
-        rt,
-        |scope| -> Result<(), Fail> {
-            let one = scope.spawn(move || worker(rt, alloc, of_short, shared, gate));
-            let other = scope.spawn(move || worker(rt, alloc, of_long, shared, gate));
-            let desk = Desk {
-                alloc,
-                shared,
-                jobs: &long,
-            };
-            let played = play(rt, &desk, pass, Jobs::new(&short, &long), gate, story);
-            gate.open();
-            drop(desk);
-            drop(short);
-            drop(long);
-            let were_there = match (one, other) {
-                (Ok(one), Ok(other)) => {
-                    one.join(rt);
-                    other.join(rt);
-                    true
-                }
-                _ => false,
-            };
-            played?;
-            assert!(rt; were_there);
-            Ok(())
-        },
-    )
+    thread::scope(thread::scope_env(), rt, |scope| -> Result<(), Fail> {
+        let one = scope.spawn(move || worker(rt, alloc, of_short, shared, gate));
+        let other = scope.spawn(move || worker(rt, alloc, of_long, shared, gate));
+        let desk = Desk {
+            alloc,
+            shared,
+            jobs: &long,
+        };
+        let played = play(rt, &desk, pass, Jobs::new(&short, &long), gate, story);
+        gate.open();
+        drop(desk);
+        drop(short);
+        drop(long);
+        let were_there = match (one, other) {
+            (Ok(one), Ok(other)) => {
+                one.join(rt);
+                other.join(rt);
+                true
+            }
+            _ => false,
+        };
+        played?;
+        assert!(rt; were_there);
+        Ok(())
+    })
 }
 
 fn run_at<C: Ledger + Send + Sync, A: Ledger + Send + Sync, R: Abort + Threads + Wait + Sync>(

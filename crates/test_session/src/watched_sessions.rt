@@ -200,27 +200,19 @@ fn serve_beside<
     C: Ledger + Send + Sync,
     A: Ledger + Send + Sync,
     R: Abort + Threads + Wait + Clock + Sync,
->(
-    rt: &R,
-    desk: &Desk<'_, C, A>,
-    pass: Pass<C, A>,
-) -> Served {
+>(rt: &R, desk: &Desk<'_, C, A>, pass: Pass<C, A>) -> Served {
     let (alloc, shared) = (desk.alloc, desk.shared);
     let gate = AfterLook { looks: desk.looks };
     let (jobs, queue) = bounded(alloc, MAX_JOBS).expect(rt, "error");
-    thread::scope(
-        thread::scope_env(),
-        rt,
-        |scope| -> Served {
-            let working = scope.spawn(move || worker(rt, alloc, &queue, shared, &gate));
-            let served = serve(rt, desk, &jobs, pass);
-            drop(jobs);
-            if let Ok(working) = working {
-                working.join(rt);
-            }
-            served
-        },
-    )
+    thread::scope(thread::scope_env(), rt, |scope| -> Served {
+        let working = scope.spawn(move || worker(rt, alloc, &queue, shared, &gate));
+        let served = serve(rt, desk, &jobs, pass);
+        drop(jobs);
+        if let Ok(working) = working {
+            working.join(rt);
+        }
+        served
+    })
 }
 
 fn meanwhile<
@@ -249,7 +241,12 @@ fn meanwhile<
         wanted.push_str(line).expect(rt, "error");
         wanted.push_str("\n").expect(rt, "error");
     }
-    same_text(rt, served.lines.as_str(), wanted.as_str(), "what its client reads");
+    same_text(
+        rt,
+        served.lines.as_str(),
+        wanted.as_str(),
+        "what its client reads",
+    );
     holds(rt, served.ended.is_none(), "it goes on");
     same(rt, served.answers, 2, "answers");
     same(rt, looks.load(Ordering::SeqCst), 1, "looks");
@@ -278,7 +275,10 @@ fn leaves<C: Ledger, A: Ledger, R: Abort + Wait + Clock>(
         × (blanks.1.parts ≡ 2) }
 {
     let (shared, mut passes): (Shared<C, A>, _) = shared_of(rt, alloc, blanks);
-    let (pass, mut others) = (passes.pop().expect(rt, "no pass"), passes.pop().expect(rt, "no pass"));
+    let (pass, mut others) = (
+        passes.pop().expect(rt, "no pass"),
+        passes.pop().expect(rt, "no pass"),
+    );
     let (jobs, queue) = bounded(alloc, 1).expect(rt, "error");
     if is_full {
         let other = job_of_another(rt, alloc, &shared, &mut others);
@@ -312,7 +312,8 @@ fn job_of_another<C: Ledger, A: Ledger, R: Abort + Wait>(
     let point = PointId::copied(alloc, "CP1").expect(rt, "error");
     let start = instant_at(0).expect(rt, "no instant");
     let mut book = shared.lock(rt);
-    book.take(pass, point, 1, start, 60, None).expect(rt, "error")
+    book.take(pass, point, 1, start, 60, None)
+        .expect(rt, "error")
 }
 
 #[test]
@@ -327,7 +328,12 @@ fn a_client_that_closes_has_no_request_left(rt: HostRuntime) {
             is_full,
         );
         holds(&rt, served.ended == Some(Ended::Closed), "it is closed");
-        same_text(&rt, served.lines.as_str(), "close\n", "what its client reads");
+        same_text(
+            &rt,
+            served.lines.as_str(),
+            "close\n",
+            "what its client reads",
+        );
         same(&rt, served.answers, 1, "answers");
     }
 }
@@ -336,8 +342,13 @@ fn a_client_that_closes_has_no_request_left(rt: HostRuntime) {
 fn a_client_that_is_gone_has_no_request_left(rt: HostRuntime) {
     for is_full in [false, true] {
         let blanks = (Blank::new(2), Blank::new(2));
-        let served =
-            leaves::<Brand, Brand, HostRuntime>(&rt, rt.alloc(), blanks, Later::End, is_full);
+        let served = leaves::<Brand, Brand, HostRuntime>(
+            &rt,
+            rt.alloc(),
+            blanks,
+            Later::End,
+            is_full,
+        );
         holds(&rt, served.ended == Some(Ended::Broken), "it is broken");
         same_text(&rt, served.lines.as_str(), "", "what its client reads");
         same(&rt, served.answers, 1, "answers");

@@ -89,14 +89,7 @@ pub struct Served {
 /// is never handed on: it ends the session. A step that couldn't be noted isn't made: the message is
 /// answered as one that memory ran out for.
 #[tactic(auto, using(crate::proofs::AskedLemmas::asks_for))]
-pub fn serve_sent_text<
-    C: Ledger,
-    A: Ledger,
-    R: Wait,
-    M: Moments,
-    J: Journal,
-    W: Waiting,
->(
+pub fn serve_sent_text<C: Ledger, A: Ledger, R: Wait, M: Moments, J: Journal, W: Waiting>(
     context: &Context<'_, C, A, R, M, J>,
     waiting: &mut W,
     core: &SessionCore,

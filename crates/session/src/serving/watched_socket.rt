@@ -136,8 +136,7 @@ impl<'s, S: Read + Write + Watched + Drop, K: MaskKeys + Drop, R> WatchedSocket<
 }
 
 impl<S: Read + Write + Watched + Drop, K: MaskKeys + Drop, R: Wait + Clock> SessionSocket<S, K>
-    for WatchedSocket<'_, S, K, R>
-{
+    for WatchedSocket<'_, S, K, R> {
     fn websocket(&mut self) -> &mut WebSocket<S, K> {
         self.socket
     }
@@ -155,8 +154,7 @@ impl<S: Read + Write + Watched + Drop, K: MaskKeys + Drop, R: Wait + Clock> Sess
 }
 
 impl<S: Read + Write + Watched + Drop, K: MaskKeys + Drop, R: Wait + Clock> Waiting
-    for WatchedSocket<'_, S, K, R>
-{
+    for WatchedSocket<'_, S, K, R> {
     fn send_job<W: Wait>(&mut self, _rt: &W, jobs: Jobs<'_>, job: Job) -> Sending {
         let mut job = job;
         for _turn in self.rt.forever() {
