@@ -21,9 +21,11 @@ mod seat_context;
 mod seats;
 mod seldom;
 mod serving;
+mod workers;
 
 pub use path::{PathPeer, peer_of_path};
 pub use seat::keep_seat;
 pub use seat_context::{SeatContext, SeatOptions};
 pub use seats::{MAX_SEATS, SeatedBook, run_seats};
 pub use serving::{MAX_SESSIONS, MAX_WORKERS, ServeFault, serve};
+pub use workers::JobSenders;
