@@ -1,5 +1,5 @@
 -- A long message that was read for its session, by the thread that reads for all.
-use Rattle.std.specs.Prelude.{◌≡◌, ◌×◌, Option, Result, IfOk, IfErr, IfSome}
+use Rattle.std.specs.Prelude.{◌≡◌, Option, Result, IfOk, IfErr, IfSome}
 use Rattle.ocppj_frame.specs.ByCases.Message.{message_of_text}
 use Rattle.meaning.specs.declared.said.Said.{Said}
 use Rattle.texts.specs.declared.asked.Asked.{Asked}

@@ -1,6 +1,6 @@
 //! Long messages are read on a thread of their own.
 
-ghost use Rattle.std.specs.Prelude.{◌≡◌, ◌×◌, IsTrue, IfOk, IfSome};
+ghost use Rattle.std.specs.Prelude.{◌≡◌, IsTrue, IfOk, IfSome};
 ghost use Rattle.session.specs.LongReading.{AreReadOf, IsAskedOf};
 ghost use Rattle.texts.specs.Said.{said_of};
 
@@ -147,8 +147,11 @@ impl LongReading {
     ) -> Result<Asked, Unread>
         ensures { IsAskedOf sent.now result }
     {
-        if let Some((Some(asked), _)) = self.read_elsewhere(rt, alloc, Wanted::Asked, sent) {
-            return asked;
+        let read = self.read_elsewhere(rt, alloc, Wanted::Asked, sent);
+        if let Some((asked, _said)) = read {
+            if let Some(asked) = asked {
+                return asked;
+            }
         }
         let alone = self.alone.lock(rt);
         let asked = read_asked(alloc, sent);
@@ -165,8 +168,11 @@ impl LongReading {
     ) -> Result<Said, AllocError>
         ensures { IfOk result (λ said. said ≡ said_of sent.now) }
     {
-        if let Some((_, Some(said))) = self.read_elsewhere(rt, alloc, Wanted::Said, sent) {
-            return Ok(said);
+        let read = self.read_elsewhere(rt, alloc, Wanted::Said, sent);
+        if let Some((_asked, said)) = read {
+            if let Some(said) = said {
+                return Ok(said);
+            }
         }
         let alone = self.alone.lock(rt);
         let said = read_said(alloc, sent);
