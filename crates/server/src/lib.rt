@@ -28,4 +28,3 @@ pub use seat::keep_seat;
 pub use seat_context::{SeatContext, SeatOptions};
 pub use seats::{MAX_SEATS, SeatedBook, run_seats};
 pub use serving::{MAX_SESSIONS, MAX_WORKERS, ServeFault, serve};
-pub use workers::JobSenders;

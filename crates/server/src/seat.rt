@@ -8,7 +8,7 @@ use crate::entry::Entry;
 use crate::handshake::shake_hands;
 use crate::incoming_stream::IncomingStream;
 use crate::seat_context::SeatContext;
-use crate::workers::JobSenders;
+use compile_pool::Jobs;
 use crossbeam_channel::Receiver;
 use ocpp_scalars::Moments;
 use session::{Context, Journal, Peer, attach_session, end_session};
@@ -30,7 +30,7 @@ const READ_BYTES: usize = 8_192;
 /// back the pass, which counts no less than before.
 pub fn keep_seat<C: Ledger, A: Ledger, R: Wait + Clock, M: Moments, J: Journal>(
     seats: &SeatContext<C, A, R, M, J>,
-    senders: &JobSenders,
+    jobs: Jobs<'_>,
     streams: &Receiver<TcpStream>,
     pass: Pass<C, A>,
 ) -> Pass<C, A>
@@ -40,7 +40,7 @@ pub fn keep_seat<C: Ledger, A: Ledger, R: Wait + Clock, M: Moments, J: Journal>(
         rt: &seats.rt,
         alloc: seats.alloc,
         shared: &seats.shared,
-        jobs: senders.jobs(),
+        jobs,
         clock: &seats.clock,
         journal: &seats.journal,
         reading: &seats.reading,

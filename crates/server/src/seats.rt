@@ -155,8 +155,9 @@ fn begin_seat<
 ) -> Result<bool, ServeFault> {
     let own = Arc::try_clone(context)?;
     let (jobs, queue) = (jobs.share()?, queue.clone()?);
-    let seat = thread::Builder::new()
-        .stack_size(SEAT_STACK)
-        .spawn(&context.rt, move || keep_seat(&own, &jobs, &queue, pass));
+    let seat = thread::Builder::new().stack_size(SEAT_STACK).spawn(
+        &context.rt,
+        move || keep_seat(&own, jobs.jobs(), &queue, pass),
+    );
     Ok(seat.is_ok())
 }

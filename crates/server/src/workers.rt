@@ -16,7 +16,7 @@ use version_store::Job;
 
 /// The ways to the workers: those of short jobs, and those of long ones.
 #[derive(Drop)]
-pub struct JobSenders {
+pub(crate) struct JobSenders {
     short: Sender<Job>,
     long: Sender<Job>,
 }

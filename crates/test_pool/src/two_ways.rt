@@ -16,6 +16,7 @@ use std::sync::ledger::{Blank, Ledger};
 use std::test::Fail;
 use std::thread;
 use std::thread::Threads;
+use sweep_compiler::{Turns, compile};
 use test_books::site_text;
 use version_store::{Job, Pass, Shared};
 
@@ -172,6 +173,60 @@ fn jobs_go_the_way_of_their_work(rt: HostRuntime) -> Result<(), Fail> {
         let (changes, answers) = (Blank::new(1), Blank::new(1));
         goes_its_way::<Brand, Brand, HostRuntime>(&rt, rt.alloc(), changes, answers, place)?;
     }
+    Ok(())
+}
+
+/// A daily profile in words: of 200 periods, each a second after the one before, above the ceiling.
+fn daily_from(alloc: Global, level: u32, second: u32) -> Result<String, Fail> {
+    let head = "kind=Recurring recurrency=Daily";
+    let mut words = format!(in alloc;
+        "{head} id={level} level={level} start={second} periods=0:400"
+    )?;
+    for place in 1..200u32 {
+        write!(&mut words, ",{place}:{}", 400 + place)?;
+    }
+    Ok(words)
+}
+
+/// How often the limit is evaluated for a short job that is nearly long: two daily profiles at
+/// connector 2 change in different seconds, 200 times on each of 24 days.
+fn evaluations_of<C: Ledger, A: Ledger, R: Abort + Wait>(
+    rt: &R,
+    alloc: Global,
+    changes: Blank,
+    answers: Blank,
+) -> Result<u64, Fail>
+    requires changes { (changes.name ≡ C.name) × (changes.parts ≡ C.parts) × (changes.parts ≡ 1) }
+    requires answers { (answers.name ≡ A.name) × (answers.parts ≡ A.parts) × (answers.parts ≡ 1) }
+{
+    let (shared, mut pass): (Shared<C, A>, _) = book_of(alloc, changes, answers)?;
+    let ways = Ways::new(alloc)?;
+    let desk = Desk {
+        alloc,
+        shared: &shared,
+        jobs: &ways.long.0,
+    };
+    for (level, second) in [(1u32, 100u32), (2, 500)] {
+        let words = daily_from(alloc, level, second)?;
+        desk.install_at(rt, &mut pass, 0, 2, words.as_str())?;
+    }
+    let seconds = 24 * 86_400 - 1;
+    // 2 * (202 * 24 + 2) = 9,700
+    let job = desk.take_of(rt, &mut pass, 0, 2, seconds)?;
+    assert!(rt; !ways.goes_long(rt, job)?);
+    let job = desk.take_of(rt, &mut pass, 0, 2, seconds)?;
+    let (_, book, ask) = job.into_parts();
+    let mut turns = Turns::new();
+    assert!(rt; compile(alloc, &book, &ask, &mut turns).is_ok());
+    Ok(turns.count())
+}
+
+#[test]
+fn short_jobs_are_no_more_work_than_is_counted(rt: HostRuntime) -> Result<(), Fail> {
+    let (changes, answers) = (Blank::new(1), Blank::new(1));
+    let count = evaluations_of::<Brand, Brand, HostRuntime>(&rt, rt.alloc(), changes, answers)?;
+    // At the start, and 2 * 200 * 24 times. The job counts as one of 9,700.
+    assert_eq!(rt; count, 9_601);
     Ok(())
 }
 
