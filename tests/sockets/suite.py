@@ -17,6 +17,7 @@ import handshakes
 import messages
 import node_clients
 import programs
+import proxies
 import reconnects
 import refusals
 import replays
@@ -46,6 +47,7 @@ SUBJECTS = {
     "run_crowds": run_crowds,
     "run_deadlines": run_deadlines,
     "run_keys": run_keys,
+    "proxies": proxies,
     "audits": audits,
     "refusals": refusals,
 }
