@@ -17,9 +17,11 @@ import handshakes
 import messages
 import node_clients
 import programs
+import proxies
 import reconnects
 import refusals
 import replays
+import run_asks
 import run_crowds
 import run_deadlines
 import run_histories
@@ -41,9 +43,11 @@ SUBJECTS = {
     "runs": runs,
     "run_histories": run_histories,
     "run_kills": run_kills,
+    "run_asks": run_asks,
     "run_crowds": run_crowds,
     "run_deadlines": run_deadlines,
     "run_keys": run_keys,
+    "proxies": proxies,
     "audits": audits,
     "refusals": refusals,
 }
