@@ -7,7 +7,7 @@ use crate::incoming_stream::{IncomingStream, seconds_since};
 use bytes::Bytes;
 use ocpp_scalars::Moments;
 use ocppj_frame::ReadingMemory;
-use session::{Context, Ended, Heard, Journal, SessionCore, send_call, serve_next};
+use session::{Context, Ended, Heard, Journal, SessionCore, WatchedSocket, send_call, serve_next};
 use std::rt::Clock;
 use std::sync::Wait;
 use std::sync::ledger::Ledger;
@@ -53,6 +53,7 @@ pub(crate) fn attend_session<C: Ledger, A: Ledger, R: Wait + Clock, M: Moments, 
         return;
     };
     let mut memory = ReadingMemory::new(context.alloc);
+    let mut socket = WatchedSocket::new(context.rt, socket);
     let mut attention = Attention {
         call_timeout,
         begun: now,
@@ -62,7 +63,16 @@ pub(crate) fn attend_session<C: Ledger, A: Ledger, R: Wait + Clock, M: Moments, 
         sent: None,
     };
     for _message in context.rt.forever() {
-        if attend_next(context, socket, core, &mut memory, &mut attention, pass).is_err() {
+        if attend_next(
+            context,
+            &mut socket,
+            core,
+            &mut memory,
+            &mut attention,
+            pass,
+        )
+        .is_err()
+        {
             return;
         }
     }
@@ -72,7 +82,7 @@ pub(crate) fn attend_session<C: Ledger, A: Ledger, R: Wait + Clock, M: Moments, 
 /// Serves the next message, or does what is due where none comes. An error ends the session.
 fn attend_next<C: Ledger, A: Ledger, R: Wait + Clock, M: Moments, J: Journal>(
     context: &Context<'_, C, A, R, M, J>,
-    socket: &mut WebSocket<IncomingStream<'_, R>, NoMask>,
+    watched: &mut WatchedSocket<'_, IncomingStream<'_, R>, NoMask, R>,
     core: &SessionCore,
     memory: &mut ReadingMemory,
     attention: &mut Attention,
@@ -80,14 +90,15 @@ fn attend_next<C: Ledger, A: Ledger, R: Wait + Clock, M: Moments, J: Journal>(
 ) -> Result<(), Ended>
     ensures { KeepsPass pass.old pass.new }
 {
-    let sent = match serve_next(context, socket, core, memory, pass)? {
+    let heard = serve_next(context, watched, core, memory, pass)?;
+    let is_last = !watched.has_kept();
+    let socket = watched.websocket();
+    let sent = match heard {
         Heard::Message { sent } => {
-            socket.get_mut().end_message();
             attention.has_spoken = true;
             sent
         }
-        Heard::Control { bytes } => {
-            socket.get_mut().end_control(bytes);
+        Heard::Control { .. } => {
             // Whoever pings all the time leaves no time without a byte.
             if seconds_since(context.rt, attention.looked) < TICK {
                 None
@@ -103,7 +114,7 @@ fn attend_next<C: Ledger, A: Ledger, R: Wait + Clock, M: Moments, J: Journal>(
     if let Some(number) = sent {
         attention.note_sent(context.rt, number);
     }
-    if attention.is_overdue(context, core) || socket.get_ref().is_in_the_way() {
+    if attention.is_overdue(context, core) || (is_last && socket.get_ref().is_in_the_way()) {
         let _ = socket.close(None);
         return Err(Ended::Broken);
     }

@@ -13,6 +13,7 @@ mod free_seats;
 mod handshake;
 mod incoming_stream;
 mod long_messages;
+mod long_texts;
 mod path;
 mod present_streams;
 mod seat;
@@ -20,6 +21,7 @@ mod seat_context;
 mod seats;
 mod seldom;
 mod serving;
+mod workers;
 
 pub use path::{PathPeer, peer_of_path};
 pub use seat::keep_seat;

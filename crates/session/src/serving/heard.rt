@@ -15,7 +15,7 @@ pub enum Heard {
 
 /// What came over a socket.
 #[derive(Drop)]
-pub(crate) enum Incoming {
+pub enum Incoming {
     /// A text message.
     Text(Utf8Bytes),
     /// A binary one, which says nothing.
