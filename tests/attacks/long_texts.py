@@ -137,7 +137,7 @@ def unfinished(field):
 ATTACKS = (
     Attack("JSON of odd shapes", "processor time", "answered, refused or dropped", odd_json, (RUN, SERVE)),
     Attack("a million line breaks", "room in the journal", "answered; one line each", line_breaks, (RUN, SERVE)),
-    Attack("answers that nobody reads", "all seats, for 10 s", "closed", unread_answers, (RUN, SERVE)),
+    Attack("answers that nobody reads", "all seats, for 10 s", "closed", unread_answers, (RUN, SERVE), is_open=True),
     Attack("the longest messages on all seats", "processor time and memory", "answered", hostile_seats, (RUN,), needs_proof=True),
     Attack("unfinished messages on all seats", "all seats, at most 30 s", "the others are served", unfinished, (RUN,)),
 )
