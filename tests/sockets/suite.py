@@ -25,6 +25,7 @@ import run_deadlines
 import run_histories
 import run_keys
 import run_kills
+import run_status
 import runs
 from node_client import NodeClient
 
@@ -44,6 +45,7 @@ SUBJECTS = {
     "run_crowds": run_crowds,
     "run_deadlines": run_deadlines,
     "run_keys": run_keys,
+    "run_status": run_status,
     "audits": audits,
     "refusals": refusals,
 }

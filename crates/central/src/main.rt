@@ -20,6 +20,7 @@ use crate::program::replaying::replay_file;
 use crate::program::running::run_file;
 use crate::program::serving::serve_file;
 use crate::program::showing::show_file;
+use crate::program::status::show_status;
 use clap::error::ErrorKind;
 use std::alloc::AllocGlobal;
 use std::fs::File;
@@ -87,6 +88,7 @@ fn do_job<
             naming(rt, running.site, run)?;
             Ok(0)
         }
+        Ok(Job::Status { url }) => show_status(rt, url),
         Ok(Job::Journal { folder }) => {
             print_journal(rt, folder)?;
             Ok(0)

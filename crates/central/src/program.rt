@@ -28,4 +28,7 @@ pub mod script_input;
 pub mod serving;
 pub mod showing;
 pub mod site_file;
+pub mod status;
+pub mod status_request;
+pub mod status_table;
 pub mod system_clock;

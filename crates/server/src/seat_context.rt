@@ -2,7 +2,9 @@
 
 use crate::free_seats::FreeSeats;
 use crate::long_messages::LongMessages;
+use crate::notices::{Notices, line_of};
 use crate::present_streams::PresentStreams;
+use crate::site_watch::SiteWatch;
 use ocpp_scalars::Moments;
 use session::Journal;
 use site_keys::Keys;
@@ -32,6 +34,8 @@ pub struct SeatContext<C: Ledger, A: Ledger, R, M, J> {
     pub(crate) present: PresentStreams,
     pub(crate) free: FreeSeats,
     pub(crate) long_messages: LongMessages,
+    pub(crate) watch: SiteWatch,
+    pub(crate) notices: Notices,
     pub(crate) options: SeatOptions,
     /// Whoever reads a long message has this.
     pub(crate) reading: Mutex<()>,
@@ -65,6 +69,8 @@ impl<
             present: PresentStreams::make(alloc, points)?,
             free: FreeSeats::new(),
             long_messages: LongMessages::new(),
+            watch: SiteWatch::make(alloc, points)?,
+            notices: Notices::new(alloc),
             options,
             reading: Mutex::new(()),
         })
@@ -73,5 +79,23 @@ impl<
     /// The journal of what is served.
     pub fn journal(&self) -> &J {
         &self.journal
+    }
+}
+
+impl<C: Ledger, A: Ledger, R: Wait, M: Moments, J> SeatContext<C, A, R, M, J> {
+    /// Says on standard error what became of whom, at this moment.
+    pub(crate) fn say(&self, who: &str, what: &str) {
+        if let Some(moment) = self.clock.now() {
+            let line = line_of(self.alloc, moment, who, what);
+            self.notices.say(&self.rt, line);
+        }
+    }
+
+    /// The same of what may be missing, for lack of memory.
+    pub(crate) fn say_made(&self, who: &str, what: Result<String, AllocError>) {
+        match what {
+            Ok(what) => self.say(who, what.as_str()),
+            Err(AllocError) => self.notices.say(&self.rt, Err(AllocError)),
+        }
     }
 }

@@ -102,12 +102,30 @@ pub fn run_seats<
             "central: {seats} seats of {wanted}: for the others no thread could be made"
         );
     }
+    context.watch.set_seats(&context.rt, seats as u64);
+    begin_writer(context)?;
     let own = Arc::try_clone(context)?;
     let accepting = thread::Builder::new().spawn(&context.rt, move || {
-        accept_connections(&own.rt, &own.free, &listener, &streams)
+        accept_connections(&own, &listener, &streams)
     });
     match accepting {
         Ok(_) => Ok(seats),
+        Err(_) => Err(ServeFault::OutOfMemory),
+    }
+}
+
+/// Begins the thread that writes lines for people to standard error.
+fn begin_writer<
+    C: Ledger + Send + Sync + Drop + 'static,
+    A: Ledger + Send + Sync + Drop + 'static,
+    R: Wait + Threads + Eprint + Send + Sync + Drop + 'static,
+    M: Send + Sync + Drop + 'static,
+    J: Send + Sync + Drop + 'static,
+>(context: &Arc<SeatContext<C, A, R, M, J>, Global>) -> Result<(), ServeFault> {
+    let own = Arc::try_clone(context)?;
+    let writer = thread::Builder::new().spawn(&context.rt, move || own.notices.write_all(&own.rt));
+    match writer {
+        Ok(_) => Ok(()),
         Err(_) => Err(ServeFault::OutOfMemory),
     }
 }

@@ -10,6 +10,7 @@ mod noting;
 mod reading;
 mod served_text;
 mod sockets;
+mod telling;
 
 use crate::context::Context;
 use crate::journal::{Journal, NoJournal};
@@ -18,7 +19,7 @@ use calls::lose;
 pub use calls::{attach_session, send_call};
 use crossbeam_channel::Sender;
 pub use ended::Ended;
-pub use heard::Heard;
+pub use heard::{Heard, MAX_REJECTION_BYTES, SentCall, Told};
 use ocpp_scalars::Moments;
 use ocppj_frame::ReadingMemory;
 pub use served_text::{Served, serve_next, serve_sent_text};

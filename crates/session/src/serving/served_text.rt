@@ -13,10 +13,11 @@ use crate::outcome::{Outcome, Performed};
 use crate::serving::audits::{OpenAudit, audit_confirmed, audit_to_judge, judge_reply};
 use crate::serving::calls::send_call;
 use crate::serving::ended::{Ended, ended_unsaved};
-use crate::serving::heard::{Heard, Incoming};
+use crate::serving::heard::{Heard, Incoming, Told};
 use crate::serving::noting::{note_performed, prepare_message};
 use crate::serving::reading::read_message;
 use crate::serving::sockets::{clear_to_leave, read_next, send_text};
+use crate::serving::telling::{subject_of, told_by};
 use crate::session_core::SessionCore;
 use crate::step::perform;
 use crate::todo::Todo;
@@ -54,20 +55,23 @@ pub fn serve_next<
 {
     let text = match read_next(socket)? {
         Incoming::Text(text) => text,
-        Incoming::Binary => return Ok(Heard::Message { sent: None }),
+        Incoming::Binary => return Ok(Heard::Message {
+            told: Told::Other,
+            sent: None,
+        }),
         Incoming::Control(bytes) => return Ok(Heard::Control { bytes }),
         Incoming::Nothing => return Ok(Heard::Nothing),
     };
     let Some(now) = context.clock.now() else {
         return Err(Ended::Broken);
     };
-    let Served { answer } = serve_sent_text(context, core, memory, pass, now, text.as_str())?;
+    let Served { answer, told } = serve_sent_text(context, core, memory, pass, now, text.as_str())?;
     if let Some(answer) = &answer {
         let cleared = clear_to_leave(context.journal, answer.as_str())?;
         send_text(context.alloc, socket, cleared)?;
     }
     let sent = send_call(context, socket, core, now)?;
-    Ok(Heard::Message { sent })
+    Ok(Heard::Message { told, sent })
 }
 
 /// What came of a message.
@@ -75,6 +79,8 @@ pub fn serve_next<
 pub struct Served {
     /// The message that answers it, if one does.
     pub answer: Option<String>,
+    /// What it told.
+    pub told: Told,
 }
 
 /// Makes the step of a message of this session that comes at this moment, if it has one, and gives
@@ -100,11 +106,13 @@ pub fn serve_sent_text<C: Ledger, A: Ledger, R: Wait, M: Moments, J: Journal>(
     };
     let sent = SentText::new(moment, core.side(), core.point_id().as_str(), frame);
     let step = todo.take_step();
+    let subject = subject_of(&todo, &step);
     let entry = match prepare_message(context, &sent, &step) {
         Ok(entry) => entry,
         Err(fault) => return served_unmade(core, todo, fault),
     };
     let outcome = outcome_of(context, memory, pass, &sent, step, entry)?;
+    let told = told_by(context.alloc, memory, frame, subject, &outcome);
     let is_short = matches!(outcome, Some(Outcome::Refused(Refusal::OutOfMemory)));
     let Ok(answer) = core.answer(todo, outcome) else {
         return Err(Ended::OutOfMemory);
@@ -112,7 +120,7 @@ pub fn serve_sent_text<C: Ledger, A: Ledger, R: Wait, M: Moments, J: Journal>(
     if is_short && answer.is_none() {
         return Err(Ended::OutOfMemory);
     }
-    Ok(Served { answer })
+    Ok(Served { answer, told })
 }
 
 /// The answer to a message whose step isn't made, since it couldn't be noted: that of a CALL that
@@ -126,7 +134,10 @@ fn served_unmade(core: &SessionCore, todo: Todo, fault: JournalFault) -> Result<
         return Err(ended_unsaved(fault));
     };
     match core.answer(unnoted, None) {
-        Ok(answer) => Ok(Served { answer }),
+        Ok(answer) => Ok(Served {
+            answer,
+            told: Told::Other,
+        }),
         Err(_) => Err(Ended::OutOfMemory),
     }
 }

@@ -1,0 +1,107 @@
+//! Lines for people, which a thread of their own writes to standard error.
+
+use ocpp_scalars::{Instant, push_instant};
+use std::alloc::{AllocError, Global};
+use std::mem;
+use std::sync::{Condvar, Mutex, Wait};
+
+/// So many lines wait at most. More are left out, and counted.
+const MAX_WAITING: usize = 1_024;
+
+/// Lines that wait to be written to standard error. Whoever has something to say doesn't wait until
+/// somebody reads it.
+#[derive(Drop)]
+pub(crate) struct Notices {
+    alloc: Global,
+    waiting: Mutex<WaitingLines>,
+    /// Whoever writes them waits here.
+    more: Condvar,
+}
+
+#[derive(Drop)]
+struct WaitingLines {
+    lines: Vec<String>,
+    left_out: u64,
+}
+
+impl Notices {
+    /// Nothing was said yet.
+    pub(crate) fn new(alloc: Global) -> Notices {
+        Notices {
+            alloc,
+            waiting: Mutex::new(WaitingLines {
+                lines: Vec::new(alloc),
+                left_out: 0,
+            }),
+            more: Condvar::new(),
+        }
+    }
+
+    /// Says a line, or counts it where too many wait or memory ran out.
+    pub(crate) fn say<R: Wait>(&self, rt: &R, line: Result<String, AllocError>) {
+        let mut waiting = self.waiting.lock(rt);
+        let is_kept = match line {
+            Ok(line) if waiting.lines.len() < MAX_WAITING => waiting.lines.push(line).is_ok(),
+            _ => false,
+        };
+        if !is_kept {
+            waiting.left_out = waiting.left_out.saturating_add(1);
+        }
+        drop(waiting);
+        self.more.notify_one();
+    }
+
+    /// Writes the lines for ever. Nothing is locked while one is written.
+    pub(crate) fn write_all<R: Wait + Eprint>(&self, rt: &R) {
+        for _round in rt.forever() {
+            let WaitingLines { lines, left_out } = self.take(rt);
+            for line in &lines {
+                let _ = eprintln!(rt; "{line}");
+            }
+            if left_out > 0 {
+                let _ = eprintln!(rt; "central: {left_out} lines are left out here");
+            }
+        }
+    }
+
+    /// Waits until there are lines, and takes them.
+    fn take<R: Wait>(&self, rt: &R) -> WaitingLines {
+        let waiting = self.waiting.lock(rt);
+        let mut waiting = self.more.wait_while(rt, waiting, |waiting| {
+            waiting.lines.is_empty() && waiting.left_out == 0
+        });
+        let none = WaitingLines {
+            lines: Vec::new(self.alloc),
+            left_out: 0,
+        };
+        mem::replace(&mut *waiting, none)
+    }
+}
+
+/// A line of what became of whom.
+pub(crate) fn line_of(
+    alloc: Global,
+    moment: Instant,
+    who: &str,
+    what: &str,
+) -> Result<String, AllocError> {
+    let mut line = String::from_str(alloc, "central: ")?;
+    push_instant(&mut line, moment)?;
+    line.push(' ')?;
+    push_on_one_line(&mut line, who)?;
+    line.push_str(": ")?;
+    push_on_one_line(&mut line, what)?;
+    Ok(line)
+}
+
+/// Appends a text. A control character becomes a space, so that nobody else's words begin a line.
+fn push_on_one_line(line: &mut String, text: &str) -> Result<(), AllocError> {
+    for character in text.chars() {
+        line.push(if character.is_control() {
+            ' '
+        } else {
+            character
+        })?;
+    }
+    Ok(())
+}

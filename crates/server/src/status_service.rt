@@ -1,0 +1,119 @@
+//! What is answered at the status port.
+
+use crate::seat_context::SeatContext;
+use crate::site_watch::Seen;
+use crate::status_port::StatusPort;
+use crate::watched_journal::WatchedJournal;
+use bytes::Bytes;
+use http::{HeaderName, HeaderValue, Method, Request, StatusCode};
+use http_server::{Response, Service};
+use ocpp_scalars::Moments;
+use site_status::{
+    Health, JournalReport, SiteCounts, SiteReport, StatusAnswer, StatusPath, answer_of,
+    health_answer, nothing_there, status_path,
+};
+use std::alloc::AllocError;
+use std::sync::Wait;
+use std::sync::ledger::Ledger;
+
+/// Answers the requests of a status port.
+#[derive(Drop)]
+pub(crate) struct StatusService<'a, C: Ledger, A: Ledger, R, M, J> {
+    pub(crate) port: &'a StatusPort<C, A, R, M, J>,
+}
+
+impl<C: Ledger, A: Ledger, R: Wait, M: Moments, J: WatchedJournal> Service
+    for StatusService<'_, C, A, R, M, J> {
+    ghost answers = { λ _ _ _ _. Unit {0} };
+
+    fn call(
+        &mut self,
+        request: &Request<Bytes>,
+        response: &mut Response,
+    ) -> Result<(), AllocError> {
+        add(response, "connection", "close")?;
+        add(response, "cache-control", "no-store")?;
+        add(response, "x-content-type-options", "nosniff")?;
+        let method = request.method();
+        if *method != Method::GET && *method != Method::HEAD {
+            response.status = StatusCode::METHOD_NOT_ALLOWED;
+            return add(response, "allow", "GET, HEAD");
+        }
+        let answer = self.answer(request.uri().path())?;
+        fill(response, answer)
+    }
+}
+
+impl<C: Ledger, A: Ledger, R: Wait, M: Moments, J: WatchedJournal> StatusService<
+    '_,
+    C,
+    A,
+    R,
+    M,
+    J,
+> {
+    /// What is answered at a path. The book is locked to be copied, which shares what it holds, and
+    /// not while a text is made.
+    fn answer(&self, path: &str) -> Result<StatusAnswer, AllocError> {
+        let alloc = self.port.alloc;
+        let Some(path) = status_path(path) else {
+            return nothing_there(alloc);
+        };
+        let Some(seats) = self.port.seats()? else {
+            return health_answer(alloc, Health::Restoring);
+        };
+        let journal = seats.journal.report();
+        if let StatusPath::Health = path {
+            return health_answer(alloc, Health::of(Some(journal.state)));
+        }
+        answer_by(&seats, journal, path)
+    }
+}
+
+/// What is answered at a path that wants to know what the site has.
+fn answer_by<C: Ledger, A: Ledger, R: Wait, M: Moments, J>(
+    seats: &SeatContext<C, A, R, M, J>,
+    journal: JournalReport,
+    path: StatusPath<'_>,
+) -> Result<StatusAnswer, AllocError> {
+    let Some(moment) = seats.clock.now() else {
+        return Err(AllocError);
+    };
+    let Seen { points, counts } = seats.watch.copy(&seats.rt, seats.alloc)?;
+    let free_seats = seats.free.count(&seats.rt);
+    let book = seats.shared.lock(&seats.rt);
+    let (copied, totals) = (book.present().copy(), book.totals());
+    drop(book);
+    let machine = copied?;
+    let report = SiteReport {
+        moment,
+        machine: &machine,
+        points: points.as_slice(),
+        counts: SiteCounts {
+            free_seats,
+            changes: totals.changes,
+            answers: totals.answers,
+            ..counts
+        },
+        journal,
+    };
+    answer_of(seats.alloc, path, &report)
+}
+
+/// Adds a header field.
+fn add(response: &mut Response, name: &'static str, value: &'static str) -> Result<(), AllocError> {
+    response.add_header(
+        HeaderName::from_static(name),
+        HeaderValue::from_static(value),
+    )
+}
+
+/// Makes the response of an answer.
+fn fill(response: &mut Response, answer: StatusAnswer) -> Result<(), AllocError> {
+    let StatusAnswer { status, kind, body } = answer;
+    if let Ok(status) = StatusCode::from_u16(status) {
+        response.status = status;
+    }
+    add(response, "content-type", kind.name())?;
+    response.body.push(Bytes::from_string(body)?)
+}
