@@ -103,7 +103,7 @@ fn push_point(
             unit: report.machine.site().unit(),
             from: report.moment,
         };
-        push_strip(alloc, out, shown, &explanation)?;
+        push_strip(alloc, out, &shown, &explanation)?;
     }
     out.push_str("</section>\n")
 }

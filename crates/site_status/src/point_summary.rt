@@ -30,8 +30,8 @@ pub(crate) fn summaries<'a>(
     report: &SiteReport<'a>,
 ) -> Result<Vec<PointSummary<'a>>, AllocError> {
     let mut all = Vec::new(alloc);
-    for (place, news) in report.points.iter().enumerate() {
-        if let Some(summary) = summary_of(alloc, report, place, news)? {
+    for place in 0..report.points.len() {
+        if let Some(summary) = summary_of(alloc, report, place)? {
             all.push(summary)?;
         }
     }
@@ -43,10 +43,9 @@ fn summary_of<'a>(
     alloc: Global,
     report: &SiteReport<'a>,
     place: usize,
-    news: &'a PointNews,
 ) -> Result<Option<PointSummary<'a>>, AllocError> {
     let machine = report.machine;
-    let Some(point) = machine.site().point(place) else {
+    let (Some(news), Some(point)) = (report.points.get(place), machine.site().point(place)) else {
         return Ok(None);
     };
     let id = point.id;

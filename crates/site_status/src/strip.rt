@@ -38,7 +38,7 @@ pub(crate) struct Shown<'a> {
 pub(crate) fn push_strip(
     alloc: Global,
     out: &mut String,
-    shown: Shown<'_>,
+    shown: &Shown<'_>,
     explanation: &Explanation,
 ) -> Result<(), AllocError> {
     push_heading(out, shown, explanation)?;
@@ -51,19 +51,14 @@ pub(crate) fn push_strip(
 /// What the limit is at present.
 fn push_heading(
     out: &mut String,
-    shown: Shown<'_>,
+    shown: &Shown<'_>,
     explanation: &Explanation,
 ) -> Result<(), AllocError> {
-    let Shown {
-        point,
-        connector,
-        unit,
-        ..
-    } = shown;
+    let (point, connector) = (shown.point, shown.connector);
     write!(out, "<h3>Connector {connector}")?;
     if let Some(first) = explanation.intervals().first() {
         out.push_str(": ")?;
-        push_limit(out, first.reason.limit, unit)?;
+        push_limit(out, first.reason.limit, shown.unit)?;
         out.push_str(" now")?;
     }
     push_element(
@@ -127,7 +122,7 @@ fn row_of(limit: u32, most: u64) -> u64 {
 }
 
 /// Appends the times below a picture.
-fn push_labels(alloc: Global, out: &mut String, shown: Shown<'_>) -> Result<(), AllocError> {
+fn push_labels(alloc: Global, out: &mut String, shown: &Shown<'_>) -> Result<(), AllocError> {
     out.push_str("<div class=\"times\" aria-hidden=\"true\">")?;
     for step in 0..5u64 {
         let moment = shown.from.seconds() + step * LABEL_STEP;
@@ -154,37 +149,42 @@ pub(crate) fn push_clock(alloc: Global, out: &mut String, moment: u64) -> Result
     }
 }
 
-/// Appends the intervals: from when on, the limit, and what sets it.
+/// Appends the intervals, as far as a list goes.
 fn push_list(
     alloc: Global,
     out: &mut String,
-    shown: Shown<'_>,
+    shown: &Shown<'_>,
     explanation: &Explanation,
 ) -> Result<(), AllocError> {
     out.push_str("<ol>\n")?;
     for interval in explanation.intervals().iter().take(MOST_LISTED) {
-        out.push_str("<li>from ")?;
-        let moment = shown.from.seconds() + u64::from(interval.start);
-        push_clock(alloc, out, moment)?;
-        out.push_str(" <b>")?;
-        push_limit(out, interval.reason.limit, shown.unit)?;
-        out.push_str("</b> ")?;
-        let mut why = String::new(alloc);
-        push_why(&mut why, &interval.reason, shown.unit)?;
-        push_escaped(out, why.as_str())?;
-        out.push_str("</li>\n")?;
+        push_item(alloc, out, shown, interval)?;
     }
     out.push_str("</ol>\n")?;
     push_link(out, shown, explanation.intervals().len())
 }
 
+/// Appends an interval: from when on, the limit, and what sets it.
+fn push_item(
+    alloc: Global,
+    out: &mut String,
+    shown: &Shown<'_>,
+    interval: &Interval,
+) -> Result<(), AllocError> {
+    out.push_str("<li>from ")?;
+    let moment = shown.from.seconds() + u64::from(interval.start);
+    push_clock(alloc, out, moment)?;
+    out.push_str(" <b>")?;
+    push_limit(out, interval.reason.limit, shown.unit)?;
+    out.push_str("</b> ")?;
+    let mut why = String::new(alloc);
+    push_why(&mut why, &interval.reason, shown.unit)?;
+    push_element(out, "", why.as_str(), "</li>\n")
+}
+
 /// Appends the link to the whole picture, and how many intervals the list leaves out.
-fn push_link(out: &mut String, shown: Shown<'_>, count: usize) -> Result<(), AllocError> {
-    let Shown {
-        point,
-        connector,
-        ..
-    } = shown;
+fn push_link(out: &mut String, shown: &Shown<'_>, count: usize) -> Result<(), AllocError> {
+    let (point, connector) = (shown.point, shown.connector);
     out.push_str("<p>")?;
     if count > MOST_LISTED {
         let more = count - MOST_LISTED;

@@ -2,6 +2,7 @@
 
 use crate::program::program_fault::ProgramFault;
 use http::Uri;
+use http::uri::UriError;
 use httparse::Status;
 use httparse::spans::{EMPTY_HEADER_SPAN, parse_response};
 use std::alloc::{AllocError, AllocGlobal, Global};
@@ -57,7 +58,7 @@ pub fn ask_status<R: AllocGlobal + Eprint + Net<Stream = TcpStream>>(
 fn uri_of(alloc: Global, url: &str) -> Result<Uri, ProgramFault> {
     match Uri::from_bytes(alloc, url.as_bytes()) {
         Ok(uri) => Ok(uri),
-        Err(error) if error.is_out_of_memory() => Err(ProgramFault::OutOfMemory),
+        Err(UriError::OutOfMemory) => Err(ProgramFault::OutOfMemory),
         Err(_) => Err(ProgramFault::StatusUrl),
     }
 }
