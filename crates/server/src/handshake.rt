@@ -134,12 +134,12 @@ pub(crate) fn shake_hands<S: Read + Write + Drop>(
         asked: &mut asked,
         refused: &mut refused,
     };
-    let shaken = accept_hdr(alloc, stream, reading);
+    let socket = accept_hdr(alloc, stream, reading).ok();
     if let Some(status) = refused {
         return Err(Unshaken::Refused(status));
     }
-    match (shaken, asked) {
-        (Ok(socket), Some(asked)) => Ok((socket, asked)),
+    match (socket, asked) {
+        (Some(socket), Some(asked)) => Ok((socket, asked)),
         _ => Err(Unshaken::Failed),
     }
 }

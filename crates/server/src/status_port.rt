@@ -44,7 +44,7 @@ pub struct StatusPort<C: Ledger, A: Ledger, R, M, J> {
 /// What the seats of a site share.
 pub(crate) type SharedSeats<C, A, R, M, J> = Arc<SeatContext<C, A, R, M, J>, Global>;
 
-impl<C: Ledger, A: Ledger, R: Wait, M, J> StatusPort<C, A, R, M, J> {
+impl<C: Ledger, A: Ledger, R: Wait + Drop, M: Drop, J: Drop> StatusPort<C, A, R, M, J> {
     /// The port of a site that is being restored.
     pub fn new(rt: R, alloc: Global) -> StatusPort<C, A, R, M, J> {
         StatusPort {
@@ -95,10 +95,13 @@ pub fn begin_status<
 }
 
 /// Answers one connection after another.
-fn answer_all<C: Ledger, A: Ledger, R: Wait + Clock + RandomSource, M: Moments, J: WatchedJournal>(
-    port: &StatusPort<C, A, R, M, J>,
-    listener: &TcpListener,
-) {
+fn answer_all<
+    C: Ledger,
+    A: Ledger,
+    R: Wait + Clock + RandomSource + Drop,
+    M: Moments + Drop,
+    J: WatchedJournal + Drop,
+>(port: &StatusPort<C, A, R, M, J>, listener: &TcpListener) {
     for _connection in port.rt.forever() {
         match listener.accept() {
             Ok((stream, _)) => {
@@ -114,21 +117,25 @@ fn answer_all<C: Ledger, A: Ledger, R: Wait + Clock + RandomSource, M: Moments, 
 fn answer_connection<
     C: Ledger,
     A: Ledger,
-    R: Wait + Clock + RandomSource,
-    M: Moments,
-    J: WatchedJournal,
+    R: Wait + Clock + RandomSource + Drop,
+    M: Moments + Drop,
+    J: WatchedJournal + Drop,
 >(port: &StatusPort<C, A, R, M, J>, stream: &TcpStream) -> io::Result<()> {
     let now = Instant::now(&port.rt)?;
     let Some(deadline) = now.checked_add(Duration::from_secs(LONGEST_STATUS)) else {
         return Ok(());
     };
     let _ = stream.set_nodelay(true);
-    let stream = StatusStream {
+    let mut reader = StatusStream {
         rt: &port.rt,
         stream,
         deadline,
     };
-    let (mut reader, mut writer) = (stream, stream);
+    let mut writer = StatusStream {
+        rt: &port.rt,
+        stream,
+        deadline,
+    };
     let config = Config {
         max_body_len: LONGEST_BODY,
         ..Config::default()

@@ -22,7 +22,7 @@ pub(crate) struct StatusService<'a, C: Ledger, A: Ledger, R, M, J> {
     pub(crate) port: &'a StatusPort<C, A, R, M, J>,
 }
 
-impl<C: Ledger, A: Ledger, R: Wait, M: Moments, J: WatchedJournal> Service
+impl<C: Ledger, A: Ledger, R: Wait + Drop, M: Moments + Drop, J: WatchedJournal + Drop> Service
     for StatusService<'_, C, A, R, M, J> {
     ghost answers = { λ _ _ _ _. Unit {0} };
 
@@ -44,14 +44,13 @@ impl<C: Ledger, A: Ledger, R: Wait, M: Moments, J: WatchedJournal> Service
     }
 }
 
-impl<C: Ledger, A: Ledger, R: Wait, M: Moments, J: WatchedJournal> StatusService<
-    '_,
-    C,
-    A,
-    R,
-    M,
-    J,
-> {
+impl<
+    C: Ledger,
+    A: Ledger,
+    R: Wait + Drop,
+    M: Moments + Drop,
+    J: WatchedJournal + Drop,
+> StatusService<'_, C, A, R, M, J> {
     /// What is answered at a path. The book is locked to be copied, which shares what it holds, and
     /// not while a text is made.
     fn answer(&self, path: &str) -> Result<StatusAnswer, AllocError> {

@@ -7,7 +7,7 @@ use std::rt::Clock;
 use std::time::{Duration, Instant};
 
 /// A stream whose reads and writes end at a deadline, whatever its client does.
-#[derive(Clone, Copy)]
+#[derive(Drop)]
 pub(crate) struct StatusStream<'a, R> {
     pub(crate) rt: &'a R,
     pub(crate) stream: &'a TcpStream,

@@ -1,7 +1,7 @@
 //! The figures of a site, as Prometheus reads them (text format 0.0.4).
 
 use crate::health::Health;
-use crate::point_summary::{PointSummary, summaries};
+use crate::point_summary::{PointCalls, PointSummary, calls_of_points, summary_at};
 use crate::site_report::SiteReport;
 use ocpp_scalars::{Instant, push_integer};
 use std::alloc::{AllocError, Global};
@@ -16,16 +16,31 @@ pub fn metrics_text(alloc: Global, report: &SiteReport<'_>) -> Result<String, Al
         push_head(&mut out, figure.name(), figure.help(), figure.is_counter())?;
         figure.push_samples(&mut out, report)?;
     }
-    let points = summaries(alloc, report)?;
+    let calls = calls_of_points(alloc, report)?;
     for figure in POINT_FIGURES {
         push_head(&mut out, figure.name(), figure.help(), figure.is_counter())?;
-        for point in &points {
-            if let Some(value) = figure.value(point, report.moment) {
-                push_sample(&mut out, figure.name(), "point", point.id, value)?;
-            }
+        for (place, calls) in calls.iter().enumerate() {
+            push_of_point(&mut out, figure, report, place, *calls)?;
         }
     }
     Ok(out)
+}
+
+/// Appends a figure of the point at a place, if it has one.
+fn push_of_point(
+    out: &mut String,
+    figure: PointFigure,
+    report: &SiteReport<'_>,
+    place: usize,
+    calls: PointCalls,
+) -> Result<(), AllocError> {
+    let Some(point) = summary_at(report, place, calls) else {
+        return Ok(());
+    };
+    match figure.value(&point, report.moment) {
+        Some(value) => push_sample(out, figure.name(), "point", point.id, value),
+        None => Ok(()),
+    }
 }
 
 /// Appends what a family of samples begins with.
@@ -257,15 +272,15 @@ impl PointFigure {
             PointFigure::Connected => Some(u64::from(point.news.connection.since.is_some())),
             PointFigure::LastText => Some(point.news.heard?.seconds()),
             PointFigure::Boot => Some(point.news.boot?.moment.seconds()),
-            PointFigure::Waiting => Some(point.waiting as u64),
-            PointFigure::InFlight => Some(point.in_flight as u64),
+            PointFigure::Waiting => Some(point.calls.waiting as u64),
+            PointFigure::InFlight => Some(point.calls.in_flight as u64),
             PointFigure::InFlightSeconds => {
-                let since = point.in_flight_since?;
+                let since = point.calls.in_flight_since?;
                 Some(now.seconds().saturating_sub(since.seconds()))
             }
-            PointFigure::Confirmed => Some(point.confirmed),
+            PointFigure::Confirmed => Some(point.calls.confirmed),
             PointFigure::Rejected => Some(point.news.rejections),
-            PointFigure::MayHaveForgotten => Some(u64::from(point.may_have_forgotten)),
+            PointFigure::MayHaveForgotten => Some(u64::from(point.calls.may_have_forgotten)),
         }
     }
 }

@@ -5,7 +5,7 @@ use crate::health::Health;
 use crate::next_day::explained_day;
 use crate::page_style::STYLE;
 use crate::point_news::Rejection;
-use crate::point_summary::{PointSummary, summaries};
+use crate::point_summary::{PointSummary, calls_of_points, summary_at};
 use crate::site_report::SiteReport;
 use crate::strip::{Shown, push_strip};
 use explain_pages::push_element;
@@ -21,8 +21,8 @@ pub fn site_page(
     report: &SiteReport<'_>,
     number: usize,
 ) -> Result<Option<String>, AllocError> {
-    let points = summaries(alloc, report)?;
-    let pages = points.len().div_ceil(POINTS_OF_PAGE);
+    let calls = calls_of_points(alloc, report)?;
+    let pages = calls.len().div_ceil(POINTS_OF_PAGE);
     let first = number.saturating_sub(1).saturating_mul(POINTS_OF_PAGE);
     if number == 0 || number > pages {
         return Ok(None);
@@ -31,8 +31,10 @@ pub fn site_page(
     push_opening(&mut out, report)?;
     push_pages(&mut out, number, pages)?;
     out.push_str("<main>\n")?;
-    for point in points.iter().skip(first).take(POINTS_OF_PAGE) {
-        push_point(alloc, &mut out, report, point)?;
+    for (place, calls) in calls.iter().enumerate().skip(first).take(POINTS_OF_PAGE) {
+        if let Some(point) = summary_at(report, place, *calls) {
+            push_point(alloc, &mut out, report, &point)?;
+        }
     }
     out.push_str("</main>\n</body>\n</html>\n")?;
     Ok(Some(out))
@@ -118,15 +120,15 @@ fn push_state(out: &mut String, point: &PointSummary<'_>) -> Result<(), AllocErr
         None => None,
     };
     push_seen(out, "Booted", booted)?;
-    push_seen(out, "Call in flight since", point.in_flight_since)?;
-    push_count(out, "Calls waiting", point.waiting as u64)?;
-    push_count(out, "Calls confirmed", point.confirmed)?;
+    push_seen(out, "Call in flight since", point.calls.in_flight_since)?;
+    push_count(out, "Calls waiting", point.calls.waiting as u64)?;
+    push_count(out, "Calls confirmed", point.calls.confirmed)?;
     push_count(out, "Calls rejected", point.news.rejections)?;
     out.push_str("</dl>\n")?;
     if let Some(rejection) = &point.news.rejection {
         push_rejection(out, rejection)?;
     }
-    if point.may_have_forgotten {
+    if point.calls.may_have_forgotten {
         out.push_str("<p class=\"warning\">It booted, and may have forgotten its profiles: ")?;
         out.push_str("audit it, or install them anew.</p>\n")?;
     }

@@ -15,7 +15,13 @@ pub(crate) struct PointSummary<'a> {
     pub(crate) id: &'a str,
     pub(crate) news: &'a PointNews,
     pub(crate) book: &'a PointBook,
-    /// How many calls it confirmed.
+    pub(crate) calls: PointCalls,
+}
+
+/// What is told of the calls to a charge point.
+#[derive(Clone, Copy, Debug)]
+pub(crate) struct PointCalls {
+    /// How many it confirmed.
     pub(crate) confirmed: u64,
     pub(crate) waiting: usize,
     pub(crate) in_flight: usize,
@@ -24,40 +30,35 @@ pub(crate) struct PointSummary<'a> {
     pub(crate) may_have_forgotten: bool,
 }
 
-/// What is told of each point, in the order of the site file.
-pub(crate) fn summaries<'a>(
+/// What is told of the calls to each point, in the order of the site file.
+pub(crate) fn calls_of_points(
     alloc: Global,
-    report: &SiteReport<'a>,
-) -> Result<Vec<PointSummary<'a>>, AllocError> {
+    report: &SiteReport<'_>,
+) -> Result<Vec<PointCalls>, AllocError> {
     let mut all = Vec::new(alloc);
     for place in 0..report.points.len() {
-        if let Some(summary) = summary_of(alloc, report, place)? {
-            all.push(summary)?;
-        }
+        let calls = calls_at(alloc, report, place)?;
+        all.push(calls)?;
     }
     Ok(all)
 }
 
-/// What is told of the point at a place.
-fn summary_of<'a>(
+/// What is told of the calls to the point at a place; nothing where the site has none there.
+fn calls_at(
     alloc: Global,
-    report: &SiteReport<'a>,
+    report: &SiteReport<'_>,
     place: usize,
-) -> Result<Option<PointSummary<'a>>, AllocError> {
+) -> Result<PointCalls, AllocError> {
     let machine = report.machine;
     let (Some(news), Some(point)) = (report.points.get(place), machine.site().point(place)) else {
-        return Ok(None);
+        return Ok(no_calls());
     };
-    let id = point.id;
-    let (Some(book), Some(outbox)) = (machine.book_of(id), machine.outbox_of(id)) else {
-        return Ok(None);
+    let (Some(book), Some(outbox)) = (machine.book_of(point.id), machine.outbox_of(point.id)) else {
+        return Ok(no_calls());
     };
-    let audit = machine.audit_of(id);
+    let audit = machine.audit_of(point.id);
     let reboot = Reboot::of(alloc, news, book, outbox, audit)?;
-    Ok(Some(PointSummary {
-        id,
-        news,
-        book,
+    Ok(PointCalls {
         confirmed: outbox.first_number(),
         waiting: waiting_calls(outbox),
         in_flight: in_flight_calls(outbox),
@@ -67,5 +68,34 @@ fn summary_of<'a>(
             None => AuditOutcome::NoAudit,
         },
         may_have_forgotten: may_have_forgotten(reboot),
-    }))
+    })
+}
+
+fn no_calls() -> PointCalls {
+    PointCalls {
+        confirmed: 0,
+        waiting: 0,
+        in_flight: 0,
+        in_flight_since: None,
+        audit: AuditOutcome::NoAudit,
+        may_have_forgotten: false,
+    }
+}
+
+/// What is told of the point at a place, with its calls. None where the site has none there.
+pub(crate) fn summary_at<'a>(
+    report: &SiteReport<'a>,
+    place: usize,
+    calls: PointCalls,
+) -> Option<PointSummary<'a>> {
+    let machine = report.machine;
+    let news = report.points.get(place)?;
+    let id = machine.site().point(place)?.id;
+    let book = machine.book_of(id)?;
+    Some(PointSummary {
+        id,
+        news,
+        book,
+        calls,
+    })
 }

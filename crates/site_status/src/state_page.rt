@@ -3,7 +3,7 @@
 use crate::health::Health;
 use crate::json_page::JsonPage;
 use crate::point_news::{PointNews, Rejection};
-use crate::point_summary::{PointSummary, summaries};
+use crate::point_summary::{PointSummary, calls_of_points, summary_at};
 use crate::site_report::{SiteCounts, SiteReport};
 use messages::purpose_name;
 use point_book::PointBook;
@@ -23,8 +23,11 @@ pub fn state_json(alloc: Global, report: &SiteReport<'_>) -> Result<String, Allo
     push_journal(&mut page, report)?;
     page.out.key("points")?;
     page.out.begin_array()?;
-    for point in &summaries(alloc, report)? {
-        push_point(&mut page, point)?;
+    let calls = calls_of_points(alloc, report)?;
+    for (place, calls) in calls.iter().enumerate() {
+        if let Some(point) = summary_at(report, place, *calls) {
+            push_point(&mut page, &point)?;
+        }
     }
     page.out.end_array()?;
     page.out.end_object()?;
@@ -58,13 +61,13 @@ fn push_point(page: &mut JsonPage, point: &PointSummary<'_>) -> Result<(), Alloc
     page.out.begin_object()?;
     page.text("id", point.id)?;
     push_news(page, point.news)?;
-    page.flag("mayHaveForgotten", point.may_have_forgotten)?;
-    page.number("confirmed", point.confirmed)?;
-    page.number("inFlight", point.in_flight as u64)?;
-    page.instant("inFlightSince", point.in_flight_since)?;
-    page.number("waiting", point.waiting as u64)?;
+    page.flag("mayHaveForgotten", point.calls.may_have_forgotten)?;
+    page.number("confirmed", point.calls.confirmed)?;
+    page.number("inFlight", point.calls.in_flight as u64)?;
+    page.instant("inFlightSince", point.calls.in_flight_since)?;
+    page.number("waiting", point.calls.waiting as u64)?;
     push_rejected(page, point.news)?;
-    page.text("audit", point.audit.name())?;
+    page.text("audit", point.calls.audit.name())?;
     push_transactions(page, point.book)?;
     push_profiles(page, point.book)?;
     page.out.end_object()

@@ -247,7 +247,7 @@ impl<R: Wait + Clock + Eprint + AllocGlobal + Drop> JournalFile<R> {
             Ok(Kept::All) => Ok(()),
             Ok(Kept::AllAndRoom) => {
                 if self.turns(JournalState::Open) {
-                    self.say_line("there is room again");
+                    self.say_line(&"there is room again");
                 }
                 Ok(())
             }
@@ -277,7 +277,7 @@ impl<R: Wait + Clock + Eprint + AllocGlobal + Drop> JournalFile<R> {
     }
 
     /// Says on standard error, with the moment, what became of the file.
-    fn say_line<W: Display>(&self, what: W) {
+    fn say_line<W: Display>(&self, what: &W) {
         let moment = match (SystemClock { rt: &self.rt }).now() {
             Some(now) => write_instant(self.alloc, now).ok(),
             None => None,
