@@ -16,6 +16,9 @@ use std::time::Duration;
 /// lack of file descriptors.
 const PAUSE: u64 = 100;
 
+/// What is said then.
+const FULL: &str = "all are taken: connections are turned away (HTTP 503)";
+
 /// The answer to a connection for which there is no seat.
 const NO_SEAT: &[u8] =
     b"HTTP/1.1 503 Service Unavailable\r\nConnection: close\r\nContent-Length: 0\r\n\r\n";
@@ -58,7 +61,9 @@ fn accept_next<C: Ledger, A: Ledger, R: Wait + Clock, M: Moments, J>(
         Err(error) => {
             if failed.is_due(&seats.rt) {
                 let what = format!(in seats.alloc; "one can't be accepted: {error}");
-                seats.say_made("connections", what);
+                seats
+                    .notices
+                    .say_made(&seats.rt, &seats.clock, "connections", what);
             }
             thread::sleep(&seats.rt, Duration::from_millis(PAUSE));
             None
@@ -72,10 +77,7 @@ fn say_full<C: Ledger, A: Ledger, R: Wait + Clock, M: Moments, J>(
     full: &mut Seldom,
 ) {
     if full.is_due(&seats.rt) {
-        seats.say(
-            "seats",
-            "all are taken: connections are turned away (HTTP 503)",
-        );
+        seats.notices.say(&seats.rt, &seats.clock, "seats", FULL);
     }
 }
 

@@ -1,6 +1,6 @@
 //! Lines for people, which a thread of their own writes to standard error.
 
-use ocpp_scalars::{Instant, push_instant};
+use ocpp_scalars::{Instant, Moments, push_instant};
 use std::alloc::{AllocError, Global};
 use std::mem;
 use std::sync::{Condvar, Mutex, Wait};
@@ -37,8 +37,29 @@ impl Notices {
         }
     }
 
-    /// Says a line, or counts it where too many wait or memory ran out.
-    pub(crate) fn say<R: Wait>(&self, rt: &R, line: Result<String, AllocError>) {
+    /// Says what became of whom at this moment. Without a clock nothing is said.
+    pub(crate) fn say<R: Wait, M: Moments>(&self, rt: &R, clock: &M, who: &str, what: &str) {
+        if let Some(moment) = clock.now() {
+            self.add(rt, line_of(self.alloc, moment, who, what));
+        }
+    }
+
+    /// The same of what may be missing, for lack of memory.
+    pub(crate) fn say_made<R: Wait, M: Moments>(
+        &self,
+        rt: &R,
+        clock: &M,
+        who: &str,
+        what: Result<String, AllocError>,
+    ) {
+        match what {
+            Ok(what) => self.say(rt, clock, who, what.as_str()),
+            Err(AllocError) => self.add(rt, Err(AllocError)),
+        }
+    }
+
+    /// Adds a line, or counts it where too many wait or memory ran out.
+    fn add<R: Wait>(&self, rt: &R, line: Result<String, AllocError>) {
         let mut waiting = self.waiting.lock(rt);
         let is_kept = match line {
             Ok(line) if waiting.lines.len() < MAX_WAITING => waiting.lines.push(line).is_ok(),
@@ -79,12 +100,7 @@ impl Notices {
 }
 
 /// A line of what became of whom.
-pub(crate) fn line_of(
-    alloc: Global,
-    moment: Instant,
-    who: &str,
-    what: &str,
-) -> Result<String, AllocError> {
+fn line_of(alloc: Global, moment: Instant, who: &str, what: &str) -> Result<String, AllocError> {
     let mut line = String::from_str(alloc, "central: ")?;
     push_instant(&mut line, moment)?;
     line.push(' ')?;

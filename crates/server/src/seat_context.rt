@@ -2,7 +2,7 @@
 
 use crate::free_seats::FreeSeats;
 use crate::long_messages::LongMessages;
-use crate::notices::{Notices, line_of};
+use crate::notices::Notices;
 use crate::present_streams::PresentStreams;
 use crate::site_watch::SiteWatch;
 use ocpp_scalars::Moments;
@@ -79,23 +79,5 @@ impl<
     /// The journal of what is served.
     pub fn journal(&self) -> &J {
         &self.journal
-    }
-}
-
-impl<C: Ledger, A: Ledger, R: Wait, M: Moments, J> SeatContext<C, A, R, M, J> {
-    /// Says on standard error what became of whom, at this moment.
-    pub(crate) fn say(&self, who: &str, what: &str) {
-        if let Some(moment) = self.clock.now() {
-            let line = line_of(self.alloc, moment, who, what);
-            self.notices.say(&self.rt, line);
-        }
-    }
-
-    /// The same of what may be missing, for lack of memory.
-    pub(crate) fn say_made(&self, who: &str, what: Result<String, AllocError>) {
-        match what {
-            Ok(what) => self.say(who, what.as_str()),
-            Err(AllocError) => self.notices.say(&self.rt, Err(AllocError)),
-        }
     }
 }

@@ -35,7 +35,7 @@ impl<C: Ledger, A: Ledger, R: Wait + Clock, M: Moments, J: Journal> SessionWatch
         seats.watch.begin(&seats.rt, self.link.is_some());
         if let (Some(link), Some(moment)) = (self.link, seats.clock.now()) {
             self.see(Sighting::Connected { link, moment });
-            self.say(core, "connected");
+            self.say(core, Event::Connected);
         }
     }
 
@@ -50,9 +50,9 @@ impl<C: Ledger, A: Ledger, R: Wait + Clock, M: Moments, J: Journal> SessionWatch
         self.say(
             core,
             if is_newest {
-                "lost"
+                Event::Lost
             } else {
-                "its earlier connection is closed"
+                Event::Superseded
             },
         );
     }
@@ -102,7 +102,7 @@ impl<C: Ledger, A: Ledger, R: Wait + Clock, M: Moments, J: Journal> SessionWatch
         };
         drop(book);
         self.see(Sighting::Booted(Boot { moment, first_call }));
-        self.say(core, "booted");
+        self.say(core, Event::Booted);
     }
 
     fn hear_reply(&self, core: &SessionCore, reply: Reply) {
@@ -127,12 +127,39 @@ impl<C: Ledger, A: Ledger, R: Wait + Clock, M: Moments, J: Journal> SessionWatch
     }
 
     /// Says what became of the point.
-    fn say(&self, core: &SessionCore, what: &str) {
-        self.seats.say(core.point_id().as_str(), what);
+    fn say(&self, core: &SessionCore, event: Event) {
+        let seats = self.seats;
+        let who = core.point_id().as_str();
+        seats
+            .notices
+            .say(&seats.rt, &seats.clock, who, event.name());
     }
 
     fn say_made(&self, core: &SessionCore, what: Result<String, AllocError>) {
-        self.seats.say_made(core.point_id().as_str(), what);
+        let seats = self.seats;
+        let who = core.point_id().as_str();
+        seats.notices.say_made(&seats.rt, &seats.clock, who, what);
+    }
+}
+
+/// What became of a point.
+#[derive(Clone, Copy, Debug)]
+enum Event {
+    Connected,
+    Booted,
+    Lost,
+    /// Its earlier connection has ended. It has a later one.
+    Superseded,
+}
+
+impl Event {
+    fn name(self) -> &'static str {
+        match self {
+            Event::Connected => "connected",
+            Event::Booted => "booted",
+            Event::Lost => "lost",
+            Event::Superseded => "its earlier connection is closed",
+        }
     }
 }
 

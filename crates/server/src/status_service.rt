@@ -39,7 +39,7 @@ impl<C: Ledger, A: Ledger, R: Wait + Drop, M: Moments + Drop, J: WatchedJournal 
             response.status = StatusCode::METHOD_NOT_ALLOWED;
             return add(response, "allow", "GET, HEAD");
         }
-        let answer = self.answer(request.uri().path())?;
+        let answer = self.answer(request)?;
         fill(response, answer)
     }
 }
@@ -51,11 +51,11 @@ impl<
     M: Moments + Drop,
     J: WatchedJournal + Drop,
 > StatusService<'_, C, A, R, M, J> {
-    /// What is answered at a path. The book is locked to be copied, which shares what it holds, and
+    /// What a request is answered. The book is locked to be copied, which shares what it holds, and
     /// not while a text is made.
-    fn answer(&self, path: &str) -> Result<StatusAnswer, AllocError> {
+    fn answer(&self, request: &Request<Bytes>) -> Result<StatusAnswer, AllocError> {
         let alloc = self.port.alloc;
-        let Some(path) = status_path(path) else {
+        let Some(path) = status_path(request.uri().path()) else {
             return nothing_there(alloc);
         };
         let Some(seats) = self.port.seats()? else {

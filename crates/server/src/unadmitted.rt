@@ -3,7 +3,7 @@
 use crate::handshake::{ClientRequest, Unshaken};
 use crate::seat_context::SeatContext;
 use ocpp_scalars::Moments;
-use std::alloc::AllocError;
+use std::alloc::{AllocError, Global};
 use std::net::SocketAddr;
 use std::rt::Clock;
 use std::sync::Wait;
@@ -59,12 +59,21 @@ fn note_refused<C: Ledger, A: Ledger, R: Wait + Clock, M: Moments, J>(
     what: Result<String, AllocError>,
 ) {
     seats.watch.refuse(&seats.rt);
-    let Some(from) = from else {
-        seats.say_made("somebody", what);
-        return;
-    };
-    match format!(in seats.alloc; "{from}") {
-        Ok(who) => seats.say_made(who.as_str(), what),
-        Err(AllocError) => seats.say_made("somebody", what),
+    let who = name_of(seats.alloc, from);
+    match who {
+        Ok(who) => seats
+            .notices
+            .say_made(&seats.rt, &seats.clock, who.as_str(), what),
+        Err(AllocError) => seats
+            .notices
+            .say_made(&seats.rt, &seats.clock, "somebody", what),
+    }
+}
+
+/// An address in words.
+fn name_of(alloc: Global, from: Option<SocketAddr>) -> Result<String, AllocError> {
+    match from {
+        Some(from) => format!(in alloc; "{from}"),
+        None => String::from_str(alloc, "somebody"),
     }
 }

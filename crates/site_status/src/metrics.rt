@@ -3,7 +3,7 @@
 use crate::health::Health;
 use crate::point_summary::{PointCalls, PointSummary, calls_of_points, summary_at};
 use crate::site_report::SiteReport;
-use ocpp_scalars::{Instant, push_integer};
+use ocpp_scalars::Instant;
 use std::alloc::{AllocError, Global};
 
 /// Microseconds in a second.
@@ -195,14 +195,8 @@ fn healthy(report: &SiteReport<'_>) -> u64 {
 
 /// Appends a sample in seconds, with six decimals.
 fn push_seconds(out: &mut String, name: &str, microseconds: u64) -> Result<(), AllocError> {
-    let seconds = microseconds / MILLION;
-    write!(out, "{name} {seconds}.")?;
-    let mut unit = MILLION / 10;
-    for _digit in 0..6 {
-        push_integer(out, microseconds / unit % 10)?;
-        unit = (unit / 10).max(1);
-    }
-    out.push('\n')
+    let (seconds, rest) = (microseconds / MILLION, microseconds % MILLION);
+    write!(out, "{name} {seconds}.{rest:0>6}\n")
 }
 
 /// A figure of each point.
