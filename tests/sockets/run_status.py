@@ -1,17 +1,23 @@
 """The status port of a site that is run: its paths, who reads it, and figures that follow what happened."""
 import http.client
 import json
+import os
 import re
 import socket
 import subprocess
+import sys
 import threading
 import time
 from xml.etree import ElementTree
 
+from browser import browser, contrast, schemes, seen_at
 from raw_client import RawClient
 from run_data import SITE, Data, SmallDevice
 from serving import ENVIRONMENT, PATIENCE, Running, Unexpected, expect, free_port, until
-from texts import CALL_0, accepted, call, error, heartbeat, install, profile, rejected, start
+from texts import CALL_0, accepted, call, error, heartbeat, install, plain_site, profile, rejected, start
+
+sys.path.insert(0, os.path.join(os.path.dirname(os.path.realpath(__file__)), ".."))
+from png_colours import shares_of_colours
 
 # Seconds that a connection of the status port may take, as the program has them.
 LONGEST_STATUS = 5
@@ -230,6 +236,30 @@ def full_device(program):
                 until("there is room", lambda: get(running, "/health")[0] == 200)
 
 
+def in_a_browser(program):
+    """A page of twenty points fits a phone and a desk, has contrast, needs no script, and can be read aloud."""
+    with Data() as data, Running(program, plain_site(20), data.path, has_status=True) as running:
+        with RawClient.connected(running, "/operator/P1") as operator:
+            operator.texts_of(install("i", profile(1, [7.0, 16.0, 9.0] * 8)))
+        page = get(running, "/")[2]
+    expect("its language", '<html lang="en">' in page, True)
+    expect("a script", "<script" in page, False)
+    expect("headings of points", re.findall(r"<h2>(\w+)</h2>", page), [f"P{number}" for number in range(1, 21)])
+    expect("pictures with a name", (page.count("<svg"), page.count('<svg role="img" aria-label="The limit of ')), (40, 40))
+    for scheme in schemes(page):
+        for ink in ("ink", "soft", "link", "warning"):
+            ratio = contrast(scheme[ink], scheme["paper"])
+            expect(f"the contrast of {ink} in {scheme}: {ratio:.1f}", ratio >= 4.5, True)
+    if browser() is None:
+        print("  no browser here", file=sys.stderr)
+        return
+    for width in (400, 1_400):
+        breadth, height, picture = seen_at(page, width)
+        expect(f"its breadth at {width} pixels", breadth <= width, True)
+        expect(f"its height at {width} pixels", height > 1_000, True)
+        expect("what is drawn", len(shares_of_colours(picture)) > 10, True)
+
+
 def refused_addresses(program):
     """Without a word for it the port is at this machine alone."""
     with Data() as data:
@@ -264,6 +294,7 @@ def tests():
     yield "as a table", as_a_table
     yield "slow clients", slow_clients
     yield "five at once", five_at_once
+    yield "in a browser", in_a_browser
     yield "a full device", full_device
     yield "refused addresses", refused_addresses
     yield "standard error that nobody reads", standard_error_that_nobody_reads

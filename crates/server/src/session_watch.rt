@@ -12,7 +12,7 @@ use std::sync::Wait;
 use std::sync::ledger::Ledger;
 
 /// Whoever watches a session of a point or of an operator.
-#[derive(Clone, Copy)]
+#[derive(Drop)]
 pub(crate) struct SessionWatch<'a, C: Ledger, A: Ledger, R, M, J> {
     pub(crate) seats: &'a SeatContext<C, A, R, M, J>,
     /// The place of its point in the site.
