@@ -113,14 +113,24 @@ fn push_point(
 /// Appends how a point is.
 fn push_state(out: &mut String, point: &PointSummary<'_>) -> Result<(), AllocError> {
     out.push_str("<dl>\n")?;
-    push_seen(out, "Connected since", point.news.connection.since)?;
-    push_seen(out, "Last message", point.news.heard)?;
+    push_seen(
+        out,
+        "Connected since",
+        point.news.connection.since,
+        "not connected",
+    )?;
+    push_seen(out, "Last message", point.news.heard, NOT_SEEN)?;
     let booted = match point.news.boot {
         Some(boot) => Some(boot.moment),
         None => None,
     };
-    push_seen(out, "Booted", booted)?;
-    push_seen(out, "Call in flight since", point.calls.in_flight_since)?;
+    push_seen(out, "Booted", booted, NOT_SEEN)?;
+    push_seen(
+        out,
+        "Call in flight since",
+        point.calls.in_flight_since,
+        "none is",
+    )?;
     push_count(out, "Calls waiting", point.calls.waiting as u64)?;
     push_count(out, "Calls confirmed", point.calls.confirmed)?;
     push_count(out, "Calls rejected", point.news.rejections)?;
@@ -146,12 +156,20 @@ fn push_rejection(out: &mut String, rejection: &Rejection) -> Result<(), AllocEr
     push_element(out, ": ", rejection.reason.as_str(), "</p>\n")
 }
 
-/// Appends when something was seen.
-fn push_seen(out: &mut String, name: &str, moment: Option<Instant>) -> Result<(), AllocError> {
+/// What stands for what wasn't seen.
+const NOT_SEEN: &str = "not seen";
+
+/// Appends when something was seen, or what stands for that.
+fn push_seen(
+    out: &mut String,
+    name: &str,
+    moment: Option<Instant>,
+    without: &str,
+) -> Result<(), AllocError> {
     push_element(out, "<div><dt>", name, "</dt><dd>")?;
     match moment {
         Some(moment) => push_moment(out, moment)?,
-        None => out.push_str("not seen")?,
+        None => out.push_str(without)?,
     }
     out.push_str("</dd></div>\n")
 }
