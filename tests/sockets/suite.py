@@ -20,6 +20,7 @@ import programs
 import reconnects
 import refusals
 import replays
+import run_asks
 import run_crowds
 import run_deadlines
 import run_histories
@@ -42,6 +43,7 @@ SUBJECTS = {
     "runs": runs,
     "run_histories": run_histories,
     "run_kills": run_kills,
+    "run_asks": run_asks,
     "run_crowds": run_crowds,
     "run_deadlines": run_deadlines,
     "run_keys": run_keys,

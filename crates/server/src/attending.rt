@@ -8,7 +8,9 @@ use crate::session_watch::SessionWatch;
 use bytes::Bytes;
 use ocpp_scalars::Moments;
 use ocppj_frame::ReadingMemory;
-use session::{Context, Ended, Heard, Journal, SentCall, SessionCore, send_call, serve_next};
+use session::{
+    Context, Ended, Heard, Journal, SentCall, SessionCore, WatchedSocket, send_call, serve_next,
+};
 use std::rt::Clock;
 use std::sync::Wait;
 use std::sync::ledger::Ledger;
@@ -54,6 +56,7 @@ pub(crate) fn attend_session<C: Ledger, A: Ledger, R: Wait + Clock, M: Moments, 
         return;
     };
     let mut memory = ReadingMemory::new(context.alloc);
+    let mut socket = WatchedSocket::new(context.rt, socket);
     let mut attention = Attention {
         call_timeout: watch.seats.options.call_timeout,
         begun: now,
@@ -66,7 +69,7 @@ pub(crate) fn attend_session<C: Ledger, A: Ledger, R: Wait + Clock, M: Moments, 
         if attend_next(
             context,
             watch,
-            socket,
+            &mut socket,
             core,
             &mut memory,
             &mut attention,
@@ -84,7 +87,7 @@ pub(crate) fn attend_session<C: Ledger, A: Ledger, R: Wait + Clock, M: Moments, 
 fn attend_next<C: Ledger, A: Ledger, R: Wait + Clock, M: Moments, J: Journal>(
     context: &Context<'_, C, A, R, M, J>,
     watch: &SessionWatch<'_, C, A, R, M, J>,
-    socket: &mut WebSocket<IncomingStream<'_, R>, NoMask>,
+    watched: &mut WatchedSocket<'_, IncomingStream<'_, R>, NoMask, R>,
     core: &SessionCore,
     memory: &mut ReadingMemory,
     attention: &mut Attention,
@@ -92,15 +95,16 @@ fn attend_next<C: Ledger, A: Ledger, R: Wait + Clock, M: Moments, J: Journal>(
 ) -> Result<(), Ended>
     ensures { KeepsPass pass.old pass.new }
 {
-    let sent = match serve_next(context, socket, core, memory, pass)? {
+    let heard = serve_next(context, watched, core, memory, pass)?;
+    let is_last = !watched.has_kept();
+    let socket = watched.websocket();
+    let sent = match heard {
         Heard::Message { told, sent } => {
-            socket.get_mut().end_message();
             attention.has_spoken = true;
             watch.hear(core, told);
             sent
         }
-        Heard::Control { bytes } => {
-            socket.get_mut().end_control(bytes);
+        Heard::Control { .. } => {
             // Whoever pings all the time leaves no time without a byte.
             if seconds_since(context.rt, attention.looked) < TICK {
                 None
@@ -122,7 +126,7 @@ fn attend_next<C: Ledger, A: Ledger, R: Wait + Clock, M: Moments, J: Journal>(
         let _ = socket.close(None);
         return Err(Ended::Broken);
     }
-    if socket.get_ref().is_in_the_way() {
+    if is_last && socket.get_ref().is_in_the_way() {
         let _ = socket.close(None);
         return Err(Ended::Broken);
     }

@@ -28,6 +28,7 @@ mod status_service;
 mod status_stream;
 mod unadmitted;
 mod watched_journal;
+mod workers;
 
 pub use path::{PathPeer, peer_of_path};
 pub use seat::keep_seat;

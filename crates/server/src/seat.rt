@@ -10,7 +10,8 @@ use crate::incoming_stream::IncomingStream;
 use crate::seat_context::SeatContext;
 use crate::session_watch::SessionWatch;
 use crate::unadmitted::{note_unknown, note_unshaken};
-use crossbeam_channel::{Receiver, Sender};
+use compile_pool::Jobs;
+use crossbeam_channel::Receiver;
 use ocpp_scalars::Moments;
 use session::{Context, Journal, Peer, attach_session, end_session};
 use std::alloc::AllocError;
@@ -19,7 +20,7 @@ use std::rt::Clock;
 use std::sync::Wait;
 use std::sync::ledger::Ledger;
 use tungstenite::{NoMask, WebSocket, WebSocketConfig};
-use version_store::{Job, Pass};
+use version_store::Pass;
 
 /// A longer message is refused while it comes in.
 const LONGEST_MESSAGE_BYTES: usize = 1_048_576;
@@ -31,7 +32,7 @@ const READ_BYTES: usize = 8_192;
 /// back the pass, which counts no less than before.
 pub fn keep_seat<C: Ledger, A: Ledger, R: Wait + Clock, M: Moments, J: Journal>(
     seats: &SeatContext<C, A, R, M, J>,
-    jobs: &Sender<Job>,
+    jobs: Jobs<'_>,
     streams: &Receiver<TcpStream>,
     pass: Pass<C, A>,
 ) -> Pass<C, A>

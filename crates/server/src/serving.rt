@@ -3,7 +3,7 @@
 ghost use Rattle.std.specs.Prelude.{◌≡◌, ◌≤◌, IfOk, length};
 
 use crate::connections::{Served, serve_connections};
-use compile_pool::{MAX_JOBS, Open, run_pool};
+use compile_pool::{Jobs, MAX_JOBS, Open, run_pool};
 use crossbeam_channel::bounded;
 use ocpp_scalars::Moments;
 use session::{Context, NoJournal};
@@ -161,7 +161,7 @@ fn serve_beside_workers<
                 rt,
                 alloc,
                 shared,
-                jobs: &jobs,
+                jobs: Jobs::one(&jobs),
                 clock,
                 journal: &NoJournal,
                 reading: &reading,

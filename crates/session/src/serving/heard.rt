@@ -41,7 +41,7 @@ pub const MAX_REJECTION_BYTES: usize = 200;
 
 /// What came over a socket.
 #[derive(Drop)]
-pub(crate) enum Incoming {
+pub enum Incoming {
     /// A text message.
     Text(Utf8Bytes),
     /// A binary one, which says nothing.
