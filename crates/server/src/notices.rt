@@ -24,6 +24,16 @@ struct WaitingLines {
     left_out: u64,
 }
 
+impl WaitingLines {
+    /// Keeps a line, unless too many wait or memory runs out. Returns whether it is kept.
+    fn keep(&mut self, line: String) -> bool {
+        if self.lines.len() >= MAX_WAITING {
+            return false;
+        }
+        self.lines.push(line).is_ok()
+    }
+}
+
 impl Notices {
     /// Nothing was said yet.
     pub(crate) fn new(alloc: Global) -> Notices {
@@ -62,8 +72,8 @@ impl Notices {
     fn add<R: Wait>(&self, rt: &R, line: Result<String, AllocError>) {
         let mut waiting = self.waiting.lock(rt);
         let is_kept = match line {
-            Ok(line) if waiting.lines.len() < MAX_WAITING => waiting.lines.push(line).is_ok(),
-            _ => false,
+            Ok(line) => waiting.keep(line),
+            Err(AllocError) => false,
         };
         if !is_kept {
             waiting.left_out = waiting.left_out.saturating_add(1);
