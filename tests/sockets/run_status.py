@@ -207,7 +207,7 @@ def five_at_once(program):
     """Each is answered, wholly."""
     with Data() as data, Running(program, SITE, data.path, has_status=True) as running:
         answers = []
-        threads = [threading.Thread(target=lambda: answers.append(get(running, "/")[0])) for _ in range(5)]
+        threads = [threading.Thread(target=lambda: answers.append(get(running, "/state.json")[0])) for _ in range(5)]
         for thread in threads:
             thread.start()
         for thread in threads:
