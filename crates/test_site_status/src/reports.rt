@@ -11,7 +11,7 @@ use std::alloc::Global;
 use std::process::Abort;
 
 const SITE: &str =
-    r#"{"unit":"A","points":[{"id":"CP1","ceiling":63.0,"connectors":[32.0]},{"id":"CP2","ceiling":16.0,"connectors":[]}]}"#;
+    r#"{"unit":"A","points":[{"id":"CP1","ceiling":63.0,"connectors":[32.0]},{"id":"CP2","ceiling":16.0,"connectors":[16.0]}]}"#;
 
 /// 2025-01-01T00:00:00Z, in seconds since 1970.
 const MIDNIGHT: u64 = 1_735_689_600;
