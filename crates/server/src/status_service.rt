@@ -12,7 +12,7 @@ use site_status::{
     Health, JournalReport, SiteCounts, SiteReport, StatusAnswer, StatusPath, answer_of,
     health_answer, nothing_there, status_path,
 };
-use std::alloc::AllocError;
+use std::alloc::{AllocError, Global};
 use std::sync::Wait;
 use std::sync::ledger::Ledger;
 
@@ -31,16 +31,28 @@ impl<C: Ledger, A: Ledger, R: Wait + Drop, M: Moments + Drop, J: WatchedJournal 
         request: &Request<Bytes>,
         response: &mut Response,
     ) -> Result<(), AllocError> {
-        add(response, "connection", "close")?;
-        add(response, "cache-control", "no-store")?;
-        add(response, "x-content-type-options", "nosniff")?;
+        response.add_header(
+            HeaderName::from_static("connection"),
+            HeaderValue::from_static("close"),
+        )?;
+        response.add_header(
+            HeaderName::from_static("cache-control"),
+            HeaderValue::from_static("no-store"),
+        )?;
+        response.add_header(
+            HeaderName::from_static("x-content-type-options"),
+            HeaderValue::from_static("nosniff"),
+        )?;
         let method = request.method();
         if *method != Method::GET && *method != Method::HEAD {
             response.status = StatusCode::METHOD_NOT_ALLOWED;
-            return add(response, "allow", "GET, HEAD");
+            return response.add_header(
+                HeaderName::from_static("allow"),
+                HeaderValue::from_static("GET, HEAD"),
+            );
         }
         let answer = self.answer(request)?;
-        fill(response, answer)
+        fill(self.port.alloc, response, answer)
     }
 }
 
@@ -99,20 +111,16 @@ fn answer_by<C: Ledger, A: Ledger, R: Wait, M: Moments, J>(
     answer_of(seats.alloc, path, &report)
 }
 
-/// Adds a header field.
-fn add(response: &mut Response, name: &'static str, value: &'static str) -> Result<(), AllocError> {
-    response.add_header(
-        HeaderName::from_static(name),
-        HeaderValue::from_static(value),
-    )
-}
-
 /// Makes the response of an answer.
-fn fill(response: &mut Response, answer: StatusAnswer) -> Result<(), AllocError> {
+fn fill(alloc: Global, response: &mut Response, answer: StatusAnswer) -> Result<(), AllocError> {
     let StatusAnswer { status, kind, body } = answer;
     if let Ok(status) = StatusCode::from_u16(status) {
         response.status = status;
     }
-    add(response, "content-type", kind.name())?;
+    // Each name is a header's value, so only memory may be wanting.
+    let Ok(value) = HeaderValue::from_str(alloc, kind.name()) else {
+        return Err(AllocError);
+    };
+    response.add_header(HeaderName::from_static("content-type"), value)?;
     response.body.push(Bytes::from_string(body)?)
 }
