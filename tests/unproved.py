@@ -66,6 +66,7 @@ def tasks_over(folder):
         Task("packaging/build", ["packaging/build"]),
         Task("tests/program.py", ["tests/program.py", PROGRAM], needs_program=True),
         Task("tests/sockets/run", ["tests/sockets/run", PROGRAM], needs_program=True),
+        Task("tests/attacks/run", ["tests/attacks/run", "--short", PROGRAM], needs_program=True),
         *(Task(name, ["rt", "try", "--test", "--seconds", "600"], os.path.join(folder, "crates", name)) for name in crates),
         Task("tests/pages.py", ["tests/pages.py", PROGRAM], needs_program=True),
         Task("tests/documents.py", ["tests/documents.py"]),

@@ -17,6 +17,7 @@ import handshakes
 import messages
 import node_clients
 import programs
+import proxies
 import reconnects
 import refusals
 import replays
@@ -48,6 +49,7 @@ SUBJECTS = {
     "run_deadlines": run_deadlines,
     "run_keys": run_keys,
     "run_status": run_status,
+    "proxies": proxies,
     "audits": audits,
     "refusals": refusals,
 }

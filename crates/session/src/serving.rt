@@ -17,6 +17,7 @@ mod watched_socket;
 
 use crate::context::Context;
 use crate::journal::{Journal, NoJournal};
+use crate::long_reading::LongReading;
 use crate::session_core::SessionCore;
 use calls::lose;
 pub use calls::{attach_session, send_call};
@@ -29,8 +30,8 @@ use ocppj_frame::ReadingMemory;
 pub use served_text::{Served, serve_next, serve_sent_text};
 use std::alloc::Global;
 use std::io::{Read, Write};
+use std::sync::Wait;
 use std::sync::ledger::Ledger;
-use std::sync::{Mutex, Wait};
 use tungstenite::{MaskKeys, WebSocket};
 use version_store::{Job, Pass, Shared};
 pub use watched_socket::{Watched, WatchedSocket};
@@ -87,7 +88,7 @@ pub fn serve_noted_socket<
 ) -> (Ended, Pass<C, A>)
     ensures { KeepsPass pass result.1 }
 {
-    let reading = Mutex::new(());
+    let reading = LongReading::by_sessions();
     let context = Context {
         rt,
         alloc,

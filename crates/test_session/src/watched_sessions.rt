@@ -12,16 +12,18 @@ use crossbeam_channel::{Sender, bounded};
 use ocpp_scalars::{Instant, Moments};
 use ocppj_frame::ReadingMemory;
 use profile::Unit;
-use session::{Context, Ended, Heard, NoJournal, SessionCore, WatchedSocket, serve_next};
+use session::{
+    Context, Ended, Heard, LongReading, NoJournal, SessionCore, WatchedSocket, serve_next,
+};
 use site_core::PointId;
 use site_rules::read_site;
 use std::alloc::Global;
 use std::marker::{Brand, Send, Sync};
 use std::process::Abort;
 use std::rt::Clock;
+use std::sync::Wait;
 use std::sync::atomic::{AtomicU64, Ordering};
 use std::sync::ledger::{Blank, Ledger};
-use std::sync::{Mutex, Wait};
 use std::thread;
 use std::thread::Threads;
 use test_books::instant_at;
@@ -157,7 +159,7 @@ fn serve_messages<C: Ledger, A: Ledger, R: Abort + Wait + Clock>(
     pass: Pass<C, A>,
 ) -> (Option<Ended>, u64) {
     let clock = TenPast(Some(instant_at(10).expect(rt, "no instant")));
-    let reading = Mutex::new(());
+    let reading = LongReading::by_sessions();
     let context = Context {
         rt,
         alloc: desk.alloc,
