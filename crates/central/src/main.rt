@@ -13,6 +13,7 @@ use crate::program::command_line::{Job, job_of};
 use crate::program::explaining::explain_file;
 use crate::program::journal_script::print_journal;
 use crate::program::key_file::make_key;
+use crate::program::last_line::say_fault;
 use crate::program::pages::Screen;
 use crate::program::pointing::run_point;
 use crate::program::program_fault::{ProgramFault, summary_status};
@@ -59,7 +60,7 @@ fn run<
     match do_job(rt, screen) {
         Ok(status) => status,
         Err(fault) => {
-            let _ = rt.eprintln(&fault);
+            say_fault(rt, &fault);
             fault.status()
         }
     }

@@ -12,6 +12,7 @@ pub mod journal_file;
 pub mod journal_lines;
 pub mod journal_script;
 pub mod key_file;
+pub mod last_line;
 pub mod login;
 pub mod named_file;
 pub mod pages;

@@ -268,11 +268,12 @@ impl<R: Wait + Clock + Eprint + AllocGlobal + Drop> JournalFile<R> {
         }
     }
 
-    /// Says why the journal is full or broken, where that is new.
+    /// Says why the journal is full or broken, where that is new. Whoever waits for that is told
+    /// before: standard error may be a pipe that nobody reads.
     fn say_error(&self, state: JournalState, error: &io::Error) {
         if self.turns(state) {
-            self.say_line(error);
             self.broken.notify_all();
+            self.say_line(error);
         }
     }
 
@@ -430,6 +431,7 @@ impl<R: Wait + Clock + Eprint + AllocGlobal + Drop> Journal for JournalFile<R> {
         let numbered = NumberedEntry { entry, number };
         if noted.entries.push(numbered).is_err() {
             noted.state = JournalState::Broken;
+            self.broken.notify_all();
         }
         noted.noted = noted.noted.saturating_add(1);
     }
