@@ -18,7 +18,7 @@ use texts::{SentText, said_of};
 
 /// A message of so many bytes, as most are, is read into the session's own memory, which keeps what
 /// that takes: up to 150 times as much.
-const LONGEST_IN_OWN: usize = 2_048;
+pub(crate) const LONGEST_IN_OWN: usize = 2_048;
 
 /// What a message asks for. A long one is read as all sessions have it.
 pub(crate) fn read_message<C: Ledger, A: Ledger, R: Wait, M: Moments, J: Journal>(

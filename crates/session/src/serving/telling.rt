@@ -2,13 +2,11 @@
 
 use crate::outcome::Outcome;
 use crate::serving::heard::{MAX_REJECTION_BYTES, Told};
+use crate::serving::reading::LONGEST_IN_OWN;
 use crate::todo::Todo;
 use ocppj_frame::{Field, Frame, Payload, ReadingMemory, read_frame, text_field};
 use site_core::{Reply, Step};
 use std::alloc::{AllocError, Global};
-
-/// A longer reply isn't read once more to say why the point rejects its call.
-const LONGEST_READ: usize = 4_096;
 
 /// What a message is about, as far as its step says that.
 #[derive(Clone, Copy, Debug, PartialEq, Eq)]
@@ -62,7 +60,8 @@ fn rejection_in(
     memory: &mut ReadingMemory,
     frame: &str,
 ) -> Result<Option<String>, AllocError> {
-    if frame.len() > LONGEST_READ {
+    // A long reply isn't read once more, into the session's own memory.
+    if frame.len() > LONGEST_IN_OWN {
         return Ok(Some(beginning_of(alloc, frame)?));
     }
     match read_frame(memory, frame) {
