@@ -9,7 +9,7 @@ import threading
 import time
 
 from run_data import NO_LEAKS, Data, SiteFile, run_words, size, tell
-from serving import ENVIRONMENT, PATIENCE, Running, Unexpected, expect
+from serving import ENVIRONMENT, PATIENCE, Running, Unexpected, expect, undated
 from stations import Cut, Station, stations_site
 
 # What is counted: the calls of the journal alone, which has a file name, and all of sockets.
@@ -152,7 +152,7 @@ def fails_at(program, name, fault, count, status, said):
                 expect("its status", ended, status)
                 behind = log.read().partition(fault)[2]
                 expect("writes and syncs behind the fault", ("write(" in behind, "fdatasync(" in behind), (False, False))
-            of_file = [line for line in err.decode().splitlines() if data.journal in line]
+            of_file = [line for line in undated(err).decode().splitlines() if data.journal in line]
             expect("what is said of it first", of_file[:1], [f"central: {data.journal}: {said}"])
         with Running(program, stations_site(1), data.path, environment=NO_LEAKS) as running:
             go_on("behind it", station, running)

@@ -290,7 +290,7 @@ def no_more_than_the_seats(program):
         second.close()
         said = running.kill()
         expect("what is said, once", said.count(b"\n"), 1)
-        expect("what is said", said, b"central: all seats are taken: connections are turned away (HTTP 503)\n")
+        expect("what is said", said, b"central: seats: all are taken: connections are turned away (HTTP 503)\n")
 
 
 def is_served(running):
@@ -332,7 +332,7 @@ def no_file_descriptors(program):
             client.socket.close()
         expect("the last one", clients[-1].read_response().status, 101)
         clients[-1].close()
-        expect("what is said", running.kill(), b"central: a connection can't be accepted: Too many open files (os error 24)\n")
+        expect("what is said", running.kill(), b"central: connections: one can't be accepted: Too many open files (os error 24)\n")
 
 
 def silent_handshakes(program):

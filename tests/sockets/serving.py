@@ -163,17 +163,21 @@ class Running(Serving):
     `resumed` is what it says that it goes on with: points, profiles, transactions, calls. It runs below what `under` says.
     """
 
-    def __init__(self, program, site, data, seats=None, under=(), call_timeout=None, keys=None, **more):
+    def __init__(self, program, site, data, seats=None, under=(), call_timeout=None, keys=None, has_status=False, **more):
         super().__init__(program, site, None, **more)
         self.data = data
         self.seats = seats
         self.under = list(under)
         self.call_timeout = call_timeout
         self.keys = keys
+        self.has_status = has_status
+        self.status_port = None
         self.resumed = None
 
     def _command(self, path, address):
-        numbers = {"--seats": self.seats, "--call-timeout": self.call_timeout, "--keys": self.keys}
+        self.status_port = free_port() if self.has_status else None
+        status = f"127.0.0.1:{self.status_port}" if self.has_status else None
+        numbers = {"--seats": self.seats, "--call-timeout": self.call_timeout, "--keys": self.keys, "--status": status}
         options = [word for name, number in numbers.items() if number is not None for word in (name, str(number))]
         return [*self.under, self.program, "run", "--site", path, "--data", self.data, "--listen", address, *options]
 
@@ -197,11 +201,27 @@ class Running(Serving):
                     with contextlib.suppress(ProcessLookupError):  # it may just have ended
                         os.kill(int(child), signal.SIGKILL)
 
-    def kill(self):
-        """Kills it, at whatever it does. What it said on standard error."""
+    def kill_and_hear(self):
+        """Kills it, at whatever it does. All that it said on standard error."""
         self.process.kill()
         return self.process.communicate(timeout=PATIENCE)[1]
 
+    def kill(self):
+        """Kills it, at whatever it does. What it said on standard error, without moments and without what is said of clients."""
+        return undated(self.kill_and_hear())
+
+
+def undated(said):
+    """What is said on standard error, without moments and without what is said of clients."""
+    return DATED.sub(rb"central: ", OF_CLIENTS.sub(b"", said))
+
+
+# What is said of clients as they come and go, and the beginning of whatever is said with its moment.
+OF_CLIENTS = re.compile(
+    rb"central: \d{4}-\S+Z \S+: (connected|lost|booted|its earlier connection is closed|refused, [^\n]*|rejected call [^\n]*"
+    rb"|call \d+ has no reply[^\n]*)\n"
+)
+DATED = re.compile(rb"^central: \d{4}-\S+Z ", re.MULTILINE)
 
 RESUMED = rb"resumed (\d+) points, (\d+) profiles, (\d+) transactions, (\d+) calls waiting\n"
 

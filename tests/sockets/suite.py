@@ -21,11 +21,13 @@ import proxies
 import reconnects
 import refusals
 import replays
+import run_asks
 import run_crowds
 import run_deadlines
 import run_histories
 import run_keys
 import run_kills
+import run_status
 import runs
 from node_client import NodeClient
 
@@ -42,9 +44,11 @@ SUBJECTS = {
     "runs": runs,
     "run_histories": run_histories,
     "run_kills": run_kills,
+    "run_asks": run_asks,
     "run_crowds": run_crowds,
     "run_deadlines": run_deadlines,
     "run_keys": run_keys,
+    "run_status": run_status,
     "proxies": proxies,
     "audits": audits,
     "refusals": refusals,

@@ -7,7 +7,7 @@ use Rattle.clap.specs.Words.{App, Kinds, Row, Rule, Text, all_of, fault_of, firs
 use Rattle.clap.specs.declared.builder.action.ArgAction.TheVariants.{Set, SetTrue}
 use Rattle.clap.specs.declared.builder.value_parser.ValueParser.TheVariants.{Unsigned}
 use Rattle.central.specs.declared.program.command_line.Job.{Job}
-use Rattle.central.specs.declared.program.command_line.Job.TheVariants.{Replay, Serve, Run, Journal, Key, Call, Point, Explain, Check, Show}
+use Rattle.central.specs.declared.program.command_line.Job.TheVariants.{Replay, Serve, Run, Journal, Key, Call, Point, Explain, Check, Show, Status}
 use Rattle.central.specs.declared.program.command_line.Replaying.{Replaying}
 use Rattle.central.specs.declared.program.command_line.Serving.{Serving}
 use Rattle.central.specs.declared.program.command_line.Running.{Running}
@@ -67,17 +67,20 @@ abbrev pub flag : Text → Rule
 flag name = record (new_rule name) { long = Some name; action = Some SetTrue }
 
 -- `run --site F --data DIR --listen A [--keys FILE] [--seats N] [--workers N]
--- [--call-timeout SECONDS]`
+-- [--call-timeout SECONDS] [--status B] [--status-open]`
 abbrev pub run_command : App
 run_command =
-    with_rule (with_rule (with_rule (with_rule (with_rule (with_rule (with_rule (new_app (codes "run"))
+    with_rule (with_rule (with_rule (with_rule (with_rule (with_rule (with_rule (with_rule (with_rule
+    (new_app (codes "run"))
     (needed (codes "site")))
     (needed (codes "data")))
     (needed (codes "listen")))
     (optional (codes "keys")))
     (numbered 1 max_seats (optional (codes "seats"))))
     (numbered 1 max_workers (optional (codes "workers"))))
-    (numbered 1 max_call_timeout (optional (codes "call-timeout")))
+    (numbered 1 max_call_timeout (optional (codes "call-timeout"))))
+    (optional (codes "status")))
+    (flag (codes "status-open"))
 
 -- `key --name NAME [--operator]`
 abbrev pub key_command : App
@@ -146,6 +149,10 @@ point_command =
     (needed (codes "id")))
     (optional (codes "login"))
 
+-- `status --url U`
+abbrev pub status_command : App
+status_command = with_rule (new_app (codes "status")) (needed (codes "url"))
+
 -- `explain --site F --point ID --connector C --start INSTANT --duration D
 -- [--data DIR] [--at PLACE] [--picture FILE] [--json]`
 abbrev pub explain_command : App
@@ -189,8 +196,9 @@ top_command name =
 -- the commands that have to do with sockets
 abbrev pub with_served : App → App
 with_served app =
-    with_subcommand (with_subcommand (with_subcommand (with_subcommand (with_subcommand app
-    run_command.top) key_command.top) serve_command.top) call_command.top) point_command.top
+    with_subcommand (with_subcommand (with_subcommand (with_subcommand (with_subcommand
+    (with_subcommand app run_command.top) status_command.top) key_command.top) serve_command.top)
+    call_command.top) point_command.top
 
 -- the commands that read a script or a journal
 abbrev pub with_readers : App → App
@@ -271,6 +279,8 @@ pub record IsRunning (rows : List Row) (running : Running) : Type 0 where
   pub call_timeout :
       IsNumberOr (codes "call-timeout") rows default_call_timeout running.call_timeout
   pub keys : first_of (codes "keys") rows ≡ option_map (λ text. text.now) running.keys
+  pub status : first_of (codes "status") rows ≡ option_map (λ text. text.now) running.status
+  pub status_open : IsFlag (codes "status-open") rows running.is_status_open
 
 -- whose key is to be made
 pub record IsKeyMaking (rows : List Row) (making : KeyMaking) : Type 0 where
@@ -351,3 +361,5 @@ IsJob name rows (Point pointing) = (name ≡ codes "point") × IsPointing rows p
 IsJob name rows (Explain explaining) = (name ≡ codes "explain") × IsExplaining rows explaining
 IsJob name rows (Check checking) = (name ≡ codes "check") × IsChecking rows checking
 IsJob name rows (Show showing) = (name ≡ codes "show") × IsShowing rows showing
+IsJob name rows (Status url) =
+    (name ≡ codes "status") × (first_of (codes "url") rows ≡ Some url.now)

@@ -10,7 +10,7 @@ use Rattle.site_journal.specs.declared.restore_fault.RestoreFault.TheVariants as
 use Rattle.client.specs.declared.fault.ClientFault.{ClientFault}
 use Rattle.client.specs.declared.fault.ClientFault.TheVariants as client_fault
 use Rattle.central.specs.declared.program.program_fault.ProgramFault.{ProgramFault}
-use Rattle.central.specs.declared.program.program_fault.ProgramFault.TheVariants.{Words, Site, SiteFile, Write, Replay, Serve, DataInUse, Data, Journal, JournalHeader, Unrestored, JournalLineTooLong, Clock, Client, File, NoSuchPoint, NoSuchConnector, NoInstant, NoScriptEnd, NoNumber, PastCalendar, NoPicture, NoKeys, Keys, KeyName, Random, OutOfMemory}
+use Rattle.central.specs.declared.program.program_fault.ProgramFault.TheVariants.{Words, Site, SiteFile, Write, Replay, Serve, DataInUse, Data, Journal, JournalHeader, Unrestored, JournalLineTooLong, Clock, Client, File, NoSuchPoint, NoSuchConnector, NoInstant, NoScriptEnd, NoNumber, PastCalendar, NoPicture, NoKeys, StatusOpen, StatusUrl, NoStatus, Keys, KeyName, Random, OutOfMemory}
 
 abbrev pub replay_status : ReplayFault → ℕ
 replay_status replay_fault.Read = 3
@@ -53,6 +53,9 @@ fault_status NoNumber = 4
 fault_status PastCalendar = 4
 fault_status NoPicture = 4
 fault_status NoKeys = 4
+fault_status StatusOpen = 4
+fault_status StatusUrl = 4
+fault_status NoStatus = 3
 fault_status (Keys fault) = 1
 fault_status KeyName = 4
 fault_status Random = 3

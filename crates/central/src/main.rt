@@ -13,6 +13,7 @@ use crate::program::command_line::{Job, job_of};
 use crate::program::explaining::explain_file;
 use crate::program::journal_script::print_journal;
 use crate::program::key_file::make_key;
+use crate::program::last_line::say_fault;
 use crate::program::pages::Screen;
 use crate::program::pointing::run_point;
 use crate::program::program_fault::{ProgramFault, summary_status};
@@ -20,6 +21,7 @@ use crate::program::replaying::replay_file;
 use crate::program::running::run_file;
 use crate::program::serving::serve_file;
 use crate::program::showing::show_file;
+use crate::program::status::show_status;
 use clap::error::ErrorKind;
 use std::alloc::AllocGlobal;
 use std::fs::File;
@@ -58,7 +60,7 @@ fn run<
     match do_job(rt, screen) {
         Ok(status) => status,
         Err(fault) => {
-            let _ = rt.eprintln(&fault);
+            say_fault(rt, &fault);
             fault.status()
         }
     }
@@ -87,6 +89,7 @@ fn do_job<
             naming(rt, running.site, run)?;
             Ok(0)
         }
+        Ok(Job::Status { url }) => show_status(rt, url),
         Ok(Job::Journal { folder }) => {
             print_journal(rt, folder)?;
             Ok(0)

@@ -1,2 +1,3 @@
 pub mod Workers
 pub mod Wait
+pub mod Work

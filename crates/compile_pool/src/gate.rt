@@ -4,6 +4,9 @@
 /// up, as tests do, and can't change what is compiled.
 pub trait Gate {
     fn enter(&self, number: u64);
+
+    /// A worker begins to compile the request of this number: somebody still waits for it.
+    fn begin(&self, _number: u64) {}
 }
 
 /// Holds nobody up.

@@ -3,12 +3,16 @@
 #![tactic(auto)]
 
 mod gate;
+mod jobs;
 mod wait;
+mod work;
 mod workers;
 
 pub use gate::{Gate, Open};
+pub use jobs::{Jobs, Unsent};
 pub use wait::wait_answer;
-pub use workers::{answer_job, run_pool, worker};
+pub use work::MOST_OF_SHORT;
+pub use workers::{answer_job, answer_unmade, run_pool, worker};
 
 /// How many jobs wait for a worker at most: as many as there are requests.
 pub const MAX_JOBS: usize = 64;

@@ -1,14 +1,19 @@
 //! Workers: from a job to a posted answer.
 
-ghost use Rattle.std.specs.Prelude.{◌≡◌, ◌≤◌};
+ghost use Rattle.std.specs.Prelude.{◌≡◌, ◌≤◌, true, false, Err, IfErr, IfOk};
+ghost use Rattle.std.specs.Arc.{arc_value};
+ghost use Rattle.ocpp_scalars.specs.declared.refusal.Refusal.{Refusal};
+ghost use Rattle.version_store.specs.Answers.{awaits};
 ghost use Rattle.compile_pool.specs.Workers.{IsOfJob, PostsOrDrops};
 
 use crate::gate::Gate;
 use crossbeam_channel::Receiver;
+use meaning::Ask;
+use point_book::PointBook;
 use std::alloc::Global;
 use std::marker::{Send, Sync};
-use std::sync::Wait;
 use std::sync::ledger::Ledger;
+use std::sync::{Arc, Wait};
 use std::thread;
 use std::thread::Threads;
 use sweep_compiler::Compiled;
@@ -47,7 +52,36 @@ pub fn answer_job<C: Ledger, A: Ledger, R: Wait>(
     shared.wake_for(number);
 }
 
-/// Answers jobs, one after the other, until all senders of the channel are gone.
+/// Answers a request that nobody waits for any more by that memory ran out, which is right for each,
+/// so that no worker begins it. It keeps an answer that it has.
+pub fn answer_unmade<C: Ledger, A: Ledger, R: Wait>(
+    rt: &R,
+    shared: &Shared<C, A>,
+    number: u64,
+    book: Arc<PointBook>,
+    ask: Ask,
+) {
+    let unmade = Compiled::unmade(book, ask);
+    let mut book = shared.lock(rt);
+    post_or_drop(&mut book, number, unmade);
+}
+
+/// A job that is to be compiled, since its request has no answer yet. Else it comes back as an
+/// error: its session has ended, or the central system is stopped.
+fn job_to_begin<C: Ledger, A: Ledger>(book: &Book<C, A>, job: Job) -> Result<Job, Job>
+    ensures begun { IfOk result (λ begun. begun ≡ job) }
+    ensures awaited { IfOk result (λ begun. awaits book.now.present job.number ≡ true) }
+    ensures unwanted { IfErr result (λ back. awaits book.now.present job.number ≡ false) }
+{
+    if book.awaits(job.number()) {
+        Ok(job)
+    } else {
+        Err(job)
+    }
+}
+
+/// Answers jobs, one after the other, until all senders of the channel are gone. One that nobody
+/// waits for any more is dropped.
 pub fn worker<C: Ledger, A: Ledger, R: Wait, G: Gate>(
     rt: &R,
     alloc: Global,
@@ -60,7 +94,11 @@ pub fn worker<C: Ledger, A: Ledger, R: Wait, G: Gate>(
             break;
         };
         gate.enter(job.number());
-        answer_job(rt, alloc, shared, job);
+        let begun = job_to_begin(&shared.lock(rt), job);
+        if let Ok(job) = begun {
+            gate.begin(job.number());
+            answer_job(rt, alloc, shared, job);
+        }
     }
 }
 

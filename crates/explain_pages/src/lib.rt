@@ -32,6 +32,7 @@ pub use entries::{profile_of, telling_instant};
 pub use explained_ask::{ExplainedAsk, NoPart, NotCounted, is_named};
 pub use json_text::write_json;
 pub use length::{Length, length_of};
+pub use markup::{push_element, push_escaped};
 pub use page::write_page;
 pub use picture::write_picture;
 pub use steps::{MAX_INTERVALS, MAX_STEPS};

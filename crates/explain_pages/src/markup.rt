@@ -4,7 +4,7 @@ use std::alloc::AllocError;
 
 /// Appends a text so that it stands for itself in XML, in HTML and in an attribute's quotes. A character that
 /// XML lacks becomes U+FFFD.
-pub(crate) fn push_escaped(out: &mut String, text: &str) -> Result<(), AllocError> {
+pub fn push_escaped(out: &mut String, text: &str) -> Result<(), AllocError> {
     for character in text.chars() {
         match character {
             '&' => out.push_str("&amp;")?,
@@ -23,7 +23,7 @@ pub(crate) fn push_escaped(out: &mut String, text: &str) -> Result<(), AllocErro
 }
 
 /// Appends an element that holds a text alone: its opening tag, the text escaped, its closing tag.
-pub(crate) fn push_element(
+pub fn push_element(
     out: &mut String,
     opening: &str,
     text: &str,

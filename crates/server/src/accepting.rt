@@ -1,12 +1,14 @@
 //! Connections are accepted: each for a free seat, or it is answered that there is none.
 
-use crate::free_seats::FreeSeats;
+use crate::seat_context::SeatContext;
 use crate::seldom::Seldom;
 use crossbeam_channel::Sender;
+use ocpp_scalars::Moments;
 use std::io::{Read, Write};
 use std::net::{Shutdown, TcpListener, TcpStream};
 use std::rt::Clock;
 use std::sync::Wait;
+use std::sync::ledger::Ledger;
 use std::thread;
 use std::time::Duration;
 
@@ -14,60 +16,68 @@ use std::time::Duration;
 /// lack of file descriptors.
 const PAUSE: u64 = 100;
 
+/// What is said then.
+const FULL: &str = "all are taken: connections are turned away (HTTP 503)";
+
 /// The answer to a connection for which there is no seat.
 const NO_SEAT: &[u8] =
     b"HTTP/1.1 503 Service Unavailable\r\nConnection: close\r\nContent-Length: 0\r\n\r\n";
 
 /// Accepts connections for ever, and sends each to a free seat. Where none is free, it is answered
 /// so and closed.
-pub(crate) fn accept_connections<R: Wait + Clock + Eprint>(
-    rt: &R,
-    free: &FreeSeats,
+pub(crate) fn accept_connections<C: Ledger, A: Ledger, R: Wait + Clock, M: Moments, J>(
+    seats: &SeatContext<C, A, R, M, J>,
     listener: &TcpListener,
     streams: &Sender<TcpStream>,
 ) {
+    let rt = &seats.rt;
     let (mut full, mut failed) = (Seldom::new(), Seldom::new());
     for _connection in rt.forever() {
-        let Some(stream) = accept_next(rt, listener, &mut failed) else {
+        let Some(stream) = accept_next(seats, listener, &mut failed) else {
             continue;
         };
-        if free.take(rt) {
+        if seats.free.take(rt) {
             // A seat waits for it, so there is room on the way.
             if streams.send(rt, stream).is_err() {
                 return;
             }
         } else {
             refuse(stream);
-            say_full(rt, &mut full);
+            seats.watch.turn_away(rt);
+            say_full(seats, &mut full);
         }
     }
 }
 
 /// The next connection. None where it couldn't be accepted, after a pause: a file descriptor may be
 /// free then.
-fn accept_next<R: Wait + Clock + Eprint>(
-    rt: &R,
+fn accept_next<C: Ledger, A: Ledger, R: Wait + Clock, M: Moments, J>(
+    seats: &SeatContext<C, A, R, M, J>,
     listener: &TcpListener,
     failed: &mut Seldom,
 ) -> Option<TcpStream> {
     match listener.accept() {
         Ok((stream, _)) => Some(stream),
         Err(error) => {
-            if failed.is_due(rt) {
-                let _ = eprintln!(rt; "central: a connection can't be accepted: {error}");
+            if failed.is_due(&seats.rt) {
+                let what = format!(in seats.alloc; "one can't be accepted: {error}");
+                seats
+                    .notices
+                    .say_made(&seats.rt, &seats.clock, "connections", what);
             }
-            thread::sleep(rt, Duration::from_millis(PAUSE));
+            thread::sleep(&seats.rt, Duration::from_millis(PAUSE));
             None
         }
     }
 }
 
 /// Says that all seats are taken.
-fn say_full<R: Clock + Eprint>(rt: &R, full: &mut Seldom) {
-    if full.is_due(rt) {
-        let _ = eprintln!(rt;
-            "central: all seats are taken: connections are turned away (HTTP 503)"
-        );
+fn say_full<C: Ledger, A: Ledger, R: Wait + Clock, M: Moments, J>(
+    seats: &SeatContext<C, A, R, M, J>,
+    full: &mut Seldom,
+) {
+    if full.is_due(&seats.rt) {
+        seats.notices.say(&seats.rt, &seats.clock, "seats", FULL);
     }
 }
 

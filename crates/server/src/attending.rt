@@ -4,10 +4,13 @@ ghost use Rattle.session.specs.Serving.{KeepsPass};
 
 use crate::deadlines::{LONGEST_SILENCE, SILENCE_BEFORE_CALL, SILENCE_BEFORE_PING, TICK};
 use crate::incoming_stream::{IncomingStream, seconds_since};
+use crate::session_watch::SessionWatch;
 use bytes::Bytes;
 use ocpp_scalars::Moments;
 use ocppj_frame::ReadingMemory;
-use session::{Context, Ended, Heard, Journal, SessionCore, send_call, serve_next};
+use session::{
+    Context, Ended, Heard, Journal, SentCall, SessionCore, WatchedSocket, send_call, serve_next,
+};
 use std::rt::Clock;
 use std::sync::Wait;
 use std::sync::ledger::Ledger;
@@ -28,12 +31,12 @@ struct Attention {
     /// Whether it was pinged since it was heard.
     is_pinged: bool,
     /// The last call that was sent to it.
-    sent: Option<SentCall>,
+    sent: Option<SentMoment>,
 }
 
-/// A call that was sent to a point.
+/// When a call was sent to a point.
 #[derive(Clone, Copy, Debug)]
-struct SentCall {
+struct SentMoment {
     number: u64,
     moment: Instant,
 }
@@ -42,7 +45,7 @@ struct SentCall {
 /// to it has no reply in time.
 pub(crate) fn attend_session<C: Ledger, A: Ledger, R: Wait + Clock, M: Moments, J: Journal>(
     context: &Context<'_, C, A, R, M, J>,
-    call_timeout: u64,
+    watch: &SessionWatch<'_, C, A, R, M, J>,
     socket: &mut WebSocket<IncomingStream<'_, R>, NoMask>,
     core: &SessionCore,
     pass: &mut Pass<C, A>,
@@ -53,8 +56,9 @@ pub(crate) fn attend_session<C: Ledger, A: Ledger, R: Wait + Clock, M: Moments, 
         return;
     };
     let mut memory = ReadingMemory::new(context.alloc);
+    let mut socket = WatchedSocket::new(context.rt, socket);
     let mut attention = Attention {
-        call_timeout,
+        call_timeout: watch.seats.options.call_timeout,
         begun: now,
         has_spoken: false,
         looked: now,
@@ -62,7 +66,17 @@ pub(crate) fn attend_session<C: Ledger, A: Ledger, R: Wait + Clock, M: Moments, 
         sent: None,
     };
     for _message in context.rt.forever() {
-        if attend_next(context, socket, core, &mut memory, &mut attention, pass).is_err() {
+        if attend_next(
+            context,
+            watch,
+            &mut socket,
+            core,
+            &mut memory,
+            &mut attention,
+            pass,
+        )
+        .is_err()
+        {
             return;
         }
     }
@@ -72,7 +86,8 @@ pub(crate) fn attend_session<C: Ledger, A: Ledger, R: Wait + Clock, M: Moments, 
 /// Serves the next message, or does what is due where none comes. An error ends the session.
 fn attend_next<C: Ledger, A: Ledger, R: Wait + Clock, M: Moments, J: Journal>(
     context: &Context<'_, C, A, R, M, J>,
-    socket: &mut WebSocket<IncomingStream<'_, R>, NoMask>,
+    watch: &SessionWatch<'_, C, A, R, M, J>,
+    watched: &mut WatchedSocket<'_, IncomingStream<'_, R>, NoMask, R>,
     core: &SessionCore,
     memory: &mut ReadingMemory,
     attention: &mut Attention,
@@ -80,14 +95,16 @@ fn attend_next<C: Ledger, A: Ledger, R: Wait + Clock, M: Moments, J: Journal>(
 ) -> Result<(), Ended>
     ensures { KeepsPass pass.old pass.new }
 {
-    let sent = match serve_next(context, socket, core, memory, pass)? {
-        Heard::Message { sent } => {
-            socket.get_mut().end_message();
+    let heard = serve_next(context, watched, core, memory, pass)?;
+    let is_last = !watched.has_kept();
+    let socket = watched.websocket();
+    let sent = match heard {
+        Heard::Message { told, sent } => {
             attention.has_spoken = true;
+            watch.hear(core, told);
             sent
         }
-        Heard::Control { bytes } => {
-            socket.get_mut().end_control(bytes);
+        Heard::Control { .. } => {
             // Whoever pings all the time leaves no time without a byte.
             if seconds_since(context.rt, attention.looked) < TICK {
                 None
@@ -100,10 +117,16 @@ fn attend_next<C: Ledger, A: Ledger, R: Wait + Clock, M: Moments, J: Journal>(
             send_to_silent(context, socket, core, attention)?
         }
     };
-    if let Some(number) = sent {
-        attention.note_sent(context.rt, number);
+    if let Some(call) = sent {
+        attention.note_sent(context.rt, call.number);
+        watch.send(call);
     }
-    if attention.is_overdue(context, core) || socket.get_ref().is_in_the_way() {
+    if let Some(call) = attention.overdue(context, core) {
+        watch.give_up(core, call);
+        let _ = socket.close(None);
+        return Err(Ended::Broken);
+    }
+    if is_last && socket.get_ref().is_in_the_way() {
         let _ = socket.close(None);
         return Err(Ended::Broken);
     }
@@ -134,14 +157,14 @@ fn keep_alive<R: Wait + Clock>(
     }
 }
 
-/// Sends the call that waits for a point, which has nothing to say itself. Returns its number. A
+/// Sends the call that waits for a point, which has nothing to say itself. Returns which. A
 /// point that has just connected is left the time for its BootNotification.
 fn send_to_silent<C: Ledger, A: Ledger, R: Wait + Clock, M: Moments, J: Journal>(
     context: &Context<'_, C, A, R, M, J>,
     socket: &mut WebSocket<IncomingStream<'_, R>, NoMask>,
     core: &SessionCore,
     attention: &mut Attention,
-) -> Result<Option<u64>, Ended> {
+) -> Result<Option<SentCall>, Ended> {
     if let Ok(now) = Instant::now(context.rt) {
         attention.looked = now;
     }
@@ -158,28 +181,26 @@ impl Attention {
     /// A call was sent just now. Without a clock nobody waits for its reply.
     fn note_sent<R: Clock>(&mut self, rt: &R, number: u64) {
         self.sent = match Instant::now(rt) {
-            Ok(moment) => Some(SentCall { number, moment }),
+            Ok(moment) => Some(SentMoment { number, moment }),
             Err(_) => None,
         };
     }
 
-    /// Whether the last call has no reply, though it was sent long enough ago.
-    fn is_overdue<C: Ledger, A: Ledger, R: Wait + Clock, M: Moments, J: Journal>(
+    /// The number of the last call, where it has no reply, though it was sent long enough ago.
+    fn overdue<C: Ledger, A: Ledger, R: Wait + Clock, M: Moments, J: Journal>(
         &mut self,
         context: &Context<'_, C, A, R, M, J>,
         core: &SessionCore,
-    ) -> bool {
-        let Some(call) = self.sent else {
-            return false;
-        };
+    ) -> Option<u64> {
+        let call = self.sent?;
         if seconds_since(context.rt, call.moment) < self.call_timeout {
-            return false;
+            return None;
         }
         self.sent = None;
         let book = context.shared.lock(context.rt);
         match book.present().outbox_of(core.point_id().as_str()) {
-            Some(outbox) => outbox.is_number_in_flight(call.number),
-            None => false,
+            Some(outbox) if outbox.is_number_in_flight(call.number) => Some(call.number),
+            _ => None,
         }
     }
 }

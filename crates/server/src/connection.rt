@@ -26,7 +26,7 @@ pub(crate) fn serve_connection<
 >(context: &Context<'_, C, A, R, M, J>, stream: S, pass: Pass<C, A>) -> Pass<C, A>
     ensures { KeepsPass pass result }
 {
-    let Some((socket, asked)) = shake_hands(context.alloc, Entry::Open, stream) else {
+    let Ok((socket, asked)) = shake_hands(context.alloc, Entry::Open, stream) else {
         return pass;
     };
     match admit(context, &asked) {

@@ -22,3 +22,6 @@ pub(crate) const LONGEST_SILENCE: u64 = 660;
 /// For the first message of a charge point, until it is sent a call all the same. It may have a
 /// BootNotification to send first.
 pub(crate) const SILENCE_BEFORE_CALL: u64 = 10;
+
+/// For a connection of the status port as a whole.
+pub(crate) const LONGEST_STATUS: u64 = 5;

@@ -22,6 +22,11 @@ impl FreeSeats {
         *count = count.saturating_add(1);
     }
 
+    /// How many seats are free.
+    pub(crate) fn count<R: Wait>(&self, rt: &R) -> u64 {
+        *self.count.lock(rt)
+    }
+
     /// Takes a free seat. False where none is.
     pub(crate) fn take<R: Wait>(&self, rt: &R) -> bool {
         let mut count = self.count.lock(rt);

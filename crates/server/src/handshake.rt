@@ -30,6 +30,16 @@ struct Reading<'a> {
     alloc: Global,
     entry: Entry<'a>,
     asked: &'a mut Option<ClientRequest>,
+    refused: &'a mut Option<StatusCode>,
+}
+
+/// Why there is no session for a connection.
+#[derive(Clone, Copy, Debug)]
+pub(crate) enum Unshaken {
+    /// Its client was answered this status.
+    Refused(StatusCode),
+    /// It wasn't whole in time, or malformed, or memory ran out.
+    Failed,
 }
 
 impl Callback for Reading<'_> {
@@ -42,12 +52,15 @@ impl Callback for Reading<'_> {
             alloc,
             entry,
             asked,
+            refused,
         } = self;
-        match entry.refusal(alloc, request) {
-            Ok(None) => Ok(accepted(alloc, request, response, asked)),
-            Ok(Some(status)) => Err(refused(alloc, status)),
-            Err(AllocError) => Err(refused(alloc, StatusCode::SERVICE_UNAVAILABLE)),
-        }
+        let status = match entry.refusal(alloc, request) {
+            Ok(None) => return Ok(accepted(alloc, request, response, asked)),
+            Ok(Some(status)) => status,
+            Err(AllocError) => StatusCode::SERVICE_UNAVAILABLE,
+        };
+        *refused = Some(status);
+        Err(refusal(alloc, status))
     }
 }
 
@@ -87,7 +100,7 @@ fn offers_ocpp(headers: &HeaderMap<HeaderValue>) -> bool {
 }
 
 /// The response that refuses a request by this status. A header for which memory runs out is missing.
-fn refused(alloc: Global, status: StatusCode) -> ErrorResponse {
+fn refusal(alloc: Global, status: StatusCode) -> ErrorResponse {
     let mut response = Response::new(alloc, None);
     *response.status_mut() = status;
     let headers = response.headers_mut();
@@ -108,18 +121,25 @@ fn refused(alloc: Global, status: StatusCode) -> ErrorResponse {
     response
 }
 
-/// Shakes hands with a client. `None` where it isn't let in, the handshake failed, or memory ran out.
+/// Shakes hands with a client, if it is let in.
 pub(crate) fn shake_hands<S: Read + Write + Drop>(
     alloc: Global,
     entry: Entry<'_>,
     stream: S,
-) -> Option<(WebSocket<S, NoMask>, ClientRequest)> {
-    let mut asked = None;
+) -> Result<(WebSocket<S, NoMask>, ClientRequest), Unshaken> {
+    let (mut asked, mut refused) = (None, None);
     let reading = Reading {
         alloc,
         entry,
         asked: &mut asked,
+        refused: &mut refused,
     };
-    let socket = accept_hdr(alloc, stream, reading).ok()?;
-    Some((socket, asked?))
+    let socket = accept_hdr(alloc, stream, reading).ok();
+    if let Some(status) = refused {
+        return Err(Unshaken::Refused(status));
+    }
+    match (socket, asked) {
+        (Some(socket), Some(asked)) => Ok((socket, asked)),
+        _ => Err(Unshaken::Failed),
+    }
 }

@@ -3,6 +3,7 @@
 
 use crate::deadlines::{LONGEST_HANDSHAKE, LONGEST_MESSAGE, LONGEST_WRITE, TICK};
 use crate::long_messages::LongMessages;
+use session::Watched;
 use std::alloc::Global;
 use std::io::{ErrorKind, Read, Write};
 use std::net::{Shutdown, TcpStream};
@@ -16,6 +17,13 @@ const LONGEST_WITHOUT_PLACE: usize = 65_536;
 
 /// A client's control frame has so many bytes beside its payload (RFC 6455, section 5.2).
 const CONTROL_HEAD: usize = 6;
+
+/// While its session looks at it, a read waits for so many milliseconds. One of a long message that
+/// finds no place waits for a tick all the same.
+const LOOK: u64 = 1;
+
+/// And it is read so often at most in a look.
+const READS_OF_LOOK: u32 = 64;
 
 /// A stream that whoever has a share of it may shut.
 pub(crate) type SharedStream = Arc<TcpStream, Global>;
@@ -34,6 +42,8 @@ pub(crate) struct IncomingStream<'a, R> {
     /// When the last byte came, or else the handshake began.
     heard: Instant,
     unfinished: Option<Unfinished>,
+    /// How often it may still be read in this look, while its session looks at it.
+    reads_left: Option<u32>,
 }
 
 /// A message that isn't whole.
@@ -67,6 +77,7 @@ impl<'a, R: Clock + Wait> IncomingStream<'a, R> {
             handshake: Some(deadline),
             heard: now,
             unfinished: None,
+            reads_left: None,
         })
     }
 
@@ -77,26 +88,6 @@ impl<'a, R: Clock + Wait> IncomingStream<'a, R> {
         self.unfinished = None;
         let tick = Duration::from_secs(TICK);
         self.stream.set_read_timeout(Some(tick)).is_ok()
-    }
-
-    /// The message that came is whole.
-    pub(crate) fn end_message(&mut self) {
-        self.unfinished = None;
-    }
-
-    /// A control frame came with so many bytes, perhaps within a message.
-    pub(crate) fn end_control(&mut self, payload: usize) {
-        let Some(message) = self.unfinished else {
-            return;
-        };
-        let bytes = message
-            .bytes
-            .saturating_sub(payload.saturating_add(CONTROL_HEAD));
-        self.unfinished = if bytes == 0 {
-            None
-        } else {
-            Some(Unfinished { bytes, ..message })
-        };
     }
 
     /// Whether it is to end, since it has a place that another connection waits for, and no
@@ -154,6 +145,18 @@ impl<'a, R: Clock + Wait> IncomingStream<'a, R> {
         Err(io::Error::from(ErrorKind::WouldBlock))
     }
 
+    /// Lets it be read in a look so often and no more.
+    fn count_read(&mut self) -> io::Result<()> {
+        match self.reads_left {
+            None => Ok(()),
+            Some(0) => Err(io::Error::from(ErrorKind::WouldBlock)),
+            Some(left) => {
+                self.reads_left = Some(left - 1);
+                Ok(())
+            }
+        }
+    }
+
     /// So many bytes came.
     fn hear(&mut self, bytes: usize) -> io::Result<()> {
         let now = Instant::now(self.rt)?;
@@ -181,8 +184,46 @@ pub(crate) fn seconds_since<R: Clock>(rt: &R, moment: Instant) -> u64 {
     }
 }
 
+impl<R: Clock + Wait> Watched for IncomingStream<'_, R> {
+    fn begin_look(&mut self) -> bool {
+        let look = Duration::from_millis(LOOK);
+        let can_look = self.stream.set_read_timeout(Some(look)).is_ok();
+        if can_look {
+            self.reads_left = Some(READS_OF_LOOK);
+        }
+        can_look
+    }
+
+    fn end_look(&mut self) -> bool {
+        self.reads_left = None;
+        let tick = Duration::from_secs(TICK);
+        self.stream.set_read_timeout(Some(tick)).is_ok()
+    }
+
+    /// The message that came is whole.
+    fn end_message(&mut self) {
+        self.unfinished = None;
+    }
+
+    /// A control frame came with so many bytes, perhaps within a message.
+    fn end_control(&mut self, payload: usize) {
+        let Some(message) = self.unfinished else {
+            return;
+        };
+        let bytes = message
+            .bytes
+            .saturating_sub(payload.saturating_add(CONTROL_HEAD));
+        self.unfinished = if bytes == 0 {
+            None
+        } else {
+            Some(Unfinished { bytes, ..message })
+        };
+    }
+}
+
 impl<R: Clock + Wait> Read for IncomingStream<'_, R> {
     fn read(&mut self, buf: &mut [u8]) -> io::Result<usize> {
+        self.count_read()?;
         if let Some(deadline) = self.handshake {
             self.bound_handshake(deadline)?;
         } else if let Some(message) = self.unfinished {

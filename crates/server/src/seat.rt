@@ -8,7 +8,10 @@ use crate::entry::Entry;
 use crate::handshake::shake_hands;
 use crate::incoming_stream::IncomingStream;
 use crate::seat_context::SeatContext;
-use crossbeam_channel::{Receiver, Sender};
+use crate::session_watch::SessionWatch;
+use crate::unadmitted::{note_unknown, note_unshaken};
+use compile_pool::Jobs;
+use crossbeam_channel::Receiver;
 use ocpp_scalars::Moments;
 use session::{Context, Journal, Peer, attach_session, end_session};
 use std::alloc::AllocError;
@@ -17,7 +20,7 @@ use std::rt::Clock;
 use std::sync::Wait;
 use std::sync::ledger::Ledger;
 use tungstenite::{NoMask, WebSocket, WebSocketConfig};
-use version_store::{Job, Pass};
+use version_store::Pass;
 
 /// A longer message is refused while it comes in.
 const LONGEST_MESSAGE_BYTES: usize = 1_048_576;
@@ -29,7 +32,7 @@ const READ_BYTES: usize = 8_192;
 /// back the pass, which counts no less than before.
 pub fn keep_seat<C: Ledger, A: Ledger, R: Wait + Clock, M: Moments, J: Journal>(
     seats: &SeatContext<C, A, R, M, J>,
-    jobs: &Sender<Job>,
+    jobs: Jobs<'_>,
     streams: &Receiver<TcpStream>,
     pass: Pass<C, A>,
 ) -> Pass<C, A>
@@ -64,13 +67,18 @@ fn serve_incoming<C: Ledger, A: Ledger, R: Wait + Clock, M: Moments, J: Journal>
 ) -> Pass<C, A>
     ensures { KeepsPass pass result }
 {
+    let from = stream.peer_addr().ok();
     let Some(stream) = IncomingStream::new(context.rt, context.alloc, &seats.long_messages, stream)
     else {
         return pass;
     };
     let entry = Entry::Guarded(seats.options.keys.as_ref());
-    let Some((mut socket, asked)) = shake_hands(context.alloc, entry, stream) else {
-        return pass;
+    let (mut socket, asked) = match shake_hands(context.alloc, entry, stream) {
+        Ok(shaken) => shaken,
+        Err(unshaken) => {
+            note_unshaken(seats, unshaken, from);
+            return pass;
+        }
     };
     if !socket.get_mut().end_handshake() {
         return pass;
@@ -79,6 +87,7 @@ fn serve_incoming<C: Ledger, A: Ledger, R: Wait + Clock, M: Moments, J: Journal>
     match admit(context, &asked) {
         Ok(Some(admitted)) => serve_admitted(seats, context, socket, admitted, pass),
         Ok(None) => {
+            note_unknown(seats, &asked, from);
             close_at_once(socket);
             pass
         }
@@ -122,13 +131,10 @@ fn serve_admitted<C: Ledger, A: Ledger, R: Wait + Clock, M: Moments, J: Journal>
     if let Some(link) = link {
         seats.present.enter(context.rt, place, link, share);
     }
-    attend_session(
-        context,
-        seats.options.call_timeout,
-        &mut socket,
-        &core,
-        &mut pass,
-    );
+    let watch = SessionWatch { seats, place, link };
+    watch.begin(&core);
+    attend_session(context, &watch, &mut socket, &core, &mut pass);
+    watch.end(&core);
     // What its messages took in memory is free before its place is.
     let mut stream = socket.into_inner();
     stream.end();

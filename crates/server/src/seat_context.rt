@@ -2,14 +2,17 @@
 
 use crate::free_seats::FreeSeats;
 use crate::long_messages::LongMessages;
+use crate::notices::Notices;
 use crate::present_streams::PresentStreams;
+use crate::site_watch::SiteWatch;
+use crossbeam_channel::{Receiver, bounded};
 use ocpp_scalars::Moments;
-use session::Journal;
+use session::{Journal, LongReading, LongText};
 use site_keys::Keys;
 use std::alloc::{AllocError, Global};
 use std::rt::Clock;
 use std::sync::ledger::Ledger;
-use std::sync::{Arc, Mutex, Wait};
+use std::sync::{Arc, Wait};
 use version_store::Shared;
 
 /// What whoever runs a site may choose.
@@ -32,10 +35,16 @@ pub struct SeatContext<C: Ledger, A: Ledger, R, M, J> {
     pub(crate) present: PresentStreams,
     pub(crate) free: FreeSeats,
     pub(crate) long_messages: LongMessages,
+    pub(crate) watch: SiteWatch,
+    pub(crate) notices: Notices,
     pub(crate) options: SeatOptions,
-    /// Whoever reads a long message has this.
-    pub(crate) reading: Mutex<()>,
+    pub(crate) reading: LongReading,
+    /// The long messages that one thread reads for all seats.
+    pub(crate) long_texts: Receiver<LongText>,
 }
+
+/// So many long messages wait for their reader before their sessions wait for room.
+const MAX_LONG_TEXTS: usize = 16;
 
 impl<
     C: Ledger,
@@ -56,6 +65,7 @@ impl<
         let book = shared.lock(&rt);
         let points = book.present().site().len();
         drop(book);
+        let (texts, long_texts) = bounded(alloc, MAX_LONG_TEXTS)?;
         Ok(SeatContext {
             rt,
             alloc,
@@ -65,8 +75,11 @@ impl<
             present: PresentStreams::make(alloc, points)?,
             free: FreeSeats::new(),
             long_messages: LongMessages::new(),
+            watch: SiteWatch::make(alloc, points)?,
+            notices: Notices::new(alloc),
             options,
-            reading: Mutex::new(()),
+            reading: LongReading::by_a_thread(texts),
+            long_texts,
         })
     }
 

@@ -3,11 +3,12 @@
 ghost use Rattle.std.specs.Prelude.{◌≡◌, ◌≤◌, ◌+◌, IfOk, length};
 
 use crate::accepting::accept_connections;
+use crate::long_texts::begin_reader;
 use crate::seat::keep_seat;
 use crate::seat_context::SeatContext;
 use crate::serving::ServeFault;
-use compile_pool::{MAX_JOBS, Open, run_pool};
-use crossbeam_channel::{Receiver, Sender, bounded};
+use crate::workers::{JobSenders, begin_workers};
+use crossbeam_channel::{Receiver, bounded};
 use ocpp_scalars::Moments;
 use session::Journal;
 use site_rules::Site;
@@ -19,7 +20,7 @@ use std::sync::ledger::{Blank, Ledger};
 use std::sync::{Arc, Wait};
 use std::thread;
 use std::thread::Threads;
-use version_store::{Job, Pass, Shared};
+use version_store::{Pass, Shared};
 
 /// The most connections at a time.
 pub const MAX_SEATS: u64 = 1_000;
@@ -91,6 +92,7 @@ pub fn run_seats<
     ensures at_most { IfOk result (λ seats. seats ≤ length passes.items) }
 {
     let wanted = passes.len();
+    begin_reader(context)?;
     let jobs = begin_workers(context, workers)?;
     let (streams, queue) = bounded(context.alloc, wanted)?;
     let seats = begin_seats(context, &jobs, &queue, passes)?;
@@ -102,9 +104,11 @@ pub fn run_seats<
             "central: {seats} seats of {wanted}: for the others no thread could be made"
         );
     }
+    context.watch.set_seats(&context.rt, seats as u64);
+    begin_writer(context)?;
     let own = Arc::try_clone(context)?;
     let accepting = thread::Builder::new().spawn(&context.rt, move || {
-        accept_connections(&own.rt, &own.free, &listener, &streams)
+        accept_connections(&own, &listener, &streams)
     });
     match accepting {
         Ok(_) => Ok(seats),
@@ -112,31 +116,20 @@ pub fn run_seats<
     }
 }
 
-/// Begins the workers on a thread of their own. Returns the way to them. Where no thread can be
-/// made nobody takes the jobs, and sessions compile themselves.
-fn begin_workers<
+/// Begins the thread that writes lines for people to standard error.
+fn begin_writer<
     C: Ledger + Send + Sync + Drop + 'static,
     A: Ledger + Send + Sync + Drop + 'static,
-    R: Threads + Wait + Copy + Send + Sync + Drop + 'static,
+    R: Wait + Threads + Eprint + Send + Sync + Drop + 'static,
     M: Send + Sync + Drop + 'static,
     J: Send + Sync + Drop + 'static,
->(
-    context: &Arc<SeatContext<C, A, R, M, J>, Global>,
-    workers: usize,
-) -> Result<Sender<Job>, ServeFault>
-    requires { 1 ≤ workers }
-{
-    let (jobs, queue) = bounded(context.alloc, MAX_JOBS)?;
-    let (rt, alloc) = (context.rt, context.alloc);
-    let shared = Arc::try_clone(&context.shared)?;
-    let pool = thread::Builder::new().spawn(
-        &context.rt,
-        move || -> usize
-            requires { 1 ≤ workers }
-        { run_pool(&rt, alloc, workers, &queue, &shared, &Open) },
-    );
-    drop(pool);
-    Ok(jobs)
+>(context: &Arc<SeatContext<C, A, R, M, J>, Global>) -> Result<(), ServeFault> {
+    let own = Arc::try_clone(context)?;
+    let writer = thread::Builder::new().spawn(&context.rt, move || own.notices.write_all(&own.rt));
+    match writer {
+        Ok(_) => Ok(()),
+        Err(_) => Err(ServeFault::OutOfMemory),
+    }
 }
 
 /// Begins a seat for each pass. Returns how many threads could be made for them.
@@ -148,7 +141,7 @@ fn begin_seats<
     J: Journal + Send + Sync + Drop + 'static,
 >(
     context: &Arc<SeatContext<C, A, R, M, J>, Global>,
-    jobs: &Sender<Job>,
+    jobs: &JobSenders,
     queue: &Receiver<TcpStream>,
     passes: Vec<Pass<C, A>>,
 ) -> Result<usize, ServeFault>
@@ -174,14 +167,15 @@ fn begin_seat<
     J: Journal + Send + Sync + Drop + 'static,
 >(
     context: &Arc<SeatContext<C, A, R, M, J>, Global>,
-    jobs: &Sender<Job>,
+    jobs: &JobSenders,
     queue: &Receiver<TcpStream>,
     pass: Pass<C, A>,
 ) -> Result<bool, ServeFault> {
     let own = Arc::try_clone(context)?;
-    let (jobs, queue) = (jobs.clone()?, queue.clone()?);
-    let seat = thread::Builder::new()
-        .stack_size(SEAT_STACK)
-        .spawn(&context.rt, move || keep_seat(&own, &jobs, &queue, pass));
+    let (jobs, queue) = (jobs.share()?, queue.clone()?);
+    let seat = thread::Builder::new().stack_size(SEAT_STACK).spawn(
+        &context.rt,
+        move || keep_seat(&own, jobs.jobs(), &queue, pass),
+    );
     Ok(seat.is_ok())
 }

@@ -3,16 +3,16 @@
 ghost use Rattle.std.specs.Prelude.{◌≡◌, ◌≤◌, IfOk, length};
 
 use crate::connections::{Served, serve_connections};
-use compile_pool::{MAX_JOBS, Open, run_pool};
+use compile_pool::{Jobs, MAX_JOBS, Open, run_pool};
 use crossbeam_channel::bounded;
 use ocpp_scalars::Moments;
-use session::{Context, NoJournal};
+use session::{Context, LongReading, NoJournal};
 use site_rules::Site;
 use std::alloc::{AllocError, Global};
 use std::marker::{Brand, Send, Sync};
 use std::net::TcpListener;
+use std::sync::Wait;
 use std::sync::ledger::{Blank, Ledger};
-use std::sync::{Mutex, Wait};
 use std::thread;
 use std::thread::Threads;
 use thiserror::Error;
@@ -156,12 +156,12 @@ fn serve_beside_workers<
                 { run_pool(rt, alloc, workers, &queue, shared, &Open) },
             );
             drop(pool);
-            let reading = Mutex::new(());
+            let reading = LongReading::by_sessions();
             let context = Context {
                 rt,
                 alloc,
                 shared,
-                jobs: &jobs,
+                jobs: Jobs::one(&jobs),
                 clock,
                 journal: &NoJournal,
                 reading: &reading,

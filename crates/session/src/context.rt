@@ -1,12 +1,13 @@
 //! What all sessions have at hand.
 
 use crate::journal::Journal;
-use crossbeam_channel::Sender;
+use crate::long_reading::LongReading;
+use compile_pool::Jobs;
 use ocpp_scalars::Moments;
 use std::alloc::Global;
+use std::sync::Wait;
 use std::sync::ledger::Ledger;
-use std::sync::{Mutex, Wait};
-use version_store::{Job, Shared};
+use version_store::Shared;
 
 /// What all sessions have at hand, and lend to whatever serves one.
 #[derive(Drop)]
@@ -15,10 +16,10 @@ pub struct Context<'a, C: Ledger, A: Ledger, R: Wait, M: Moments, J: Journal> {
     pub alloc: Global,
     /// The book that they share.
     pub shared: &'a Shared<C, A>,
-    /// The way to those who compile.
-    pub jobs: &'a Sender<Job>,
+    /// The ways to those who compile.
+    pub jobs: Jobs<'a>,
     pub clock: &'a M,
     pub journal: &'a J,
-    /// Whoever reads a long message has this.
-    pub reading: &'a Mutex<()>,
+    /// Who reads long messages.
+    pub reading: &'a LongReading,
 }

@@ -5,6 +5,7 @@
 mod answering;
 mod context;
 mod journal;
+mod long_reading;
 mod outcome;
 mod serving;
 mod session_core;
@@ -13,10 +14,12 @@ mod todo;
 
 pub use context::Context;
 pub use journal::{Journal, JournalFault, NoJournal};
+pub use long_reading::{LongReading, LongText, read_long_texts};
 pub use outcome::{Outcome, Performed};
 pub use serving::{
-    Ended, Heard, Served, attach_session, end_session, send_call, serve_next, serve_noted_socket,
-    serve_sent_text, serve_session, serve_socket,
+    Ended, Heard, MAX_REJECTION_BYTES, SentCall, Served, Told, Watched, WatchedSocket,
+    attach_session, end_session, send_call, serve_next, serve_noted_socket, serve_sent_text,
+    serve_session, serve_socket,
 };
 pub use session_core::{Peer, SessionCore};
 pub use site_journal::{Entry, Noted};

@@ -9,25 +9,32 @@ mod heard;
 mod noting;
 mod reading;
 mod served_text;
+mod session_socket;
 mod sockets;
+mod telling;
+mod waiting;
+mod watched_socket;
 
 use crate::context::Context;
 use crate::journal::{Journal, NoJournal};
+use crate::long_reading::LongReading;
 use crate::session_core::SessionCore;
 use calls::lose;
 pub use calls::{attach_session, send_call};
+use compile_pool::Jobs;
 use crossbeam_channel::Sender;
 pub use ended::Ended;
-pub use heard::Heard;
+pub use heard::{Heard, MAX_REJECTION_BYTES, SentCall, Told};
 use ocpp_scalars::Moments;
 use ocppj_frame::ReadingMemory;
 pub use served_text::{Served, serve_next, serve_sent_text};
 use std::alloc::Global;
 use std::io::{Read, Write};
+use std::sync::Wait;
 use std::sync::ledger::Ledger;
-use std::sync::{Mutex, Wait};
 use tungstenite::{MaskKeys, WebSocket};
 use version_store::{Job, Pass, Shared};
+pub use watched_socket::{Watched, WatchedSocket};
 
 /// Serves a session over its socket, after its handshake, until that is closed or fails. It makes
 /// the step of each message on the shared book, and answers it. A request for a schedule goes to
@@ -81,12 +88,12 @@ pub fn serve_noted_socket<
 ) -> (Ended, Pass<C, A>)
     ensures { KeepsPass pass result.1 }
 {
-    let reading = Mutex::new(());
+    let reading = LongReading::by_sessions();
     let context = Context {
         rt,
         alloc,
         shared,
-        jobs,
+        jobs: Jobs::one(jobs),
         clock,
         journal,
         reading: &reading,

@@ -107,6 +107,17 @@ impl Todo {
         self.step.take()
     }
 
+    /// Whether it answers a BootNotification.
+    pub(crate) fn is_of_boot(&self) -> bool {
+        matches!(
+            self.owed,
+            Owed::Response {
+                response: Response::BootNotification { .. },
+                ..
+            }
+        )
+    }
+
     /// What the message's sender is owed.
     pub fn into_owed(self) -> Owed
         ensures { result ≡ self.owed }

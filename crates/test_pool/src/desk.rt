@@ -9,7 +9,7 @@ use std::alloc::Global;
 use std::sync::Wait;
 use std::sync::ledger::Ledger;
 use std::test::Fail;
-use test_books::{instant_at, profile_of};
+use test_books::{begin_of, instant_at, profile_of};
 use version_store::{Job, Pass, Shared};
 
 /// What a session has at hand. Its points are named by their places in the site file.
@@ -35,11 +35,40 @@ impl<C: Ledger, A: Ledger> Desk<'_, C, A> {
         limit: u32,
     ) -> Result<(), Fail> {
         let words = format!(in self.alloc; "id={limit} periods=0:{limit}")?;
-        let profile = profile_of(self.alloc, words.as_str())?;
+        self.install_at(rt, pass, place, 0, words.as_str())
+    }
+
+    /// Installs a profile in words at a connector.
+    pub(crate) fn install_at(
+        &self,
+        rt: &impl Wait,
+        pass: &mut Pass<C, A>,
+        place: usize,
+        connector: u32,
+        words: &str,
+    ) -> Result<(), Fail> {
+        let profile = profile_of(self.alloc, words)?;
         let (point, moment) = (self.point(place)?, instant_at(0)?);
         let mut book = self.shared.lock(rt);
-        match book.install(pass, point, 0, profile, moment) {
+        match book.install(pass, point, connector, profile, moment) {
             Ok(()) => Ok(()),
+            Err((refusal, _)) => Err(refusal)?,
+        }
+    }
+
+    /// Starts a transaction at a connector.
+    pub(crate) fn start(
+        &self,
+        rt: &impl Wait,
+        pass: &mut Pass<C, A>,
+        place: usize,
+        connector: u32,
+    ) -> Result<(), Fail> {
+        let begin = begin_of(self.alloc, "T1", 0, 0)?;
+        let point = self.point(place)?;
+        let mut book = self.shared.lock(rt);
+        match book.start(pass, point, connector, begin) {
+            Ok(_) => Ok(()),
             Err((refusal, _)) => Err(refusal)?,
         }
     }
@@ -51,9 +80,21 @@ impl<C: Ledger, A: Ledger> Desk<'_, C, A> {
         pass: &mut Pass<C, A>,
         place: usize,
     ) -> Result<Job, Fail> {
+        self.take_of(rt, pass, place, 1, 60)
+    }
+
+    /// Asks for a connector of a point, for so many seconds from midnight on.
+    pub(crate) fn take_of(
+        &self,
+        rt: &impl Wait,
+        pass: &mut Pass<C, A>,
+        place: usize,
+        connector: u32,
+        seconds: u32,
+    ) -> Result<Job, Fail> {
         let (point, start) = (self.point(place)?, instant_at(0)?);
         let mut book = self.shared.lock(rt);
-        Ok(book.take(pass, point, 1, start, 60, None)?)
+        Ok(book.take(pass, point, connector, start, seconds, None)?)
     }
 
     /// The same, and sends the job to a worker. Gives the request's number.

@@ -20,6 +20,7 @@ pub(crate) enum Held {
 pub(crate) struct HoldingGate {
     held: Held,
     entered: AtomicU64,
+    begun: AtomicU64,
     opened: AtomicU64,
     ran_out: AtomicU64,
 }
@@ -29,6 +30,7 @@ impl HoldingGate {
         HoldingGate {
             held,
             entered: AtomicU64::new(0),
+            begun: AtomicU64::new(0),
             opened: AtomicU64::new(0),
             ran_out: AtomicU64::new(0),
         }
@@ -42,6 +44,11 @@ impl HoldingGate {
     /// How often a worker came to it.
     pub(crate) fn entered(&self) -> u64 {
         self.entered.load(Ordering::SeqCst)
+    }
+
+    /// How many requests a worker began to compile.
+    pub(crate) fn begun(&self) -> u64 {
+        self.begun.load(Ordering::SeqCst)
     }
 
     /// Whether a worker went on before it was opened.
@@ -71,5 +78,9 @@ impl Gate for HoldingGate {
             thread::yield_now();
         }
         self.ran_out.store(1, Ordering::SeqCst);
+    }
+
+    fn begin(&self, _number: u64) {
+        self.begun.fetch_add(1, Ordering::SeqCst);
     }
 }

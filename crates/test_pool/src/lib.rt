@@ -12,6 +12,8 @@ mod gates;
 mod settled_totals;
 mod two_sessions;
 #[cfg(test)]
+mod two_ways;
+#[cfg(test)]
 mod waiting_sessions;
 #[cfg(test)]
 mod workers_beside_sessions;

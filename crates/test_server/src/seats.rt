@@ -6,6 +6,7 @@ use crate::clients::{
     ACCEPTED, ASK, Client, INSTALL, SCHEDULE, TenPastMidnight, shaken, site, two_starts,
 };
 use crate::same::holds;
+use compile_pool::Jobs;
 use crossbeam_channel::{Receiver, Sender, bounded};
 use server::{SeatContext, SeatOptions, SeatedBook, keep_seat};
 use session::NoJournal;
@@ -141,7 +142,7 @@ fn seat_beside_clients<
     entrance: Entrance<R>,
 ) -> Totals {
     thread::scope(thread::scope_env(), rt, |scope| {
-        let seat = scope.spawn(move || keep_seat(context, jobs, queue, pass));
+        let seat = scope.spawn(move || keep_seat(context, Jobs::one(jobs), queue, pass));
         let seat = seat.ok().expect(rt, "no thread");
         clients(&entrance);
         drop(entrance);

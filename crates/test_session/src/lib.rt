@@ -12,3 +12,5 @@ mod sessions_on_a_book;
 mod sessions_over_memory;
 #[cfg(test)]
 mod streams;
+#[cfg(test)]
+mod watched_sessions;

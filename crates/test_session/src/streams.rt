@@ -1,9 +1,11 @@
 //! What is at the other end of a session's socket: a client whose bytes are all there from the
 //! beginning, and streams that fail.
 
-use std::alloc::Global;
+use session::Watched;
+use std::alloc::{AllocError, Global};
 use std::io::{self, ErrorKind, Read, Write};
 use std::process::Abort;
+use std::sync::atomic::{AtomicU64, Ordering};
 use tungstenite::{Duplex, MaskKeys, Message, NoMask, Role, WebSocket};
 
 /// A client's masking keys, which are all the same.
@@ -138,4 +140,76 @@ pub(crate) fn socket_of<'a>(
         calls,
     };
     WebSocket::from_raw_socket(alloc, stream, NoMask, Role::Server, None)
+}
+
+/// A stream of which a part comes only once its session looks at it.
+#[derive(Drop)]
+pub(crate) struct InParts<'a> {
+    /// What has come, and what comes then.
+    pub(crate) first: &'a [u8],
+    pub(crate) later: &'a [u8],
+    /// Whether it ends behind that.
+    pub(crate) ends: bool,
+    /// How often it was looked at.
+    pub(crate) looks: &'a AtomicU64,
+    pub(crate) output: &'a mut Vec<u8>,
+}
+
+impl Watched for InParts<'_> {
+    fn begin_look(&mut self) -> bool {
+        self.looks.fetch_add(1, Ordering::SeqCst);
+        true
+    }
+}
+
+impl Read for InParts<'_> {
+    fn read(&mut self, buf: &mut [u8]) -> io::Result<usize> {
+        if !self.first.is_empty() {
+            return self.first.read(buf);
+        }
+        if self.looks.load(Ordering::SeqCst) == 0 {
+            return Err(io::Error::from(ErrorKind::WouldBlock));
+        }
+        if self.later.is_empty() && !self.ends {
+            return Err(io::Error::from(ErrorKind::WouldBlock));
+        }
+        self.later.read(buf)
+    }
+}
+
+impl Write for InParts<'_> {
+    fn write(&mut self, buf: &[u8]) -> io::Result<usize> {
+        self.output.write(buf)
+    }
+
+    fn flush(&mut self) -> io::Result<()> {
+        Ok(())
+    }
+}
+
+/// All that a client reads from a server's bytes, in its order, a line each.
+pub(crate) fn client_lines(rt: &impl Abort, alloc: Global, bytes: &[u8]) -> String {
+    let stream = Duplex {
+        reader: bytes,
+        writer: Vec::new(alloc),
+    };
+    let mut socket = WebSocket::from_raw_socket(alloc, stream, OneKey, Role::Client, None);
+    let mut lines = String::new(alloc);
+    for _message in 0..100u32 {
+        let Ok(message) = socket.read() else {
+            break;
+        };
+        push_line(&mut lines, &message).ok().expect(rt, "error");
+    }
+    lines
+}
+
+fn push_line(lines: &mut String, message: &Message) -> Result<(), AllocError> {
+    match message {
+        Message::Text(text) => lines.push_str(text.as_str())?,
+        Message::Pong(_) => lines.push_str("pong")?,
+        Message::Close(_) => lines.push_str("close")?,
+        _ => lines.push_str("other")?,
+    }
+    lines.push_str("\n")
 }

@@ -31,6 +31,8 @@ pub enum Job<'a> {
     Check(Checking<'a>),
     /// To show what points have.
     Show(Showing<'a>),
+    /// To show how a site is that is run, by the URL of its status port.
+    Status { url: &'a str },
 }
 
 /// How a site is to be served.
@@ -72,6 +74,10 @@ pub struct Running<'a> {
     pub call_timeout: u64,
     /// The file of those who may come.
     pub keys: Option<&'a str>,
+    /// The address of the status port, if it has one.
+    pub status: Option<&'a str>,
+    /// Whether that may be another than this machine's own.
+    pub is_status_open: bool,
 }
 
 /// Whose key is to be made.
@@ -242,6 +248,10 @@ fn job_named<'a>(name: &str, given: &ArgMatches<'a>) -> Option<Job<'a>>
         let pointing = pointing_of(given)?;
         return Some(Job::Point(pointing));
     }
+    if name == "status" {
+        let url = text_of(given, "url")?;
+        return Some(Job::Status { url });
+    }
     reader_named(name, given)
 }
 
@@ -314,6 +324,8 @@ fn running_of<'a>(given: &ArgMatches<'a>) -> Option<Running<'a>>
     let workers = optional_number_of(given, "workers").unwrap_or(WORKERS);
     let call_timeout = optional_number_of(given, "call-timeout").unwrap_or(CALL_TIMEOUT);
     let keys = text_of(given, "keys");
+    let status = text_of(given, "status");
+    let is_status_open = is_given(given, "status-open");
     if seats < 1 || workers < 1 {
         return None;
     }
@@ -325,6 +337,8 @@ fn running_of<'a>(given: &ArgMatches<'a>) -> Option<Running<'a>>
         workers,
         call_timeout,
         keys,
+        status,
+        is_status_open,
     })
 }
 

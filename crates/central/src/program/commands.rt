@@ -2,7 +2,7 @@
 
 ghost use Rattle.std.specs.Prelude.{◌≡◌, false, IfOk};
 ghost use Rattle.clap.specs.Words.{App, app_of, rule_of};
-ghost use Rattle.central.specs.CommandLine.{needed, numbered, option, optional, optional_numbers, optional_values, flag, central_app, with_readers, with_served, run_command, journal_command, key_command, replay_command, serve_command, call_command, point_command, explain_command, check_command, show_command};
+ghost use Rattle.central.specs.CommandLine.{needed, numbered, option, optional, optional_numbers, optional_values, flag, central_app, with_readers, with_served, run_command, status_command, journal_command, key_command, replay_command, serve_command, call_command, point_command, explain_command, check_command, show_command};
 
 use crate::program::help_text::{
     ABOUT, ASK_HELP, ASK_VALUES, AT_HELP, AUDIT_HELP, CALL_ABOUT, CALL_NOTES, CALL_TIMEOUT_HELP,
@@ -11,9 +11,10 @@ use crate::program::help_text::{
     KEY_NAME_HELP, KEY_NOTES, KEY_OPERATOR_HELP, KEYS_HELP, LISTEN_HELP, LOGIN_HELP,
     OPERATOR_URL_HELP, PICTURE_HELP, POINT_ABOUT, POINT_HELP, POINT_NOTES, POINT_URL_HELP,
     REMOTE_START_HELP, REPLAY_ABOUT, REPLAY_EXAMPLE, RUN_ABOUT, RUN_DATA_HELP, RUN_NOTES,
-    RUN_WORKERS_HELP, SEATS_HELP, SERVE_ABOUT, SERVE_NOTES, SESSIONS_HELP, SET_PROFILE_HELP,
-    SHOW_ABOUT, SHOW_NOTES, SITE_HELP, START_HELP, START_VALUES, STATUS_HELP, STATUSES, TRACE_HELP,
-    VERSION, WORKERS_HELP,
+    RUN_STATUS_HELP, RUN_WORKERS_HELP, SEATS_HELP, SERVE_ABOUT, SERVE_NOTES, SESSIONS_HELP,
+    SET_PROFILE_HELP, SHOW_ABOUT, SHOW_NOTES, SITE_HELP, START_HELP, START_VALUES, STATUS_ABOUT,
+    STATUS_HELP, STATUS_NOTES, STATUS_OPEN_HELP, STATUS_URL_HELP, STATUSES, TRACE_HELP, VERSION,
+    WORKERS_HELP,
 };
 use clap::builder::ValueParser;
 use clap::{Arg, ArgAction, Command};
@@ -46,12 +47,14 @@ fn with_served<'a>(alloc: Global, command: Command<'a>) -> Result<Command<'a>, A
     ensures { IfOk result (λ added. app_of added ≡ with_served (app_of command.entry)) }
 {
     let run = run(alloc)?;
+    let status = status(alloc)?;
     let key = key(alloc)?;
     let serve = serve(alloc)?;
     let call = call(alloc)?;
     let point = point(alloc)?;
     command
         .subcommand(run)?
+        .subcommand(status)?
         .subcommand(key)?
         .subcommand(serve)?
         .subcommand(call)?
@@ -76,7 +79,7 @@ fn with_readers<'a>(alloc: Global, command: Command<'a>) -> Result<Command<'a>, 
 }
 
 /// `run --site F --data DIR --listen A [--keys FILE] [--seats N] [--workers N]
-/// [--call-timeout SECONDS]`.
+/// [--call-timeout SECONDS] [--status B] [--status-open]`.
 fn run<'a>(alloc: Global) -> Result<Command<'a>, AllocError>
     ensures { IfOk result (λ command. app_of command ≡ run_command) }
 {
@@ -92,7 +95,19 @@ fn run<'a>(alloc: Global) -> Result<Command<'a>, AllocError>
         .arg(optional(alloc, "keys", "FILE", KEYS_HELP))?
         .arg(numbered(seats, 1, MAX_SEATS))?
         .arg(numbered(workers, 1, MAX_WORKERS as u64))?
-        .arg(numbered(call_timeout, 1, MAX_CALL_TIMEOUT))
+        .arg(numbered(call_timeout, 1, MAX_CALL_TIMEOUT))?
+        .arg(optional(alloc, "status", "B", RUN_STATUS_HELP))?
+        .arg(flag(alloc, "status-open", STATUS_OPEN_HELP))
+}
+
+/// `status --url U`.
+fn status<'a>(alloc: Global) -> Result<Command<'a>, AllocError>
+    ensures { IfOk result (λ command. app_of command ≡ status_command) }
+{
+    Command::new(alloc, "status")
+        .about(STATUS_ABOUT)
+        .after_help(STATUS_NOTES)
+        .arg(needed(alloc, "url", "U", STATUS_URL_HELP))
 }
 
 /// `journal --data DIR`.

@@ -104,6 +104,14 @@ pub const KEYS_HELP: &str =
 pub const CALL_TIMEOUT_HELP: &str =
     "A point has so many seconds to reply to a call, or its connection is closed; 60 if not said";
 
+/// What `--status` of `run` names.
+pub const RUN_STATUS_HELP: &str =
+    "The address of the status port, which whoever reaches it may read: there are no passwords";
+
+/// What `--status-open` says.
+pub const STATUS_OPEN_HELP: &str =
+    "The status port may be at another address than of this machine alone";
+
 /// What `run` prints and keeps, and a call of it.
 pub const RUN_NOTES: &str = "F is a site file; 'central replay --help' shows one. It prints
   resumed P points, R profiles, T transactions, C calls waiting
@@ -122,6 +130,24 @@ Example:
   central run --site site.json --data /var/lib/central --listen 127.0.0.1:9000
 
 The exit statuses are those of 'central --help'.";
+
+/// What `status` does.
+pub const STATUS_ABOUT: &str = "Shows how a site is that 'central run --status' runs.";
+
+/// What `--url` of `status` names.
+pub const STATUS_URL_HELP: &str = "The status port, http://HOST:PORT";
+
+/// What `status` prints, and a call of it.
+pub const STATUS_NOTES: &str =
+    "It prints a line for each point: since when it is connected, when its last message and its last
+BootNotification came, how many calls it confirmed, since when one is in flight, how many wait, and
+the last one that it rejected. Below it says which points may have forgotten their profiles.
+
+Example:
+  central status --url http://127.0.0.1:9100
+
+Exit statuses: 0 the site is well; 2 it isn't, or is being restored; 3 nobody answers there as 'central
+run --status' does, or memory ran out; 4 the command line isn't one of these.";
 
 /// What `journal` does.
 pub const JOURNAL_ABOUT: &str = "Prints the journal of a site that is run as a script.";

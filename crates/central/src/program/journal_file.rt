@@ -3,15 +3,19 @@
 use crate::program::data_folder::OpenJournal;
 use crate::program::named_file::NamedFile;
 use crate::program::reserve_file::ReserveFile;
-use ocpp_scalars::Instant;
+use crate::program::system_clock::SystemClock;
+use ocpp_scalars::{Instant as Moment, Moments, write_instant};
+use server::WatchedJournal;
 use session::{Entry, Journal, JournalFault, Noted};
 use site_journal::Line;
+use site_status::{JournalReport, JournalState};
 use std::alloc::{AllocError, AllocGlobal, Global};
+use std::fmt::Display;
 use std::fs::File;
 use std::io::{ErrorKind, Write};
 use std::rt::Clock;
 use std::sync::{Condvar, Mutex, Wait};
-use std::time::Duration;
+use std::time::{Duration, Instant};
 use std::{io, mem};
 
 /// Room for so many entries is kept free: more than all sessions together have prepared and not
@@ -55,16 +59,10 @@ struct NotedEntries {
     noted: u64,
     kept: u64,
     state: JournalState,
-}
-
-/// Whether anything may be noted.
-#[derive(Clone, Copy, Debug, PartialEq, Eq)]
-enum JournalState {
-    Open,
-    /// The device is full.
-    Full,
-    /// It isn't known what stands in the file, or an entry is missing.
-    Broken,
+    /// How many bytes of the file are on the disk, and how often and how long it was written and synced.
+    bytes: u64,
+    syncs: u64,
+    sync_time: Duration,
 }
 
 /// What was taken to be written, and how far it is.
@@ -128,6 +126,9 @@ impl<R: Wait + Clock + Eprint + AllocGlobal + Drop> JournalFile<R> {
             noted: 0,
             kept: 0,
             state: JournalState::Open,
+            bytes: length,
+            syncs: 0,
+            sync_time: Duration::ZERO,
         };
         let written = WrittenLines {
             file,
@@ -209,9 +210,13 @@ impl<R: Wait + Clock + Eprint + AllocGlobal + Drop> JournalFile<R> {
         written.put_into_words()?;
         self.take_noted(written);
         written.put_into_words()?;
+        let before = (written.synced, Instant::now(&self.rt).ok());
         let kept = written.write_and_sync()?;
         let mut noted = self.noted.lock(&self.rt);
         noted.kept = written.taken_count;
+        if written.synced != before.0 {
+            noted.count_sync(written.synced, self.time_since(before.1));
+        }
         let was_full = noted.state == JournalState::Full;
         drop(noted);
         // While it is full nobody notes anything, so there is time for the reserve.
@@ -219,6 +224,14 @@ impl<R: Wait + Clock + Eprint + AllocGlobal + Drop> JournalFile<R> {
             return Ok(Kept::AllAndRoom);
         }
         Ok(kept)
+    }
+
+    /// How long ago a moment was, or nothing where no clock tells it.
+    fn time_since(&self, moment: Option<Instant>) -> Duration {
+        let (Some(moment), Ok(now)) = (moment, Instant::now(&self.rt)) else {
+            return Duration::ZERO;
+        };
+        now.checked_duration_since(moment).unwrap_or_default()
     }
 
     /// Takes what was noted by now. What was taken before has its text.
@@ -234,7 +247,7 @@ impl<R: Wait + Clock + Eprint + AllocGlobal + Drop> JournalFile<R> {
             Ok(Kept::All) => Ok(()),
             Ok(Kept::AllAndRoom) => {
                 if self.turns(JournalState::Open) {
-                    let _ = eprintln!(self.rt; "central: {}: there is room again", self.path);
+                    self.say_line(&"there is room again");
                 }
                 Ok(())
             }
@@ -255,12 +268,26 @@ impl<R: Wait + Clock + Eprint + AllocGlobal + Drop> JournalFile<R> {
         }
     }
 
-    /// Says why the journal is full or broken, where that is new.
+    /// Says why the journal is full or broken, where that is new. Whoever waits for that is told
+    /// before: standard error may be a pipe that nobody reads.
     fn say_error(&self, state: JournalState, error: &io::Error) {
         if self.turns(state) {
-            let _ = eprintln!(self.rt; "central: {}: {error}", self.path);
             self.broken.notify_all();
+            self.say_line(error);
         }
+    }
+
+    /// Says on standard error, with the moment, what became of the file.
+    fn say_line<W: Display>(&self, what: &W) {
+        let moment = match (SystemClock { rt: &self.rt }).now() {
+            Some(now) => write_instant(self.alloc, now).ok(),
+            None => None,
+        };
+        let path = self.path.as_str();
+        let _ = match moment {
+            Some(moment) => eprintln!(self.rt; "central: {moment} {path}: {what}"),
+            None => eprintln!(self.rt; "central: {path}: {what}"),
+        };
     }
 
     /// Takes note of whether anything may be noted. Returns whether that is new. What is broken stays
@@ -272,6 +299,15 @@ impl<R: Wait + Clock + Eprint + AllocGlobal + Drop> JournalFile<R> {
             noted.state = state;
         }
         is_new
+    }
+}
+
+impl NotedEntries {
+    /// The file was written and synced, which took this time. So many of its bytes are on the disk.
+    fn count_sync(&mut self, bytes: u64, time: Duration) {
+        self.bytes = bytes;
+        self.syncs = self.syncs.saturating_add(1);
+        self.sync_time = self.sync_time.checked_add(time).unwrap_or(self.sync_time);
     }
 }
 
@@ -372,7 +408,7 @@ fn fault_of_write(error: io::Error) -> KeepFault {
 impl<R: Wait + Clock + Eprint + AllocGlobal + Drop> Journal for JournalFile<R> {
     fn prepare(
         &self,
-        moment: Instant,
+        moment: Moment,
         point: &str,
         noted: Noted<'_>,
     ) -> Result<Option<Entry>, JournalFault> {
@@ -395,6 +431,7 @@ impl<R: Wait + Clock + Eprint + AllocGlobal + Drop> Journal for JournalFile<R> {
         let numbered = NumberedEntry { entry, number };
         if noted.entries.push(numbered).is_err() {
             noted.state = JournalState::Broken;
+            self.broken.notify_all();
         }
         noted.noted = noted.noted.saturating_add(1);
     }
@@ -410,5 +447,17 @@ impl<R: Wait + Clock + Eprint + AllocGlobal + Drop> Journal for JournalFile<R> {
             return Ok(());
         }
         self.keep_up_to(wanted)
+    }
+}
+
+impl<R: Wait> WatchedJournal for JournalFile<R> {
+    fn report(&self) -> JournalReport {
+        let noted = self.noted.lock(&self.rt);
+        JournalReport {
+            state: noted.state,
+            bytes: noted.bytes,
+            syncs: noted.syncs,
+            sync_microseconds: noted.sync_time.as_micros() as u64,
+        }
     }
 }

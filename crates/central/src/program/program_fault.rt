@@ -84,6 +84,15 @@ pub enum ProgramFault {
     /// Without keys nobody from elsewhere may connect.
     #[error("central: command line: without --keys it listens at this machine alone, such as 127.0.0.1:9000")]
     NoKeys,
+    /// The status port has no passwords.
+    #[error("central: command line: without --status-open the status port is at this machine alone, such as 127.0.0.1:9100")]
+    StatusOpen,
+    /// A URL is none of a status port.
+    #[error("central: url: not http://HOST:PORT")]
+    StatusUrl,
+    /// Whoever answers at a URL isn't the status port of a site that is run.
+    #[error("central: url: no status of a site there")]
+    NoStatus,
     /// A line of the file of keys is no key.
     #[error("central: keys: {0}")]
     Keys(KeysFault),
@@ -124,6 +133,8 @@ impl ProgramFault {
             ProgramFault::NoInstant | ProgramFault::PastCalendar | ProgramFault::NoPicture => 4,
             ProgramFault::DataInUse | ProgramFault::NoNumber | ProgramFault::NoScriptEnd => 4,
             ProgramFault::NoKeys | ProgramFault::KeyName => 4,
+            ProgramFault::StatusOpen | ProgramFault::StatusUrl => 4,
+            ProgramFault::NoStatus => 3,
         }
     }
 }

@@ -12,13 +12,16 @@ use crate::program::restoring::{Resumed, count_resumed, restore_book};
 use crate::program::site_file::read_digested_site;
 use crate::program::system_clock::SystemClock;
 use ocpp_scalars::Moments;
-use server::{SeatContext, SeatOptions, SeatedBook, ServeFault, run_seats};
+use server::{
+    SeatContext, SeatOptions, SeatedBook, ServeFault, StatusPort, begin_status, run_seats,
+};
 use site_keys::Keys;
 use site_rules::Site;
 use std::alloc::{AllocError, AllocGlobal, Global};
 use std::fs::File;
 use std::marker::{Brand, Send, Sync};
 use std::net::{Net, TcpListener, TcpStream};
+use std::random::RandomSource;
 use std::rt::{Clock, Files};
 use std::sync::ledger::{Blank, Ledger};
 use std::sync::{Arc, Wait};
@@ -37,6 +40,8 @@ struct Plan<'a> {
     seats: u64,
     workers: u64,
     options: SeatOptions,
+    /// Where it is told how the site is, if it is.
+    status: Option<TcpListener>,
 }
 
 /// Runs the site of a file with the journal of a folder: goes on where that stopped. Returns only
@@ -47,6 +52,7 @@ pub fn run_file<
         + Eprint
         + AllocGlobal
         + Clock
+        + RandomSource
         + Net<Listener = TcpListener, Stream = TcpStream>
         + Threads
         + Wait
@@ -62,7 +68,8 @@ pub fn run_file<
     let (site, digest) = read_digested_site(rt, running.site)?;
     let keys = read_keys(rt, running.keys)?;
     let opened = open_journal(rt, running.folder)?;
-    let listener = listen(rt, running.listen, keys.is_some())?;
+    let listener = listen(rt, running.listen, keys.is_some(), ProgramFault::NoKeys)?;
+    let status = listen_for_status(rt, &running)?;
     let plan = Plan {
         site,
         digest,
@@ -75,6 +82,7 @@ pub fn run_file<
             call_timeout: running.call_timeout,
             keys,
         },
+        status,
     };
     // One pass more than seats: the restore has it.
     let Some(passes) = running.seats.checked_add(1) else {
@@ -95,20 +103,39 @@ fn read_keys<R: Files<File = File> + Eprint + AllocGlobal>(
     }
 }
 
-/// Listens at an address: without keys at one of this machine alone.
+/// Listens for those who ask how the site is, where that is wanted.
+fn listen_for_status<R: Eprint + Net<Listener = TcpListener, Stream = TcpStream>>(
+    rt: &R,
+    running: &Running<'_>,
+) -> Result<Option<TcpListener>, ProgramFault> {
+    let Some(address) = running.status else {
+        return Ok(None);
+    };
+    let listener = listen(
+        rt,
+        address,
+        running.is_status_open,
+        ProgramFault::StatusOpen,
+    )?;
+    Ok(Some(listener))
+}
+
+/// Listens at an address: where it isn't open to others at one of this machine alone, or else it is
+/// this fault.
 fn listen<R: Eprint + Net<Listener = TcpListener, Stream = TcpStream>>(
     rt: &R,
     address: &str,
-    has_keys: bool,
+    is_open: bool,
+    closed: ProgramFault,
 ) -> Result<TcpListener, ProgramFault> {
     let bound = TcpListener::bind(rt, address);
     let listener = or_stop(rt, address, bound, ProgramFault::Serve(ServeFault::Socket))?;
     let told = listener.local_addr();
     let local = or_stop(rt, address, told, ProgramFault::Serve(ServeFault::Socket))?;
-    if has_keys || local.ip().is_loopback() {
+    if is_open || local.ip().is_loopback() {
         Ok(listener)
     } else {
-        Err(ProgramFault::NoKeys)
+        Err(closed)
     }
 }
 
@@ -121,6 +148,8 @@ fn run_counted<
         + Eprint
         + AllocGlobal
         + Clock
+        + RandomSource
+        + Net<Stream = TcpStream>
         + Threads
         + Wait
         + Copy
@@ -144,6 +173,7 @@ fn run_counted<
         seats,
         workers,
         options,
+        status,
     } = plan;
     let book: SeatedBook<C, A> = SeatedBook::make(rt.alloc(), blanks, site, seats)?;
     let SeatedBook {
@@ -151,8 +181,16 @@ fn run_counted<
         restoring,
         seats,
     } = book;
+    // It is told that the site is being restored, too.
+    let port = Arc::new(rt.alloc(), StatusPort::new(*rt, rt.alloc()))?;
+    if let Some(listener) = status {
+        if let Err(fault) = begin_status(&port, listener) {
+            return Err(ProgramFault::Serve(fault));
+        }
+    }
     let journal = restore_shared(rt, opened, &digest, &shared, restoring)?;
     let context = context_of(rt, shared, journal, options)?;
+    port.watch(&context)?;
     if let Err(fault) = run_seats(&context, listener, seats, workers as usize) {
         return Err(ProgramFault::Serve(fault));
     }

@@ -5,10 +5,11 @@ ghost use Rattle.session.specs.Serving.{KeepsPass};
 use crate::context::Context;
 use crate::journal::Journal;
 use crate::serving::ended::{Ended, ended_unsaved};
+use crate::serving::heard::SentCall;
 use crate::serving::noting::prepare_link;
 use crate::serving::sockets::{clear_to_leave, send_text};
 use crate::session_core::{Peer, SessionCore};
-use messages::{Call, push_call};
+use messages::{ActionKind, Call, CallBody, push_call};
 use ocpp_scalars::{Instant, Moments, Refusal};
 use site_core::PointId;
 use site_journal::{Noted, noted_steps_are_restored};
@@ -57,7 +58,7 @@ pub fn attach_session<C: Ledger, A: Ledger, R: Wait, M: Moments, J: Journal>(
 }
 
 /// Sends the call that waits for a point over its link, if one does and none is in flight. Returns
-/// its number.
+/// which.
 pub fn send_call<
     S: Read + Write + Drop,
     K: MaskKeys + Drop,
@@ -71,7 +72,7 @@ pub fn send_call<
     socket: &mut WebSocket<S, K>,
     core: &SessionCore,
     moment: Instant,
-) -> Result<Option<u64>, Ended> {
+) -> Result<Option<SentCall>, Ended> {
     let Peer::Point { link: Some(link) } = core.peer() else {
         return Ok(None);
     };
@@ -90,7 +91,19 @@ pub fn send_call<
     };
     let cleared = clear_to_leave(context.journal, text.as_str())?;
     send_text(context.alloc, socket, cleared)?;
-    Ok(Some(call.number))
+    Ok(Some(SentCall {
+        number: call.number,
+        action: action_of(&call.body),
+    }))
+}
+
+fn action_of(body: &CallBody) -> ActionKind {
+    match body {
+        CallBody::Clear(_) => ActionKind::ClearChargingProfile,
+        CallBody::Set { .. } => ActionKind::SetChargingProfile,
+        CallBody::Audit { .. } => ActionKind::GetCompositeSchedule,
+        CallBody::RemoteStart { .. } => ActionKind::RemoteStartTransaction,
+    }
 }
 
 /// The first call that waits for a point, which is in flight from then on, and noted so. None where

@@ -1,21 +1,47 @@
 //! What a session hears.
 
+use messages::ActionKind;
 use tungstenite::Utf8Bytes;
 
 /// What came of waiting for the next message of a session.
-#[derive(Clone, Copy, Debug, PartialEq, Eq)]
+#[derive(Debug, Drop)]
 pub enum Heard {
-    /// A message came, and was served. The number of the call that followed it, if one did.
-    Message { sent: Option<u64> },
+    /// A message came, and was served: what it told, and the call that followed it, if one did.
+    Message { told: Told, sent: Option<SentCall> },
     /// A control frame came with so many bytes. The socket itself answers pings and closes.
     Control { bytes: usize },
     /// None came for as long as the stream lets a read wait.
     Nothing,
 }
 
+/// A call that was sent to a point.
+#[derive(Clone, Copy, Debug, PartialEq, Eq)]
+pub struct SentCall {
+    pub number: u64,
+    pub action: ActionKind,
+}
+
+/// What a message told, for whoever watches its session.
+#[derive(Debug, Drop)]
+pub enum Told {
+    /// A BootNotification: the point has begun anew.
+    Boot,
+    /// The reply to the call of this number, which is confirmed by it. Where the point didn't do what
+    /// it was asked, with what it said instead, in at most [`MAX_REJECTION_BYTES`].
+    Reply {
+        call: u64,
+        rejection: Option<String>,
+    },
+    /// Anything else.
+    Other,
+}
+
+/// So many bytes are kept of what a point says where it rejects a call.
+pub const MAX_REJECTION_BYTES: usize = 200;
+
 /// What came over a socket.
 #[derive(Drop)]
-pub(crate) enum Incoming {
+pub enum Incoming {
     /// A text message.
     Text(Utf8Bytes),
     /// A binary one, which says nothing.

@@ -18,10 +18,9 @@ use texts::{SentText, said_of};
 
 /// A message of so many bytes, as most are, is read into the session's own memory, which keeps what
 /// that takes: up to 150 times as much.
-const LONGEST_IN_OWN: usize = 4_096;
+pub(crate) const LONGEST_IN_OWN: usize = 2_048;
 
-/// What a message asks for. A long one is read while no other long one is, and what that takes is
-/// given back at once.
+/// What a message asks for. A long one is read as all sessions have it.
 pub(crate) fn read_message<C: Ledger, A: Ledger, R: Wait, M: Moments, J: Journal>(
     context: &Context<'_, C, A, R, M, J>,
     core: &SessionCore,
@@ -35,12 +34,9 @@ pub(crate) fn read_message<C: Ledger, A: Ledger, R: Wait, M: Moments, J: Journal
     if frame.len() <= LONGEST_IN_OWN {
         return core.read_text(memory, moment, frame);
     }
-    let alone = context.reading.lock(context.rt);
-    let mut memory = ReadingMemory::new(context.alloc);
-    let todo = core.read_text(&mut memory, moment, frame);
-    drop(memory);
-    drop(alone);
-    todo
+    let sent = core.sent(moment, frame);
+    let asked = context.reading.asked(context.rt, context.alloc, &sent);
+    core.todo_of(&sent, asked)
 }
 
 /// What a message says in reply to an audit, read in the same way.
@@ -54,10 +50,5 @@ pub(crate) fn read_reply<C: Ledger, A: Ledger, R: Wait, M: Moments, J: Journal>(
     if sent.frame().len() <= LONGEST_IN_OWN {
         return said_of(context.alloc, memory, sent);
     }
-    let alone = context.reading.lock(context.rt);
-    let mut memory = ReadingMemory::new(context.alloc);
-    let said = said_of(context.alloc, &mut memory, sent);
-    drop(memory);
-    drop(alone);
-    said
+    context.reading.said(context.rt, context.alloc, sent)
 }

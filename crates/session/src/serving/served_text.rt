@@ -13,14 +13,17 @@ use crate::outcome::{Outcome, Performed};
 use crate::serving::audits::{OpenAudit, audit_confirmed, audit_to_judge, judge_reply};
 use crate::serving::calls::send_call;
 use crate::serving::ended::{Ended, ended_unsaved};
-use crate::serving::heard::{Heard, Incoming};
+use crate::serving::heard::{Heard, Incoming, Told};
 use crate::serving::noting::{note_performed, prepare_message};
 use crate::serving::reading::read_message;
-use crate::serving::sockets::{clear_to_leave, read_next, send_text};
+use crate::serving::session_socket::SessionSocket;
+use crate::serving::sockets::{clear_to_leave, send_text};
+use crate::serving::telling::{subject_of, told_by};
+use crate::serving::waiting::{Sending, Waiting};
 use crate::session_core::SessionCore;
 use crate::step::perform;
 use crate::todo::Todo;
-use compile_pool::{answer_job, wait_answer};
+use compile_pool::{answer_job, answer_unmade, wait_answer};
 use meaning::Ask;
 use ocpp_scalars::{Instant, Moments, Refusal};
 use ocppj_frame::ReadingMemory;
@@ -30,14 +33,16 @@ use std::io::{Read, Write};
 use std::sync::Wait;
 use std::sync::ledger::Ledger;
 use texts::SentText;
-use tungstenite::{MaskKeys, WebSocket};
+use tungstenite::MaskKeys;
 use version_store::{Job, Pass};
 
 /// Waits for the next WebSocket message, and serves it if it is a text message. Where nothing comes
-/// for as long as the stream lets a read wait, says so. An error ends the session.
+/// for as long as the stream lets a read wait, says so. An error ends the session. The client of a
+/// socket that is looked at meanwhile may be gone before the answer is there: then none is sent.
 pub fn serve_next<
     S: Read + Write + Drop,
     K: MaskKeys + Drop,
+    W: SessionSocket<S, K>,
     C: Ledger,
     A: Ledger,
     R: Wait,
@@ -45,29 +50,34 @@ pub fn serve_next<
     J: Journal,
 >(
     context: &Context<'_, C, A, R, M, J>,
-    socket: &mut WebSocket<S, K>,
+    socket: &mut W,
     core: &SessionCore,
     memory: &mut ReadingMemory,
     pass: &mut Pass<C, A>,
 ) -> Result<Heard, Ended>
     ensures { KeepsPass pass.old pass.new }
 {
-    let text = match read_next(socket)? {
+    let text = match socket.next()? {
         Incoming::Text(text) => text,
-        Incoming::Binary => return Ok(Heard::Message { sent: None }),
+        Incoming::Binary => return Ok(Heard::Message {
+            told: Told::Other,
+            sent: None,
+        }),
         Incoming::Control(bytes) => return Ok(Heard::Control { bytes }),
         Incoming::Nothing => return Ok(Heard::Nothing),
     };
     let Some(now) = context.clock.now() else {
         return Err(Ended::Broken);
     };
-    let Served { answer } = serve_sent_text(context, core, memory, pass, now, text.as_str())?;
+    let frame = text.as_str();
+    let Served { answer, told } = serve_sent_text(context, socket, core, memory, pass, now, frame)?;
+    socket.still_there()?;
     if let Some(answer) = &answer {
         let cleared = clear_to_leave(context.journal, answer.as_str())?;
-        send_text(context.alloc, socket, cleared)?;
+        send_text(context.alloc, socket.websocket(), cleared)?;
     }
-    let sent = send_call(context, socket, core, now)?;
-    Ok(Heard::Message { sent })
+    let sent = send_call(context, socket.websocket(), core, now)?;
+    Ok(Heard::Message { told, sent })
 }
 
 /// What came of a message.
@@ -75,6 +85,8 @@ pub fn serve_next<
 pub struct Served {
     /// The message that answers it, if one does.
     pub answer: Option<String>,
+    /// What it told.
+    pub told: Told,
 }
 
 /// Makes the step of a message of this session that comes at this moment, if it has one, and gives
@@ -83,8 +95,9 @@ pub struct Served {
 /// is never handed on: it ends the session. A step that couldn't be noted isn't made: the message is
 /// answered as one that memory ran out for.
 #[tactic(auto, using(crate::proofs::AskedLemmas::asks_for))]
-pub fn serve_sent_text<C: Ledger, A: Ledger, R: Wait, M: Moments, J: Journal>(
+pub fn serve_sent_text<C: Ledger, A: Ledger, R: Wait, M: Moments, J: Journal, W: Waiting>(
     context: &Context<'_, C, A, R, M, J>,
+    waiting: &mut W,
     core: &SessionCore,
     memory: &mut ReadingMemory,
     pass: &mut Pass<C, A>,
@@ -100,11 +113,13 @@ pub fn serve_sent_text<C: Ledger, A: Ledger, R: Wait, M: Moments, J: Journal>(
     };
     let sent = SentText::new(moment, core.side(), core.point_id().as_str(), frame);
     let step = todo.take_step();
+    let subject = subject_of(&todo, &step);
     let entry = match prepare_message(context, &sent, &step) {
         Ok(entry) => entry,
         Err(fault) => return served_unmade(core, todo, fault),
     };
-    let outcome = outcome_of(context, memory, pass, &sent, step, entry)?;
+    let outcome = outcome_of(context, waiting, memory, pass, &sent, step, entry)?;
+    let told = told_by(context.alloc, memory, frame, subject, &outcome);
     let is_short = matches!(outcome, Some(Outcome::Refused(Refusal::OutOfMemory)));
     let Ok(answer) = core.answer(todo, outcome) else {
         return Err(Ended::OutOfMemory);
@@ -112,7 +127,7 @@ pub fn serve_sent_text<C: Ledger, A: Ledger, R: Wait, M: Moments, J: Journal>(
     if is_short && answer.is_none() {
         return Err(Ended::OutOfMemory);
     }
-    Ok(Served { answer })
+    Ok(Served { answer, told })
 }
 
 /// The answer to a message whose step isn't made, since it couldn't be noted: that of a CALL that
@@ -126,14 +141,18 @@ fn served_unmade(core: &SessionCore, todo: Todo, fault: JournalFault) -> Result<
         return Err(ended_unsaved(fault));
     };
     match core.answer(unnoted, None) {
-        Ok(answer) => Ok(Served { answer }),
+        Ok(answer) => Ok(Served {
+            answer,
+            told: Told::Other,
+        }),
         Err(_) => Err(Ended::OutOfMemory),
     }
 }
 
 /// The outcome of the step of a message, if it has one.
-fn outcome_of<C: Ledger, A: Ledger, R: Wait, M: Moments, J: Journal>(
+fn outcome_of<C: Ledger, A: Ledger, R: Wait, M: Moments, J: Journal, W: Waiting>(
     context: &Context<'_, C, A, R, M, J>,
+    waiting: &mut W,
     memory: &mut ReadingMemory,
     pass: &mut Pass<C, A>,
     sent: &SentText<'_>,
@@ -147,7 +166,7 @@ fn outcome_of<C: Ledger, A: Ledger, R: Wait, M: Moments, J: Journal>(
 {
     match step {
         Some(step) => {
-            let outcome = outcome_of_step(context, memory, pass, sent, step, entry)?;
+            let outcome = outcome_of_step(context, waiting, memory, pass, sent, step, entry)?;
             Ok(Some(outcome))
         }
         None => Ok(None),
@@ -156,8 +175,9 @@ fn outcome_of<C: Ledger, A: Ledger, R: Wait, M: Moments, J: Journal>(
 
 /// Makes the step of a message. A request for a schedule is compiled, and its answer collected. A
 /// reply to the point's audit is judged, once its call is confirmed.
-fn outcome_of_step<C: Ledger, A: Ledger, R: Wait, M: Moments, J: Journal>(
+fn outcome_of_step<C: Ledger, A: Ledger, R: Wait, M: Moments, J: Journal, W: Waiting>(
     context: &Context<'_, C, A, R, M, J>,
+    waiting: &mut W,
     memory: &mut ReadingMemory,
     pass: &mut Pass<C, A>,
     sent: &SentText<'_>,
@@ -174,7 +194,7 @@ fn outcome_of_step<C: Ledger, A: Ledger, R: Wait, M: Moments, J: Journal>(
         judge_reply(context, memory, sent, audit)?;
     }
     match performed {
-        Performed::Job(job) => answer_of(context, pass, job),
+        Performed::Job(job) => answer_of(context, waiting, pass, job),
         Performed::Outcome(outcome) => Ok(outcome),
     }
 }
@@ -215,8 +235,9 @@ fn is_confirm(step: &Step) -> bool
 /// The answer to a request that is kept: compiled by a worker, or here where none takes it. No lock
 /// tells that what is handed out in the end is for the book and the `Ask` of this request, so they
 /// are compared.
-fn answer_of<C: Ledger, A: Ledger, R: Wait, M: Moments, J: Journal>(
+fn answer_of<C: Ledger, A: Ledger, R: Wait, M: Moments, J: Journal, W: Waiting>(
     context: &Context<'_, C, A, R, M, J>,
+    waiting: &mut W,
     pass: &mut Pass<C, A>,
     job: Job,
 ) -> Result<Outcome, Ended>
@@ -224,14 +245,7 @@ fn answer_of<C: Ledger, A: Ledger, R: Wait, M: Moments, J: Journal>(
     ensures outcome { IfOk result (IsOutcomeOfJob job) }
 {
     let (number, book, ask) = (job.number(), job.share_book(), *job.ask());
-    if let Err(unsent) = context.jobs.send(context.rt, job) {
-        answer_job(
-            context.rt,
-            context.alloc,
-            context.shared,
-            unsent.into_inner(),
-        );
-    }
+    compile_or_leave(context, waiting, job);
     let answer = match wait_answer(context.rt, context.shared, pass, number) {
         Ok(answer) => answer,
         Err(refusal) => return Ok(Outcome::Refused(refusal)),
@@ -243,6 +257,28 @@ fn answer_of<C: Ledger, A: Ledger, R: Wait, M: Moments, J: Journal>(
         Ok(Outcome::Answered(answer))
     } else {
         Err(Ended::Broken)
+    }
+}
+
+/// Has a job compiled, by a worker, or here where none takes it. Where the client is gone before its
+/// request has an answer, the request is answered unmade, so that it isn't begun any more.
+fn compile_or_leave<C: Ledger, A: Ledger, R: Wait, M: Moments, J: Journal, W: Waiting>(
+    context: &Context<'_, C, A, R, M, J>,
+    waiting: &mut W,
+    job: Job,
+) {
+    let (rt, shared) = (context.rt, context.shared);
+    let (number, book, ask) = (job.number(), job.share_book(), *job.ask());
+    match waiting.send_job(rt, context.jobs, job) {
+        Sending::NoWorker(job) => answer_job(rt, context.alloc, shared, job),
+        Sending::Unwanted(job) => {
+            let (number, book, ask) = job.into_parts();
+            answer_unmade(rt, shared, number, book, ask);
+        }
+        Sending::Sent => match (waiting.wait(shared, number), book) {
+            (false, Ok(book)) => answer_unmade(rt, shared, number, book, ask),
+            _ => {}
+        },
     }
 }
 

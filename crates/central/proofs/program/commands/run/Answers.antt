@@ -16,5 +16,7 @@ returns c =
     (c.numbered.ensures.rule ∙ ap (numbered 1 max_seats) c.optional-seats.ensures.rule) in
     let workers = argued _ _ _ _ _ c.in_ok-arg-6.ensures (c.numbered-2.ensures.global ∙ c.optional-workers.ensures.global) seats
     (c.numbered-2.ensures.rule ∙ ap (numbered 1 max_workers) c.optional-workers.ensures.rule) in
-    on_ok _ _ c.arg-7.result (λ x added. argued _ x _ _ _ added (c.numbered-3.ensures.global ∙ c.optional-call_timeout.ensures.global) workers
-    (c.numbered-3.ensures.rule ∙ ap (numbered 1 max_call_timeout) c.optional-call_timeout.ensures.rule)) c.arg-7.ensures
+    let timeout = argued _ _ _ _ _ c.in_ok-arg-7.ensures (c.numbered-3.ensures.global ∙ c.optional-call_timeout.ensures.global) workers
+    (c.numbered-3.ensures.rule ∙ ap (numbered 1 max_call_timeout) c.optional-call_timeout.ensures.rule) in
+    let status = argued _ _ _ _ _ c.in_ok-arg-8.ensures c.optional-2.ensures.global timeout c.optional-2.ensures.rule in
+    on_ok _ _ c.arg-9.result (λ x added. argued _ x _ _ _ added c.flag.ensures.global status c.flag.ensures.rule) c.arg-9.ensures

@@ -1,0 +1,49 @@
+-- How much work a request for a schedule is, at most: how often the limit of one of the profiles changes
+-- that are looked at on its way (OCPP 1.6, 5.7).
+use Rattle.std.specs.Prelude.{ℕ, ◌+◌, ◌*◌, ◌/◌, ◌==◌, Bool, ◌||◌, nat_le, Option, List, length, sum_by, count_by, is_some, if◌then◌else◌}
+use Rattle.profile.specs.Kind.{recurrence_length}
+use Rattle.profile.specs.declared.kind.Kind.{Kind}
+use Rattle.profile.specs.declared.kind.Kind.TheVariants.{Absolute, Recurring, Relative}
+use Rattle.profile.specs.declared.row.Row.{Row}
+use Rattle.meaning.specs.declared.ask.Ask.{Ask}
+use Rattle.meaning.specs.View.{PointState}
+use Rattle.point_book.specs.Book.{state_of}
+use Rattle.version_store.specs.Answers.{RequestedJob}
+
+-- The most changes of a short request, this system's choice: they take some 3 milliseconds.
+abbrev pub most_of_short : ℕ
+most_of_short = 10_000
+
+-- how often a schedule of this kind comes to the same offset within a duration
+abbrev pub turns_within : Kind → ℕ → ℕ
+turns_within Absolute duration = 1
+turns_within (Recurring recurrency) duration = duration / recurrence_length recurrency + 1
+turns_within Relative duration = 1
+
+-- A profile changes where its schedule begins, where a period starts and where its duration is over, each
+-- time that it comes there, and at its validFrom and validTo (OCPP 1.6, chapter 7).
+abbrev pub changes_of : Row → ℕ → ℕ
+changes_of row duration =
+    (length row.profile.schedule.periods + 2) * turns_within row.profile.kind duration + 2
+
+-- how many connectors have an active transaction
+abbrev pub active_count : List (Option ℕ) → ℕ
+active_count starts = count_by is_some starts
+
+-- How often a row at a connector may be looked at: one at the whole point for that, and for each connector
+-- whose limit is looked for. For the whole point these are the ones with an active transaction.
+abbrev pub looks_at : ℕ → ℕ → ℕ → ℕ
+looks_at active asked connector =
+    if connector == 0
+    then (if asked == 0 then active + 1 else 2)
+    else (if (asked == 0) || (asked == connector) then 1 else 0)
+
+abbrev pub work_at : PointState → Ask → Row → ℕ
+work_at state ask row =
+    looks_at (active_count state.starts) ask.connector row.connector * changes_of row ask.duration
+
+abbrev pub work_of : PointState → Ask → ℕ
+work_of state ask = sum_by (work_at state ask) state.rows
+
+abbrev pub is_short : RequestedJob → Bool
+is_short job = nat_le (work_of (state_of job.book) job.ask) most_of_short

@@ -1,0 +1,77 @@
+//! The ways to the workers.
+
+ghost use Rattle.std.specs.Prelude.{◌≡◌, ◌⊎◌, IfErr, IsTrue};
+ghost use Rattle.compile_pool.specs.Work.{is_short};
+
+use crate::work::is_short;
+use crossbeam_channel::{SendTimeoutError, Sender};
+use std::rt::Clock;
+use std::sync::Wait;
+use std::time::Duration;
+use version_store::Job;
+
+/// The ways to the workers. Short jobs have a way of their own, so that they don't wait behind long
+/// ones; both ways may be one.
+#[derive(Clone, Copy, Drop)]
+pub struct Jobs<'a> {
+    short: &'a Sender<Job>,
+    long: &'a Sender<Job>,
+}
+
+/// A job that wasn't sent.
+#[derive(Drop)]
+pub enum Unsent {
+    /// There was no room for it in time.
+    NoRoom(Job),
+    /// Nobody takes it.
+    NoWorker(Job),
+}
+
+impl<'a> Jobs<'a> {
+    /// The ways of short jobs and of long ones.
+    pub fn new(short: &'a Sender<Job>, long: &'a Sender<Job>) -> Jobs<'a>
+        ensures { (result.short ≡ short.entry) × (result.long ≡ long.entry) }
+    {
+        Jobs { short, long }
+    }
+
+    /// One way for all jobs.
+    pub fn one(all: &'a Sender<Job>) -> Jobs<'a> {
+        Jobs {
+            short: all,
+            long: all,
+        }
+    }
+
+    /// The way of a job: only short ones go the way of short ones.
+    fn way_of(&self, job: &Job) -> &'a Sender<Job>
+        ensures { (result ≡ self.now.long)
+            ⊎ ((result ≡ self.now.short) × IsTrue (is_short job.now)) }
+    {
+        if is_short(job) { self.short } else { self.long }
+    }
+
+    /// Sends a job on its way, once there is room. It comes back where nobody takes it.
+    pub fn send<R: Wait>(&self, rt: &R, job: Job) -> Result<(), Job>
+        ensures back { IfErr result (λ back. back ≡ job) }
+    {
+        match self.way_of(&job).send(rt, job) {
+            Ok(()) => Ok(()),
+            Err(unsent) => Err(unsent.into_inner()),
+        }
+    }
+
+    /// The same, where there is room within a time.
+    pub fn send_within<R: Wait + Clock>(
+        &self,
+        rt: &R,
+        job: Job,
+        time: Duration,
+    ) -> Result<(), Unsent> {
+        match self.way_of(&job).send_timeout(rt, job, time) {
+            Ok(()) => Ok(()),
+            Err(SendTimeoutError::Timeout(job)) => Err(Unsent::NoRoom(job)),
+            Err(unsent) => Err(Unsent::NoWorker(unsent.into_inner())),
+        }
+    }
+}

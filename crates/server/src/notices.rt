@@ -1,0 +1,133 @@
+//! Lines for people, which a thread of their own writes to standard error.
+
+use ocpp_scalars::{Instant, Moments, push_instant};
+use std::alloc::{AllocError, Global};
+use std::mem;
+use std::sync::{Condvar, Mutex, Wait};
+
+/// So many lines wait at most. More are left out, and counted.
+const MAX_WAITING: usize = 1_024;
+
+/// Lines that wait to be written to standard error. Whoever has something to say doesn't wait until
+/// somebody reads it.
+#[derive(Drop)]
+pub(crate) struct Notices {
+    alloc: Global,
+    waiting: Mutex<WaitingLines>,
+    /// Whoever writes them waits here.
+    more: Condvar,
+}
+
+#[derive(Drop)]
+struct WaitingLines {
+    lines: Vec<String>,
+    left_out: u64,
+}
+
+impl WaitingLines {
+    /// Keeps a line, unless too many wait or memory runs out. Returns whether it is kept.
+    fn keep(&mut self, line: String) -> bool {
+        if self.lines.len() >= MAX_WAITING {
+            return false;
+        }
+        self.lines.push(line).is_ok()
+    }
+}
+
+impl Notices {
+    /// Nothing was said yet.
+    pub(crate) fn new(alloc: Global) -> Notices {
+        Notices {
+            alloc,
+            waiting: Mutex::new(WaitingLines {
+                lines: Vec::new(alloc),
+                left_out: 0,
+            }),
+            more: Condvar::new(),
+        }
+    }
+
+    /// Says what became of whom at this moment. Without a clock nothing is said.
+    pub(crate) fn say<R: Wait, M: Moments>(&self, rt: &R, clock: &M, who: &str, what: &str) {
+        if let Some(moment) = clock.now() {
+            self.add(rt, line_of(self.alloc, moment, who, what));
+        }
+    }
+
+    /// The same of what may be missing, for lack of memory.
+    pub(crate) fn say_made<R: Wait, M: Moments>(
+        &self,
+        rt: &R,
+        clock: &M,
+        who: &str,
+        what: Result<String, AllocError>,
+    ) {
+        match what {
+            Ok(what) => self.say(rt, clock, who, what.as_str()),
+            Err(AllocError) => self.add(rt, Err(AllocError)),
+        }
+    }
+
+    /// Adds a line, or counts it where too many wait or memory ran out.
+    fn add<R: Wait>(&self, rt: &R, line: Result<String, AllocError>) {
+        let mut waiting = self.waiting.lock(rt);
+        let is_kept = match line {
+            Ok(line) => waiting.keep(line),
+            Err(AllocError) => false,
+        };
+        if !is_kept {
+            waiting.left_out = waiting.left_out.saturating_add(1);
+        }
+        drop(waiting);
+        self.more.notify_one();
+    }
+
+    /// Writes the lines for ever. Nothing is locked while one is written.
+    pub(crate) fn write_all<R: Wait + Eprint>(&self, rt: &R) {
+        for _round in rt.forever() {
+            let WaitingLines { lines, left_out } = self.take(rt);
+            for line in &lines {
+                let _ = eprintln!(rt; "{line}");
+            }
+            if left_out > 0 {
+                let _ = eprintln!(rt; "central: {left_out} lines are left out here");
+            }
+        }
+    }
+
+    /// Waits until there are lines, and takes them.
+    fn take<R: Wait>(&self, rt: &R) -> WaitingLines {
+        let waiting = self.waiting.lock(rt);
+        let mut waiting = self.more.wait_while(rt, waiting, |waiting| {
+            waiting.lines.is_empty() && waiting.left_out == 0
+        });
+        let none = WaitingLines {
+            lines: Vec::new(self.alloc),
+            left_out: 0,
+        };
+        mem::replace(&mut *waiting, none)
+    }
+}
+
+/// A line of what became of whom.
+fn line_of(alloc: Global, moment: Instant, who: &str, what: &str) -> Result<String, AllocError> {
+    let mut line = String::from_str(alloc, "central: ")?;
+    push_instant(&mut line, moment)?;
+    line.push(' ')?;
+    push_on_one_line(&mut line, who)?;
+    line.push_str(": ")?;
+    push_on_one_line(&mut line, what)?;
+    Ok(line)
+}
+
+/// Appends a text. A control character becomes a space, so that nobody else's words begin a line.
+fn push_on_one_line(line: &mut String, text: &str) -> Result<(), AllocError> {
+    for character in text.chars() {
+        line.push(if character.is_control() {
+            ' '
+        } else {
+            character
+        })?;
+    }
+    Ok(())
+}

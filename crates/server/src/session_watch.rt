@@ -1,0 +1,192 @@
+//! What a session is seen to do: for the status of its site, and as lines for people.
+
+use crate::seat_context::SeatContext;
+use crate::site_watch::Reply;
+use messages::ActionKind;
+use ocpp_scalars::{Instant, Moments};
+use session::{Journal, SentCall, SessionCore, Told};
+use site_status::{Boot, SentMoment, Sighting};
+use std::alloc::{AllocError, Global};
+use std::rt::Clock;
+use std::sync::Wait;
+use std::sync::ledger::Ledger;
+
+/// Whoever watches a session of a point or of an operator.
+#[derive(Drop)]
+pub(crate) struct SessionWatch<'a, C: Ledger, A: Ledger, R, M, J> {
+    pub(crate) seats: &'a SeatContext<C, A, R, M, J>,
+    /// The place of its point in the site.
+    pub(crate) place: usize,
+    /// The link of a point. An operator has none.
+    pub(crate) link: Option<u64>,
+}
+
+impl<C: Ledger, A: Ledger, R: Wait + Clock, M: Moments, J: Journal> SessionWatch<
+    '_,
+    C,
+    A,
+    R,
+    M,
+    J,
+> {
+    /// It has begun.
+    pub(crate) fn begin(&self, core: &SessionCore) {
+        let seats = self.seats;
+        seats.watch.begin(&seats.rt, self.link.is_some());
+        if let (Some(link), Some(moment)) = (self.link, seats.clock.now()) {
+            self.see(Sighting::Connected { link, moment });
+            self.say(core, Event::Connected);
+        }
+    }
+
+    /// It has ended.
+    pub(crate) fn end(&self, core: &SessionCore) {
+        let seats = self.seats;
+        seats.watch.end(&seats.rt, self.link.is_some());
+        let Some(link) = self.link else {
+            return;
+        };
+        let is_newest = seats.watch.leave(&seats.rt, self.place, link);
+        self.say(
+            core,
+            if is_newest {
+                Event::Lost
+            } else {
+                Event::Superseded
+            },
+        );
+    }
+
+    /// A message came, and told this.
+    pub(crate) fn hear(&self, core: &SessionCore, told: Told) {
+        let (Some(_), Some(moment)) = (self.link, self.seats.clock.now()) else {
+            return;
+        };
+        self.see(Sighting::Heard { moment });
+        match told {
+            Told::Boot => self.hear_boot(core, moment),
+            Told::Reply { call, rejection } => {
+                let reply = Reply {
+                    call,
+                    rejection,
+                    moment,
+                };
+                self.hear_reply(core, reply);
+            }
+            Told::Other => {}
+        }
+    }
+
+    /// A call was sent.
+    pub(crate) fn send(&self, call: SentCall) {
+        if let Some(moment) = self.seats.clock.now() {
+            self.see(Sighting::Sent(SentMoment {
+                number: call.number,
+                action: call.action,
+                moment,
+            }));
+        }
+    }
+
+    /// The call of this number has no reply in time.
+    pub(crate) fn give_up(&self, core: &SessionCore, call: u64) {
+        self.say_made(core, without_reply(self.seats.alloc, call));
+    }
+
+    fn hear_boot(&self, core: &SessionCore, moment: Instant) {
+        let seats = self.seats;
+        let book = seats.shared.lock(&seats.rt);
+        let first_call = match book.present().outbox_of(core.point_id().as_str()) {
+            Some(outbox) => outbox.first_number(),
+            None => 0,
+        };
+        drop(book);
+        self.see(Sighting::Booted(Boot { moment, first_call }));
+        self.say(core, Event::Booted);
+    }
+
+    fn hear_reply(&self, core: &SessionCore, reply: Reply) {
+        let seats = self.seats;
+        let call = reply.call;
+        let is_rejected = reply.rejection.is_some();
+        let said = reason_of(seats.alloc, &reply);
+        let action = seats.watch.reply(&seats.rt, self.place, reply);
+        if !is_rejected {
+            return;
+        }
+        let what: Result<String, AllocError> = match said {
+            Ok(reason) => rejected(seats.alloc, call, action, reason.as_str()),
+            Err(AllocError) => Err(AllocError),
+        };
+        self.say_made(core, what);
+    }
+
+    fn see(&self, sighting: Sighting) {
+        let seats = self.seats;
+        seats.watch.see(&seats.rt, self.place, sighting);
+    }
+
+    /// Says what became of the point.
+    fn say(&self, core: &SessionCore, event: Event) {
+        let seats = self.seats;
+        let who = core.point_id().as_str();
+        seats
+            .notices
+            .say(&seats.rt, &seats.clock, who, event.name());
+    }
+
+    fn say_made(&self, core: &SessionCore, what: Result<String, AllocError>) {
+        let seats = self.seats;
+        let who = core.point_id().as_str();
+        seats.notices.say_made(&seats.rt, &seats.clock, who, what);
+    }
+}
+
+/// What became of a point.
+#[derive(Clone, Copy, Debug)]
+enum Event {
+    Connected,
+    Booted,
+    Lost,
+    /// Its earlier connection has ended. It has a later one.
+    Superseded,
+}
+
+impl Event {
+    fn name(self) -> &'static str {
+        match self {
+            Event::Connected => "connected",
+            Event::Booted => "booted",
+            Event::Lost => "lost",
+            Event::Superseded => "its earlier connection is closed",
+        }
+    }
+}
+
+/// A copy of the reason for which a point rejects a call; empty where it doesn't.
+fn reason_of(alloc: Global, reply: &Reply) -> Result<String, AllocError> {
+    match &reply.rejection {
+        Some(reason) => String::from_str(alloc, reason.as_str()),
+        None => Ok(String::new(alloc)),
+    }
+}
+
+fn without_reply(alloc: Global, call: u64) -> Result<String, AllocError> {
+    format!(in alloc; "call {call} has no reply in time: its connection is closed")
+}
+
+fn rejected(
+    alloc: Global,
+    call: u64,
+    action: Option<ActionKind>,
+    reason: &str,
+) -> Result<String, AllocError> {
+    let mut what = format!(in alloc; "rejected call {call}")?;
+    if let Some(action) = action {
+        what.push_str(", ")?;
+        what.push_str(action.name())?;
+    }
+    what.push_str(": ")?;
+    what.push_str(reason)?;
+    Ok(what)
+}

@@ -1,0 +1,146 @@
+//! The status port of a site: read-only, over HTTP/1.1, with a few threads of its own.
+
+use crate::deadlines::LONGEST_STATUS;
+use crate::seat_context::SeatContext;
+use crate::serving::ServeFault;
+use crate::status_service::StatusService;
+use crate::status_stream::StatusStream;
+use crate::watched_journal::WatchedJournal;
+use http_server::{Config, Connection, serve};
+use ocpp_scalars::Moments;
+use std::alloc::{AllocError, Global};
+use std::hash::RandomState;
+use std::marker::{Send, Sync};
+use std::net::{TcpListener, TcpStream};
+use std::random::RandomSource;
+use std::rt::Clock;
+use std::sync::ledger::Ledger;
+use std::sync::{Arc, Mutex, Wait};
+use std::thread::Threads;
+use std::time::{Duration, Instant};
+use std::{io, thread};
+
+/// So many connections are served at a time.
+const STATUS_SEATS: u64 = 4;
+
+/// The stack of a thread that serves them.
+const STATUS_STACK: usize = 2 * 1_048_576;
+
+/// So many milliseconds pass before the next try where a connection couldn't be accepted.
+const PAUSE: u64 = 100;
+
+/// A request has no body that is read.
+const LONGEST_BODY: usize = 0;
+
+/// What the threads of a status port share.
+#[derive(Drop)]
+pub struct StatusPort<C: Ledger, A: Ledger, R, M, J> {
+    pub(crate) rt: R,
+    pub(crate) alloc: Global,
+    /// What is watched. None while the site is being restored.
+    pub(crate) seats: Mutex<Option<SharedSeats<C, A, R, M, J>>>,
+}
+
+/// What the seats of a site share.
+pub(crate) type SharedSeats<C, A, R, M, J> = Arc<SeatContext<C, A, R, M, J>, Global>;
+
+impl<C: Ledger, A: Ledger, R: Wait + Drop, M: Drop, J: Drop> StatusPort<C, A, R, M, J> {
+    /// The port of a site that is being restored.
+    pub fn new(rt: R, alloc: Global) -> StatusPort<C, A, R, M, J> {
+        StatusPort {
+            rt,
+            alloc,
+            seats: Mutex::new(None),
+        }
+    }
+
+    /// The site is restored: from now on this is watched.
+    pub fn watch(&self, seats: &Arc<SeatContext<C, A, R, M, J>, Global>) -> Result<(), AllocError> {
+        let seats = Arc::try_clone(seats)?;
+        *self.seats.lock(&self.rt) = Some(seats);
+        Ok(())
+    }
+
+    /// What is watched, if the site is restored.
+    pub(crate) fn seats(&self) -> Result<Option<SharedSeats<C, A, R, M, J>>, AllocError> {
+        let seats = self.seats.lock(&self.rt);
+        match &*seats {
+            Some(seats) => Ok(Some(Arc::try_clone(seats)?)),
+            None => Ok(None),
+        }
+    }
+}
+
+/// Begins to answer at a status port. It goes on when this returns, for as long as the program runs.
+pub fn begin_status<
+    C: Ledger + Send + Sync + Drop + 'static,
+    A: Ledger + Send + Sync + Drop + 'static,
+    R: Threads + Wait + Clock + RandomSource + Copy + Send + Sync + Drop + 'static,
+    M: Moments + Send + Sync + Drop + 'static,
+    J: WatchedJournal + Send + Sync + Drop + 'static,
+>(port: &Arc<StatusPort<C, A, R, M, J>, Global>, listener: TcpListener) -> Result<(), ServeFault> {
+    let Ok(listener) = Arc::new(port.alloc, listener) else {
+        return Err(ServeFault::OutOfMemory);
+    };
+    for _seat in 0..STATUS_SEATS {
+        let (own, listener) = (Arc::try_clone(port)?, Arc::try_clone(&listener)?);
+        let seat = thread::Builder::new()
+            .stack_size(STATUS_STACK)
+            .spawn(&port.rt, move || answer_all(&own, &listener));
+        if seat.is_err() {
+            return Err(ServeFault::OutOfMemory);
+        }
+    }
+    Ok(())
+}
+
+/// Answers one connection after another.
+fn answer_all<
+    C: Ledger,
+    A: Ledger,
+    R: Wait + Clock + RandomSource + Drop,
+    M: Moments + Drop,
+    J: WatchedJournal + Drop,
+>(port: &StatusPort<C, A, R, M, J>, listener: &TcpListener) {
+    for _connection in port.rt.forever() {
+        match listener.accept() {
+            Ok((stream, _)) => {
+                // Whatever a client does, the next one is answered.
+                let _ = answer_connection(port, &stream);
+            }
+            Err(_) => thread::sleep(&port.rt, Duration::from_millis(PAUSE)),
+        }
+    }
+}
+
+/// Answers the request of a connection, within the deadline.
+fn answer_connection<
+    C: Ledger,
+    A: Ledger,
+    R: Wait + Clock + RandomSource + Drop,
+    M: Moments + Drop,
+    J: WatchedJournal + Drop,
+>(port: &StatusPort<C, A, R, M, J>, stream: &TcpStream) -> io::Result<()> {
+    let now = Instant::now(&port.rt)?;
+    let Some(deadline) = now.checked_add(Duration::from_secs(LONGEST_STATUS)) else {
+        return Ok(());
+    };
+    let _ = stream.set_nodelay(true);
+    let mut reader = StatusStream {
+        rt: &port.rt,
+        stream,
+        deadline,
+    };
+    let mut writer = StatusStream {
+        rt: &port.rt,
+        stream,
+        deadline,
+    };
+    let config = Config {
+        max_body_len: LONGEST_BODY,
+        ..Config::default()
+    };
+    let mut service = StatusService { port };
+    let mut connection = Connection::new(port.alloc, RandomState::new(&port.rt)?, config);
+    serve(&mut connection, &mut service, &mut reader, &mut writer)
+}

@@ -1,0 +1,126 @@
+//! What is answered at the status port.
+
+use crate::seat_context::SeatContext;
+use crate::site_watch::Seen;
+use crate::status_port::StatusPort;
+use crate::watched_journal::WatchedJournal;
+use bytes::Bytes;
+use http::{HeaderName, HeaderValue, Method, Request, StatusCode};
+use http_server::{Response, Service};
+use ocpp_scalars::Moments;
+use site_status::{
+    Health, JournalReport, SiteCounts, SiteReport, StatusAnswer, StatusPath, answer_of,
+    health_answer, nothing_there, status_path,
+};
+use std::alloc::{AllocError, Global};
+use std::sync::Wait;
+use std::sync::ledger::Ledger;
+
+/// Answers the requests of a status port.
+#[derive(Drop)]
+pub(crate) struct StatusService<'a, C: Ledger, A: Ledger, R, M, J> {
+    pub(crate) port: &'a StatusPort<C, A, R, M, J>,
+}
+
+impl<C: Ledger, A: Ledger, R: Wait + Drop, M: Moments + Drop, J: WatchedJournal + Drop> Service
+    for StatusService<'_, C, A, R, M, J> {
+    ghost answers = { λ _ _ _ _. Unit {0} };
+
+    fn call(
+        &mut self,
+        request: &Request<Bytes>,
+        response: &mut Response,
+    ) -> Result<(), AllocError> {
+        response.add_header(
+            HeaderName::from_static("connection"),
+            HeaderValue::from_static("close"),
+        )?;
+        response.add_header(
+            HeaderName::from_static("cache-control"),
+            HeaderValue::from_static("no-store"),
+        )?;
+        response.add_header(
+            HeaderName::from_static("x-content-type-options"),
+            HeaderValue::from_static("nosniff"),
+        )?;
+        let method = request.method();
+        if *method != Method::GET && *method != Method::HEAD {
+            response.status = StatusCode::METHOD_NOT_ALLOWED;
+            return response.add_header(
+                HeaderName::from_static("allow"),
+                HeaderValue::from_static("GET, HEAD"),
+            );
+        }
+        let answer = self.answer(request)?;
+        fill(self.port.alloc, response, answer)
+    }
+}
+
+impl<
+    C: Ledger,
+    A: Ledger,
+    R: Wait + Drop,
+    M: Moments + Drop,
+    J: WatchedJournal + Drop,
+> StatusService<'_, C, A, R, M, J> {
+    /// What a request is answered. The book is locked to be copied, which shares what it holds, and
+    /// not while a text is made.
+    fn answer(&self, request: &Request<Bytes>) -> Result<StatusAnswer, AllocError> {
+        let alloc = self.port.alloc;
+        let Some(path) = status_path(request.uri().path()) else {
+            return nothing_there(alloc);
+        };
+        let Some(seats) = self.port.seats()? else {
+            return health_answer(alloc, Health::Restoring);
+        };
+        let journal = seats.journal.report();
+        if let StatusPath::Health = path {
+            return health_answer(alloc, Health::of(Some(journal.state)));
+        }
+        answer_by(&seats, journal, path)
+    }
+}
+
+/// What is answered at a path that wants to know what the site has.
+fn answer_by<C: Ledger, A: Ledger, R: Wait, M: Moments, J>(
+    seats: &SeatContext<C, A, R, M, J>,
+    journal: JournalReport,
+    path: StatusPath<'_>,
+) -> Result<StatusAnswer, AllocError> {
+    let Some(moment) = seats.clock.now() else {
+        return Err(AllocError);
+    };
+    let Seen { points, counts } = seats.watch.copy(&seats.rt, seats.alloc)?;
+    let free_seats = seats.free.count(&seats.rt);
+    let book = seats.shared.lock(&seats.rt);
+    let (copied, totals) = (book.present().copy(), book.totals());
+    drop(book);
+    let machine = copied?;
+    let report = SiteReport {
+        moment,
+        machine: &machine,
+        points: points.as_slice(),
+        counts: SiteCounts {
+            free_seats,
+            changes: totals.changes,
+            answers: totals.answers,
+            ..counts
+        },
+        journal,
+    };
+    answer_of(seats.alloc, path, &report)
+}
+
+/// Makes the response of an answer.
+fn fill(alloc: Global, response: &mut Response, answer: StatusAnswer) -> Result<(), AllocError> {
+    let StatusAnswer { status, kind, body } = answer;
+    if let Ok(status) = StatusCode::from_u16(status) {
+        response.status = status;
+    }
+    // Each name is a header's value, so only memory may be wanting.
+    let Ok(value) = HeaderValue::from_str(alloc, kind.name()) else {
+        return Err(AllocError);
+    };
+    response.add_header(HeaderName::from_static("content-type"), value)?;
+    response.body.push(Bytes::from_string(body)?)
+}

@@ -1,0 +1,48 @@
+//! A connection of the status port, which has to end by a deadline.
+
+use std::io;
+use std::io::{ErrorKind, Read, Write};
+use std::net::TcpStream;
+use std::rt::Clock;
+use std::time::{Duration, Instant};
+
+/// A stream whose reads and writes end at a deadline, whatever its client does.
+#[derive(Drop)]
+pub(crate) struct StatusStream<'a, R> {
+    pub(crate) rt: &'a R,
+    pub(crate) stream: &'a TcpStream,
+    pub(crate) deadline: Instant,
+}
+
+impl<R: Clock> StatusStream<'_, R> {
+    /// How much time is left.
+    fn left(&self) -> io::Result<Duration> {
+        let now = Instant::now(self.rt)?;
+        match self.deadline.checked_duration_since(now) {
+            Some(left) if !left.is_zero() => Ok(left),
+            _ => Err(io::Error::from(ErrorKind::TimedOut)),
+        }
+    }
+}
+
+impl<R: Clock> Read for StatusStream<'_, R> {
+    fn read(&mut self, buf: &mut [u8]) -> io::Result<usize> {
+        let left = self.left()?;
+        self.stream.set_read_timeout(Some(left))?;
+        let mut stream = self.stream;
+        stream.read(buf)
+    }
+}
+
+impl<R: Clock> Write for StatusStream<'_, R> {
+    fn write(&mut self, buf: &[u8]) -> io::Result<usize> {
+        let left = self.left()?;
+        self.stream.set_write_timeout(Some(left))?;
+        let mut stream = self.stream;
+        stream.write(buf)
+    }
+
+    fn flush(&mut self) -> io::Result<()> {
+        Ok(())
+    }
+}

@@ -1,0 +1,79 @@
+//! Connections for which there is no session.
+
+use crate::handshake::{ClientRequest, Unshaken};
+use crate::seat_context::SeatContext;
+use ocpp_scalars::Moments;
+use std::alloc::{AllocError, Global};
+use std::net::SocketAddr;
+use std::rt::Clock;
+use std::sync::Wait;
+use std::sync::ledger::Ledger;
+
+/// So many characters of a path are told.
+const LONGEST_PATH: usize = 100;
+
+/// Says that a connection wasn't let in. One that failed by itself, as a probe of the port does, is
+/// none of these.
+pub(crate) fn note_unshaken<C: Ledger, A: Ledger, R: Wait + Clock, M: Moments, J>(
+    seats: &SeatContext<C, A, R, M, J>,
+    unshaken: Unshaken,
+    from: Option<SocketAddr>,
+) {
+    if let Unshaken::Refused(status) = unshaken {
+        let status = status.as_u16();
+        note_refused(
+            seats,
+            from,
+            format!(in seats.alloc; "refused, HTTP {status}"),
+        );
+    }
+}
+
+/// Says that a connection was closed since the site has no point of its path, or since its client
+/// didn't offer OCPP 1.6.
+pub(crate) fn note_unknown<C: Ledger, A: Ledger, R: Wait + Clock, M: Moments, J>(
+    seats: &SeatContext<C, A, R, M, J>,
+    asked: &ClientRequest,
+    from: Option<SocketAddr>,
+) {
+    let mut what = String::new(seats.alloc);
+    let pushed = push_unknown(&mut what, asked);
+    note_refused(seats, from, pushed.map(|()| what));
+}
+
+fn push_unknown(what: &mut String, asked: &ClientRequest) -> Result<(), AllocError> {
+    what.push_str(if asked.offers_ocpp {
+        "refused, no such point: "
+    } else {
+        "refused, no subprotocol ocpp1.6: "
+    })?;
+    for character in asked.path.chars().take(LONGEST_PATH) {
+        what.push(character)?;
+    }
+    Ok(())
+}
+
+fn note_refused<C: Ledger, A: Ledger, R: Wait + Clock, M: Moments, J>(
+    seats: &SeatContext<C, A, R, M, J>,
+    from: Option<SocketAddr>,
+    what: Result<String, AllocError>,
+) {
+    seats.watch.refuse(&seats.rt);
+    let who = name_of(seats.alloc, from);
+    match who {
+        Ok(who) => seats
+            .notices
+            .say_made(&seats.rt, &seats.clock, who.as_str(), what),
+        Err(AllocError) => seats
+            .notices
+            .say_made(&seats.rt, &seats.clock, "somebody", what),
+    }
+}
+
+/// An address in words.
+fn name_of(alloc: Global, from: Option<SocketAddr>) -> Result<String, AllocError> {
+    match from {
+        Some(from) => format!(in alloc; "{from}"),
+        None => String::from_str(alloc, "somebody"),
+    }
+}

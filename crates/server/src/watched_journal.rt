@@ -1,0 +1,9 @@
+//! A journal that tells how it is.
+
+use site_status::JournalReport;
+
+/// A journal that tells how it is.
+pub trait WatchedJournal {
+    /// How it is now. Waits for no file and no device.
+    fn report(&self) -> JournalReport;
+}

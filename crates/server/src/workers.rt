@@ -1,0 +1,86 @@
+//! The workers of a site that goes on, and the ways to them.
+
+ghost use Rattle.std.specs.Prelude.{◌≡◌, ◌≤◌, ◌+◌, ◌/◌};
+
+use crate::seat_context::SeatContext;
+use crate::serving::ServeFault;
+use compile_pool::{Jobs, MAX_JOBS, Open, run_pool};
+use crossbeam_channel::{Sender, bounded};
+use std::alloc::{AllocError, Global};
+use std::marker::{Send, Sync};
+use std::sync::ledger::Ledger;
+use std::sync::{Arc, Wait};
+use std::thread;
+use std::thread::Threads;
+use version_store::Job;
+
+/// The ways to the workers: those of short jobs, and those of long ones.
+#[derive(Drop)]
+pub(crate) struct JobSenders {
+    short: Sender<Job>,
+    long: Sender<Job>,
+}
+
+impl JobSenders {
+    /// The same ways, for another thread.
+    pub(crate) fn share(&self) -> Result<JobSenders, AllocError> {
+        Ok(JobSenders {
+            short: self.short.clone()?,
+            long: self.long.clone()?,
+        })
+    }
+
+    /// The ways, for a session.
+    pub(crate) fn jobs(&self) -> Jobs<'_> {
+        Jobs::new(&self.short, &self.long)
+    }
+}
+
+/// Begins the workers on threads of their own. Half of them take short jobs, and half of them long
+/// ones: one at least takes each. Where no thread can be made nobody takes the jobs, and sessions
+/// compile themselves.
+pub(crate) fn begin_workers<
+    C: Ledger + Send + Sync + Drop + 'static,
+    A: Ledger + Send + Sync + Drop + 'static,
+    R: Threads + Wait + Copy + Send + Sync + Drop + 'static,
+    M: Send + Sync + Drop + 'static,
+    J: Send + Sync + Drop + 'static,
+>(
+    context: &Arc<SeatContext<C, A, R, M, J>, Global>,
+    workers: usize,
+) -> Result<JobSenders, ServeFault>
+    requires { 1 ≤ workers }
+{
+    let for_long = (workers / 2).max(1);
+    let for_short = (workers - workers / 2).max(1);
+    Ok(JobSenders {
+        short: begin_pool(context, for_short)?,
+        long: begin_pool(context, for_long)?,
+    })
+}
+
+/// Begins so many workers that take the same jobs. Returns the way to them.
+fn begin_pool<
+    C: Ledger + Send + Sync + Drop + 'static,
+    A: Ledger + Send + Sync + Drop + 'static,
+    R: Threads + Wait + Copy + Send + Sync + Drop + 'static,
+    M: Send + Sync + Drop + 'static,
+    J: Send + Sync + Drop + 'static,
+>(
+    context: &Arc<SeatContext<C, A, R, M, J>, Global>,
+    workers: usize,
+) -> Result<Sender<Job>, ServeFault>
+    requires { 1 ≤ workers }
+{
+    let (jobs, queue) = bounded(context.alloc, MAX_JOBS)?;
+    let (rt, alloc) = (context.rt, context.alloc);
+    let shared = Arc::try_clone(&context.shared)?;
+    let pool = thread::Builder::new().spawn(
+        &context.rt,
+        move || -> usize
+            requires { 1 ≤ workers }
+        { run_pool(&rt, alloc, workers, &queue, &shared, &Open) },
+    );
+    drop(pool);
+    Ok(jobs)
+}

@@ -1,0 +1,52 @@
+//! The socket of a session.
+
+use crate::serving::ended::Ended;
+use crate::serving::heard::Incoming;
+use crate::serving::sockets::read_next;
+use crate::serving::waiting::{Sending, Waiting};
+use compile_pool::Jobs;
+use std::io::{Read, Write};
+use std::sync::Wait;
+use std::sync::ledger::Ledger;
+use tungstenite::{MaskKeys, WebSocket};
+use version_store::{Job, Shared};
+
+/// The socket of a session, over a stream of this type and with these masking keys.
+pub trait SessionSocket<S, K>: Waiting {
+    /// What messages leave through.
+    fn websocket(&mut self) -> &mut WebSocket<S, K>;
+
+    /// What comes next.
+    fn next(&mut self) -> Result<Incoming, Ended>;
+
+    /// Fails where it is known that the client is gone.
+    fn still_there(&self) -> Result<(), Ended>;
+}
+
+impl<S: Read + Write + Drop, K: MaskKeys + Drop> SessionSocket<S, K> for WebSocket<S, K> {
+    fn websocket(&mut self) -> &mut WebSocket<S, K> {
+        self
+    }
+
+    fn next(&mut self) -> Result<Incoming, Ended> {
+        read_next(self)
+    }
+
+    fn still_there(&self) -> Result<(), Ended> {
+        Ok(())
+    }
+}
+
+/// A socket that isn't looked at while its session waits.
+impl<S, K> Waiting for WebSocket<S, K> {
+    fn send_job<R: Wait>(&mut self, rt: &R, jobs: Jobs<'_>, job: Job) -> Sending {
+        match jobs.send(rt, job) {
+            Ok(()) => Sending::Sent,
+            Err(back) => Sending::NoWorker(back),
+        }
+    }
+
+    fn wait<C: Ledger, A: Ledger>(&mut self, _shared: &Shared<C, A>, _number: u64) -> bool {
+        true
+    }
+}

@@ -1,0 +1,26 @@
+//! What a session does until its request has its answer.
+
+use compile_pool::Jobs;
+use std::sync::Wait;
+use std::sync::ledger::Ledger;
+use version_store::{Job, Shared};
+
+/// What became of a job that was to be sent to the workers.
+#[derive(Drop)]
+pub enum Sending {
+    Sent,
+    /// Nobody takes it.
+    NoWorker(Job),
+    /// Its client is gone.
+    Unwanted(Job),
+}
+
+/// How a session waits. Whatever it does meanwhile, its answer is collected as ever.
+pub trait Waiting {
+    /// Sends a job to the workers, once there is room.
+    fn send_job<R: Wait>(&mut self, rt: &R, jobs: Jobs<'_>, job: Job) -> Sending;
+
+    /// Waits until the request of a number has its answer, or leaves that to whoever collects it.
+    /// False where the client is gone before.
+    fn wait<C: Ledger, A: Ledger>(&mut self, shared: &Shared<C, A>, number: u64) -> bool;
+}

@@ -1,0 +1,198 @@
+//! A socket that its session looks at while it waits for a schedule.
+
+ghost use Rattle.std.specs.Prelude.{◌≡◌, None, IfSome, Some};
+
+use crate::serving::ended::Ended;
+use crate::serving::heard::Incoming;
+use crate::serving::session_socket::SessionSocket;
+use crate::serving::sockets::read_next;
+use crate::serving::waiting::{Sending, Waiting};
+use compile_pool::{Jobs, Unsent};
+use std::io::{Read, Write};
+use std::rt::Clock;
+use std::sync::Wait;
+use std::sync::ledger::Ledger;
+use std::time::Duration;
+use tungstenite::{MaskKeys, WebSocket};
+use version_store::{Job, Shared};
+
+/// After so many milliseconds the socket is looked at for the first time: most answers are there by
+/// then.
+const FIRST_WAIT: u64 = 1_000;
+
+/// And after so many again and again.
+const NEXT_WAIT: u64 = 200;
+
+/// At most so many frames are read in a look, so that the answer doesn't wait for its client.
+const MOST_FRAMES: usize = 64;
+
+/// A stream that can be looked at: what has come is read, and more isn't waited for.
+pub trait Watched {
+    /// From now on a read waits for a moment at most. False where it can't.
+    fn begin_look(&mut self) -> bool {
+        false
+    }
+
+    /// Reads wait again as they did before. False where they can't.
+    fn end_look(&mut self) -> bool {
+        true
+    }
+
+    /// The message that came is whole.
+    fn end_message(&mut self) {}
+
+    /// A control frame came with so many bytes, perhaps within a message.
+    fn end_control(&mut self, _bytes: usize) {}
+}
+
+/// A socket that its session looks at while it waits for a schedule: its client's pings are answered,
+/// and it is noticed when that leaves. A message that comes meanwhile is kept, and is the next one;
+/// then the socket isn't read until the answer has left.
+#[derive(Drop)]
+pub struct WatchedSocket<'s, S, K, R> {
+    rt: &'s R,
+    socket: &'s mut WebSocket<S, K>,
+    /// What came while the session waited: a message, or the end.
+    kept: Option<Result<Incoming, Ended>>,
+}
+
+impl<'s, S: Read + Write + Watched + Drop, K: MaskKeys + Drop, R> WatchedSocket<'s, S, K, R> {
+    pub fn new(rt: &'s R, socket: &'s mut WebSocket<S, K>) -> WatchedSocket<'s, S, K, R> {
+        WatchedSocket {
+            rt,
+            socket,
+            kept: None,
+        }
+    }
+
+    /// The socket itself.
+    pub fn websocket(&mut self) -> &mut WebSocket<S, K> {
+        self.socket
+    }
+
+    /// Whether something came that isn't served yet.
+    pub fn has_kept(&self) -> bool {
+        self.kept.is_some()
+    }
+
+    /// What comes next: what is kept, once, or what is read.
+    fn next_in_order(&mut self) -> Result<Incoming, Ended>
+        ensures in_order { IfSome self.old.kept (λ kept. result ≡ kept) }
+        ensures once { self.new.kept ≡ None }
+    {
+        if let Some(kept) = self.kept.take() {
+            return kept;
+        }
+        self.read()
+    }
+
+    /// What is read next.
+    fn read(&mut self) -> Result<Incoming, Ended>
+        ensures { self.new.kept ≡ self.old.kept }
+    {
+        let incoming = read_next(self.socket)?;
+        match &incoming {
+            Incoming::Text(_) | Incoming::Binary => self.socket.get_mut().end_message(),
+            Incoming::Control(bytes) => self.socket.get_mut().end_control(*bytes),
+            Incoming::Nothing => {}
+        }
+        Ok(incoming)
+    }
+
+    /// Reads what has come, unless something is kept. False where the client is gone.
+    fn look(&mut self) -> bool
+        ensures { IfSome self.old.kept (λ kept. self.new.kept ≡ Some kept) }
+    {
+        if self.kept.is_none() {
+            self.kept = self.seen();
+        }
+        !matches!(self.kept, Some(Err(_)))
+    }
+
+    /// The first message that has come, or the end, if either has.
+    fn seen(&mut self) -> Option<Result<Incoming, Ended>> {
+        if !self.socket.get_mut().begin_look() {
+            return None;
+        }
+        let mut seen = None;
+        for _frame in 0..MOST_FRAMES {
+            match self.read() {
+                Ok(Incoming::Nothing) => break,
+                Ok(Incoming::Control(_) | Incoming::Binary) => {}
+                other => {
+                    seen = Some(other);
+                    break;
+                }
+            }
+        }
+        // Pongs leave. Where they can't, the next read or write says so.
+        let _ = self.socket.flush();
+        if self.socket.get_mut().end_look() {
+            seen
+        } else {
+            seen.or(Some(Err(Ended::Broken)))
+        }
+    }
+}
+
+impl<S: Read + Write + Watched + Drop, K: MaskKeys + Drop, R: Wait + Clock> SessionSocket<S, K>
+    for WatchedSocket<'_, S, K, R> {
+    fn websocket(&mut self) -> &mut WebSocket<S, K> {
+        self.socket
+    }
+
+    fn next(&mut self) -> Result<Incoming, Ended> {
+        self.next_in_order()
+    }
+
+    fn still_there(&self) -> Result<(), Ended> {
+        match self.kept {
+            Some(Err(ended)) => Err(ended),
+            _ => Ok(()),
+        }
+    }
+}
+
+impl<S: Read + Write + Watched + Drop, K: MaskKeys + Drop, R: Wait + Clock> Waiting
+    for WatchedSocket<'_, S, K, R> {
+    fn send_job<W: Wait>(&mut self, _rt: &W, jobs: Jobs<'_>, job: Job) -> Sending {
+        let mut job = job;
+        for _turn in self.rt.forever() {
+            job = match jobs.send_within(self.rt, job, Duration::from_millis(NEXT_WAIT)) {
+                Ok(()) => return Sending::Sent,
+                Err(Unsent::NoWorker(back)) => return Sending::NoWorker(back),
+                Err(Unsent::NoRoom(back)) => back,
+            };
+            if !self.look() {
+                return Sending::Unwanted(job);
+            }
+        }
+        unreachable!()
+    }
+
+    fn wait<C: Ledger, A: Ledger>(&mut self, shared: &Shared<C, A>, number: u64) -> bool {
+        let mut wait = FIRST_WAIT;
+        for _turn in self.rt.forever() {
+            if is_answered(self.rt, shared, number, wait) {
+                return true;
+            }
+            if !self.look() {
+                return false;
+            }
+            wait = NEXT_WAIT;
+        }
+        unreachable!()
+    }
+}
+
+/// Whether the request of a number has its answer within so many milliseconds.
+fn is_answered<C: Ledger, A: Ledger, R: Wait + Clock>(
+    rt: &R,
+    shared: &Shared<C, A>,
+    number: u64,
+    wait: u64,
+) -> bool {
+    shared
+        .until_answered_within(rt, number, Duration::from_millis(wait))
+        .is_some()
+}

@@ -1,0 +1,4 @@
+pub mod Calls
+pub mod Health
+pub mod Reboot
+pub mod News

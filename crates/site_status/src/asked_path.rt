@@ -1,0 +1,37 @@
+//! What is asked for at the status port.
+
+/// What is asked for by a path.
+#[derive(Clone, Copy, Debug, PartialEq, Eq)]
+pub enum StatusPath<'a> {
+    /// `/health`
+    Health,
+    /// `/metrics`
+    Metrics,
+    /// `/state.json`
+    State,
+    /// `/`, or `/page/N` from 1 on.
+    Page { number: usize },
+    /// `/points/ID/C.svg`
+    Picture { point: &'a str, connector: u32 },
+}
+
+/// What is asked for by this path, if it is anything.
+pub fn status_path(path: &str) -> Option<StatusPath<'_>> {
+    match path {
+        "/health" => Some(StatusPath::Health),
+        "/metrics" => Some(StatusPath::Metrics),
+        "/state.json" => Some(StatusPath::State),
+        "/" => Some(StatusPath::Page { number: 1 }),
+        _ => long_path(path),
+    }
+}
+
+fn long_path(path: &str) -> Option<StatusPath<'_>> {
+    if let Some(number) = path.strip_prefix("/page/") {
+        let number = number.parse::<usize>().ok()?;
+        return Some(StatusPath::Page { number });
+    }
+    let (point, file) = path.strip_prefix("/points/")?.split_once('/')?;
+    let connector = file.strip_suffix(".svg")?.parse::<u32>().ok()?;
+    Some(StatusPath::Picture { point, connector })
+}

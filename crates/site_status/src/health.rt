@@ -1,0 +1,52 @@
+//! Whether a site is well.
+
+ghost use Rattle.std.specs.Prelude.{◌≡◌};
+ghost use Rattle.site_status.specs.Health.{health_of, status_of};
+
+use crate::journal_report::JournalState;
+
+/// Whether a site is well, or why it isn't.
+#[derive(Clone, Copy, Debug, PartialEq, Eq)]
+pub enum Health {
+    Well,
+    /// Its state is being restored from the journal.
+    Restoring,
+    /// The device of its journal is full: changes are refused.
+    DeviceFull,
+    /// It isn't known what stands in its journal: the program ends.
+    JournalBroken,
+}
+
+impl Health {
+    /// By the state of its journal, which it has once its own state is restored.
+    pub fn of(journal: Option<JournalState>) -> Health
+        ensures { result ≡ health_of journal }
+    {
+        match journal {
+            None => Health::Restoring,
+            Some(JournalState::Open) => Health::Well,
+            Some(JournalState::Full) => Health::DeviceFull,
+            Some(JournalState::Broken) => Health::JournalBroken,
+        }
+    }
+
+    /// The status of the answer that tells it (RFC 9110, section 15).
+    pub fn status(self) -> u16
+        ensures { result ≡ status_of self }
+    {
+        match self {
+            Health::Well => 200,
+            Health::Restoring | Health::DeviceFull | Health::JournalBroken => 503,
+        }
+    }
+
+    /// Its name, as programs read it.
+    pub fn name(self) -> &'static str {
+        match self {
+            Health::Well => "ok",
+            Health::Restoring => "restoring",
+            Health::DeviceFull => "device full",
+            Health::JournalBroken => "journal broken",
+        }
+    }
+}

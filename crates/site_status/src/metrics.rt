@@ -1,0 +1,280 @@
+//! The figures of a site, as Prometheus reads them (text format 0.0.4).
+
+use crate::health::Health;
+use crate::point_summary::{PointCalls, PointSummary, calls_of_points, summary_at};
+use crate::site_report::SiteReport;
+use ocpp_scalars::Instant;
+use std::alloc::{AllocError, Global};
+
+/// Microseconds in a second.
+const MILLION: u64 = 1_000_000;
+
+/// The figures of a site: each family of them with its help and its type, then its samples.
+pub fn metrics_text(alloc: Global, report: &SiteReport<'_>) -> Result<String, AllocError> {
+    let mut out = String::new(alloc);
+    for figure in SITE_FIGURES {
+        push_head(&mut out, figure.name(), figure.help(), figure.is_counter())?;
+        figure.push_samples(&mut out, report)?;
+    }
+    let calls = calls_of_points(alloc, report)?;
+    for figure in POINT_FIGURES {
+        push_head(&mut out, figure.name(), figure.help(), figure.is_counter())?;
+        for (place, calls) in calls.iter().enumerate() {
+            push_of_point(&mut out, figure, report, place, *calls)?;
+        }
+    }
+    Ok(out)
+}
+
+/// Appends a figure of the point at a place, if it has one.
+fn push_of_point(
+    out: &mut String,
+    figure: PointFigure,
+    report: &SiteReport<'_>,
+    place: usize,
+    calls: PointCalls,
+) -> Result<(), AllocError> {
+    let Some(point) = summary_at(report, place, calls) else {
+        return Ok(());
+    };
+    match figure.value(&point, report.moment) {
+        Some(value) => push_sample(out, figure.name(), "point", point.id, value),
+        None => Ok(()),
+    }
+}
+
+/// Appends what a family of samples begins with.
+fn push_head(out: &mut String, name: &str, help: &str, is_counter: bool) -> Result<(), AllocError> {
+    let kind = if is_counter { "counter" } else { "gauge" };
+    write!(out, "# HELP {name} {help}\n# TYPE {name} {kind}\n")
+}
+
+/// Appends a sample with one label.
+fn push_sample(
+    out: &mut String,
+    name: &str,
+    label: &str,
+    text: &str,
+    value: u64,
+) -> Result<(), AllocError> {
+    write!(out, "{name}{{{label}=\"")?;
+    push_label(out, text)?;
+    write!(out, "\"}} {value}\n")
+}
+
+/// Appends a label's value: a backslash, a quote and a line feed are escaped.
+fn push_label(out: &mut String, text: &str) -> Result<(), AllocError> {
+    for character in text.chars() {
+        match character {
+            '\\' => out.push_str("\\\\")?,
+            '"' => out.push_str("\\\"")?,
+            '\n' => out.push_str("\\n")?,
+            _ => out.push(character)?,
+        }
+    }
+    Ok(())
+}
+
+/// A figure of the whole site.
+#[derive(Clone, Copy, Debug)]
+enum SiteFigure {
+    Healthy,
+    Sessions,
+    Seats,
+    FreeSeats,
+    Changes,
+    Answers,
+    RefusedHandshakes,
+    TurnedAway,
+    JournalBytes,
+    Syncs,
+    SyncSeconds,
+}
+
+const SITE_FIGURES: [SiteFigure; 11] = [
+    SiteFigure::Healthy,
+    SiteFigure::Sessions,
+    SiteFigure::Seats,
+    SiteFigure::FreeSeats,
+    SiteFigure::Changes,
+    SiteFigure::Answers,
+    SiteFigure::RefusedHandshakes,
+    SiteFigure::TurnedAway,
+    SiteFigure::JournalBytes,
+    SiteFigure::Syncs,
+    SiteFigure::SyncSeconds,
+];
+
+impl SiteFigure {
+    fn name(self) -> &'static str {
+        match self {
+            SiteFigure::Healthy => "central_healthy",
+            SiteFigure::Sessions => "central_sessions",
+            SiteFigure::Seats => "central_seats",
+            SiteFigure::FreeSeats => "central_seats_free",
+            SiteFigure::Changes => "central_changes_total",
+            SiteFigure::Answers => "central_answers_total",
+            SiteFigure::RefusedHandshakes => "central_handshakes_refused_total",
+            SiteFigure::TurnedAway => "central_connections_turned_away_total",
+            SiteFigure::JournalBytes => "central_journal_bytes",
+            SiteFigure::Syncs => "central_journal_syncs_total",
+            SiteFigure::SyncSeconds => "central_journal_sync_seconds_total",
+        }
+    }
+
+    fn help(self) -> &'static str {
+        match self {
+            SiteFigure::Healthy => "Whether changes are kept: 1, or 0 where /health says 503.",
+            SiteFigure::Sessions => "Sessions at present.",
+            SiteFigure::Seats => "Connections that are served at a time, at most.",
+            SiteFigure::FreeSeats => "Connections that would be served beside the present ones.",
+            SiteFigure::Changes => {
+                "Changes of points' profiles and transactions, with those that were restored."
+            }
+            SiteFigure::Answers => "Answered requests for schedules.",
+            SiteFigure::RefusedHandshakes => "Connections that weren't let in.",
+            SiteFigure::TurnedAway => "Connections for which there was no seat.",
+            SiteFigure::JournalBytes => "Bytes of the journal that are on the disk.",
+            SiteFigure::Syncs => "Times that the journal was written and synced.",
+            SiteFigure::SyncSeconds => "Seconds that this took in all.",
+        }
+    }
+
+    fn is_counter(self) -> bool {
+        match self {
+            SiteFigure::Healthy
+            | SiteFigure::Sessions
+            | SiteFigure::Seats
+            | SiteFigure::FreeSeats
+            | SiteFigure::JournalBytes => false,
+            SiteFigure::Changes
+            | SiteFigure::Answers
+            | SiteFigure::RefusedHandshakes
+            | SiteFigure::TurnedAway
+            | SiteFigure::Syncs
+            | SiteFigure::SyncSeconds => true,
+        }
+    }
+
+    fn push_samples(self, out: &mut String, report: &SiteReport<'_>) -> Result<(), AllocError> {
+        let name = self.name();
+        let value = match self {
+            SiteFigure::Sessions => {
+                push_sample(out, name, "kind", "point", report.counts.point_sessions)?;
+                return push_sample(
+                    out,
+                    name,
+                    "kind",
+                    "operator",
+                    report.counts.operator_sessions,
+                );
+            }
+            SiteFigure::SyncSeconds => {
+                return push_seconds(out, name, report.journal.sync_microseconds);
+            }
+            SiteFigure::Healthy => healthy(report),
+            SiteFigure::Seats => report.counts.seats,
+            SiteFigure::FreeSeats => report.counts.free_seats,
+            SiteFigure::Changes => report.counts.changes,
+            SiteFigure::Answers => report.counts.answers,
+            SiteFigure::RefusedHandshakes => report.counts.refused_handshakes,
+            SiteFigure::TurnedAway => report.counts.turned_away,
+            SiteFigure::JournalBytes => report.journal.bytes,
+            SiteFigure::Syncs => report.journal.syncs,
+        };
+        write!(out, "{name} {value}\n")
+    }
+}
+
+fn healthy(report: &SiteReport<'_>) -> u64 {
+    match Health::of(Some(report.journal.state)) {
+        Health::Well => 1,
+        _ => 0,
+    }
+}
+
+/// Appends a sample in seconds, with six decimals.
+fn push_seconds(out: &mut String, name: &str, microseconds: u64) -> Result<(), AllocError> {
+    let (seconds, rest) = (microseconds / MILLION, microseconds % MILLION);
+    write!(out, "{name} {seconds}.{rest:0>6}\n")
+}
+
+/// A figure of each point.
+#[derive(Clone, Copy, Debug)]
+enum PointFigure {
+    Connected,
+    LastText,
+    Boot,
+    Waiting,
+    InFlight,
+    InFlightSeconds,
+    Confirmed,
+    Rejected,
+    MayHaveForgotten,
+}
+
+const POINT_FIGURES: [PointFigure; 9] = [
+    PointFigure::Connected,
+    PointFigure::LastText,
+    PointFigure::Boot,
+    PointFigure::Waiting,
+    PointFigure::InFlight,
+    PointFigure::InFlightSeconds,
+    PointFigure::Confirmed,
+    PointFigure::Rejected,
+    PointFigure::MayHaveForgotten,
+];
+
+impl PointFigure {
+    fn name(self) -> &'static str {
+        match self {
+            PointFigure::Connected => "central_point_connected",
+            PointFigure::LastText => "central_point_last_text_timestamp_seconds",
+            PointFigure::Boot => "central_point_boot_timestamp_seconds",
+            PointFigure::Waiting => "central_calls_waiting",
+            PointFigure::InFlight => "central_calls_in_flight",
+            PointFigure::InFlightSeconds => "central_call_in_flight_seconds",
+            PointFigure::Confirmed => "central_calls_confirmed_total",
+            PointFigure::Rejected => "central_calls_rejected_total",
+            PointFigure::MayHaveForgotten => "central_point_may_have_forgotten",
+        }
+    }
+
+    fn help(self) -> &'static str {
+        match self {
+            PointFigure::Connected => "Whether the point is connected.",
+            PointFigure::LastText => "When its last message came.",
+            PointFigure::Boot => "When its last BootNotification came.",
+            PointFigure::Waiting => "Calls to it that wait.",
+            PointFigure::InFlight => "Calls to it that were sent and have no reply: one at most.",
+            PointFigure::InFlightSeconds => "How long ago that call was sent.",
+            PointFigure::Confirmed => "Calls that it confirmed, whatever it replied.",
+            PointFigure::Rejected => "Calls that it rejected since the program began.",
+            PointFigure::MayHaveForgotten => {
+                "Whether it booted and confirmed no install since, so that it may have lost its profiles."
+            }
+        }
+    }
+
+    fn is_counter(self) -> bool {
+        matches!(self, PointFigure::Confirmed | PointFigure::Rejected)
+    }
+
+    /// Its value for a point at a moment. None where there is no sample.
+    fn value(self, point: &PointSummary<'_>, now: Instant) -> Option<u64> {
+        match self {
+            PointFigure::Connected => Some(u64::from(point.news.connection.since.is_some())),
+            PointFigure::LastText => Some(point.news.heard?.seconds()),
+            PointFigure::Boot => Some(point.news.boot?.moment.seconds()),
+            PointFigure::Waiting => Some(point.calls.waiting as u64),
+            PointFigure::InFlight => Some(point.calls.in_flight as u64),
+            PointFigure::InFlightSeconds => {
+                let since = point.calls.in_flight_since?;
+                Some(now.seconds().saturating_sub(since.seconds()))
+            }
+            PointFigure::Confirmed => Some(point.calls.confirmed),
+            PointFigure::Rejected => Some(point.news.rejections),
+            PointFigure::MayHaveForgotten => Some(u64::from(point.calls.may_have_forgotten)),
+        }
+    }
+}

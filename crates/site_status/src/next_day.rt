@@ -1,0 +1,69 @@
+//! The limits of a connector over the next 24 hours.
+
+ghost use Rattle.std.specs.Prelude.{◌≡◌, ◌≤◌, length, IfSome};
+
+use crate::site_report::SiteReport;
+use explain_pages::{ExplainedAsk, not_counted, write_picture};
+use meaning::Ask;
+use ocpp_scalars::Instant;
+use point_book::PointBook;
+use std::alloc::{AllocError, Global};
+use sweep_compiler::{Explanation, Turns, explain};
+
+/// Seconds in a day.
+const DAY: u32 = 86_400;
+
+/// What is asked of a connector of this book from a moment on. None where the book hasn't it, and
+/// in the last day of the calendar.
+fn ask_of(book: &PointBook, connector: u32, moment: Instant) -> Option<Ask>
+    ensures { IfSome result (λ ask. ask.connector ≤ length book.now.ceilings) }
+{
+    if connector > book.connectors() {
+        return None;
+    }
+    match Ask::try_new(connector, moment, DAY) {
+        Ok(ask) => Some(ask),
+        Err(_) => None,
+    }
+}
+
+/// What sets the limit of a connector over the next 24 hours, if the book has it.
+pub(crate) fn explained_day(
+    alloc: Global,
+    book: &PointBook,
+    connector: u32,
+    moment: Instant,
+) -> Result<Option<Explanation>, AllocError> {
+    let Some(ask) = ask_of(book, connector, moment) else {
+        return Ok(None);
+    };
+    Ok(Some(explain(alloc, book, &ask, &mut Turns::new())?))
+}
+
+/// The picture of the limit of a connector over the next 24 hours, as `central explain` draws it:
+/// a whole SVG file. None where the site has no such point or the point no such connector.
+pub fn connector_picture(
+    alloc: Global,
+    report: &SiteReport<'_>,
+    point: &str,
+    connector: u32,
+) -> Result<Option<String>, AllocError> {
+    let Some(book) = report.machine.book_of(point) else {
+        return Ok(None);
+    };
+    let Some(ask) = ask_of(book, connector, report.moment) else {
+        return Ok(None);
+    };
+    let explanation = explain(alloc, book, &ask, &mut Turns::new())?;
+    let view = book.view();
+    let rest = not_counted(alloc, &view, &ask, explanation.intervals())?;
+    let explained = ExplainedAsk {
+        point,
+        unit: report.machine.site().unit(),
+        ask,
+        view,
+        intervals: explanation.intervals(),
+        not_counted: rest.as_slice(),
+    };
+    Ok(Some(write_picture(alloc, &explained)?))
+}

@@ -1,0 +1,189 @@
+//! The page of a site: how each point is, and its limits over the next 24 hours, as HTML. It loads
+//! nothing, and needs no script.
+
+use crate::health::Health;
+use crate::next_day::explained_day;
+use crate::page_style::STYLE;
+use crate::point_news::Rejection;
+use crate::point_summary::{PointSummary, calls_of_points, summary_at};
+use crate::site_report::SiteReport;
+use crate::strip::{Shown, push_strip};
+use explain_pages::push_element;
+use ocpp_scalars::{Instant, push_instant};
+use std::alloc::{AllocError, Global};
+
+/// So many points a page has.
+pub const POINTS_OF_PAGE: usize = 20;
+
+/// The page of this number, from 1 on, of a site. None where the site has fewer.
+pub fn site_page(
+    alloc: Global,
+    report: &SiteReport<'_>,
+    number: usize,
+) -> Result<Option<String>, AllocError> {
+    let calls = calls_of_points(alloc, report)?;
+    let pages = calls.len().div_ceil(POINTS_OF_PAGE);
+    let first = number.saturating_sub(1).saturating_mul(POINTS_OF_PAGE);
+    if number == 0 || number > pages {
+        return Ok(None);
+    }
+    let mut out = String::new(alloc);
+    push_opening(&mut out, report)?;
+    push_pages(&mut out, number, pages)?;
+    out.push_str("<main>\n")?;
+    for (place, calls) in calls.iter().enumerate().skip(first).take(POINTS_OF_PAGE) {
+        if let Some(point) = summary_at(report, place, *calls) {
+            push_point(alloc, &mut out, report, &point)?;
+        }
+    }
+    out.push_str("</main>\n</body>\n</html>\n")?;
+    Ok(Some(out))
+}
+
+fn push_opening(out: &mut String, report: &SiteReport<'_>) -> Result<(), AllocError> {
+    out.push_str("<!DOCTYPE html>\n<html lang=\"en\">\n<head>\n<meta charset=\"utf-8\">\n")?;
+    out.push_str("<meta name=\"viewport\" content=\"width=device-width, initial-scale=1\">\n")?;
+    out.push_str("<title>The site</title>\n")?;
+    out.push_str(STYLE)?;
+    out.push_str("</head>\n<body>\n<header>\n<h1>The site at ")?;
+    push_moment(out, report.moment)?;
+    out.push_str("</h1>\n<p>")?;
+    out.push_str(health_sentence(Health::of(Some(report.journal.state))))?;
+    let counts = report.counts;
+    let (points, operators) = (counts.point_sessions, counts.operator_sessions);
+    write!(
+        out,
+        " Sessions: {points} of points, {operators} of operators."
+    )?;
+    out.push_str(" Times are in UTC.</p>\n</header>\n")
+}
+
+fn health_sentence(health: Health) -> &'static str {
+    match health {
+        Health::Well => "It is well.",
+        Health::Restoring => "<strong>It is being restored.</strong>",
+        Health::DeviceFull => {
+            "<strong>The device of its journal is full: changes are refused until there is room.</strong>"
+        }
+        Health::JournalBroken => "<strong>Its journal can't be written.</strong>",
+    }
+}
+
+/// Appends the links to the pages, where there is more than one.
+fn push_pages(out: &mut String, number: usize, pages: usize) -> Result<(), AllocError> {
+    if pages <= 1 {
+        return Ok(());
+    }
+    out.push_str("<nav aria-label=\"Pages\"><ul>\n")?;
+    for page in 1..=pages {
+        if page == number {
+            write!(out, "<li aria-current=\"page\">{page}</li>\n")?;
+        } else {
+            write!(out, "<li><a href=\"/page/{page}\">page {page}</a></li>\n")?;
+        }
+    }
+    out.push_str("</ul></nav>\n")
+}
+
+/// Appends a point: how it is, and the limits of its connectors.
+fn push_point(
+    alloc: Global,
+    out: &mut String,
+    report: &SiteReport<'_>,
+    point: &PointSummary<'_>,
+) -> Result<(), AllocError> {
+    push_element(out, "<section>\n<h2>", point.id, "</h2>\n")?;
+    push_state(out, point)?;
+    for before in 0..point.book.connectors() {
+        let connector = before + 1;
+        let Some(explanation) = explained_day(alloc, point.book, connector, report.moment)? else {
+            continue;
+        };
+        let shown = Shown {
+            point: point.id,
+            connector,
+            unit: report.machine.site().unit(),
+            from: report.moment,
+        };
+        push_strip(alloc, out, &shown, &explanation)?;
+    }
+    out.push_str("</section>\n")
+}
+
+/// Appends how a point is.
+fn push_state(out: &mut String, point: &PointSummary<'_>) -> Result<(), AllocError> {
+    out.push_str("<dl>\n")?;
+    push_seen(
+        out,
+        "Connected since",
+        point.news.connection.since,
+        "not connected",
+    )?;
+    push_seen(out, "Last message", point.news.heard, NOT_SEEN)?;
+    let booted = match point.news.boot {
+        Some(boot) => Some(boot.moment),
+        None => None,
+    };
+    push_seen(out, "Booted", booted, NOT_SEEN)?;
+    push_seen(
+        out,
+        "Call in flight since",
+        point.calls.in_flight_since,
+        "none is",
+    )?;
+    push_count(out, "Calls waiting", point.calls.waiting as u64)?;
+    push_count(out, "Calls confirmed", point.calls.confirmed)?;
+    push_count(out, "Calls rejected", point.news.rejections)?;
+    out.push_str("</dl>\n")?;
+    if let Some(rejection) = &point.news.rejection {
+        push_rejection(out, rejection)?;
+    }
+    if point.calls.may_have_forgotten {
+        out.push_str("<p class=\"warning\">It booted, and may have forgotten its profiles: ")?;
+        out.push_str("audit it, or install them anew.</p>\n")?;
+    }
+    Ok(())
+}
+
+fn push_rejection(out: &mut String, rejection: &Rejection) -> Result<(), AllocError> {
+    let call = rejection.call;
+    write!(out, "<p class=\"warning\">It rejected call {call}")?;
+    if let Some(action) = rejection.action {
+        push_element(out, ", ", action.name(), ",")?;
+    }
+    out.push_str(" at ")?;
+    push_moment(out, rejection.moment)?;
+    push_element(out, ": ", rejection.reason.as_str(), "</p>\n")
+}
+
+/// What stands for what wasn't seen.
+const NOT_SEEN: &str = "not seen";
+
+/// Appends when something was seen, or what stands for that.
+fn push_seen(
+    out: &mut String,
+    name: &str,
+    moment: Option<Instant>,
+    without: &str,
+) -> Result<(), AllocError> {
+    push_element(out, "<div><dt>", name, "</dt><dd>")?;
+    match moment {
+        Some(moment) => push_moment(out, moment)?,
+        None => out.push_str(without)?,
+    }
+    out.push_str("</dd></div>\n")
+}
+
+fn push_count(out: &mut String, name: &str, count: u64) -> Result<(), AllocError> {
+    push_element(out, "<div><dt>", name, "</dt><dd>")?;
+    write!(out, "{count}</dd></div>\n")
+}
+
+/// Appends a moment, for people and for programs.
+fn push_moment(out: &mut String, moment: Instant) -> Result<(), AllocError> {
+    out.push_str("<time datetime=\"")?;
+    push_instant(out, moment)?;
+    out.push_str("\">")?;
+    push_instant(out, moment)?;
+    out.push_str("</time>")
+}

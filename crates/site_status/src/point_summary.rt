@@ -1,0 +1,101 @@
+//! What is told of a charge point, as all texts tell it.
+
+use crate::calls::{in_flight_calls, in_flight_since, waiting_calls};
+use crate::point_news::PointNews;
+use crate::reboot::{Reboot, may_have_forgotten};
+use crate::site_report::SiteReport;
+use messages::AuditOutcome;
+use ocpp_scalars::Instant;
+use point_book::PointBook;
+use std::alloc::{AllocError, Global};
+
+/// What is told of a charge point.
+#[derive(Clone, Copy)]
+pub(crate) struct PointSummary<'a> {
+    pub(crate) id: &'a str,
+    pub(crate) news: &'a PointNews,
+    pub(crate) book: &'a PointBook,
+    pub(crate) calls: PointCalls,
+}
+
+/// What is told of the calls to a charge point.
+#[derive(Clone, Copy, Debug)]
+pub(crate) struct PointCalls {
+    /// How many it confirmed.
+    pub(crate) confirmed: u64,
+    pub(crate) waiting: usize,
+    pub(crate) in_flight: usize,
+    pub(crate) in_flight_since: Option<Instant>,
+    pub(crate) audit: AuditOutcome,
+    pub(crate) may_have_forgotten: bool,
+}
+
+/// What is told of the calls to each point, in the order of the site file.
+pub(crate) fn calls_of_points(
+    alloc: Global,
+    report: &SiteReport<'_>,
+) -> Result<Vec<PointCalls>, AllocError> {
+    let mut all = Vec::new(alloc);
+    for place in 0..report.points.len() {
+        let calls = calls_at(alloc, report, place)?;
+        all.push(calls)?;
+    }
+    Ok(all)
+}
+
+/// What is told of the calls to the point at a place; nothing where the site has none there.
+fn calls_at(
+    alloc: Global,
+    report: &SiteReport<'_>,
+    place: usize,
+) -> Result<PointCalls, AllocError> {
+    let machine = report.machine;
+    let (Some(news), Some(point)) = (report.points.get(place), machine.site().point(place)) else {
+        return Ok(no_calls());
+    };
+    let (Some(book), Some(outbox)) = (machine.book_of(point.id), machine.outbox_of(point.id)) else {
+        return Ok(no_calls());
+    };
+    let audit = machine.audit_of(point.id);
+    let reboot = Reboot::of(alloc, news, book, outbox, audit)?;
+    Ok(PointCalls {
+        confirmed: outbox.first_number(),
+        waiting: waiting_calls(outbox),
+        in_flight: in_flight_calls(outbox),
+        in_flight_since: in_flight_since(outbox, news.sent),
+        audit: match audit {
+            Some(audit) => audit.outcome(),
+            None => AuditOutcome::NoAudit,
+        },
+        may_have_forgotten: may_have_forgotten(reboot),
+    })
+}
+
+fn no_calls() -> PointCalls {
+    PointCalls {
+        confirmed: 0,
+        waiting: 0,
+        in_flight: 0,
+        in_flight_since: None,
+        audit: AuditOutcome::NoAudit,
+        may_have_forgotten: false,
+    }
+}
+
+/// What is told of the point at a place, with its calls. None where the site has none there.
+pub(crate) fn summary_at<'a>(
+    report: &SiteReport<'a>,
+    place: usize,
+    calls: PointCalls,
+) -> Option<PointSummary<'a>> {
+    let machine = report.machine;
+    let news = report.points.get(place)?;
+    let id = machine.site().point(place)?.id;
+    let book = machine.book_of(id)?;
+    Some(PointSummary {
+        id,
+        news,
+        book,
+        calls,
+    })
+}

@@ -1,0 +1,119 @@
+//! What is answered at the status port.
+
+ghost use Rattle.std.specs.Prelude.{◌≡◌, IfOk};
+ghost use Rattle.site_status.specs.Health.{status_of};
+
+use crate::asked_path::StatusPath;
+use crate::health::Health;
+use crate::metrics::metrics_text;
+use crate::next_day::connector_picture;
+use crate::page::site_page;
+use crate::site_report::SiteReport;
+use crate::state_page::state_json;
+use std::alloc::{AllocError, Global};
+
+/// An answer of the status port.
+#[derive(Debug, Drop)]
+pub struct StatusAnswer {
+    /// Its status (RFC 9110, section 15).
+    pub status: u16,
+    pub kind: ContentKind,
+    pub body: String,
+}
+
+/// What a body is.
+#[derive(Clone, Copy, Debug, PartialEq, Eq)]
+pub enum ContentKind {
+    Text,
+    Metrics,
+    Json,
+    Html,
+    Svg,
+}
+
+impl ContentKind {
+    /// Its name, as a header has it (RFC 9110, section 8.3).
+    pub fn name(self) -> &'static str {
+        match self {
+            ContentKind::Text => "text/plain; charset=utf-8",
+            ContentKind::Metrics => "text/plain; version=0.0.4; charset=utf-8",
+            ContentKind::Json => "application/json",
+            ContentKind::Html => "text/html; charset=utf-8",
+            ContentKind::Svg => "image/svg+xml",
+        }
+    }
+}
+
+/// The answer that tells how a site is.
+pub fn health_answer(alloc: Global, health: Health) -> Result<StatusAnswer, AllocError>
+    ensures { IfOk result (λ answer. answer.status ≡ status_of health) }
+{
+    let mut body = String::from_str(alloc, health.name())?;
+    body.push('\n')?;
+    Ok(StatusAnswer {
+        status: health.status(),
+        kind: ContentKind::Text,
+        body,
+    })
+}
+
+/// The answer where there is nothing.
+pub fn nothing_there(alloc: Global) -> Result<StatusAnswer, AllocError>
+    ensures { IfOk result (λ answer. answer.status ≡ 404) }
+{
+    let body = String::from_str(
+        alloc,
+        "There are /, /health, /metrics, /state.json and /points/ID/CONNECTOR.svg.\n",
+    )?;
+    Ok(StatusAnswer {
+        status: 404,
+        kind: ContentKind::Text,
+        body,
+    })
+}
+
+/// The answer at a path. That of `/health` alone tells by its status how the site is.
+pub fn answer_of(
+    alloc: Global,
+    path: StatusPath<'_>,
+    report: &SiteReport<'_>,
+) -> Result<StatusAnswer, AllocError> {
+    match path {
+        StatusPath::Health => health_answer(alloc, Health::of(Some(report.journal.state))),
+        StatusPath::Metrics => {
+            let body = metrics_text(alloc, report)?;
+            Ok(found(ContentKind::Metrics, body))
+        }
+        StatusPath::State => {
+            let body = state_json(alloc, report)?;
+            Ok(found(ContentKind::Json, body))
+        }
+        StatusPath::Page { number } => {
+            let page = site_page(alloc, report, number)?;
+            found_if_any(alloc, ContentKind::Html, page)
+        }
+        StatusPath::Picture { point, connector } => {
+            let picture = connector_picture(alloc, report, point, connector)?;
+            found_if_any(alloc, ContentKind::Svg, picture)
+        }
+    }
+}
+
+fn found_if_any(
+    alloc: Global,
+    kind: ContentKind,
+    body: Option<String>,
+) -> Result<StatusAnswer, AllocError> {
+    match body {
+        Some(body) => Ok(found(kind, body)),
+        None => nothing_there(alloc),
+    }
+}
+
+fn found(kind: ContentKind, body: String) -> StatusAnswer {
+    StatusAnswer {
+        status: 200,
+        kind,
+        body,
+    }
+}

@@ -1,0 +1,197 @@
+//! The limit of a connector over the next 24 hours as a strip: a small picture that is as wide as its
+//! place, with its numbers in a list below.
+
+use crate::site_report::SiteReport;
+use explain_pages::{push_element, push_escaped, push_limit, push_why};
+use ocpp_scalars::{Instant, LAST_SECOND, push_instant};
+use profile::Unit;
+use std::alloc::{AllocError, Global};
+use sweep_compiler::{Explanation, Interval};
+
+/// A picture has a column for each minute of the day, and so many rows.
+const COLUMNS: u32 = 1_440;
+
+const ROWS: u64 = 100;
+
+/// Room above the highest limit.
+const TOP: u64 = 6;
+
+/// Seconds of a column.
+const COLUMN: u32 = 60;
+
+/// The most intervals that a list has.
+const MOST_LISTED: usize = 8;
+
+/// Below the picture stands the time of each so many seconds.
+const LABEL_STEP: u64 = 21_600;
+
+/// Whose limit is shown.
+#[derive(Clone, Copy)]
+pub(crate) struct Shown<'a> {
+    pub(crate) point: &'a str,
+    pub(crate) connector: u32,
+    pub(crate) unit: Unit,
+    pub(crate) from: Instant,
+}
+
+/// Appends the strip of a connector, with the list of its intervals.
+pub(crate) fn push_strip(
+    alloc: Global,
+    out: &mut String,
+    shown: &Shown<'_>,
+    explanation: &Explanation,
+) -> Result<(), AllocError> {
+    push_heading(out, shown, explanation)?;
+    push_picture(out, explanation)?;
+    push_labels(alloc, out, shown)?;
+    out.push_str("</figure>\n")?;
+    push_list(alloc, out, shown, explanation)
+}
+
+/// What the limit is at present.
+fn push_heading(
+    out: &mut String,
+    shown: &Shown<'_>,
+    explanation: &Explanation,
+) -> Result<(), AllocError> {
+    let (point, connector) = (shown.point, shown.connector);
+    write!(out, "<h3>Connector {connector}")?;
+    if let Some(first) = explanation.intervals().first() {
+        out.push_str(": ")?;
+        push_limit(out, first.reason.limit, shown.unit)?;
+        out.push_str(" now")?;
+    }
+    push_element(
+        out,
+        "</h3>\n<figure><svg role=\"img\" aria-label=\"The limit of ",
+        point,
+        "",
+    )?;
+    write!(
+        out,
+        ", connector {connector}, over 24 hours; the list below has its numbers\""
+    )?;
+    write!(
+        out,
+        " viewBox=\"0 0 {COLUMNS} {ROWS}\" preserveAspectRatio=\"none\">"
+    )
+}
+
+/// Appends the line of the limit over its area, with a rule every six hours.
+fn push_picture(out: &mut String, explanation: &Explanation) -> Result<(), AllocError> {
+    let intervals = explanation.intervals();
+    let most = highest(intervals);
+    out.push_str("<path class=\"rule\" d=\"M360 0V100M720 0V100M1080 0V100M0 100H1440\"/>")?;
+    out.push_str("<path class=\"area\" d=\"M0 100")?;
+    push_steps(out, intervals, most, "L0 ")?;
+    write!(out, "V{ROWS}Z\"/><path class=\"limit\" d=\"")?;
+    push_steps(out, intervals, most, "M0 ")?;
+    out.push_str("\"/></svg>\n")
+}
+
+/// The highest limit, or 1 where none is above 0.
+fn highest(intervals: &[Interval]) -> u64 {
+    let mut most = 1;
+    for interval in intervals {
+        most = most.max(u64::from(interval.reason.limit));
+    }
+    most
+}
+
+/// Appends the data of a path along the limits, which begins so.
+fn push_steps(
+    out: &mut String,
+    intervals: &[Interval],
+    most: u64,
+    beginning: &str,
+) -> Result<(), AllocError> {
+    let mut before = beginning;
+    for interval in intervals {
+        let row = row_of(interval.reason.limit, most);
+        let end = interval.end / COLUMN;
+        write!(out, "{before}{row}H{end}")?;
+        before = "V";
+    }
+    Ok(())
+}
+
+/// The row of a limit, from above.
+fn row_of(limit: u32, most: u64) -> u64 {
+    let height = u64::from(limit) * (ROWS - TOP) / most.max(1);
+    ROWS.saturating_sub(height)
+}
+
+/// Appends the times below a picture.
+fn push_labels(alloc: Global, out: &mut String, shown: &Shown<'_>) -> Result<(), AllocError> {
+    out.push_str("<div class=\"times\" aria-hidden=\"true\">")?;
+    for step in 0..5u64 {
+        let moment = shown.from.seconds() + step * LABEL_STEP;
+        out.push_str("<span>")?;
+        push_clock(alloc, out, moment)?;
+        out.push_str("</span>")?;
+    }
+    out.push_str("</div>")
+}
+
+/// Appends the time of day of a moment, `hh:mm`.
+pub(crate) fn push_clock(alloc: Global, out: &mut String, moment: u64) -> Result<(), AllocError> {
+    let Some(instant) = Instant::try_new(moment.min(LAST_SECOND)) else {
+        return Ok(());
+    };
+    let mut text = String::new(alloc);
+    push_instant(&mut text, instant)?;
+    match text.as_str().split_once('T') {
+        Some((_, time)) => match time.rsplit_once(':') {
+            Some((minute, _)) => out.push_str(minute),
+            None => Ok(()),
+        },
+        None => Ok(()),
+    }
+}
+
+/// Appends the intervals, as far as a list goes.
+fn push_list(
+    alloc: Global,
+    out: &mut String,
+    shown: &Shown<'_>,
+    explanation: &Explanation,
+) -> Result<(), AllocError> {
+    out.push_str("<ol>\n")?;
+    for interval in explanation.intervals().iter().take(MOST_LISTED) {
+        push_item(alloc, out, shown, interval)?;
+    }
+    out.push_str("</ol>\n")?;
+    push_link(out, shown, explanation.intervals().len())
+}
+
+/// Appends an interval: from when on, the limit, and what sets it.
+fn push_item(
+    alloc: Global,
+    out: &mut String,
+    shown: &Shown<'_>,
+    interval: &Interval,
+) -> Result<(), AllocError> {
+    out.push_str("<li>from ")?;
+    let moment = shown.from.seconds() + u64::from(interval.start);
+    push_clock(alloc, out, moment)?;
+    out.push_str(" <b>")?;
+    push_limit(out, interval.reason.limit, shown.unit)?;
+    out.push_str("</b> ")?;
+    let mut why = String::new(alloc);
+    push_why(&mut why, &interval.reason, shown.unit)?;
+    push_element(out, "", why.as_str(), "</li>\n")
+}
+
+/// Appends the link to the whole picture, and how many intervals the list leaves out.
+fn push_link(out: &mut String, shown: &Shown<'_>, count: usize) -> Result<(), AllocError> {
+    let (point, connector) = (shown.point, shown.connector);
+    out.push_str("<p>")?;
+    if count > MOST_LISTED {
+        let more = count - MOST_LISTED;
+        write!(out, "and {more} more intervals: ")?;
+    }
+    push_element(out, "<a href=\"/points/", point, "/")?;
+    write!(out, "{connector}.svg\">the picture of ")?;
+    push_escaped(out, point)?;
+    write!(out, ", connector {connector}</a></p>\n")
+}

@@ -1,0 +1,90 @@
+//! A small site, and what was seen of its points.
+
+use messages::ActionKind;
+use ocpp_scalars::Instant;
+use site_core::Machine;
+use site_rules::read_site;
+use site_status::{
+    Boot, JournalReport, JournalState, PointNews, SentMoment, Sighting, SiteCounts, SiteReport,
+};
+use std::alloc::Global;
+use std::process::Abort;
+
+const SITE: &str =
+    r#"{"unit":"A","points":[{"id":"CP1","ceiling":63.0,"connectors":[32.0]},{"id":"CP2","ceiling":16.0,"connectors":[16.0]}]}"#;
+
+/// 2025-01-01T00:00:00Z, in seconds since 1970.
+const MIDNIGHT: u64 = 1_735_689_600;
+
+/// What a point says in its reply, with what means something in JSON, in HTML and in a label.
+const REASON: &str = "no <room> & \"none\" \\ 'either'\n";
+
+/// A number of seconds after midnight.
+pub(crate) fn at(rt: &impl Abort, seconds: u64) -> Instant {
+    Instant::try_new(MIDNIGHT + (seconds & 0xffff)).expect(rt, "an instant")
+}
+
+/// The site without profiles and transactions.
+pub(crate) fn machine(rt: &impl Abort, alloc: Global) -> Machine {
+    let site = read_site(alloc, SITE.as_bytes()).ok().expect(rt, "a site");
+    Machine::new(alloc, site).expect(rt, "error")
+}
+
+/// What was seen of the points: the first booted, was sent call 0, and rejected it; of the second
+/// nothing was.
+pub(crate) fn news(rt: &impl Abort, alloc: Global) -> Vec<PointNews> {
+    let mut points = Vec::new(alloc);
+    points.push(first_news(rt, alloc)).expect(rt, "error");
+    points.push(PointNews::new()).expect(rt, "error");
+    points
+}
+
+fn first_news(rt: &impl Abort, alloc: Global) -> PointNews {
+    let mut news = PointNews::new();
+    news.see(Sighting::Connected {
+        link: 1,
+        moment: at(rt, 1),
+    });
+    news.see(Sighting::Heard { moment: at(rt, 2) });
+    news.see(Sighting::Booted(Boot {
+        moment: at(rt, 2),
+        first_call: 0,
+    }));
+    news.see(Sighting::Sent(SentMoment {
+        number: 0,
+        action: ActionKind::ClearChargingProfile,
+        moment: at(rt, 3),
+    }));
+    let reason = String::from_str(alloc, REASON).expect(rt, "error");
+    let _ = news.reply(0, Some(reason), at(rt, 4));
+    news
+}
+
+/// What is told of the site 60 seconds after midnight.
+pub(crate) fn report<'a>(
+    rt: &impl Abort,
+    machine: &'a Machine,
+    points: &'a [PointNews],
+) -> SiteReport<'a> {
+    SiteReport {
+        moment: at(rt, 60),
+        machine,
+        points,
+        counts: SiteCounts {
+            point_sessions: 1,
+            operator_sessions: 2,
+            seats: 256,
+            free_seats: 253,
+            changes: 4,
+            answers: 5,
+            refused_handshakes: 6,
+            turned_away: 7,
+        },
+        journal: JournalReport {
+            state: JournalState::Full,
+            bytes: 1_234,
+            syncs: 9,
+            sync_microseconds: 12_003_450,
+        },
+    }
+}

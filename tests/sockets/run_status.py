@@ -1,0 +1,300 @@
+"""The status port of a site that is run: its paths, who reads it, and figures that follow what happened."""
+import http.client
+import json
+import os
+import re
+import socket
+import subprocess
+import sys
+import threading
+import time
+from xml.etree import ElementTree
+
+from browser import browser, contrast, schemes, seen_at
+from raw_client import RawClient
+from run_data import SITE, Data, SmallDevice
+from serving import ENVIRONMENT, PATIENCE, Running, Unexpected, expect, free_port, until
+from texts import CALL_0, accepted, call, error, heartbeat, install, plain_site, profile, rejected, start
+
+sys.path.insert(0, os.path.join(os.path.dirname(os.path.realpath(__file__)), ".."))
+from png_colours import shares_of_colours
+
+# Seconds that a connection of the status port may take, as the program has them.
+LONGEST_STATUS = 5
+
+INSTANT = re.compile(r"\d{4}-\d\d-\d\dT\d\d:\d\d:\d\dZ")
+
+
+def get(running, path, method="GET"):
+    """The status of an answer, its content type, and its body."""
+    connection = http.client.HTTPConnection("127.0.0.1", running.status_port, timeout=PATIENCE)
+    try:
+        connection.request(method, path)
+        response = connection.getresponse()
+        return response.status, response.headers["content-type"], response.read().decode()
+    finally:
+        connection.close()
+
+
+def state(running):
+    status, kind, body = get(running, "/state.json")
+    expect("how the state comes", (status, kind), (200, "application/json"))
+    return json.loads(body)
+
+
+def point_of(running, name="P1"):
+    found = [point for point in state(running)["points"] if point["id"] == name]
+    expect(f"how often {name} is there", len(found), 1)
+    return found[0]
+
+
+def metrics(running):
+    """The samples of all figures, by name and labels."""
+    status, kind, body = get(running, "/metrics")
+    expect("how the figures come", (status, kind), (200, "text/plain; version=0.0.4; charset=utf-8"))
+    samples = [line for line in body.splitlines() if not line.startswith("#")]
+    return {name: float(value) for name, value in (line.rsplit(" ", 1) for line in samples)}
+
+
+def boot(message_id):
+    return call(message_id, "BootNotification", {"chargePointVendor": "V", "chargePointModel": "M"})
+
+
+def each_path(program):
+    """Each path is there, and no other; only GET and HEAD are answered."""
+    with Data() as data, Running(program, SITE, data.path, has_status=True) as running:
+        expect("/health", get(running, "/health"), (200, "text/plain; charset=utf-8", "ok\n"))
+        expect("the points", [point["id"] for point in state(running)["points"]], ["P1", "P2"])
+        metrics(running)
+        status, kind, page = get(running, "/")
+        expect("how the page comes", (status, kind, page[:15]), (200, "text/html; charset=utf-8", "<!DOCTYPE html>"))
+        expect("its first page", get(running, "/page/1")[0], 200)
+        status, kind, picture = get(running, "/points/P1/2.svg")
+        expect("how a picture comes", (status, kind), (200, "image/svg+xml"))
+        expect("whether it is XML", ElementTree.fromstring(picture).tag.endswith("svg"), True)
+        for path in ("/nothing", "/health/", "/page/0", "/page/2", "/page/x", "/points/P1/3.svg", "/points/P3/1.svg", "/points/P1/1", "/points/P1"):
+            expect(f"the status of {path}", get(running, path)[0], 404)
+        for method in ("POST", "PUT", "DELETE", "OPTIONS"):
+            expect(f"the status of {method}", get(running, "/health", method)[0], 405)
+        expect("HEAD", get(running, "/health", "HEAD"), (200, "text/plain; charset=utf-8", ""))
+
+
+def figures_that_follow(program):
+    """What is told follows what happened at a point, and what was said of it."""
+    fields = profile(1, [7.0])
+    with Data() as data, Running(program, SITE, data.path, has_status=True) as running:
+        before = point_of(running)
+        expect("what wasn't seen", [before[key] for key in ("connectedSince", "lastText", "booted", "inFlightSince", "rejected")], [None] * 5)
+        expect("what waits", (before["confirmed"], before["inFlight"], before["waiting"]), (0, 0, 1))
+        with RawClient.connected(running, "/operator/P1") as operator, RawClient.connected(running, "/P1") as point:
+            expect("a boot", point.texts_of(boot("b"))[1:], [CALL_0])
+            expect("an install", operator.texts_of(install("i", fields)), [accepted("i")])
+            now = point_of(running)
+            seen = [bool(INSTANT.fullmatch(now[key] or "")) for key in ("connectedSince", "lastText", "booted", "inFlightSince")]
+            expect("what was seen", seen, [True] * 4)
+            expect("what waits then", (now["confirmed"], now["inFlight"], now["waiting"]), (0, 1, 1))
+            figures = metrics(running)
+            wanted = {
+                'central_sessions{kind="point"}': 1, 'central_sessions{kind="operator"}': 1, "central_seats": 256,
+                "central_seats_free": 254, 'central_calls_waiting{point="P1"}': 1, 'central_calls_in_flight{point="P1"}': 1,
+                'central_calls_waiting{point="P2"}': 1, 'central_calls_in_flight{point="P2"}': 0, "central_changes_total": 1,
+                'central_point_connected{point="P1"}': 1, 'central_point_connected{point="P2"}': 0, "central_healthy": 1,
+            }
+            expect("figures", {name: figures.get(name) for name in wanted}, wanted)
+            expect("the journal's bytes", figures["central_journal_bytes"], len(data.bytes()))
+            expect("its syncs", figures["central_journal_syncs_total"] > 0, True)
+            point.texts_of(accepted("0"))
+            expect("a rejection", point.texts_of(rejected("1", "no <b>\"room\"</b>")), [])
+            now = point_of(running)
+            expect("the call that was rejected", (now["rejections"], now["rejected"]["call"], now["rejected"]["reason"]), (1, 1, "Rejected"))
+            expect("what it asked", now["rejected"]["action"], "SetChargingProfile")
+            expect("what waits at last", (now["confirmed"], now["inFlight"], now["waiting"]), (2, 0, 0))
+            operator.texts_of(install("j", profile(2, [8.0], 1)))
+            point.texts_of(heartbeat("h"))
+            point.texts_of(error("2", "InternalError", "<script>alert(1)</script>"))
+            reason = point_of(running)["rejected"]["reason"]
+            expect("an error's text", reason, error("2", "InternalError", "<script>alert(1)</script>"))
+            page = get(running, "/")[2]
+            expect("whether the page has it as text", ("<script" in page, "&lt;script&gt;alert(1)" in page), (False, True))
+            point.texts_of(start("s"))
+            expect("a transaction", [entry["connectorId"] for entry in point_of(running)["transactions"]], [1])
+            expect("whether an idTag is told", "T1" in get(running, "/state.json")[2], False)
+        until("the point is lost", lambda: point_of(running)["connectedSince"] is None)
+        with RawClient(running) as stranger:
+            stranger.shake_hands("/P9", ["Sec-WebSocket-Protocol: ocpp1.6"])
+        until("who isn't let in is counted", lambda: metrics(running)["central_handshakes_refused_total"] == 1)
+        time.sleep(0.5)  # who writes the lines may be behind
+        said = [INSTANT.sub("AT", line) for line in running.kill_and_hear().decode().splitlines()]
+        wanted = [
+            "central: AT P1: connected", "central: AT P1: booted", "central: AT P1: rejected call 1, SetChargingProfile: Rejected",
+            f"central: AT P1: rejected call 2, SetChargingProfile: {error('2', 'InternalError', '<script>alert(1)</script>')}",
+            "central: AT P1: lost",
+        ]
+        expect("what is said", [line for line in said if " P1: " in line], wanted)
+        expect("what is said of who isn't let in", [line.partition("refused")[2] for line in said if "refused" in line], [", no such point: /P9"])
+
+
+def point_that_may_have_forgotten(program):
+    """A point that booted behind its last install is told, until it has confirmed one or agreed in an audit."""
+    fields = profile(1, [7.0])
+    with Data() as data, Running(program, SITE, data.path, has_status=True) as running:
+        forgotten = lambda: point_of(running)["mayHaveForgotten"]
+        with RawClient.connected(running, "/operator/P1") as operator, RawClient.connected(running, "/P1") as point:
+            operator.texts_of(install("i", fields))
+            point.texts_of(boot("b"))
+            point.texts_of(accepted("0"))
+            expect("with an install that waits", forgotten(), False)
+            point.texts_of(accepted("1"))
+            expect("once it is confirmed", forgotten(), False)
+            point.texts_of(boot("c"))
+            expect("behind another boot", forgotten(), True)
+            expect("in the figures", metrics(running)['central_point_may_have_forgotten{point="P1"}'], 1)
+            status, printed, _ = shown(program, running)
+            wanted = "P1: it booted, and may have forgotten its profiles: audit it, or install them anew"
+            expect("in the table", (status, printed.splitlines()[-1]), (0, wanted))
+            operator.texts_of(install("j", fields))
+            expect("with the install that waits anew", forgotten(), False)
+            point.texts_of(heartbeat("h"))
+            point.texts_of(accepted("2"))
+            expect("once it is confirmed anew", forgotten(), False)
+
+
+def shown(program, running):
+    """What `central status` says: its exit status, what it prints, and what it says on standard error."""
+    words = [program, "status", "--url", f"http://127.0.0.1:{running.status_port}"]
+    done = subprocess.run(words, capture_output=True, timeout=PATIENCE, check=False, env=ENVIRONMENT)
+    return done.returncode, done.stdout.decode(), done.stderr.decode()
+
+
+def as_a_table(program):
+    with Data() as data, Running(program, SITE, data.path, has_status=True) as running:
+        with RawClient.connected(running, "/P1") as point:
+            point.texts_of(boot("b"))
+            status, printed, said = shown(program, running)
+            expect("how it ends", (status, said), (0, ""))
+            lines = [re.split(r"  +", INSTANT.sub("AT", line)) for line in printed.splitlines()]
+            expect("its head", lines[0], ["point", "connected since", "last text", "booted", "confirmed", "in flight since", "waiting", "rejected"])
+            expect("its points", lines[1:], [["P1", "AT", "AT", "AT", "0", "AT", "0", "0"], ["P2", "-", "-", "-", "0", "-", "1", "0"]])
+        nobody = free_port()
+        for url, wanted in (("http://127.0.0.1", 3), (f"http://127.0.0.1:{nobody}", 3), (f"ws://127.0.0.1:{nobody}", 4), (f"http://127.0.0.1:{running.port}", 3)):
+            done = subprocess.run([program, "status", "--url", url], capture_output=True, timeout=PATIENCE, check=False, env=ENVIRONMENT)
+            if url != "http://127.0.0.1":  # there somebody may answer at port 80
+                expect(f"the status of {url}", done.returncode, wanted)
+
+
+def slow_clients(program):
+    """They have five seconds. Beside them others are answered, and more than there are seats wait for one."""
+    with Data() as data, Running(program, SITE, data.path, has_status=True) as running:
+        address = ("127.0.0.1", running.status_port)
+        slow = [socket.create_connection(address, PATIENCE) for _ in range(3)]
+        for client in slow:
+            client.send(b"GET /health HT")
+        expect("beside three", get(running, "/health")[0], 200)
+        began = time.monotonic()
+        for client in slow:
+            while client.recv(1_024):
+                pass
+            client.close()
+        seconds = time.monotonic() - began
+        expect(f"whether they end in time: {seconds:.1f}", seconds < LONGEST_STATUS + 3, True)
+        silent = [socket.create_connection(address, PATIENCE) for _ in range(8)]
+        expect("behind eight silent ones", get(running, "/health")[0], 200)
+        for client in silent:
+            client.close()
+
+
+def five_at_once(program):
+    """Each is answered, wholly."""
+    with Data() as data, Running(program, SITE, data.path, has_status=True) as running:
+        answers = []
+        threads = [threading.Thread(target=lambda: answers.append(get(running, "/state.json")[0])) for _ in range(5)]
+        for thread in threads:
+            thread.start()
+        for thread in threads:
+            thread.join(PATIENCE)
+        expect("the answers", answers, [200] * 5)
+
+
+def full_device(program):
+    """The site isn't well until there is room again."""
+    with SmallDevice() as data:
+        if data is None:
+            return
+        with Running(program, SITE, data.path, has_status=True) as running:
+            expect("before", get(running, "/health")[::2], (200, "ok\n"))
+            data.fill()
+            with RawClient.connected(running, "/operator/P1") as operator:
+                for number in range(1, 20):
+                    answer = operator.texts_of(install("i", profile(number, [9] * 24, number)))
+                    if answer != [accepted("i")]:
+                        break
+                expect("on a full device", get(running, "/health")[::2], (503, "device full\n"))
+                expect("in the figures", metrics(running)["central_healthy"], 0)
+                status, printed, _ = shown(program, running)
+                expect("in the table", (status, printed.splitlines()[-1]), (2, "the site: device full"))
+                data.has_room_again()
+                until("there is room", lambda: get(running, "/health")[0] == 200)
+
+
+def in_a_browser(program):
+    """A page of twenty points fits a phone and a desk, has contrast, needs no script, and can be read aloud."""
+    with Data() as data, Running(program, plain_site(20), data.path, has_status=True) as running:
+        with RawClient.connected(running, "/operator/P1") as operator:
+            operator.texts_of(install("i", profile(1, [7.0, 16.0, 9.0] * 8)))
+        page = get(running, "/")[2]
+    expect("its language", '<html lang="en">' in page, True)
+    expect("a script", "<script" in page, False)
+    expect("headings of points", re.findall(r"<h2>(\w+)</h2>", page), [f"P{number}" for number in range(1, 21)])
+    expect("pictures with a name", (page.count("<svg"), page.count('<svg role="img" aria-label="The limit of ')), (40, 40))
+    for scheme in schemes(page):
+        for ink in ("ink", "soft", "link", "warning"):
+            ratio = contrast(scheme[ink], scheme["paper"])
+            expect(f"the contrast of {ink} in {scheme}: {ratio:.1f}", ratio >= 4.5, True)
+    if browser() is None:
+        print("  no browser here", file=sys.stderr)
+        return
+    for width in (400, 1_400):
+        breadth, height, picture = seen_at(page, width)
+        expect(f"its breadth at {width} pixels", breadth <= width, True)
+        expect(f"its height at {width} pixels", height > 1_000, True)
+        expect("what is drawn", len(shares_of_colours(picture)) > 10, True)
+
+
+def refused_addresses(program):
+    """Without a word for it the port is at this machine alone."""
+    with Data() as data:
+        words = ["run", "--data", data.path, "--listen", "127.0.0.1:0", "--status", "0.0.0.0:0"]
+        with open(f"{data.folder.name}/site.json", "w", encoding="utf-8") as file:
+            file.write(SITE)
+        words += ["--site", file.name]
+        done = subprocess.run([program, *words], capture_output=True, timeout=PATIENCE, check=False, env=ENVIRONMENT)
+        said = "central: command line: without --status-open the status port is at this machine alone, such as 127.0.0.1:9100\n"
+        expect("how it ends", (done.returncode, done.stderr.decode()), (4, said))
+
+
+def standard_error_that_nobody_reads(program):
+    """It holds nobody up, though more is said than a pipe holds."""
+    with Data() as data, Running(program, SITE, data.path, has_status=True) as running:
+        for number in range(400):
+            with RawClient.connected(running, "/P1") as point:
+                point.texts_of(error(str(number), "GenericError", "x" * 500))
+                point.texts_of(heartbeat("h"))
+        expect("the next answer", get(running, "/health")[0], 200)
+        try:
+            with RawClient.connected(running, "/P2") as point:
+                expect("a point", point.texts_of(heartbeat("h"))[0][:7], '[3,"h",')
+        except OSError as problem:
+            raise Unexpected(f"a point isn't served: {problem}") from problem
+
+
+def tests():
+    yield "each path", each_path
+    yield "figures that follow", figures_that_follow
+    yield "a point that may have forgotten", point_that_may_have_forgotten
+    yield "as a table", as_a_table
+    yield "slow clients", slow_clients
+    yield "five at once", five_at_once
+    yield "in a browser", in_a_browser
+    yield "a full device", full_device
+    yield "refused addresses", refused_addresses
+    yield "standard error that nobody reads", standard_error_that_nobody_reads
