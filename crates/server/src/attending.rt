@@ -7,7 +7,6 @@ use crate::incoming_stream::{IncomingStream, seconds_since};
 use crate::session_watch::SessionWatch;
 use bytes::Bytes;
 use ocpp_scalars::Moments;
-use ocppj_frame::ReadingMemory;
 use session::{
     Context, Ended, Heard, Journal, SentCall, SessionCore, WatchedSocket, send_call, serve_next,
 };
@@ -55,7 +54,6 @@ pub(crate) fn attend_session<C: Ledger, A: Ledger, R: Wait + Clock, M: Moments, 
     let Ok(now) = Instant::now(context.rt) else {
         return;
     };
-    let mut memory = ReadingMemory::new(context.alloc);
     let mut socket = WatchedSocket::new(context.rt, socket);
     let mut attention = Attention {
         call_timeout: watch.seats.options.call_timeout,
@@ -71,7 +69,6 @@ pub(crate) fn attend_session<C: Ledger, A: Ledger, R: Wait + Clock, M: Moments, 
             watch,
             &mut socket,
             core,
-            &mut memory,
             &mut attention,
             pass,
         )
@@ -89,13 +86,12 @@ fn attend_next<C: Ledger, A: Ledger, R: Wait + Clock, M: Moments, J: Journal>(
     watch: &SessionWatch<'_, C, A, R, M, J>,
     watched: &mut WatchedSocket<'_, IncomingStream<'_, R>, NoMask, R>,
     core: &SessionCore,
-    memory: &mut ReadingMemory,
     attention: &mut Attention,
     pass: &mut Pass<C, A>,
 ) -> Result<(), Ended>
     ensures { KeepsPass pass.old pass.new }
 {
-    let heard = serve_next(context, watched, core, memory, pass)?;
+    let heard = serve_next(context, watched, core, pass)?;
     let is_last = !watched.has_kept();
     let socket = watched.websocket();
     let sent = match heard {

@@ -2,7 +2,7 @@
 //! client than it has to.
 
 use crate::deadlines::{LONGEST_HANDSHAKE, LONGEST_MESSAGE, LONGEST_WRITE, TICK};
-use crate::long_messages::LongMessages;
+use crate::long_messages::{LongMessages, Place};
 use session::Watched;
 use std::alloc::Global;
 use std::io::{ErrorKind, Read, Write};
@@ -36,7 +36,7 @@ pub(crate) struct IncomingStream<'a, R> {
     rt: &'a R,
     stream: SharedStream,
     places: &'a LongMessages,
-    has_place: bool,
+    place: Place,
     /// Until when the handshake has to be whole, while it isn't.
     handshake: Option<Instant>,
     /// When the last byte came, or else the handshake began.
@@ -73,7 +73,7 @@ impl<'a, R: Clock + Wait> IncomingStream<'a, R> {
             rt,
             stream,
             places,
-            has_place: false,
+            place: Place::Unasked,
             handshake: Some(deadline),
             heard: now,
             unfinished: None,
@@ -90,18 +90,18 @@ impl<'a, R: Clock + Wait> IncomingStream<'a, R> {
         self.stream.set_read_timeout(Some(tick)).is_ok()
     }
 
-    /// Whether it is to end, since it has a place that another connection waits for, and no
-    /// unfinished message.
+    /// Whether it is to end: it has a place that another connection waits for, and no message that it
+    /// has begun.
     pub(crate) fn is_in_the_way(&self) -> bool {
-        self.has_place && self.unfinished.is_none() && self.places.take_wish(self.rt)
+        self.place == Place::Taken
+            && self.unfinished.is_none()
+            && self.places.are_wanted(self.rt)
     }
 
     /// The connection ends: its place is free again.
     pub(crate) fn end(&mut self) {
-        if self.has_place {
-            self.has_place = false;
-            self.places.give_back(self.rt);
-        }
+        self.places.leave(self.rt, self.place);
+        self.place = Place::Unasked;
     }
 
     /// For how many seconds nothing has come.
@@ -129,11 +129,11 @@ impl<'a, R: Clock + Wait> IncomingStream<'a, R> {
         if seconds_since(self.rt, message.begun) >= LONGEST_MESSAGE {
             return Err(io::Error::from(ErrorKind::TimedOut));
         }
-        if message.bytes < LONGEST_WITHOUT_PLACE || self.has_place {
+        if message.bytes < LONGEST_WITHOUT_PLACE || self.place == Place::Taken {
             return Ok(());
         }
-        if self.places.take(self.rt) {
-            self.has_place = true;
+        self.place = self.places.ask(self.rt, self.place);
+        if self.place == Place::Taken {
             return Ok(());
         }
         let before = Instant::now(self.rt)?;

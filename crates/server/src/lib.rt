@@ -13,7 +13,6 @@ mod free_seats;
 mod handshake;
 mod incoming_stream;
 mod long_messages;
-mod long_texts;
 mod notices;
 mod path;
 mod present_streams;

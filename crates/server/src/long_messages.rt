@@ -6,7 +6,8 @@ use std::sync::{Mutex, Wait};
 /// one in memory, and keeps some of it until it ends.
 const MAX_PLACES: u64 = 16;
 
-/// How many connections may still have a long message. Most connections never have one.
+/// How many connections may still have a long message, and how many wait until they may. Most
+/// connections never have one.
 #[derive(Drop)]
 pub(crate) struct LongMessages {
     places: Mutex<Places>,
@@ -15,8 +16,18 @@ pub(crate) struct LongMessages {
 #[derive(Clone, Copy, Debug)]
 struct Places {
     free: u64,
-    /// Whether somebody found none free since one was given back.
-    is_wanted: bool,
+    waiting: u64,
+}
+
+/// Whether a connection has one of the places.
+#[derive(Clone, Copy, Debug, PartialEq, Eq)]
+pub(crate) enum Place {
+    /// It has had no long message.
+    Unasked,
+    /// It waits for one.
+    Awaited,
+    /// It has one until it ends.
+    Taken,
 }
 
 impl LongMessages {
@@ -25,33 +36,43 @@ impl LongMessages {
         LongMessages {
             places: Mutex::new(Places {
                 free: MAX_PLACES,
-                is_wanted: false,
+                waiting: 0,
             }),
         }
     }
 
-    /// Takes a place. False where none is free: then whoever has one is to give it back.
-    pub(crate) fn take<R: Wait>(&self, rt: &R) -> bool {
+    /// Asks for a place, perhaps once more. Without a free one the connection waits for it.
+    pub(crate) fn ask<R: Wait>(&self, rt: &R, place: Place) -> Place {
         let mut places = self.places.lock(rt);
+        if place == Place::Taken {
+            return place;
+        }
         if places.free == 0 {
-            places.is_wanted = true;
-            return false;
+            if place == Place::Unasked {
+                places.waiting = places.waiting.saturating_add(1);
+            }
+            return Place::Awaited;
+        }
+        if place == Place::Awaited {
+            places.waiting = places.waiting.saturating_sub(1);
         }
         places.free -= 1;
-        true
+        Place::Taken
     }
 
-    /// Gives a place back.
-    pub(crate) fn give_back<R: Wait>(&self, rt: &R) {
+    /// A connection ends that has such a place, or waits for one.
+    pub(crate) fn leave<R: Wait>(&self, rt: &R, place: Place) {
         let mut places = self.places.lock(rt);
-        places.free = places.free.saturating_add(1);
+        match place {
+            Place::Unasked => {}
+            Place::Awaited => places.waiting = places.waiting.saturating_sub(1),
+            Place::Taken => places.free = places.free.saturating_add(1),
+        }
     }
 
-    /// Whether somebody waits for a place. Only one who has a place is told so.
-    pub(crate) fn take_wish<R: Wait>(&self, rt: &R) -> bool {
-        let mut places = self.places.lock(rt);
-        let is_wanted = places.is_wanted;
-        places.is_wanted = false;
-        is_wanted
+    /// Whether more connections wait for a place than find one.
+    pub(crate) fn are_wanted<R: Wait>(&self, rt: &R) -> bool {
+        let places = self.places.lock(rt);
+        places.waiting > places.free
     }
 }

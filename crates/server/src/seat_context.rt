@@ -5,14 +5,13 @@ use crate::long_messages::LongMessages;
 use crate::notices::Notices;
 use crate::present_streams::PresentStreams;
 use crate::site_watch::SiteWatch;
-use crossbeam_channel::{Receiver, bounded};
 use ocpp_scalars::Moments;
-use session::{Journal, LongReading, LongText};
+use session::Journal;
 use site_keys::Keys;
 use std::alloc::{AllocError, Global};
 use std::rt::Clock;
 use std::sync::ledger::Ledger;
-use std::sync::{Arc, Wait};
+use std::sync::{Arc, Mutex, Wait};
 use version_store::Shared;
 
 /// What whoever runs a site may choose.
@@ -38,13 +37,9 @@ pub struct SeatContext<C: Ledger, A: Ledger, R, M, J> {
     pub(crate) watch: SiteWatch,
     pub(crate) notices: Notices,
     pub(crate) options: SeatOptions,
-    pub(crate) reading: LongReading,
-    /// The long messages that one thread reads for all seats.
-    pub(crate) long_texts: Receiver<LongText>,
+    /// Whoever reads a long message has this.
+    pub(crate) reading: Mutex<()>,
 }
-
-/// So many long messages wait for their reader before their sessions wait for room.
-const MAX_LONG_TEXTS: usize = 16;
 
 impl<
     C: Ledger,
@@ -65,7 +60,6 @@ impl<
         let book = shared.lock(&rt);
         let points = book.present().site().len();
         drop(book);
-        let (texts, long_texts) = bounded(alloc, MAX_LONG_TEXTS)?;
         Ok(SeatContext {
             rt,
             alloc,
@@ -78,8 +72,7 @@ impl<
             watch: SiteWatch::make(alloc, points)?,
             notices: Notices::new(alloc),
             options,
-            reading: LongReading::by_a_thread(texts),
-            long_texts,
+            reading: Mutex::new(()),
         })
     }
 

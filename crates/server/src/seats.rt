@@ -3,7 +3,6 @@
 ghost use Rattle.std.specs.Prelude.{◌≡◌, ◌≤◌, ◌+◌, IfOk, length};
 
 use crate::accepting::accept_connections;
-use crate::long_texts::begin_reader;
 use crate::seat::keep_seat;
 use crate::seat_context::SeatContext;
 use crate::serving::ServeFault;
@@ -92,7 +91,6 @@ pub fn run_seats<
     ensures at_most { IfOk result (λ seats. seats ≤ length passes.items) }
 {
     let wanted = passes.len();
-    begin_reader(context)?;
     let jobs = begin_workers(context, workers)?;
     let (streams, queue) = bounded(context.alloc, wanted)?;
     let seats = begin_seats(context, &jobs, &queue, passes)?;

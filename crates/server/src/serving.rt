@@ -6,13 +6,13 @@ use crate::connections::{Served, serve_connections};
 use compile_pool::{Jobs, MAX_JOBS, Open, run_pool};
 use crossbeam_channel::bounded;
 use ocpp_scalars::Moments;
-use session::{Context, LongReading, NoJournal};
+use session::{Context, NoJournal};
 use site_rules::Site;
 use std::alloc::{AllocError, Global};
 use std::marker::{Brand, Send, Sync};
 use std::net::TcpListener;
-use std::sync::Wait;
 use std::sync::ledger::{Blank, Ledger};
+use std::sync::{Mutex, Wait};
 use std::thread;
 use std::thread::Threads;
 use thiserror::Error;
@@ -156,7 +156,7 @@ fn serve_beside_workers<
                 { run_pool(rt, alloc, workers, &queue, shared, &Open) },
             );
             drop(pool);
-            let reading = LongReading::by_sessions();
+            let reading = Mutex::new(());
             let context = Context {
                 rt,
                 alloc,

@@ -1,7 +1,6 @@
 pub mod Outcome
 pub mod Session
 pub mod Todo
-pub mod LongReading
 pub mod Perform
 pub mod Serving
 pub mod Audit

@@ -13,7 +13,7 @@ use Rattle.texts.specs.declared.asked.Asked.{Asked}
 use Rattle.texts.specs.declared.asked.Asked.TheVariants as asked
 use Rattle.texts.specs.Asked.{asked_of}
 use Rattle.texts.specs.Response.{response_of}
-use Rattle.texts.specs.SentText.{Sent}
+use Rattle.texts.specs.SentText.{sent}
 use Rattle.texts.specs.Unread.{IsCallOf}
 use Rattle.session.specs.declared.session_core.Peer.{Peer}
 use Rattle.session.specs.declared.session_core.Peer.TheVariants.{Operator, Point}
@@ -21,7 +21,7 @@ use Rattle.session.specs.declared.outcome.Outcome.{Outcome}
 use Rattle.session.specs.declared.todo.Owed.{Owed}
 use Rattle.session.specs.declared.todo.Owed.TheVariants as owed
 use Rattle.session.specs.Outcome.{result_of}
-use Rattle.session.specs.Session.{SessionState, sent_by, answer_unit}
+use Rattle.session.specs.Session.{SessionState, side_of, answer_unit}
 
 pub record TodoState : Type 0 where
   -- the step that the message asks for, if it asks for one, until it is taken
@@ -47,7 +47,8 @@ todo_asked peer (asked.Confirm point call accepted) =
 
 -- what is to be done for a message that comes at a moment
 abbrev pub todo_of : SessionState → Instant → List ℕ → TodoState
-todo_of session now text = todo_asked session.peer (asked_of (sent_by session now text))
+todo_of session now text =
+    todo_asked session.peer (asked_of (sent now (side_of session.peer) session.point text))
 
 -- a CALL that memory runs out for is answered so, and asks for no step
 abbrev pub without_memory : List ℕ → TodoState
@@ -57,10 +58,6 @@ pub record IsOutOfMemory (text : List ℕ) (todo : TodoState) : Type 0 where
   pub id : List ℕ
   pub call : IsCallOf (message_of_text text) id
   pub todo_is : todo ≡ without_memory id
-
--- what may be done for a message of whoever is at the other end
-abbrev pub IsTodoOf : Peer → Sent → TodoState → Type 0
-IsTodoOf peer sent todo = (todo ≡ todo_asked peer (asked_of sent)) ⊎ IsOutOfMemory sent.frame todo
 
 abbrev pub IsTodo : SessionState → Instant → List ℕ → TodoState → Type 0
 IsTodo session now text todo = (todo ≡ todo_of session now text) ⊎ IsOutOfMemory text todo

@@ -1,12 +1,11 @@
 //! What all sessions have at hand.
 
 use crate::journal::Journal;
-use crate::long_reading::LongReading;
 use compile_pool::Jobs;
 use ocpp_scalars::Moments;
 use std::alloc::Global;
-use std::sync::Wait;
 use std::sync::ledger::Ledger;
+use std::sync::{Mutex, Wait};
 use version_store::Shared;
 
 /// What all sessions have at hand, and lend to whatever serves one.
@@ -20,6 +19,6 @@ pub struct Context<'a, C: Ledger, A: Ledger, R: Wait, M: Moments, J: Journal> {
     pub jobs: Jobs<'a>,
     pub clock: &'a M,
     pub journal: &'a J,
-    /// Who reads long messages.
-    pub reading: &'a LongReading,
+    /// Whoever reads a long message has this.
+    pub reading: &'a Mutex<()>,
 }

@@ -5,7 +5,6 @@
 mod answering;
 mod context;
 mod journal;
-mod long_reading;
 mod outcome;
 mod serving;
 mod session_core;
@@ -14,7 +13,6 @@ mod todo;
 
 pub use context::Context;
 pub use journal::{Journal, JournalFault, NoJournal};
-pub use long_reading::{LongReading, LongText, read_long_texts};
 pub use outcome::{Outcome, Performed};
 pub use serving::{
     Ended, Heard, MAX_REJECTION_BYTES, SentCall, Served, Told, Watched, WatchedSocket,

@@ -17,7 +17,6 @@ mod watched_socket;
 
 use crate::context::Context;
 use crate::journal::{Journal, NoJournal};
-use crate::long_reading::LongReading;
 use crate::session_core::SessionCore;
 use calls::lose;
 pub use calls::{attach_session, send_call};
@@ -26,12 +25,11 @@ use crossbeam_channel::Sender;
 pub use ended::Ended;
 pub use heard::{Heard, MAX_REJECTION_BYTES, SentCall, Told};
 use ocpp_scalars::Moments;
-use ocppj_frame::ReadingMemory;
 pub use served_text::{Served, serve_next, serve_sent_text};
 use std::alloc::Global;
 use std::io::{Read, Write};
-use std::sync::Wait;
 use std::sync::ledger::Ledger;
+use std::sync::{Mutex, Wait};
 use tungstenite::{MaskKeys, WebSocket};
 use version_store::{Job, Pass, Shared};
 pub use watched_socket::{Watched, WatchedSocket};
@@ -88,7 +86,7 @@ pub fn serve_noted_socket<
 ) -> (Ended, Pass<C, A>)
     ensures { KeepsPass pass result.1 }
 {
-    let reading = LongReading::by_sessions();
+    let reading = Mutex::new(());
     let context = Context {
         rt,
         alloc,
@@ -155,9 +153,8 @@ fn serve_texts<
 ) -> Ended
     ensures { KeepsPass pass.old pass.new }
 {
-    let mut memory = ReadingMemory::new(context.alloc);
     for _text in context.rt.forever() {
-        match serve_next(context, socket, core, &mut memory, pass) {
+        match serve_next(context, socket, core, pass) {
             Ok(Heard::Message { .. } | Heard::Control { .. }) => {}
             // Nobody waits here for a stream that gives up.
             Ok(Heard::Nothing) => return Ended::Broken,

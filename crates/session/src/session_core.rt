@@ -2,10 +2,9 @@
 //! knows no socket and no store.
 
 ghost use Rattle.std.specs.Prelude.{◌≡◌, IfOk, IfErr, option_map, string_bytes};
-ghost use Rattle.session.specs.LongReading.{IsAskedOf};
-ghost use Rattle.session.specs.Session.{operators, points, side_of, sent_by, answer_unit, with_link};
+ghost use Rattle.session.specs.Session.{operators, points, side_of, answer_unit, with_link};
 ghost use Rattle.messages.specs.ResponseText.{response_text};
-ghost use Rattle.session.specs.Todo.{IsTodo, IsTodoOf, answer_text};
+ghost use Rattle.session.specs.Todo.{IsTodo, answer_text};
 
 use crate::answering::response_of_outcome;
 use crate::outcome::Outcome;
@@ -17,7 +16,7 @@ use profile::Unit;
 use site_core::PointId;
 use std::alloc::{AllocError, Global};
 use std::marker::Model;
-use texts::{Asked, SentText, Unread, asked_of};
+use texts::{SentText, asked_of};
 
 /// Who is at the other end of a session's socket.
 #[derive(Clone, Copy, Debug, PartialEq, Eq)]
@@ -115,29 +114,8 @@ impl SessionCore {
         ensures todo { IfOk result (λ todo. IsTodo self.now now text.now todo) }
         ensures refusal { IfErr result (λ refusal. refusal ≡ Refusal.OutOfMemory) }
     {
-        let sent = self.sent(now, text);
-        let asked = asked_of(self.alloc, memory, &sent);
-        self.todo_of(&sent, asked)
-    }
-
-    /// A message of this session that comes at this moment.
-    pub(crate) fn sent<'a>(&'a self, now: Instant, text: &'a str) -> SentText<'a>
-        ensures { result ≡ sent_by self.now now text.now }
-    {
-        SentText::new(now, self.side(), self.point.as_str(), text)
-    }
-
-    /// What is to be done for a message that asks for this. The refusal is `OutOfMemory`.
-    pub(crate) fn todo_of(
-        &self,
-        sent: &SentText<'_>,
-        asked: Result<Asked, Unread>,
-    ) -> Result<Todo, Refusal>
-        requires { IsAskedOf sent.now asked }
-        ensures todo { IfOk result (IsTodoOf self.now.peer sent.now) }
-        ensures refusal { IfErr result (λ refusal. refusal ≡ Refusal.OutOfMemory) }
-    {
-        match asked {
+        let sent = SentText::new(now, self.side(), self.point.as_str(), text);
+        match asked_of(self.alloc, memory, &sent) {
             Ok(asked) => Ok(Todo::asked(self.peer, asked)),
             Err(unread) => match unread.call {
                 Some(id) => Ok(Todo::without_memory(id)),

@@ -10,10 +10,9 @@ use bytes::Bytes;
 use compile_pool::{Gate, Jobs, MAX_JOBS, worker};
 use crossbeam_channel::{Sender, bounded};
 use ocpp_scalars::{Instant, Moments};
-use ocppj_frame::ReadingMemory;
 use profile::Unit;
 use session::{
-    Context, Ended, Heard, LongReading, NoJournal, SessionCore, WatchedSocket, serve_next,
+    Context, Ended, Heard, NoJournal, SessionCore, WatchedSocket, serve_next,
 };
 use site_core::PointId;
 use site_rules::read_site;
@@ -21,9 +20,9 @@ use std::alloc::Global;
 use std::marker::{Brand, Send, Sync};
 use std::process::Abort;
 use std::rt::Clock;
-use std::sync::Wait;
 use std::sync::atomic::{AtomicU64, Ordering};
 use std::sync::ledger::{Blank, Ledger};
+use std::sync::{Mutex, Wait};
 use std::thread;
 use std::thread::Threads;
 use test_books::instant_at;
@@ -159,7 +158,7 @@ fn serve_messages<C: Ledger, A: Ledger, R: Abort + Wait + Clock>(
     pass: Pass<C, A>,
 ) -> (Option<Ended>, u64) {
     let clock = TenPast(Some(instant_at(10).expect(rt, "no instant")));
-    let reading = LongReading::by_sessions();
+    let reading = Mutex::new(());
     let context = Context {
         rt,
         alloc: desk.alloc,
@@ -170,10 +169,9 @@ fn serve_messages<C: Ledger, A: Ledger, R: Abort + Wait + Clock>(
         reading: &reading,
     };
     let core = SessionCore::operator(desk.alloc, "CP1", Unit::A).expect(rt, "error");
-    let mut memory = ReadingMemory::new(desk.alloc);
     let (mut watched, mut pass) = (WatchedSocket::new(rt, socket), pass);
     for _message in 0..20u32 {
-        match serve_next(&context, &mut watched, &core, &mut memory, &mut pass) {
+        match serve_next(&context, &mut watched, &core, &mut pass) {
             Ok(Heard::Nothing) => return (None, pass.totals().answers),
             Ok(_) => {}
             Err(ended) => return (Some(ended), pass.totals().answers),

@@ -13,7 +13,6 @@ use crate::serving::ended::{Ended, ended_unsaved};
 use crate::serving::reading::read_reply;
 use meaning::Said;
 use ocpp_scalars::Moments;
-use ocppj_frame::ReadingMemory;
 use site_core::{PointId, Reply, Step};
 use site_journal::{Noted, UNREAD_REPLY};
 use std::alloc::{AllocError, Global};
@@ -89,14 +88,13 @@ pub(crate) fn audit_to_judge(performed: &Performed, audit: Option<OpenAudit>) ->
 /// verdict then. Where the verdict couldn't be noted the audit has none, and the session ends.
 pub(crate) fn judge_reply<C: Ledger, A: Ledger, R: Wait, M: Moments, J: Journal>(
     context: &Context<'_, C, A, R, M, J>,
-    memory: &mut ReadingMemory,
     sent: &SentText<'_>,
     audit: OpenAudit,
 ) -> Result<(), Ended>
     ensures { OnOk result (BringsVerdict sent.now audit) }
 {
     let OpenAudit { point, call, job } = audit;
-    let (judged, is_short) = judged_by(context, memory, sent, job);
+    let (judged, is_short) = judged_by(context, sent, job);
     let frame = if is_short { UNREAD_REPLY } else { sent.frame() };
     let noted = Noted::Verdict { call, frame };
     let prepared = context
@@ -136,13 +134,12 @@ fn bring_verdict<C: Ledger, A: Ledger>(
 /// lack of memory is judged as unread.
 fn judged_by<C: Ledger, A: Ledger, R: Wait, M: Moments, J: Journal>(
     context: &Context<'_, C, A, R, M, J>,
-    memory: &mut ReadingMemory,
     sent: &SentText<'_>,
     job: AuditJob,
 ) -> (Judged, bool)
     ensures { IsJudgedBy sent.now job result.0 }
 {
-    match read_reply(context, memory, sent) {
+    match read_reply(context, sent) {
         Ok(said) => {
             let judged = Judged::make(context.alloc, job, said);
             let is_short = judged.short();

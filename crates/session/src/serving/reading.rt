@@ -1,4 +1,4 @@
-//! How a message is read into memory, which a long one takes many times its size of.
+//! How a message is read into memory, of which a long one takes many times its size.
 
 ghost use Rattle.std.specs.Prelude.{◌≡◌, IfErr, IfOk};
 ghost use Rattle.session.specs.Todo.{IsTodo};
@@ -16,39 +16,45 @@ use std::sync::Wait;
 use std::sync::ledger::Ledger;
 use texts::{SentText, said_of};
 
-/// A message of so many bytes, as most are, is read into the session's own memory, which keeps what
-/// that takes: up to 150 times as much.
-pub(crate) const LONGEST_IN_OWN: usize = 2_048;
+/// While a message of more bytes is read, no other such one is: that takes up to 150 times as much.
+const LONGEST_BESIDE_OTHERS: usize = 4_096;
 
-/// What a message asks for. A long one is read as all sessions have it.
+/// Whether a message is read while no other long one is.
+pub(crate) fn is_long(frame: &str) -> bool {
+    frame.len() > LONGEST_BESIDE_OTHERS
+}
+
+/// What a message asks for. What reading it takes is given back at once.
 pub(crate) fn read_message<C: Ledger, A: Ledger, R: Wait, M: Moments, J: Journal>(
     context: &Context<'_, C, A, R, M, J>,
     core: &SessionCore,
-    memory: &mut ReadingMemory,
     moment: Instant,
     frame: &str,
 ) -> Result<Todo, Refusal>
     ensures todo { IfOk result (λ todo. IsTodo core.now moment frame.now todo) }
     ensures refusal { IfErr result (λ refusal. refusal ≡ Refusal.OutOfMemory) }
 {
-    if frame.len() <= LONGEST_IN_OWN {
-        return core.read_text(memory, moment, frame);
+    if !is_long(frame) {
+        return core.read_text(&mut ReadingMemory::new(context.alloc), moment, frame);
     }
-    let sent = core.sent(moment, frame);
-    let asked = context.reading.asked(context.rt, context.alloc, &sent);
-    core.todo_of(&sent, asked)
+    let alone = context.reading.lock(context.rt);
+    let todo = core.read_text(&mut ReadingMemory::new(context.alloc), moment, frame);
+    drop(alone);
+    todo
 }
 
 /// What a message says in reply to an audit, read in the same way.
 pub(crate) fn read_reply<C: Ledger, A: Ledger, R: Wait, M: Moments, J: Journal>(
     context: &Context<'_, C, A, R, M, J>,
-    memory: &mut ReadingMemory,
     sent: &SentText<'_>,
 ) -> Result<Said, AllocError>
     ensures { IfOk result (λ said. said ≡ said_of sent.now) }
 {
-    if sent.frame().len() <= LONGEST_IN_OWN {
-        return said_of(context.alloc, memory, sent);
+    if !is_long(sent.frame()) {
+        return said_of(context.alloc, &mut ReadingMemory::new(context.alloc), sent);
     }
-    context.reading.said(context.rt, context.alloc, sent)
+    let alone = context.reading.lock(context.rt);
+    let said = said_of(context.alloc, &mut ReadingMemory::new(context.alloc), sent);
+    drop(alone);
+    said
 }

@@ -26,7 +26,6 @@ use crate::todo::Todo;
 use compile_pool::{answer_job, answer_unmade, wait_answer};
 use meaning::Ask;
 use ocpp_scalars::{Instant, Moments, Refusal};
-use ocppj_frame::ReadingMemory;
 use site_core::Step;
 use site_journal::Entry;
 use std::io::{Read, Write};
@@ -52,7 +51,6 @@ pub fn serve_next<
     context: &Context<'_, C, A, R, M, J>,
     socket: &mut W,
     core: &SessionCore,
-    memory: &mut ReadingMemory,
     pass: &mut Pass<C, A>,
 ) -> Result<Heard, Ended>
     ensures { KeepsPass pass.old pass.new }
@@ -70,7 +68,7 @@ pub fn serve_next<
         return Err(Ended::Broken);
     };
     let frame = text.as_str();
-    let Served { answer, told } = serve_sent_text(context, socket, core, memory, pass, now, frame)?;
+    let Served { answer, told } = serve_sent_text(context, socket, core, pass, now, frame)?;
     socket.still_there()?;
     if let Some(answer) = &answer {
         let cleared = clear_to_leave(context.journal, answer.as_str())?;
@@ -99,7 +97,6 @@ pub fn serve_sent_text<C: Ledger, A: Ledger, R: Wait, M: Moments, J: Journal, W:
     context: &Context<'_, C, A, R, M, J>,
     waiting: &mut W,
     core: &SessionCore,
-    memory: &mut ReadingMemory,
     pass: &mut Pass<C, A>,
     moment: Instant,
     frame: &str,
@@ -108,7 +105,7 @@ pub fn serve_sent_text<C: Ledger, A: Ledger, R: Wait, M: Moments, J: Journal, W:
     ensures served { IfOk result (λ served. IsServed core.now pass.old
         (sent_by core.now moment frame.now) (option_map string_bytes served.answer)) }
 {
-    let Ok(mut todo) = read_message(context, core, memory, moment, frame) else {
+    let Ok(mut todo) = read_message(context, core, moment, frame) else {
         return Err(Ended::OutOfMemory);
     };
     let sent = SentText::new(moment, core.side(), core.point_id().as_str(), frame);
@@ -118,8 +115,8 @@ pub fn serve_sent_text<C: Ledger, A: Ledger, R: Wait, M: Moments, J: Journal, W:
         Ok(entry) => entry,
         Err(fault) => return served_unmade(core, todo, fault),
     };
-    let outcome = outcome_of(context, waiting, memory, pass, &sent, step, entry)?;
-    let told = told_by(context.alloc, memory, frame, subject, &outcome);
+    let outcome = outcome_of(context, waiting, pass, &sent, step, entry)?;
+    let told = told_by(context.alloc, frame, subject, &outcome);
     let is_short = matches!(outcome, Some(Outcome::Refused(Refusal::OutOfMemory)));
     let Ok(answer) = core.answer(todo, outcome) else {
         return Err(Ended::OutOfMemory);
@@ -153,7 +150,6 @@ fn served_unmade(core: &SessionCore, todo: Todo, fault: JournalFault) -> Result<
 fn outcome_of<C: Ledger, A: Ledger, R: Wait, M: Moments, J: Journal, W: Waiting>(
     context: &Context<'_, C, A, R, M, J>,
     waiting: &mut W,
-    memory: &mut ReadingMemory,
     pass: &mut Pass<C, A>,
     sent: &SentText<'_>,
     step: Option<Step>,
@@ -166,7 +162,7 @@ fn outcome_of<C: Ledger, A: Ledger, R: Wait, M: Moments, J: Journal, W: Waiting>
 {
     match step {
         Some(step) => {
-            let outcome = outcome_of_step(context, waiting, memory, pass, sent, step, entry)?;
+            let outcome = outcome_of_step(context, waiting, pass, sent, step, entry)?;
             Ok(Some(outcome))
         }
         None => Ok(None),
@@ -178,7 +174,6 @@ fn outcome_of<C: Ledger, A: Ledger, R: Wait, M: Moments, J: Journal, W: Waiting>
 fn outcome_of_step<C: Ledger, A: Ledger, R: Wait, M: Moments, J: Journal, W: Waiting>(
     context: &Context<'_, C, A, R, M, J>,
     waiting: &mut W,
-    memory: &mut ReadingMemory,
     pass: &mut Pass<C, A>,
     sent: &SentText<'_>,
     step: Step,
@@ -191,7 +186,7 @@ fn outcome_of_step<C: Ledger, A: Ledger, R: Wait, M: Moments, J: Journal, W: Wai
 {
     let (performed, audit) = perform_noted(context, pass, step, entry)?;
     if let Some(audit) = audit_to_judge(&performed, audit) {
-        judge_reply(context, memory, sent, audit)?;
+        judge_reply(context, sent, audit)?;
     }
     match performed {
         Performed::Job(job) => answer_of(context, waiting, pass, job),

@@ -2,7 +2,7 @@
 
 use crate::outcome::Outcome;
 use crate::serving::heard::{MAX_REJECTION_BYTES, Told};
-use crate::serving::reading::LONGEST_IN_OWN;
+use crate::serving::reading::is_long;
 use crate::todo::Todo;
 use ocppj_frame::{Field, Frame, Payload, ReadingMemory, read_frame, text_field};
 use site_core::{Reply, Step};
@@ -32,7 +32,6 @@ pub(crate) fn subject_of(todo: &Todo, step: &Option<Step>) -> Subject {
 /// What a message told, once its step has its outcome.
 pub(crate) fn told_by(
     alloc: Global,
-    memory: &mut ReadingMemory,
     frame: &str,
     subject: Subject,
     outcome: &Option<Outcome>,
@@ -45,7 +44,7 @@ pub(crate) fn told_by(
                 None
             } else {
                 // Without memory it isn't said why.
-                rejection_in(alloc, memory, frame).unwrap_or_else(|_| Some(String::new(alloc)))
+                rejection_in(alloc, frame).unwrap_or_else(|_| Some(String::new(alloc)))
             },
         },
         _ => Told::Other,
@@ -57,14 +56,14 @@ pub(crate) fn told_by(
 /// nothing is left undone, as where no profile matched.
 fn rejection_in(
     alloc: Global,
-    memory: &mut ReadingMemory,
     frame: &str,
 ) -> Result<Option<String>, AllocError> {
-    // A long reply isn't read once more, into the session's own memory.
-    if frame.len() > LONGEST_IN_OWN {
+    // A long reply isn't read once more.
+    if is_long(frame) {
         return Ok(Some(beginning_of(alloc, frame)?));
     }
-    match read_frame(memory, frame) {
+    let mut memory = ReadingMemory::new(alloc);
+    match read_frame(&mut memory, frame) {
         Ok(Frame::Reply { payload, .. }) => status_of_rejection(alloc, &payload),
         _ => Ok(Some(beginning_of(alloc, frame)?)),
     }
