@@ -16,7 +16,12 @@ use std::time::Duration;
 /// lack of file descriptors.
 const PAUSE: u64 = 100;
 
-/// What is said then.
+/// Once a handshake gave way, it is looked so often, and after so many milliseconds each time, whether
+/// its seat is free.
+const LOOKS: u32 = 50;
+const LOOK: u64 = 2;
+
+/// What is said where none is.
 const FULL: &str = "all are taken: connections are turned away (HTTP 503)";
 
 /// The answer to a connection for which there is no seat.
@@ -36,7 +41,7 @@ pub(crate) fn accept_connections<C: Ledger, A: Ledger, R: Wait + Clock, M: Momen
         let Some(stream) = accept_next(seats, listener, &mut failed) else {
             continue;
         };
-        if seats.free.take(rt) {
+        if take_seat(seats) {
             // A seat waits for it, so there is room on the way.
             if streams.send(rt, stream).is_err() {
                 return;
@@ -47,6 +52,28 @@ pub(crate) fn accept_connections<C: Ledger, A: Ledger, R: Wait + Clock, M: Momen
             say_full(seats, &mut full);
         }
     }
+}
+
+/// Takes a seat for a connection. Where none is free, the handshake that lasts longest gives way, once
+/// it has had its time.
+fn take_seat<C: Ledger, A: Ledger, R: Wait + Clock, M, J>(
+    seats: &SeatContext<C, A, R, M, J>,
+) -> bool {
+    let rt = &seats.rt;
+    if seats.free.take(rt) {
+        return true;
+    }
+    if !seats.handshakes.shut_longest(rt) {
+        return false;
+    }
+    seats.watch.refuse(rt);
+    for _look in 0..LOOKS {
+        thread::sleep(rt, Duration::from_millis(LOOK));
+        if seats.free.take(rt) {
+            return true;
+        }
+    }
+    false
 }
 
 /// The next connection. None where it couldn't be accepted, after a pause: a file descriptor may be

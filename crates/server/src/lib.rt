@@ -27,6 +27,7 @@ mod status_port;
 mod status_service;
 mod status_stream;
 mod unadmitted;
+mod unfinished_handshakes;
 mod watched_journal;
 mod workers;
 

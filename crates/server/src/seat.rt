@@ -73,7 +73,15 @@ fn serve_incoming<C: Ledger, A: Ledger, R: Wait + Clock, M: Moments, J: Journal>
         return pass;
     };
     let entry = Entry::Guarded(seats.options.keys.as_ref());
-    let (mut socket, asked) = match shake_hands(context.alloc, entry, stream) {
+    let handshake = match stream.share() {
+        Some(share) => seats.handshakes.begin(context.rt, share),
+        None => None,
+    };
+    let shaken = shake_hands(context.alloc, entry, stream);
+    if let Some(handshake) = handshake {
+        seats.handshakes.end(context.rt, handshake);
+    }
+    let (mut socket, asked) = match shaken {
         Ok(shaken) => shaken,
         Err(unshaken) => {
             note_unshaken(seats, unshaken, from);

@@ -5,6 +5,7 @@ use crate::long_messages::LongMessages;
 use crate::notices::Notices;
 use crate::present_streams::PresentStreams;
 use crate::site_watch::SiteWatch;
+use crate::unfinished_handshakes::UnfinishedHandshakes;
 use ocpp_scalars::Moments;
 use session::Journal;
 use site_keys::Keys;
@@ -34,6 +35,7 @@ pub struct SeatContext<C: Ledger, A: Ledger, R, M, J> {
     pub(crate) present: PresentStreams,
     pub(crate) free: FreeSeats,
     pub(crate) long_messages: LongMessages,
+    pub(crate) handshakes: UnfinishedHandshakes,
     pub(crate) watch: SiteWatch,
     pub(crate) notices: Notices,
     pub(crate) options: SeatOptions,
@@ -69,6 +71,7 @@ impl<
             present: PresentStreams::make(alloc, points)?,
             free: FreeSeats::new(),
             long_messages: LongMessages::new(),
+            handshakes: UnfinishedHandshakes::new(alloc),
             watch: SiteWatch::make(alloc, points)?,
             notices: Notices::new(alloc),
             options,

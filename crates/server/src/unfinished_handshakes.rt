@@ -1,0 +1,91 @@
+//! The handshakes that aren't whole yet.
+
+use crate::incoming_stream::{SharedStream, seconds_since, shut};
+use std::alloc::Global;
+use std::rt::Clock;
+use std::sync::{Mutex, Wait};
+use std::time::Instant;
+
+/// So many seconds each handshake has, though connections wait for a seat.
+const LEAST: u64 = 1;
+
+/// The handshakes that aren't whole yet, so that the one that lasts longest can give way where
+/// connections wait for a seat.
+#[derive(Drop)]
+pub(crate) struct UnfinishedHandshakes {
+    begun: Mutex<BegunHandshakes>,
+}
+
+#[derive(Drop)]
+struct BegunHandshakes {
+    /// In the order in which they began.
+    handshakes: Vec<BegunHandshake>,
+    next_number: u64,
+}
+
+#[derive(Drop)]
+struct BegunHandshake {
+    number: u64,
+    begun: Instant,
+    stream: SharedStream,
+}
+
+impl UnfinishedHandshakes {
+    /// None has begun.
+    pub(crate) fn new(alloc: Global) -> UnfinishedHandshakes {
+        UnfinishedHandshakes {
+            begun: Mutex::new(BegunHandshakes {
+                handshakes: Vec::new(alloc),
+                next_number: 0,
+            }),
+        }
+    }
+
+    /// One begins over this stream. Returns its number. Without a clock or memory it doesn't give
+    /// way, and ends by its deadline.
+    pub(crate) fn begin<R: Wait + Clock>(&self, rt: &R, stream: SharedStream) -> Option<u64> {
+        let begun = Instant::now(rt).ok()?;
+        let mut unfinished = self.begun.lock(rt);
+        let number = unfinished.next_number;
+        unfinished.next_number = number.wrapping_add(1);
+        let handshake = BegunHandshake {
+            number,
+            begun,
+            stream,
+        };
+        match unfinished.handshakes.push(handshake) {
+            Ok(()) => Some(number),
+            Err(_) => None,
+        }
+    }
+
+    /// The one of this number is whole, or has failed.
+    pub(crate) fn end<R: Wait>(&self, rt: &R, number: u64) {
+        let mut unfinished = self.begun.lock(rt);
+        let found = unfinished
+            .handshakes
+            .iter()
+            .position(|handshake| handshake.number == number);
+        if let Some(place) = found {
+            let ended = unfinished.handshakes.remove(place);
+            drop(unfinished);
+            drop(ended);
+        }
+    }
+
+    /// Shuts the stream of the one that lasts longest. False where none has had its time.
+    pub(crate) fn shut_longest<R: Wait + Clock>(&self, rt: &R) -> bool {
+        let mut unfinished = self.begun.lock(rt);
+        let is_due = match unfinished.handshakes.first() {
+            Some(longest) => seconds_since(rt, longest.begun) >= LEAST,
+            None => false,
+        };
+        if !is_due {
+            return false;
+        }
+        let longest = unfinished.handshakes.remove(0);
+        drop(unfinished);
+        shut(&longest.stream);
+        true
+    }
+}
