@@ -4,10 +4,8 @@ ghost use Rattle.std.specs.Prelude.{◌≡◌, ◌⊎◌, IfErr, IsTrue};
 ghost use Rattle.compile_pool.specs.Work.{is_short};
 
 use crate::work::is_short;
-use crossbeam_channel::{SendTimeoutError, Sender};
-use std::rt::Clock;
+use crossbeam_channel::{Sender, TrySendError};
 use std::sync::Wait;
-use std::time::Duration;
 use version_store::Job;
 
 /// The ways to the workers. Short jobs have a way of their own, so that they don't wait behind long
@@ -21,7 +19,7 @@ pub struct Jobs<'a> {
 /// A job that wasn't sent.
 #[derive(Drop)]
 pub enum Unsent {
-    /// There was no room for it in time.
+    /// There is no room for it.
     NoRoom(Job),
     /// Nobody takes it.
     NoWorker(Job),
@@ -61,16 +59,11 @@ impl<'a> Jobs<'a> {
         }
     }
 
-    /// The same, where there is room within a time.
-    pub fn send_within<R: Wait + Clock>(
-        &self,
-        rt: &R,
-        job: Job,
-        time: Duration,
-    ) -> Result<(), Unsent> {
-        match self.way_of(&job).send_timeout(rt, job, time) {
+    /// The same, if there is room at once.
+    pub fn try_send<R: Wait>(&self, rt: &R, job: Job) -> Result<(), Unsent> {
+        match self.way_of(&job).try_send(rt, job) {
             Ok(()) => Ok(()),
-            Err(SendTimeoutError::Timeout(job)) => Err(Unsent::NoRoom(job)),
+            Err(TrySendError::Full(job)) => Err(Unsent::NoRoom(job)),
             Err(unsent) => Err(Unsent::NoWorker(unsent.into_inner())),
         }
     }

@@ -14,6 +14,10 @@ use std::thread;
 use std::thread::Threads;
 use version_store::Job;
 
+/// So many long jobs wait for their workers at most, of the requests that may be open at a time. The
+/// others are left to short ones.
+const MAX_LONG_JOBS: usize = MAX_JOBS / 2;
+
 /// The ways to the workers: those of short jobs, and those of long ones.
 #[derive(Drop)]
 pub(crate) struct JobSenders {
@@ -54,12 +58,12 @@ pub(crate) fn begin_workers<
     let for_long = (workers / 2).max(1);
     let for_short = (workers - workers / 2).max(1);
     Ok(JobSenders {
-        short: begin_pool(context, for_short)?,
-        long: begin_pool(context, for_long)?,
+        short: begin_pool(context, for_short, MAX_JOBS)?,
+        long: begin_pool(context, for_long, MAX_LONG_JOBS)?,
     })
 }
 
-/// Begins so many workers that take the same jobs. Returns the way to them.
+/// Begins so many workers that take the same jobs, of which so many may wait. Returns the way to them.
 fn begin_pool<
     C: Ledger + Send + Sync + Drop + 'static,
     A: Ledger + Send + Sync + Drop + 'static,
@@ -69,10 +73,11 @@ fn begin_pool<
 >(
     context: &Arc<SeatContext<C, A, R, M, J>, Global>,
     workers: usize,
+    most_waiting: usize,
 ) -> Result<Sender<Job>, ServeFault>
     requires { 1 ≤ workers }
 {
-    let (jobs, queue) = bounded(context.alloc, MAX_JOBS)?;
+    let (jobs, queue) = bounded(context.alloc, most_waiting)?;
     let (rt, alloc) = (context.rt, context.alloc);
     let shared = Arc::try_clone(&context.shared)?;
     let pool = thread::Builder::new().spawn(

@@ -35,6 +35,9 @@ const ASK_AGAIN: &str = r#"[2,"e","GetCompositeSchedule",{"connectorId":2,"durat
 const SCHEDULE_AGAIN: &str =
     r#"[3,"e",{"status":"Accepted","connectorId":2,"scheduleStart":"2025-01-01T00:00:10Z","chargingSchedule":{"duration":60,"chargingRateUnit":"A","chargingSchedulePeriod":[{"startPeriod":0,"limit":32.0}]}}]"#;
 
+/// Its answer where too many wait.
+const NO_ROOM: &str = "[4,\"b\",\"InternalError\",\"OutOfMemory\",{}]\n";
+
 /// How many turns a worker waits for a look at most; each yields.
 const TURNS: u32 = 100_000_000;
 
@@ -260,15 +263,69 @@ fn messages_that_come_meanwhile_are_answered_in_order(rt: HostRuntime) {
     meanwhile::<Brand, Brand, HostRuntime>(&rt, rt.alloc(), blanks);
 }
 
-/// A client that leaves while nobody has compiled its request, or while there is no room to send that
-/// to a worker, which is busy with a job of another session.
+/// A client that leaves while nobody has compiled its request.
 fn leaves<C: Ledger, A: Ledger, R: Abort + Wait + Clock>(
     rt: &R,
     alloc: Global,
     blanks: (Blank, Blank),
     later: Later,
-    is_full: bool,
 ) -> Served
+    requires changes { (blanks.0.name ≡ C.name) × (blanks.0.parts ≡ C.parts)
+        × (blanks.0.parts ≡ 2) }
+    requires answers { (blanks.1.name ≡ A.name) × (blanks.1.parts ≡ A.parts)
+        × (blanks.1.parts ≡ 2) }
+{
+    let (shared, mut passes): (Shared<C, A>, _) = shared_of(rt, alloc, blanks);
+    let pass = passes.pop().expect(rt, "no pass");
+    let (jobs, queue) = bounded(alloc, 1).expect(rt, "error");
+    let looks = AtomicU64::new(0);
+    let desk = Desk {
+        alloc,
+        shared: &shared,
+        looks: &looks,
+        later,
+    };
+    let served = serve(rt, &desk, &jobs, pass);
+    same(rt, looks.load(Ordering::SeqCst), 1, "looks");
+    let book = shared.lock(rt);
+    let (requests, awaited) = (book.open_requests(), book.awaits(1));
+    drop(book);
+    same(rt, requests as u64, 0, "open requests");
+    holds(rt, !awaited, "nobody waits for it");
+    same(rt, queue.len() as u64, 1, "jobs on their way");
+    served
+}
+
+#[test]
+fn a_client_that_closes_has_no_request_left(rt: HostRuntime) {
+    let blanks = (Blank::new(2), Blank::new(2));
+    let served = leaves::<Brand, Brand, HostRuntime>(&rt, rt.alloc(), blanks, Later::Close);
+    holds(&rt, served.ended == Some(Ended::Closed), "it is closed");
+    same_text(
+        &rt,
+        served.lines.as_str(),
+        "close\n",
+        "what its client reads",
+    );
+    same(&rt, served.answers, 1, "answers");
+}
+
+#[test]
+fn a_client_that_is_gone_has_no_request_left(rt: HostRuntime) {
+    let blanks = (Blank::new(2), Blank::new(2));
+    let served = leaves::<Brand, Brand, HostRuntime>(&rt, rt.alloc(), blanks, Later::End);
+    holds(&rt, served.ended == Some(Ended::Broken), "it is broken");
+    same_text(&rt, served.lines.as_str(), "", "what its client reads");
+    same(&rt, served.answers, 1, "answers");
+}
+
+/// A request that finds no room on the way to the workers, which are busy with a job of another
+/// session.
+fn finds_no_room<C: Ledger, A: Ledger, R: Abort + Wait + Clock>(
+    rt: &R,
+    alloc: Global,
+    blanks: (Blank, Blank),
+)
     requires changes { (blanks.0.name ≡ C.name) × (blanks.0.parts ≡ C.parts)
         × (blanks.0.parts ≡ 2) }
     requires answers { (blanks.1.name ≡ A.name) × (blanks.1.parts ≡ A.parts)
@@ -280,26 +337,23 @@ fn leaves<C: Ledger, A: Ledger, R: Abort + Wait + Clock>(
         passes.pop().expect(rt, "no pass"),
     );
     let (jobs, queue) = bounded(alloc, 1).expect(rt, "error");
-    if is_full {
-        let other = job_of_another(rt, alloc, &shared, &mut others);
-        jobs.send(rt, other).ok().expect(rt, "not sent");
-    }
+    let other = job_of_another(rt, alloc, &shared, &mut others);
+    jobs.send(rt, other).ok().expect(rt, "not sent");
     let looks = AtomicU64::new(0);
     let desk = Desk {
         alloc,
         shared: &shared,
         looks: &looks,
-        later,
+        later: Later::End,
     };
     let served = serve(rt, &desk, &jobs, pass);
-    same(rt, looks.load(Ordering::SeqCst), 1, "looks");
-    let book = shared.lock(rt);
-    let (requests, awaited) = (book.open_requests(), book.awaits(1 + u64::from(is_full)));
-    drop(book);
-    same(rt, requests as u64, u64::from(is_full), "open requests");
-    holds(rt, !awaited, "nobody waits for it");
+    same_text(rt, served.lines.as_str(), NO_ROOM, "what its client reads");
+    holds(rt, served.ended.is_none(), "it goes on");
+    same(rt, served.answers, 1, "answers");
+    same(rt, looks.load(Ordering::SeqCst), 0, "looks");
+    let requests = shared.lock(rt).open_requests();
+    same(rt, requests as u64, 1, "open requests");
     same(rt, queue.len() as u64, 1, "jobs on their way");
-    served
 }
 
 /// A request of another session, of number 1.
@@ -317,40 +371,7 @@ fn job_of_another<C: Ledger, A: Ledger, R: Abort + Wait>(
 }
 
 #[test]
-fn a_client_that_closes_has_no_request_left(rt: HostRuntime) {
-    for is_full in [false, true] {
-        let blanks = (Blank::new(2), Blank::new(2));
-        let served = leaves::<Brand, Brand, HostRuntime>(
-            &rt,
-            rt.alloc(),
-            blanks,
-            Later::Close,
-            is_full,
-        );
-        holds(&rt, served.ended == Some(Ended::Closed), "it is closed");
-        same_text(
-            &rt,
-            served.lines.as_str(),
-            "close\n",
-            "what its client reads",
-        );
-        same(&rt, served.answers, 1, "answers");
-    }
-}
-
-#[test]
-fn a_client_that_is_gone_has_no_request_left(rt: HostRuntime) {
-    for is_full in [false, true] {
-        let blanks = (Blank::new(2), Blank::new(2));
-        let served = leaves::<Brand, Brand, HostRuntime>(
-            &rt,
-            rt.alloc(),
-            blanks,
-            Later::End,
-            is_full,
-        );
-        holds(&rt, served.ended == Some(Ended::Broken), "it is broken");
-        same_text(&rt, served.lines.as_str(), "", "what its client reads");
-        same(&rt, served.answers, 1, "answers");
-    }
+fn a_request_without_room_is_answered_at_once(rt: HostRuntime) {
+    let blanks = (Blank::new(2), Blank::new(2));
+    finds_no_room::<Brand, Brand, HostRuntime>(&rt, rt.alloc(), blanks);
 }

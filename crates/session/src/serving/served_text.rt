@@ -255,8 +255,8 @@ fn answer_of<C: Ledger, A: Ledger, R: Wait, M: Moments, J: Journal, W: Waiting>(
     }
 }
 
-/// Has a job compiled, by a worker, or here where none takes it. Where the client is gone before its
-/// request has an answer, the request is answered unmade, so that it isn't begun any more.
+/// Has a job compiled, by a worker, or here where none takes it. Where too many wait, or the client is
+/// gone before its request has an answer, the request is answered unmade: it isn't begun any more.
 fn compile_or_leave<C: Ledger, A: Ledger, R: Wait, M: Moments, J: Journal, W: Waiting>(
     context: &Context<'_, C, A, R, M, J>,
     waiting: &mut W,
@@ -266,7 +266,7 @@ fn compile_or_leave<C: Ledger, A: Ledger, R: Wait, M: Moments, J: Journal, W: Wa
     let (number, book, ask) = (job.number(), job.share_book(), *job.ask());
     match waiting.send_job(rt, context.jobs, job) {
         Sending::NoWorker(job) => answer_job(rt, context.alloc, shared, job),
-        Sending::Unwanted(job) => {
+        Sending::NoRoom(job) => {
             let (number, book, ask) = job.into_parts();
             answer_unmade(rt, shared, number, book, ask);
         }

@@ -11,13 +11,13 @@ pub enum Sending {
     Sent,
     /// Nobody takes it.
     NoWorker(Job),
-    /// Its client is gone.
-    Unwanted(Job),
+    /// Too many wait for their workers.
+    NoRoom(Job),
 }
 
 /// How a session waits. Whatever it does meanwhile, its answer is collected as ever.
 pub trait Waiting {
-    /// Sends a job to the workers, once there is room.
+    /// Sends a job to the workers.
     fn send_job<R: Wait>(&mut self, rt: &R, jobs: Jobs<'_>, job: Job) -> Sending;
 
     /// Waits until the request of a number has its answer, or leaves that to whoever collects it.

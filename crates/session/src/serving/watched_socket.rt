@@ -155,19 +155,12 @@ impl<S: Read + Write + Watched + Drop, K: MaskKeys + Drop, R: Wait + Clock> Sess
 
 impl<S: Read + Write + Watched + Drop, K: MaskKeys + Drop, R: Wait + Clock> Waiting
     for WatchedSocket<'_, S, K, R> {
-    fn send_job<W: Wait>(&mut self, _rt: &W, jobs: Jobs<'_>, job: Job) -> Sending {
-        let mut job = job;
-        for _turn in self.rt.forever() {
-            job = match jobs.send_within(self.rt, job, Duration::from_millis(NEXT_WAIT)) {
-                Ok(()) => return Sending::Sent,
-                Err(Unsent::NoWorker(back)) => return Sending::NoWorker(back),
-                Err(Unsent::NoRoom(back)) => back,
-            };
-            if !self.look() {
-                return Sending::Unwanted(job);
-            }
+    fn send_job<W: Wait>(&mut self, rt: &W, jobs: Jobs<'_>, job: Job) -> Sending {
+        match jobs.try_send(rt, job) {
+            Ok(()) => Sending::Sent,
+            Err(Unsent::NoWorker(back)) => Sending::NoWorker(back),
+            Err(Unsent::NoRoom(back)) => Sending::NoRoom(back),
         }
-        unreachable!()
     }
 
     fn wait<C: Ledger, A: Ledger>(&mut self, shared: &Shared<C, A>, number: u64) -> bool {
