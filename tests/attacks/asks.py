@@ -2,7 +2,7 @@
 import json
 import time
 
-from attack import Attack
+from attack import KEYS, RUN, Attack
 from field import IS_PROVED, close_all
 from raw_client import PING, PONG, TEXT, Frame
 from serving import expect
@@ -60,6 +60,20 @@ def worst_asks(field):
     expect(f"whether {used / 100:.2f} s of the processor are little", used < 60 or not IS_PROVED, True)
 
 
+def more_asks_than_may_be_open(field):
+    """More worst asks come at once than requests may be open. The last ones are told so, and short ones of others find room."""
+    worst = prepare(field)
+    clients = field.strangers(70)
+    field.witness.begin()
+    for client in clients:
+        client.send_text(worst)
+    # Those for which there is no room are told so at once, before any other is answered.
+    told = clients[-1].read_text()
+    expect("what the last one is told", told, '[4,"worst","InternalError","OutOfMemory",{}]')
+    time.sleep(field.seconds)
+    close_all(clients)
+
+
 def pings_beside_an_ask(field):
     """A ping is answered while the session waits for a schedule."""
     worst = prepare(field)
@@ -84,5 +98,6 @@ def pings_beside_an_ask(field):
 
 ATTACKS = (
     Attack("30 worst asks", "the workers, while somebody waits", "nothing is done for who is gone", worst_asks),
+    Attack("70 worst asks", "those that find no room", "others find it", more_asks_than_may_be_open, (RUN, KEYS)),
     Attack("pings beside a worst ask", "nothing", "pongs within 1 s", pings_beside_an_ask),
 )

@@ -207,7 +207,7 @@ SEATS_FOR_A_WHILE = "all seats for a while"
 
 ATTACKS = (
     Attack("slow handshakes", SEATS_FOR_A_WHILE, "others get 503; closed after 10 s", slow_handshakes, (RUN, KEYS, SERVE)),
-    Attack("slow handshakes, again and again", "nothing", "a newcomer has a seat", slow_handshakes_again, (RUN, KEYS), is_open=True),
+    Attack("slow handshakes, again and again", "nothing", "a newcomer has a seat", slow_handshakes_again, (RUN, KEYS)),
     Attack("silent connections", SEATS_FOR_A_WHILE, "closed after 660 s", silent_connections, more=moves_clock, may_cut=True),
     Attack("silent connections of serve", "its connections", "the others are served", silent_connections, (SERVE,)),
     Attack("half-open connections", SEATS_FOR_A_WHILE, "closed after 660 s", half_open, more=moves_clock, may_cut=True),

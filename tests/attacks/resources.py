@@ -198,8 +198,8 @@ ATTACKS = (
     Attack("stopped and continued", "the time in which it is stopped", "all go on", stop_and_continue),
     Attack(
         "standard error that nobody reads", "what it says", "a newcomer is served", unread_standard_error,
-        more=lambda: {"error": FullPipe()}, is_open=True,
+        more=lambda: {"error": FullPipe()},
     ),
-    Attack("a journal that breaks, unread", "a restart", "the program ends", broken_journal, is_open=True),
+    Attack("a journal that breaks, unread", "a restart", "the program ends", broken_journal),
     Attack("a clock that goes back", "a fuse limit without startSchedule", "it counts again", clock_back, more=moves_clock),
 )

@@ -208,7 +208,8 @@ class Running(Serving):
 
     def kill(self):
         """Kills it, at whatever it does. What it said on standard error, without moments and without what is said of clients."""
-        return undated(self.kill_and_hear())
+        # Where its standard error isn't read here, nothing of it is heard.
+        return undated(self.kill_and_hear() or b"")
 
 
 def undated(said):
