@@ -16,9 +16,10 @@ use std::time::Duration;
 /// lack of file descriptors.
 const PAUSE: u64 = 100;
 
-/// Once a handshake gave way, it is looked so often, and after so many milliseconds each time, whether
-/// its seat is free.
+/// Once a handshake gave way, it is looked so often whether its seat is free.
 const LOOKS: u32 = 50;
+
+/// So many milliseconds pass before each look.
 const LOOK: u64 = 2;
 
 /// What is said where none is.

@@ -64,16 +64,7 @@ pub(crate) fn attend_session<C: Ledger, A: Ledger, R: Wait + Clock, M: Moments, 
         sent: None,
     };
     for _message in context.rt.forever() {
-        if attend_next(
-            context,
-            watch,
-            &mut socket,
-            core,
-            &mut attention,
-            pass,
-        )
-        .is_err()
-        {
+        if attend_next(context, watch, &mut socket, core, &mut attention, pass).is_err() {
             return;
         }
     }

@@ -93,9 +93,7 @@ impl<'a, R: Clock + Wait> IncomingStream<'a, R> {
     /// Whether it is to end: it has a place that another connection waits for, and no message that it
     /// has begun.
     pub(crate) fn is_in_the_way(&self) -> bool {
-        self.place == Place::Taken
-            && self.unfinished.is_none()
-            && self.places.are_wanted(self.rt)
+        self.place == Place::Taken && self.unfinished.is_none() && self.places.are_wanted(self.rt)
     }
 
     /// The connection ends: its place is free again.

@@ -11,9 +11,7 @@ use compile_pool::{Gate, Jobs, MAX_JOBS, worker};
 use crossbeam_channel::{Sender, bounded};
 use ocpp_scalars::{Instant, Moments};
 use profile::Unit;
-use session::{
-    Context, Ended, Heard, NoJournal, SessionCore, WatchedSocket, serve_next,
-};
+use session::{Context, Ended, Heard, NoJournal, SessionCore, WatchedSocket, serve_next};
 use site_core::PointId;
 use site_rules::read_site;
 use std::alloc::Global;

@@ -54,10 +54,7 @@ pub(crate) fn told_by(
 /// Why a point didn't do what it was asked, in its own words: the status of its reply, `Rejected` or
 /// `NotSupported` (chapter 7, ChargingProfileStatus), or the beginning of its CALLERROR. None where
 /// nothing is left undone, as where no profile matched.
-fn rejection_in(
-    alloc: Global,
-    frame: &str,
-) -> Result<Option<String>, AllocError> {
+fn rejection_in(alloc: Global, frame: &str) -> Result<Option<String>, AllocError> {
     // A long reply isn't read once more.
     if is_long(frame) {
         return Ok(Some(beginning_of(alloc, frame)?));
