@@ -7,10 +7,12 @@ use Rattle.replay.specs.declared.script.run.ReplayFault.TheVariants as replay_fa
 use Rattle.replay.specs.declared.script.run.Summary.{Summary}
 use Rattle.site_journal.specs.declared.restore_fault.RestoreFault.{RestoreFault}
 use Rattle.site_journal.specs.declared.restore_fault.RestoreFault.TheVariants as restore_fault
+use Rattle.data_folder.specs.declared.folder_fault.FolderFault.{FolderFault}
+use Rattle.data_folder.specs.declared.folder_fault.FolderFault.TheVariants as folder_fault
 use Rattle.client.specs.declared.fault.ClientFault.{ClientFault}
 use Rattle.client.specs.declared.fault.ClientFault.TheVariants as client_fault
 use Rattle.central.specs.declared.program.program_fault.ProgramFault.{ProgramFault}
-use Rattle.central.specs.declared.program.program_fault.ProgramFault.TheVariants.{Words, Site, SiteFile, Write, Replay, Serve, DataInUse, Data, Journal, JournalHeader, Unrestored, JournalLineTooLong, Clock, Client, File, NoSuchPoint, NoSuchConnector, NoInstant, NoScriptEnd, NoNumber, PastCalendar, NoPicture, NoKeys, StatusOpen, StatusUrl, NoStatus, Keys, KeyName, Random, OutOfMemory}
+use Rattle.central.specs.declared.program.program_fault.ProgramFault.TheVariants.{Words, Site, SiteFile, Write, Replay, Serve, Folder, Client, File, NoSuchPoint, NoSuchConnector, NoInstant, NoScriptEnd, NoNumber, PastCalendar, NoPicture, NoKeys, StatusOpen, StatusUrl, NoStatus, Keys, KeyName, Random, OutOfMemory}
 
 abbrev pub replay_status : ReplayFault → ℕ
 replay_status replay_fault.Read = 3
@@ -29,6 +31,18 @@ abbrev pub restore_status : RestoreFault → ℕ
 restore_status restore_fault.OutOfMemory = 3
 restore_status _ = 1
 
+abbrev pub folder_status : FolderFault → ℕ
+folder_status folder_fault.InUse = 4
+folder_status folder_fault.Read = 3
+folder_status folder_fault.Write = 3
+folder_status folder_fault.Print = 3
+folder_status folder_fault.Clock = 3
+folder_status (folder_fault.Header line fault) = 1
+folder_status (folder_fault.Unrestored unrestored) = restore_status unrestored.fault
+folder_status folder_fault.LineTooLong = 1
+folder_status folder_fault.ScriptTooLong = 2
+folder_status folder_fault.OutOfMemory = 3
+
 abbrev pub fault_status : ProgramFault → ℕ
 fault_status Words = 4
 fault_status (Site fault) = 1
@@ -36,13 +50,7 @@ fault_status SiteFile = 3
 fault_status Write = 3
 fault_status (Replay fault) = replay_status fault
 fault_status (Serve fault) = 3
-fault_status DataInUse = 4
-fault_status Data = 3
-fault_status Journal = 3
-fault_status (JournalHeader line fault) = 1
-fault_status (Unrestored unrestored) = restore_status unrestored.fault
-fault_status JournalLineTooLong = 1
-fault_status Clock = 3
+fault_status (Folder fault) = folder_status fault
 fault_status (Client fault) = client_status fault
 fault_status File = 3
 fault_status NoSuchPoint = 4

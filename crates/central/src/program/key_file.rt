@@ -1,8 +1,8 @@
 //! The file of those who may come, and how a key for it is made.
 
 use crate::program::command_line::KeyMaking;
-use crate::program::named_file::or_stop;
 use crate::program::program_fault::ProgramFault;
+use data_folder::or_stop;
 use replay::{InputFault, read_all};
 use site_keys::{KeyText, Keys, Role, write_key};
 use std::alloc::AllocGlobal;

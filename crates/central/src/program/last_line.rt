@@ -1,6 +1,7 @@
 //! The line that says why the program stops.
 
 use crate::program::program_fault::ProgramFault;
+use data_folder::FolderFault;
 use std::alloc::AllocGlobal;
 use std::marker::{Send, Sync};
 use std::rt::Clock;
@@ -24,7 +25,7 @@ struct LastLine {
 impl LastLine {
     /// Writes the line, or finds that it can't be written.
     fn write<R: Eprint + Wait>(&self, rt: &R) {
-        let _ = rt.eprintln(&ProgramFault::Journal);
+        let _ = rt.eprintln(&ProgramFault::Folder(FolderFault::Write));
         *self.is_written.lock(rt) = true;
         self.written.notify_all();
     }
@@ -36,7 +37,7 @@ pub fn say_fault<
     R: Eprint + AllocGlobal + Clock + Threads + Wait + Copy + Send + Sync + Drop + 'static,
 >(rt: &R, fault: &ProgramFault) {
     let is_said = match fault {
-        ProgramFault::Journal => say_in_time(rt).is_some(),
+        ProgramFault::Folder(FolderFault::Write) => say_in_time(rt).is_some(),
         _ => false,
     };
     if !is_said {

@@ -1,12 +1,13 @@
 //! Why the program stops, and its exit statuses.
 
 ghost use Rattle.std.specs.Prelude.{◌≡◌};
-ghost use Rattle.central.specs.ExitStatus.{fault_status, summary_status};
+ghost use Rattle.central.specs.ExitStatus.{fault_status, folder_status, summary_status};
 
 use client::ClientFault;
+use data_folder::FolderFault;
 use replay::{ReplayFault, Summary};
 use server::ServeFault;
-use site_journal::{HeaderFault, RestoreFault, Unrestored};
+use site_journal::{RestoreFault, Unrestored};
 use site_keys::{KeysFault, NewKeyFault};
 use site_rules::SiteFault;
 use std::alloc::{AllocError, AllocFailed};
@@ -32,27 +33,9 @@ pub enum ProgramFault {
     /// The sockets failed, or there was no memory for them.
     #[error("central: {0}")]
     Serve(ServeFault),
-    /// Another process runs on the folder of the data.
-    #[error("central: command line: another process runs on the folder of --data")]
-    DataInUse,
-    /// The journal can't be read.
-    #[error("central: device: read")]
-    Data,
-    /// The journal can't be written.
-    #[error("central: device: write")]
-    Journal,
-    /// A line of the journal that is to name a site file doesn't: the first one has to.
-    #[error("central: journal: line {line}: {fault}")]
-    JournalHeader { line: u64, fault: HeaderFault },
-    /// A line of the journal is no line, or its step isn't made as it was.
-    #[error("central: journal: {0}")]
-    Unrestored(Unrestored),
-    /// A line of the journal is longer than any.
-    #[error("central: journal: a line has more than 4194304 bytes")]
-    JournalLineTooLong,
-    /// The clock can't be read.
-    #[error("central: device: clock")]
-    Clock,
+    /// Nothing comes of the journal of the folder of the data.
+    #[error("central: {0}")]
+    Folder(FolderFault),
     /// A client stopped.
     #[error("central: {0}")]
     Client(ClientFault),
@@ -113,29 +96,42 @@ impl ProgramFault {
         ensures { result ≡ fault_status self.now }
     {
         match self {
-            ProgramFault::Site(_) | ProgramFault::JournalHeader { .. } => 1,
-            ProgramFault::Unrestored(
-                Unrestored {
-                    fault: RestoreFault::OutOfMemory,
-                    ..
-                },
-            ) => 3,
-            ProgramFault::Unrestored(_) | ProgramFault::JournalLineTooLong => 1,
+            ProgramFault::Site(_) => 1,
+            ProgramFault::Folder(fault) => folder_status(fault),
             ProgramFault::Replay(ReplayFault::ScriptTooLong) => 2,
             ProgramFault::Replay(_) => 3,
             ProgramFault::SiteFile | ProgramFault::Write | ProgramFault::OutOfMemory => 3,
-            ProgramFault::Serve(_) | ProgramFault::File | ProgramFault::Journal => 3,
-            ProgramFault::Data | ProgramFault::Clock | ProgramFault::Random => 3,
+            ProgramFault::Serve(_) | ProgramFault::File | ProgramFault::Random => 3,
             ProgramFault::Keys(_) => 1,
             ProgramFault::Client(ClientFault::Url | ClientFault::NotOperator) => 4,
             ProgramFault::Client(_) => 3,
             ProgramFault::Words | ProgramFault::NoSuchPoint | ProgramFault::NoSuchConnector => 4,
             ProgramFault::NoInstant | ProgramFault::PastCalendar | ProgramFault::NoPicture => 4,
-            ProgramFault::DataInUse | ProgramFault::NoNumber | ProgramFault::NoScriptEnd => 4,
+            ProgramFault::NoNumber | ProgramFault::NoScriptEnd => 4,
             ProgramFault::NoKeys | ProgramFault::KeyName => 4,
             ProgramFault::StatusOpen | ProgramFault::StatusUrl => 4,
             ProgramFault::NoStatus => 3,
         }
+    }
+}
+
+/// The program's exit status where nothing comes of a folder's journal.
+fn folder_status(fault: &FolderFault) -> u8
+    ensures { result ≡ folder_status fault.now }
+{
+    match fault {
+        FolderFault::Header { .. } | FolderFault::LineTooLong => 1,
+        FolderFault::Unrestored(
+            Unrestored {
+                fault: RestoreFault::OutOfMemory,
+                ..
+            },
+        ) => 3,
+        FolderFault::Unrestored(_) => 1,
+        FolderFault::ScriptTooLong => 2,
+        FolderFault::Read | FolderFault::Write | FolderFault::Print => 3,
+        FolderFault::Clock | FolderFault::OutOfMemory => 3,
+        FolderFault::InUse => 4,
     }
 }
 
@@ -156,6 +152,15 @@ impl From<SiteFault> for ProgramFault {
         match fault {
             SiteFault::OutOfMemory => ProgramFault::OutOfMemory,
             fault => ProgramFault::Site(fault),
+        }
+    }
+}
+
+impl From<FolderFault> for ProgramFault {
+    fn from(fault: FolderFault) -> ProgramFault {
+        match fault {
+            FolderFault::OutOfMemory => ProgramFault::OutOfMemory,
+            fault => ProgramFault::Folder(fault),
         }
     }
 }

@@ -1,9 +1,9 @@
 //! The job of `central replay`.
 
 use crate::program::command_line::Replaying;
-use crate::program::journal_script::read_journal_script;
 use crate::program::program_fault::ProgramFault;
 use crate::program::site_file::read_site_file;
+use data_folder::read_journal_script;
 use replay::{Summary, replay};
 use site_rules::Site;
 use std::alloc::AllocGlobal;

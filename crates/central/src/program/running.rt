@@ -3,15 +3,14 @@
 ghost use Rattle.std.specs.Prelude.{◌≡◌, ◌≤◌, ◌+◌};
 
 use crate::program::command_line::Running;
-use crate::program::data_folder::{OpenJournal, open_journal};
-use crate::program::journal_file::JournalFile;
 use crate::program::key_file::read_key_file;
-use crate::program::named_file::or_stop;
 use crate::program::program_fault::ProgramFault;
-use crate::program::restoring::{Resumed, count_resumed, restore_book};
 use crate::program::site_file::read_digested_site;
-use crate::program::system_clock::SystemClock;
-use ocpp_scalars::Moments;
+use crate::program::watched_file::WatchedFile;
+use data_folder::{
+    FolderFault, JournalFile, OpenJournal, Resumed, SystemClock, open_journal, or_stop,
+    restore_shared,
+};
 use server::{
     SeatContext, SeatOptions, SeatedBook, ServeFault, StatusPort, begin_status, run_seats,
 };
@@ -26,7 +25,7 @@ use std::rt::{Clock, Files};
 use std::sync::ledger::{Blank, Ledger};
 use std::sync::{Arc, Wait};
 use std::thread::Threads;
-use version_store::{Pass, Shared};
+use version_store::Shared;
 
 /// What is run.
 #[derive(Drop)]
@@ -188,7 +187,8 @@ fn run_counted<
             return Err(ProgramFault::Serve(fault));
         }
     }
-    let journal = restore_shared(rt, opened, &digest, &shared, restoring)?;
+    let (journal, resumed) = restore_shared(rt, opened, &digest, &shared, restoring)?;
+    print_resumed(rt, resumed)?;
     let context = context_of(rt, shared, journal, options)?;
     port.watch(&context)?;
     if let Err(fault) = run_seats(&context, listener, seats, workers as usize) {
@@ -197,8 +197,8 @@ fn run_counted<
     if println!(rt; "listening {listen}").is_err() {
         return Err(ProgramFault::Write);
     }
-    context.journal().until_broken();
-    Err(ProgramFault::Journal)
+    context.journal().file.until_broken();
+    Err(ProgramFault::Folder(FolderFault::Write))
 }
 
 /// What the threads share that serve this book.
@@ -207,40 +207,12 @@ fn context_of<C: Ledger, A: Ledger, R: Clock + Wait + Eprint + AllocGlobal + Cop
     shared: Shared<C, A>,
     journal: JournalFile<R>,
     options: SeatOptions,
-) -> Result<Arc<SeatContext<C, A, R, SystemClock<R>, JournalFile<R>>, Global>, AllocError> {
+) -> Result<Arc<SeatContext<C, A, R, SystemClock<R>, WatchedFile<R>>, Global>, AllocError> {
     let alloc = rt.alloc();
     let clock = SystemClock { rt: *rt };
+    let journal = WatchedFile { file: journal };
     let context = SeatContext::make(*rt, alloc, shared, clock, journal, options)?;
     Ok(Arc::new(alloc, context)?)
-}
-
-/// Restores the book that sessions will share, with a pass of its own, and prints what it has.
-/// Returns its journal, in which all stands.
-fn restore_shared<
-    C: Ledger,
-    A: Ledger,
-    R: Files<File = File> + Print + Eprint + AllocGlobal + Clock + Wait + Copy + Drop,
->(
-    rt: &R,
-    opened: OpenJournal,
-    digest: &[u8; 32],
-    shared: &Shared<C, A>,
-    pass: Pass<C, A>,
-) -> Result<JournalFile<R>, ProgramFault> {
-    let (mut opened, mut pass) = (opened, pass);
-    let Some(now) = (SystemClock { rt }).now() else {
-        return Err(ProgramFault::Clock);
-    };
-    let mut book = shared.lock(rt);
-    let added = restore_book(rt, &mut opened, digest, &mut book, &mut pass, now)?;
-    let resumed = count_resumed(book.present());
-    drop(book);
-    let journal = JournalFile::make(*rt, opened, added)?;
-    if journal.keep_all().is_err() {
-        return Err(ProgramFault::Journal);
-    }
-    print_resumed(rt, resumed)?;
-    Ok(journal)
 }
 
 fn print_resumed<R: Print>(rt: &R, resumed: Resumed) -> Result<(), ProgramFault> {

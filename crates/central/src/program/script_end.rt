@@ -1,18 +1,8 @@
-//! How far a script or a journal is played.
+//! How far `--at` says that a script or a journal is played.
 
 use crate::program::program_fault::ProgramFault;
-use ocpp_scalars::{Instant, read_instant};
-
-/// How far a script or a journal is played.
-#[derive(Clone, Copy, Debug, PartialEq, Eq)]
-pub enum ScriptEnd {
-    /// All of it.
-    Whole,
-    /// So many lines.
-    Lines(u64),
-    /// Its lines before the first one that is later than this moment.
-    Moment(Instant),
-}
+use data_folder::ScriptEnd;
+use ocpp_scalars::read_instant;
 
 /// How far `--at` says that a script is played: a number of lines, or a moment.
 pub fn script_end(at: Option<&str>) -> Result<ScriptEnd, ProgramFault> {
@@ -26,43 +16,4 @@ pub fn script_end(at: Option<&str>) -> Result<ScriptEnd, ProgramFault> {
         Ok(moment) => Ok(ScriptEnd::Moment(moment)),
         Err(_) => Err(ProgramFault::NoScriptEnd),
     }
-}
-
-impl ScriptEnd {
-    /// The last line of a script that is played, or None where all are.
-    pub fn last_line(self, script: &[u8]) -> Option<u64> {
-        match self {
-            ScriptEnd::Whole => None,
-            ScriptEnd::Lines(lines) => Some(lines),
-            ScriptEnd::Moment(moment) => Some(lines_until(script, moment)),
-        }
-    }
-
-    /// Whether a line of a journal, of this number and moment, isn't played any more.
-    pub fn is_before(self, number: u64, moment: Instant) -> bool {
-        match self {
-            ScriptEnd::Whole => false,
-            ScriptEnd::Lines(lines) => lines < number,
-            ScriptEnd::Moment(last) => last < moment,
-        }
-    }
-}
-
-/// How many lines of a script come before the first one that is later than a moment.
-fn lines_until(script: &[u8], moment: Instant) -> u64 {
-    let mut lines = 0u64;
-    for line in script.split(|byte| *byte == b'\n') {
-        if moment_of(line).is_some_and(|later| later > moment) {
-            break;
-        }
-        lines = lines.saturating_add(1);
-    }
-    lines
-}
-
-/// The moment at which a line of a script begins, if it does.
-fn moment_of(line: &[u8]) -> Option<Instant> {
-    let text = std::str::from_utf8(line).ok()?;
-    let (moment, _) = text.split_once(' ')?;
-    read_instant(moment).ok()
 }

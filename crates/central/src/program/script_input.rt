@@ -3,8 +3,8 @@
 ghost use Rattle.std.specs.Prelude.{◌≤◌, IfOk, vec_len};
 ghost use Rattle.replay.specs.Limits.{max_script_bytes};
 
-use crate::program::journal_script::read_journal_script;
 use crate::program::program_fault::ProgramFault;
+use data_folder::read_journal_script;
 use replay::{InputFault, MAX_SCRIPT_BYTES, ReplayFault, read_all};
 use std::alloc::AllocGlobal;
 use std::fs::File;
@@ -31,7 +31,7 @@ pub fn read_script_of<R: Files<File = File> + Input + Eprint + AllocGlobal>(
     ensures short { IfOk result (λ script. vec_len script ≤ max_script_bytes) }
 {
     match data {
-        Some(folder) => read_journal_script(rt, folder),
+        Some(folder) => Ok(read_journal_script(rt, folder)?),
         None => read_script(rt),
     }
 }

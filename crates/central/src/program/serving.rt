@@ -5,7 +5,7 @@ ghost use Rattle.std.specs.Prelude.{◌≤◌};
 use crate::program::command_line::Serving;
 use crate::program::program_fault::ProgramFault;
 use crate::program::site_file::read_site_file;
-use crate::program::system_clock::SystemClock;
+use data_folder::SystemClock;
 use server::{ServeFault, serve};
 use site_rules::Site;
 use std::alloc::AllocGlobal;

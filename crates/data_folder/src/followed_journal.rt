@@ -2,12 +2,12 @@
 
 ghost use Rattle.std.specs.Prelude.{◌≡◌};
 
-use crate::program::data_folder::open_to_read;
-use crate::program::journal_lines::{JournalLines, Lines};
-use crate::program::journal_script::{say_torn, unread};
-use crate::program::program_fault::ProgramFault;
-use crate::program::restoring::say_other_site;
-use crate::program::script_end::ScriptEnd;
+use crate::folder_fault::FolderFault;
+use crate::journal_lines::{JournalLines, Lines};
+use crate::journal_script::{say_torn, unread};
+use crate::open_journal::open_to_read;
+use crate::restoring::say_other_site;
+use crate::script_end::ScriptEnd;
 use ocpp_scalars::{Instant, push_instant};
 use ocppj_frame::ReadingMemory;
 use show_pages::{PointCalls, Standing};
@@ -75,7 +75,7 @@ impl FollowedJournal {
 pub fn follow_journal<R: Files<File = File> + Eprint + AllocGlobal>(
     rt: &R,
     following: Following<'_>,
-) -> Result<FollowedJournal, ProgramFault> {
+) -> Result<FollowedJournal, FolderFault> {
     let blanks = (Blank::new(1), Blank::new(1));
     follow_counted::<Brand, Brand, R>(rt, following, blanks)
 }
@@ -85,7 +85,7 @@ fn follow_counted<C: Ledger, A: Ledger, R: Files<File = File> + Eprint + AllocGl
     rt: &R,
     following: Following<'_>,
     blanks: (Blank, Blank),
-) -> Result<FollowedJournal, ProgramFault>
+) -> Result<FollowedJournal, FolderFault>
     requires changes { (blanks.0.name ≡ C.name) × (blanks.0.parts ≡ C.parts)
         × (blanks.0.parts ≡ 1) }
     requires answers { (blanks.1.name ≡ A.name) × (blanks.1.parts ≡ A.parts)
@@ -150,7 +150,7 @@ impl<C: Ledger, A: Ledger> Follower<C, A> {
         alloc: Global,
         site: Site,
         blanks: (Blank, Blank),
-    ) -> Result<Follower<C, A>, ProgramFault>
+    ) -> Result<Follower<C, A>, FolderFault>
         requires changes { (blanks.0.name ≡ C.name) × (blanks.0.parts ≡ C.parts)
             × (blanks.0.parts ≡ 1) }
         requires answers { (blanks.1.name ≡ A.name) × (blanks.1.parts ≡ A.parts)
@@ -163,7 +163,7 @@ impl<C: Ledger, A: Ledger> Follower<C, A> {
         let (changes, answers) = blanks;
         let (book, mut passes) = Book::make(alloc, changes, answers, site, 1)?;
         let Some(pass) = passes.pop() else {
-            return Err(ProgramFault::OutOfMemory);
+            return Err(FolderFault::OutOfMemory);
         };
         Ok(Follower {
             alloc,
@@ -179,7 +179,7 @@ impl<C: Ledger, A: Ledger> Follower<C, A> {
     }
 
     /// What was followed, once all is.
-    fn into_followed(self) -> Result<FollowedJournal, ProgramFault> {
+    fn into_followed(self) -> Result<FollowedJournal, FolderFault> {
         let machine = self.book.present().copy()?;
         let Follower {
             calls,
@@ -196,7 +196,7 @@ impl<C: Ledger, A: Ledger> Follower<C, A> {
     }
 
     /// Reads lines, and follows those up to the end that is wanted.
-    fn follow_lines(&mut self, lines: Lines<'_>, wanted: &Wanted<'_>) -> Result<(), ProgramFault> {
+    fn follow_lines(&mut self, lines: Lines<'_>, wanted: &Wanted<'_>) -> Result<(), FolderFault> {
         let (mut rest, mut number) = (lines.bytes, lines.first);
         for _line in 0..lines.bytes.len() {
             let Some((bytes, others)) = split_line(rest) else {
@@ -223,14 +223,14 @@ impl<C: Ledger, A: Ledger> Follower<C, A> {
         text: &[u8],
         number: u64,
         wanted: &Wanted<'_>,
-    ) -> Result<(), ProgramFault> {
+    ) -> Result<(), FolderFault> {
         self.last = Some(line.moment);
         self.is_ended = self.is_ended || wanted.end.is_before(number, line.moment);
         if self.is_ended {
             return Ok(());
         }
         if let Err(unrestored) = restore(self.alloc, &mut self.book, &mut self.pass, text) {
-            return Err(ProgramFault::Unrestored(Unrestored {
+            return Err(FolderFault::Unrestored(Unrestored {
                 line: number,
                 fault: unrestored.fault,
             }));

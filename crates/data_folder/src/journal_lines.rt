@@ -1,7 +1,7 @@
 //! The lines of a journal, read from its file part by part.
 
-use crate::program::named_file::NamedFile;
-use crate::program::program_fault::ProgramFault;
+use crate::folder_fault::FolderFault;
+use crate::named_file::NamedFile;
 use site_journal::{HeaderFault, read_header, split_line, whole_lines};
 use std::alloc::{AllocError, Global};
 use std::mem;
@@ -63,7 +63,7 @@ impl JournalLines {
         &mut self,
         rt: &R,
         journal: &mut NamedFile,
-    ) -> Result<Option<Lines<'_>>, ProgramFault> {
+    ) -> Result<Option<Lines<'_>>, FolderFault> {
         let mut has_steps = false;
         // Each turn but the last one reads a part of the file, or a line that names a site file.
         for _turn in 0..u64::MAX {
@@ -112,7 +112,7 @@ impl JournalLines {
         &mut self,
         rt: &R,
         journal: &mut NamedFile,
-    ) -> Result<bool, ProgramFault> {
+    ) -> Result<bool, FolderFault> {
         if self.is_at_end {
             return Ok(false);
         }
@@ -130,9 +130,9 @@ impl JournalLines {
 
     /// Refuses a part without a whole line, but for the end of a journal. A file of another kind
     /// isn't taken for a journal that was begun.
-    fn check_torn(&self) -> Result<(), ProgramFault> {
+    fn check_torn(&self) -> Result<(), FolderFault> {
         if !self.is_at_end {
-            return Err(ProgramFault::JournalLineTooLong);
+            return Err(FolderFault::LineTooLong);
         }
         let torn = self.torn.as_slice();
         let begins = SITE_LINE.starts_with(torn) || torn.starts_with(SITE_LINE);
@@ -153,7 +153,7 @@ impl JournalLines {
     }
 
     /// Takes the line that is ahead, which has to name a site file.
-    fn take_site(&mut self) -> Result<(), ProgramFault> {
+    fn take_site(&mut self) -> Result<(), FolderFault> {
         let ahead = mem::replace(&mut self.ahead, Vec::new(self.alloc));
         let Some((line, rest)) = split_line(ahead.as_slice()) else {
             return Ok(());
@@ -175,8 +175,8 @@ impl JournalLines {
     }
 
     /// The line that is ahead names no site file.
-    fn no_site_line(&self, fault: HeaderFault) -> ProgramFault {
-        ProgramFault::JournalHeader {
+    fn no_site_line(&self, fault: HeaderFault) -> FolderFault {
+        FolderFault::Header {
             line: self.count.saturating_add(1),
             fault,
         }

@@ -1,6 +1,7 @@
 //! A file with its name, for what is said of it.
 
-use crate::program::program_fault::ProgramFault;
+use crate::folder_fault::FolderFault;
+use std::alloc::AllocError;
 use std::fs::File;
 use std::io;
 use std::io::{ErrorKind, Read};
@@ -20,23 +21,23 @@ impl NamedFile {
         rt: &R,
         bytes: &mut Vec<u8>,
         most: u64,
-    ) -> Result<usize, ProgramFault> {
+    ) -> Result<usize, FolderFault> {
         let read = self.file.by_ref().take(most).read_to_end(bytes);
-        or_stop(rt, self.path.as_str(), read, ProgramFault::Data)
+        or_stop(rt, self.path.as_str(), read, FolderFault::Read)
     }
 }
 
 /// What the system did with a file or an address of this name. Where it didn't, the name and the
 /// system's cause are said on standard error, and the program stops by this fault.
-pub fn or_stop<T, R: Eprint>(
+pub fn or_stop<T, F: From<AllocError> + Drop, R: Eprint>(
     rt: &R,
     name: &str,
     done: io::Result<T>,
-    fault: ProgramFault,
-) -> Result<T, ProgramFault> {
+    fault: F,
+) -> Result<T, F> {
     match done {
         Ok(value) => Ok(value),
-        Err(error) if error.kind() == ErrorKind::OutOfMemory => Err(ProgramFault::OutOfMemory),
+        Err(error) if error.kind() == ErrorKind::OutOfMemory => Err(F::from(AllocError)),
         Err(error) => {
             let _ = eprintln!(rt; "central: {name}: {error}");
             Err(fault)

@@ -1,8 +1,8 @@
 //! The folder of a site that is run: its journal, which one process at a time has.
 
-use crate::program::named_file::{NamedFile, or_stop};
-use crate::program::program_fault::ProgramFault;
-use crate::program::reserve_file::ReserveFile;
+use crate::folder_fault::FolderFault;
+use crate::named_file::{NamedFile, or_stop};
+use crate::reserve_file::ReserveFile;
 use std::alloc::{AllocError, AllocGlobal, Global};
 use std::fs::{File, OpenOptions, TryLockError};
 use std::io::ErrorKind;
@@ -22,7 +22,7 @@ pub struct OpenJournal {
 pub fn open_journal<R: Files<File = File> + Eprint + AllocGlobal>(
     rt: &R,
     folder: &str,
-) -> Result<OpenJournal, ProgramFault> {
+) -> Result<OpenJournal, FolderFault> {
     make_folder(rt, folder)?;
     let path = journal_path(rt.alloc(), folder)?;
     let mut options = OpenOptions::new();
@@ -31,17 +31,17 @@ pub fn open_journal<R: Files<File = File> + Eprint + AllocGlobal>(
         .append(true)
         .create(true)
         .open(rt, path.as_str());
-    let file = or_stop(rt, path.as_str(), opened, ProgramFault::Journal)?;
+    let file = or_stop(rt, path.as_str(), opened, FolderFault::Write)?;
     match file.try_lock() {
         Ok(()) => {}
-        Err(TryLockError::WouldBlock) => return Err(ProgramFault::DataInUse),
+        Err(TryLockError::WouldBlock) => return Err(FolderFault::InUse),
         Err(TryLockError::Error(error)) => {
-            or_stop(rt, path.as_str(), Err(error), ProgramFault::Journal)?
+            or_stop(rt, path.as_str(), Err(error), FolderFault::Write)?
         }
     }
     // The folder is to have the file after a power cut, too.
     let synced = sync_folder(rt, folder);
-    or_stop(rt, folder, synced, ProgramFault::Journal)?;
+    or_stop(rt, folder, synced, FolderFault::Write)?;
     let reserve = path_in(rt.alloc(), folder, "reserve")?;
     Ok(OpenJournal {
         lines: NamedFile { file, path },
@@ -54,25 +54,25 @@ pub fn open_journal<R: Files<File = File> + Eprint + AllocGlobal>(
 fn make_folder<R: Files<File = File> + Eprint + AllocGlobal>(
     rt: &R,
     folder: &str,
-) -> Result<(), ProgramFault> {
+) -> Result<(), FolderFault> {
     match fs::create_dir(rt, folder) {
         Ok(()) => {}
         Err(error) if error.kind() == ErrorKind::AlreadyExists => return Ok(()),
-        Err(error) => return or_stop(rt, folder, Err(error), ProgramFault::Journal),
+        Err(error) => return or_stop(rt, folder, Err(error), FolderFault::Write),
     }
     let above = path_in(rt.alloc(), folder, "..")?;
     let synced = sync_folder(rt, above.as_str());
-    or_stop(rt, above.as_str(), synced, ProgramFault::Journal)
+    or_stop(rt, above.as_str(), synced, FolderFault::Write)
 }
 
 /// Opens the journal of a folder to read it, while it is written too.
 pub fn open_to_read<R: Files<File = File> + Eprint + AllocGlobal>(
     rt: &R,
     folder: &str,
-) -> Result<NamedFile, ProgramFault> {
+) -> Result<NamedFile, FolderFault> {
     let path = journal_path(rt.alloc(), folder)?;
     let opened = File::open(rt, path.as_str());
-    let file = or_stop(rt, path.as_str(), opened, ProgramFault::Data)?;
+    let file = or_stop(rt, path.as_str(), opened, FolderFault::Read)?;
     Ok(NamedFile { file, path })
 }
 

@@ -1,11 +1,10 @@
 //! The journal of a site that is run: what sessions note, written to a file and synced.
 
-use crate::program::data_folder::OpenJournal;
-use crate::program::named_file::NamedFile;
-use crate::program::reserve_file::ReserveFile;
-use crate::program::system_clock::SystemClock;
+use crate::named_file::NamedFile;
+use crate::open_journal::OpenJournal;
+use crate::reserve_file::ReserveFile;
+use crate::system_clock::SystemClock;
 use ocpp_scalars::{Instant as Moment, Moments, write_instant};
-use server::WatchedJournal;
 use session::{Entry, Journal, JournalFault, Noted};
 use site_journal::Line;
 use site_status::{JournalReport, JournalState};
@@ -450,8 +449,9 @@ impl<R: Wait + Clock + Eprint + AllocGlobal + Drop> Journal for JournalFile<R> {
     }
 }
 
-impl<R: Wait> WatchedJournal for JournalFile<R> {
-    fn report(&self) -> JournalReport {
+impl<R: Wait> JournalFile<R> {
+    /// How it is now. Waits for no file and no device.
+    pub fn report(&self) -> JournalReport {
         let noted = self.noted.lock(&self.rt);
         JournalReport {
             state: noted.state,

@@ -3,17 +3,18 @@
 ghost use Rattle.std.specs.Prelude.{◌≤◌, IfOk, vec_len};
 ghost use Rattle.replay.specs.Limits.{max_script_bytes};
 
-use crate::program::data_folder::open_to_read;
-use crate::program::journal_lines::{JournalLines, Lines};
-use crate::program::named_file::NamedFile;
-use crate::program::pages::print_page;
-use crate::program::program_fault::ProgramFault;
+use crate::folder_fault::FolderFault;
+use crate::journal_lines::{JournalLines, Lines};
+use crate::named_file::NamedFile;
+use crate::open_journal::open_to_read;
 use messages::Side;
 use ocpp_scalars::push_instant;
-use replay::{MAX_SCRIPT_BYTES, ReplayFault};
+use replay::MAX_SCRIPT_BYTES;
 use site_journal::{Line, LineFault, Noted, RestoreFault, Unrestored, read_bytes, split_line};
 use std::alloc::{AllocError, AllocGlobal, Global};
 use std::fs::File;
+use std::io;
+use std::io::Write;
 use std::rt::Files;
 
 /// A message that the point of a call may have sent before it. It changes nothing.
@@ -26,14 +27,22 @@ const LONGEST_FRAME: usize = 1_048_576 - 128;
 pub fn print_journal<R: Files<File = File> + Print + Eprint + AllocGlobal>(
     rt: &R,
     folder: &str,
-) -> Result<(), ProgramFault> {
+) -> Result<(), FolderFault> {
     let mut file = open_to_read(rt, folder)?;
     let mut reading = ScriptReading::new(rt.alloc());
+    let mut writer = io::writer(rt);
     for _part in 0..u64::MAX {
         let Some(script) = reading.next(rt, &mut file)? else {
             break;
         };
-        print_page(rt, script.as_str())?;
+        let bytes = script.as_str().as_bytes();
+        if writer
+            .write_all(bytes)
+            .and_then(|()| writer.flush())
+            .is_err()
+        {
+            return Err(FolderFault::Print);
+        }
     }
     say_torn(rt, &file, &reading.journal);
     Ok(())
@@ -43,7 +52,7 @@ pub fn print_journal<R: Files<File = File> + Print + Eprint + AllocGlobal>(
 pub fn read_journal_script<R: Files<File = File> + Eprint + AllocGlobal>(
     rt: &R,
     folder: &str,
-) -> Result<Vec<u8>, ProgramFault>
+) -> Result<Vec<u8>, FolderFault>
     ensures short { IfOk result (λ script. vec_len script ≤ max_script_bytes) }
 {
     let mut file = open_to_read(rt, folder)?;
@@ -59,7 +68,7 @@ pub fn read_journal_script<R: Files<File = File> + Eprint + AllocGlobal>(
         }
     }
     if bytes.len() > MAX_SCRIPT_BYTES {
-        return Err(ProgramFault::Replay(ReplayFault::ScriptTooLong));
+        return Err(FolderFault::ScriptTooLong);
     }
     say_torn(rt, &file, &reading.journal);
     Ok(bytes)
@@ -78,8 +87,8 @@ pub fn say_torn<R: Eprint>(rt: &R, file: &NamedFile, journal: &JournalLines) {
 }
 
 /// A line of this number that isn't one of a journal.
-pub fn unread(line: u64, fault: LineFault) -> ProgramFault {
-    ProgramFault::Unrestored(Unrestored {
+pub fn unread(line: u64, fault: LineFault) -> FolderFault {
+    FolderFault::Unrestored(Unrestored {
         line,
         fault: RestoreFault::Line(fault),
     })
@@ -108,7 +117,7 @@ impl ScriptReading {
         &mut self,
         rt: &R,
         file: &mut NamedFile,
-    ) -> Result<Option<String>, ProgramFault> {
+    ) -> Result<Option<String>, FolderFault> {
         let mut script = String::new(self.alloc);
         match self.journal.next(rt, file)? {
             Some(lines) => {
@@ -126,7 +135,7 @@ fn push_lines(
     script: &mut String,
     lines: Lines<'_>,
     sender: &mut Option<String>,
-) -> Result<(), ProgramFault> {
+) -> Result<(), FolderFault> {
     let (mut rest, mut number) = (lines.bytes, lines.first);
     for _line in 0..lines.bytes.len() {
         let Some((line, others)) = split_line(rest) else {

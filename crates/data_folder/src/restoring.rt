@@ -1,17 +1,20 @@
 //! The book of a site that is run, from the journal of its folder.
 
-use crate::program::data_folder::OpenJournal;
-use crate::program::journal_lines::{JournalLines, Lines};
-use crate::program::named_file::{NamedFile, or_stop};
-use crate::program::program_fault::ProgramFault;
-use ocpp_scalars::Instant;
+use crate::folder_fault::FolderFault;
+use crate::journal_file::JournalFile;
+use crate::journal_lines::{JournalLines, Lines};
+use crate::named_file::{NamedFile, or_stop};
+use crate::open_journal::OpenJournal;
+use crate::system_clock::SystemClock;
+use ocpp_scalars::{Instant, Moments};
 use site_core::Machine;
 use site_journal::{Unrestored, lose_links, push_header, restore};
 use std::alloc::AllocGlobal;
 use std::fs::File;
-use std::rt::Files;
+use std::rt::{Clock, Files};
+use std::sync::Wait;
 use std::sync::ledger::Ledger;
-use version_store::{Book, Pass};
+use version_store::{Book, Pass, Shared};
 
 /// The number of a part's first line, as the part is counted.
 const FIRST_OF_PART: u64 = 2;
@@ -26,18 +29,46 @@ pub struct Resumed {
     pub calls: u64,
 }
 
+/// Restores the book that sessions will share from its journal, with a pass of its own. Returns its
+/// journal, in which all stands, and what the site has then.
+pub fn restore_shared<
+    C: Ledger,
+    A: Ledger,
+    R: Files<File = File> + Eprint + AllocGlobal + Clock + Wait + Copy + Drop,
+>(
+    rt: &R,
+    opened: OpenJournal,
+    digest: &[u8; 32],
+    shared: &Shared<C, A>,
+    pass: Pass<C, A>,
+) -> Result<(JournalFile<R>, Resumed), FolderFault> {
+    let (mut opened, mut pass) = (opened, pass);
+    let Some(now) = (SystemClock { rt }).now() else {
+        return Err(FolderFault::Clock);
+    };
+    let mut book = shared.lock(rt);
+    let added = restore_book(rt, &mut opened, digest, &mut book, &mut pass, now)?;
+    let resumed = count_resumed(book.present());
+    drop(book);
+    let journal = JournalFile::make(*rt, opened, added)?;
+    if journal.keep_all().is_err() {
+        return Err(FolderFault::Write);
+    }
+    Ok((journal, resumed))
+}
+
 /// Restores a book from its journal, each step with what it drew, and takes the links from all
 /// points. A journal that is new, or was written with another site file, gets a line that names this
 /// one. A last line that is torn is cut: nothing that it says was answered. Returns the lines that
 /// are to be added to the journal.
-pub fn restore_book<C: Ledger, A: Ledger, R: Files<File = File> + AllocGlobal + Eprint>(
+fn restore_book<C: Ledger, A: Ledger, R: Files<File = File> + AllocGlobal + Eprint>(
     rt: &R,
     opened: &mut OpenJournal,
     digest: &[u8; 32],
     book: &mut Book<C, A>,
     pass: &mut Pass<C, A>,
     now: Instant,
-) -> Result<String, ProgramFault> {
+) -> Result<String, FolderFault> {
     let alloc = rt.alloc();
     let mut journal = JournalLines::new(alloc);
     let restored = restore_lines(rt, &mut opened.lines, &mut journal, book, pass);
@@ -52,7 +83,7 @@ pub fn restore_book<C: Ledger, A: Ledger, R: Files<File = File> + AllocGlobal + 
     match lose_links(alloc, book, now, &mut added) {
         Ok(()) => Ok(added),
         // Each point that has a link may lose it, if memory lasts.
-        Err(_) => Err(ProgramFault::OutOfMemory),
+        Err(_) => Err(FolderFault::OutOfMemory),
     }
 }
 
@@ -63,7 +94,7 @@ fn restore_lines<C: Ledger, A: Ledger, R: AllocGlobal + Eprint>(
     journal: &mut JournalLines,
     book: &mut Book<C, A>,
     pass: &mut Pass<C, A>,
-) -> Result<(), ProgramFault> {
+) -> Result<(), FolderFault> {
     for _part in 0..u64::MAX {
         let Some(Lines { first, bytes }) = journal.next(rt, file)? else {
             break;
@@ -71,7 +102,7 @@ fn restore_lines<C: Ledger, A: Ledger, R: AllocGlobal + Eprint>(
         if let Err(Unrestored { line, fault }) = restore(rt.alloc(), book, pass, bytes) {
             // Each part is counted as if one line stood before it.
             let line = line.saturating_sub(FIRST_OF_PART).saturating_add(first);
-            return Err(ProgramFault::Unrestored(Unrestored { line, fault }));
+            return Err(FolderFault::Unrestored(Unrestored { line, fault }));
         }
     }
     Ok(())
@@ -79,18 +110,18 @@ fn restore_lines<C: Ledger, A: Ledger, R: AllocGlobal + Eprint>(
 
 /// Cuts a last line that is torn off the file. All that is left is on the disk afterwards: it may
 /// have been written by a process that was killed before it synced it.
-fn cut_torn<R: Eprint>(rt: &R, opened: &OpenJournal, torn: usize) -> Result<(), ProgramFault> {
+fn cut_torn<R: Eprint>(rt: &R, opened: &OpenJournal, torn: usize) -> Result<(), FolderFault> {
     let NamedFile { file, path } = &opened.lines;
     if torn > 0 {
         or_stop(
             rt,
             path.as_str(),
             file.set_len(opened.length),
-            ProgramFault::Journal,
+            FolderFault::Write,
         )?;
         let _ = eprintln!(rt; "central: {path}: its last line is torn, and was cut: {torn} bytes");
     }
-    or_stop(rt, path.as_str(), file.sync_data(), ProgramFault::Journal)
+    or_stop(rt, path.as_str(), file.sync_data(), FolderFault::Write)
 }
 
 /// Returns whether the lines that were read go on with the site file of this digest. Says so where
@@ -115,7 +146,7 @@ pub fn say_other_site<R: Eprint>(
 }
 
 /// What the points of a site have.
-pub fn count_resumed(machine: &Machine) -> Resumed {
+fn count_resumed(machine: &Machine) -> Resumed {
     let site = machine.site();
     let mut resumed = Resumed {
         points: site.len() as u64,

@@ -1,0 +1,25 @@
+//! The folder in which `central run` keeps a site: its journal, written, synced, restored, and read
+//! while the site is run.
+#![tactic(auto)]
+
+mod folder_fault;
+mod followed_journal;
+mod journal_file;
+mod journal_lines;
+mod journal_script;
+mod named_file;
+mod open_journal;
+mod reserve_file;
+mod restoring;
+mod script_end;
+mod system_clock;
+
+pub use folder_fault::FolderFault;
+pub use followed_journal::{FollowedJournal, Following, follow_journal};
+pub use journal_file::JournalFile;
+pub use journal_script::{print_journal, read_journal_script};
+pub use named_file::or_stop;
+pub use open_journal::{OpenJournal, open_journal};
+pub use restoring::{Resumed, restore_shared};
+pub use script_end::ScriptEnd;
+pub use system_clock::SystemClock;
