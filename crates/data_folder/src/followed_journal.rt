@@ -5,7 +5,7 @@ ghost use Rattle.std.specs.Prelude.{◌≡◌};
 use crate::folder_fault::FolderFault;
 use crate::journal_lines::{JournalLines, Lines};
 use crate::journal_script::{say_torn, unread};
-use crate::open_journal::open_to_read;
+use crate::opening::open_to_read;
 use crate::restoring::say_other_site;
 use crate::script_end::ScriptEnd;
 use ocpp_scalars::{Instant, push_instant};

@@ -1,7 +1,7 @@
 //! The journal of a site that is run: what sessions note, written to a file and synced.
 
 use crate::named_file::NamedFile;
-use crate::open_journal::OpenJournal;
+use crate::opening::OpenJournal;
 use crate::reserve_file::ReserveFile;
 use crate::system_clock::SystemClock;
 use ocpp_scalars::{Instant as Moment, Moments, write_instant};

@@ -6,7 +6,7 @@ ghost use Rattle.replay.specs.Limits.{max_script_bytes};
 use crate::folder_fault::FolderFault;
 use crate::journal_lines::{JournalLines, Lines};
 use crate::named_file::NamedFile;
-use crate::open_journal::open_to_read;
+use crate::opening::open_to_read;
 use messages::Side;
 use ocpp_scalars::push_instant;
 use replay::MAX_SCRIPT_BYTES;

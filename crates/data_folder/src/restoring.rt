@@ -4,7 +4,7 @@ use crate::folder_fault::FolderFault;
 use crate::journal_file::JournalFile;
 use crate::journal_lines::{JournalLines, Lines};
 use crate::named_file::{NamedFile, or_stop};
-use crate::open_journal::OpenJournal;
+use crate::opening::OpenJournal;
 use crate::system_clock::SystemClock;
 use ocpp_scalars::{Instant, Moments};
 use site_core::Machine;
