@@ -457,7 +457,8 @@ impl<R: Wait> JournalFile<R> {
             state: noted.state,
             bytes: noted.bytes,
             syncs: noted.syncs,
-            sync_microseconds: noted.sync_time.as_micros() as u64,
+            // More than the longest is told as that.
+            sync_microseconds: u64::try_from(noted.sync_time.as_micros()).unwrap_or(u64::MAX),
         }
     }
 }
