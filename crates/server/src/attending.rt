@@ -100,6 +100,8 @@ fn attend_next<C: Ledger, A: Ledger, R: Wait + Clock, M: Moments, J: Journal>(
             }
         }
         Heard::Nothing => {
+            // What was noted though no text leaves for it, as a point's reply, is written all the same.
+            let _ = context.journal.write_out();
             keep_alive(socket, attention)?;
             send_to_silent(context, socket, core, attention)?
         }
