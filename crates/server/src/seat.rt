@@ -147,6 +147,8 @@ fn serve_admitted<C: Ledger, A: Ledger, R: Wait + Clock, M: Moments, J: Journal>
     let mut stream = socket.into_inner();
     stream.end();
     end_session(context, core);
+    // Of its last message, too, for which perhaps no text leaves.
+    let _ = context.journal.write_out();
     if let Some(link) = link {
         seats.present.leave(context.rt, place, link);
     }
