@@ -336,18 +336,18 @@ def no_file_descriptors(program):
 
 
 def silent_handshakes(program):
-    """Connections that say nothing, or a byte now and then, take no seat for good."""
+    """Connections that say nothing, or a byte now and then, take no seat for good, and none that somebody else waits for."""
     with Data() as data, Running(program, SITE, data.path, seats=2) as running:
         began = time.monotonic()
         silent, slow = RawClient(running), RawClient(running)
         slow.send_bytes(b"GET /P1 HTTP/1.1\r\nX-Slow: ")
+        until("the one that lasts longest gives way", lambda: is_served(running))
+        expect("the end of the silent one", silent.read_response(), None)
         while time.monotonic() < began + 6:
             slow.send_bytes(b"x")
             time.sleep(0.5)
-        expect("whether one is served meanwhile", is_served(running), False)
-        until("both seats are free", lambda: is_served(running))
-        expect("whether it took the time of a handshake", time.monotonic() - began > 9, True)
-        expect("the end of the silent one", silent.read_response(), None)
+        expect("the end of the slow one", slow.read_response(), None)
+        expect("whether it had the time of a handshake", time.monotonic() - began > 9, True)
         silent.socket.close()
         slow.socket.close()
         with RawClient.connected(running, "/operator/P1"), RawClient.connected(running, "/operator/P1"):
