@@ -54,7 +54,7 @@ fn site_page(alloc: Global, name: &str, findings: &[Finding]) -> Result<String, 
 
 /// The site of a site file, where one is read from it. Else what is found in the file says why not.
 fn site_of(alloc: Global, bytes: &[u8], findings: &[Finding]) -> Result<Option<Site>, AllocError> {
-    // None would be read, and of a file with a malformed number that takes many times its size.
+    // None would be read.
     if exit_status(findings) == 1 {
         return Ok(None);
     }
