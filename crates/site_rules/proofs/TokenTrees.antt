@@ -21,8 +21,9 @@ use Rattle.site_rules.specs.ByCases.Parts.{with_named, mended_tree, mended_trees
 pub was_mapped : {A B : Type 0} (f : A → B) (o : Option (A × List Token)) (b : B) (r : List Token) → parse_map f o ≡ Some (b, r)
     → (a : A) × (o ≡ Some (a, r)) × (f a ≡ b)
 was_mapped f None b r e = let no : ⊥ = cc in absurd no
-was_mapped f (Some p) b r e =
-    let same = ap (λ o. unwrap_or o (b, r)) e in (p.0, ap (λ (q : B × List Token). Some (p.0, q.1)) same, ap (λ (q : B × List Token). q.0) same)
+was_mapped {B = B} f (Some p) b r e =
+    let same : (f p.0, p.1) ≡ (b, r) = ap (λ (o : Option (B × List Token)). unwrap_or o (b, r)) e in
+    (p.0, ap (λ (q : B × List Token). Some (p.0, q.1)) same, ap (λ (q : B × List Token). q.0) same)
 
 list_read : (o : Option (json.Items × List Token)) → parse_map mended_tree (parse_map json.array o) ≡ parse_map list (parse_map mended_trees o)
 list_read None = refl

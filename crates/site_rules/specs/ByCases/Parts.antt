@@ -12,7 +12,8 @@ use Rattle.ocpp_scalars.specs.ByCases.Number.{tenths_of}
 use Rattle.ocpp_scalars.specs.ResultSteps.{◌>>=◌}
 use Rattle.ocppj_frame.specs.Field.{of_kind, of_scalar, unless_null}
 use Rattle.ocppj_frame.specs.Read.{name_of_key, tree_of_string}
-use Rattle.ocppj_frame.specs.Tree.{Tree, null, boolean, text, number, list, object, Trees, no_entries, entry, Fields, no_fields, field, field_at, as_list, as_number, as_text, is_object}
+use Rattle.ocppj_frame.specs.Tree as parts
+use Rattle.ocppj_frame.specs.Tree.{Tree, null, boolean, text, number, list, object, Trees, no_entries, Fields, no_fields, field, field_at, as_list, as_number, as_text, is_object}
 use Rattle.profile.specs.declared.unit.Unit.TheVariants.{A}
 use Rattle.profile.specs.Names.{unit_named}
 use Rattle.site_rules.specs.declared.fault.SiteFault.{SiteFault}
@@ -44,7 +45,7 @@ abbrev mutual
 
   pub mended_trees : json.Items → Trees
   mended_trees json.no_items = no_entries
-  mended_trees (json.item d ds) = entry (mended_tree d) (mended_trees ds)
+  mended_trees (json.item d ds) = parts.entry (mended_tree d) (mended_trees ds)
 
   pub mended_fields : json.Members → Fields
   mended_fields json.no_members = no_fields

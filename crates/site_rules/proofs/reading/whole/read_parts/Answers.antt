@@ -11,8 +11,8 @@ pub has_tree-requires : goal.has_tree-requires
 has_tree-requires c =
     subst (λ bytes. HaveNoNumber (tokens bytes)) (sym c.in_ok-marked.ensures) (marked_text_has_no_number c.args.text.now)
 
-pub returns-then-has_tree : goal.returns-then-has_tree
-returns-then-has_tree c =
+pub returns-then-not-branch : goal.returns-then-not-branch
+returns-then-not-branch c =
     let none : false ≡ is_some (marked_tree c.in_ok-marked.marked.now) = grind arith in
     no_site c.args.text.now c.in_ok-marked.marked.now c.in_ok-marked.ensures none
 
