@@ -6,7 +6,7 @@ use Rattle.std.specs.Str.{bytes_eq}
 use Rattle.json.specs.Json as json
 use Rattle.json.specs.Json.{parse_map, after_end_array, read_key, items, members, value, if_last}
 use Rattle.json.specs.Lex.{tokens}
-use Rattle.json.specs.Reads.{token_of, Yields}
+use Rattle.json.specs.Reads.{Yields}
 use Rattle.json.specs.Token.{Token}
 use Rattle.json.specs.declared.token.Token.{Token as Read}
 use Rattle.json.proofs.Grammar.{read_key-shorter}

@@ -1,5 +1,5 @@
 -- Where a value has a tree, its mended tree is the same.
-use Rattle.std.proofs.Common.{◌≡◌, ℕ, List, [], Bool, true, false, Option, Some, None, option_map, unwrap_or, is_some, Result, Ok, Err, IfOk, refl, sym, ap, ap₂, ◌∙◌, true≢false}
+use Rattle.std.proofs.Common.{◌≡◌, ℕ, List, [], true, false, Option, Some, None, option_map, unwrap_or, is_some, Result, Ok, Err, IfOk, refl, sym, ap, ap₂, ◌∙◌, true≢false}
 use Rattle.json.specs.Lex.{tokens}
 use Rattle.json.specs.Json.{value}
 use Rattle.serde_json.specs.Data as json

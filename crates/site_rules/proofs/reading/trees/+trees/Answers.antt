@@ -1,11 +1,11 @@
 -- The values of the tokens are those of the grammar, as `serde_json` converts them, and whether they have trees.
-use Rattle.std.proofs.Common.{◌≡◌, ◌-◌, ◌<◌, [], ◌∷◌, length, Some, None, refl, sym, ap, ap₂, subst, ◌∙◌, arith}
+use Rattle.std.proofs.Common.{◌≡◌, ◌<◌, [], ◌∷◌, length, Some, None, refl, ap, ap₂, subst, ◌∙◌, arith}
 use Rattle.json.specs.Token.{Token}
 use Rattle.json.specs.Json.{parse_map, after_end_array, read_key, value}
 use Rattle.json.specs.Reads.{token_of}
 use Rattle.json.proofs.Grammar.{value_is, read_key-shorter}
 use Rattle.serde_json.specs.Data.{null, boolean, string, array, object}
-use Rattle.serde_json.specs.Read.{of_json, converted, of_members}
+use Rattle.serde_json.specs.Read.{of_json, converted}
 use Rattle.ocppj_frame.specs.ByCases.Tokens.{HaveNoNumber}
 use Rattle.ocppj_frame.specs.Read.{trees_of, fields_of}
 use Rattle.ocppj_frame.specs.Tree.{list, object as an_object}

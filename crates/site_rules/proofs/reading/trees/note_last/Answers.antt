@@ -1,5 +1,5 @@
 -- The key is in the set or not, by whether its last member has a tree.
-use Rattle.std.proofs.Common.{◌≡◌, List, Bool, true, false, cond, not, ◌&&◌, is_some, sym, ap, ◌∙◌, arith}
+use Rattle.std.proofs.Common.{◌≡◌, Bool, true, false, cond, not, ◌&&◌, is_some, sym, ap, ◌∙◌, arith}
 use Rattle.std.specs.Str.{bytes_eq}
 use Rattle.ocppj_frame.specs.Read.{name_of_key}
 use Rattle.site_rules.specs.ByCases.HasTree.{has_key}
