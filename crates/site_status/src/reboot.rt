@@ -1,7 +1,7 @@
 //! Whether a point may have forgotten its profiles.
 
-ghost use Rattle.std.specs.Prelude.{◌≡◌};
-ghost use Rattle.site_status.specs.Reboot.{is_before, may_have_forgotten};
+ghost use Rattle.std.specs.Prelude.{◌≡◌, IfOk, option_map};
+ghost use Rattle.site_status.specs.Reboot.{agreed_in, has_installed, is_before, is_install_of, is_installed_by, may_have_forgotten, reboot_of};
 
 use crate::point_news::PointNews;
 use messages::{AuditOutcome, CallBody};
@@ -46,13 +46,17 @@ fn is_before(call: Option<u64>, first: u64) -> bool
 
 impl Reboot {
     /// What decides it for a point with this book and this outbox.
-    pub(crate) fn of(
+    #[tactic(auto, using(crate::proofs::RebootLemmas::bodies_wait))]
+    pub fn of(
         alloc: Global,
         news: &PointNews,
         book: &PointBook,
         outbox: &Outbox,
         audit: Option<&PointAudit>,
-    ) -> Result<Reboot, AllocError> {
+    ) -> Result<Reboot, AllocError>
+        ensures { IfOk result (λ reboot. reboot ≡ reboot_of news.now book.now outbox.now
+            (option_map (λ asked. asked.now) audit.entry)) }
+    {
         let first_call = match news.boot {
             Some(boot) => Some(boot.first_call),
             None => None,
@@ -67,30 +71,37 @@ impl Reboot {
     }
 }
 
-fn agreed_in(audit: Option<&PointAudit>) -> Option<u64> {
-    match audit {
-        Some(audit) if audit.outcome() == AuditOutcome::Agrees => Some(audit.number()),
+/// The call of a point's last audit, if it agreed there.
+fn agreed_in(audit: Option<&PointAudit>) -> Option<u64>
+    ensures { result ≡ agreed_in (option_map (λ asked. asked.now) audit.entry) }
+{
+    let audit = audit?;
+    match audit.outcome() {
+        AuditOutcome::Agrees => Some(audit.number()),
         _ => None,
     }
 }
 
 /// Whether there is a row whose install is none of these calls.
-fn has_installed(rows: &[Row], calls: &[CallBody]) -> bool {
-    for row in rows {
-        if !is_installed_by(row, calls) {
-            return true;
-        }
-    }
-    false
+fn has_installed(rows: &[Row], calls: &[CallBody]) -> bool
+    ensures { result ≡ has_installed rows.now calls.now }
+{
+    rows.iter().any(|row| !is_installed_by(calls, row))
 }
 
-fn is_installed_by(row: &Row, calls: &[CallBody]) -> bool {
-    for call in calls {
-        if let CallBody::Set { profile, .. } = call {
-            if profile.id == row.profile.id {
-                return true;
-            }
-        }
+/// Whether the install of a row's profile is one of these calls.
+fn is_installed_by(calls: &[CallBody], row: &Row) -> bool
+    ensures { result ≡ is_installed_by calls.now row.now }
+{
+    calls.iter().any(|call| is_install_of(row, call))
+}
+
+/// Whether a call installs a row's profile.
+fn is_install_of(row: &Row, call: &CallBody) -> bool
+    ensures { result ≡ is_install_of row.now call.now }
+{
+    match call {
+        CallBody::Set { profile, .. } => profile.id == row.profile.id,
+        CallBody::Clear(_) | CallBody::Audit { .. } | CallBody::RemoteStart { .. } => false,
     }
-    false
 }
