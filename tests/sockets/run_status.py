@@ -260,6 +260,19 @@ def in_a_browser(program):
         expect("what is drawn", len(shares_of_colours(picture)) > 10, True)
 
 
+def names_of_others(program):
+    """A request for a name that isn't this machine's, as of a web page whose name leads here, is refused; without a name it isn't."""
+    with Data() as data, Running(program, SITE, data.path, has_status=True) as running:
+        for host, wanted in (
+            ("127.0.0.1", 200), (f"localhost:{running.status_port}", 200), ("[::1]", 200), (None, 200),
+            ("example.com", 421), (f"example.com:{running.status_port}", 421), ("localhost.example.com", 421),
+        ):
+            with socket.create_connection(("127.0.0.1", running.status_port), PATIENCE) as client:
+                field = "" if host is None else f"Host: {host}\r\n"
+                client.sendall(f"GET /health HTTP/1.{0 if host is None else 1}\r\n{field}\r\n".encode())
+                expect(f"the status for {host}", client.recv(100).split()[1:2], [str(wanted).encode()])
+
+
 def refused_addresses(program):
     """Without a word for it the port is at this machine alone."""
     with Data() as data:
@@ -296,5 +309,6 @@ def tests():
     yield "five at once", five_at_once
     yield "in a browser", in_a_browser
     yield "a full device", full_device
+    yield "names of others", names_of_others
     yield "refused addresses", refused_addresses
     yield "standard error that nobody reads", standard_error_that_nobody_reads

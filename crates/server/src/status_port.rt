@@ -37,6 +37,9 @@ const LONGEST_BODY: usize = 0;
 pub struct StatusPort<C: Ledger, A: Ledger, R, M, J> {
     pub(crate) rt: R,
     pub(crate) alloc: Global,
+    /// The address that was given for it, where it is at this machine alone: only requests for this
+    /// machine are answered then. None where it is open to others, who may have any name for it.
+    pub(crate) given: Option<String>,
     /// What is watched. None while the site is being restored.
     pub(crate) seats: Mutex<Option<SharedSeats<C, A, R, M, J>>>,
 }
@@ -45,11 +48,13 @@ pub struct StatusPort<C: Ledger, A: Ledger, R, M, J> {
 pub(crate) type SharedSeats<C, A, R, M, J> = Arc<SeatContext<C, A, R, M, J>, Global>;
 
 impl<C: Ledger, A: Ledger, R: Wait + Drop, M: Drop, J: Drop> StatusPort<C, A, R, M, J> {
-    /// The port of a site that is being restored.
-    pub fn new(rt: R, alloc: Global) -> StatusPort<C, A, R, M, J> {
+    /// The port of a site that is being restored, with the address that was given for it, unless it is
+    /// open to others.
+    pub fn new(rt: R, alloc: Global, given: Option<String>) -> StatusPort<C, A, R, M, J> {
         StatusPort {
             rt,
             alloc,
+            given,
             seats: Mutex::new(None),
         }
     }

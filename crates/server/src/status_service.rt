@@ -10,11 +10,14 @@ use http_server::{Response, Service};
 use ocpp_scalars::Moments;
 use site_status::{
     Health, JournalReport, SiteCounts, SiteReport, StatusAnswer, StatusPath, answer_of,
-    health_answer, nothing_there, status_path,
+    health_answer, is_own_host, nothing_there, status_path,
 };
 use std::alloc::{AllocError, Global};
 use std::sync::Wait;
 use std::sync::ledger::Ledger;
+
+/// Whom a request is for (RFC 9110, section 7.2).
+const HOST: &str = "host";
 
 /// Answers the requests of a status port.
 #[derive(Drop)]
@@ -43,6 +46,10 @@ impl<C: Ledger, A: Ledger, R: Wait + Drop, M: Moments + Drop, J: WatchedJournal 
             HeaderName::from_static("x-content-type-options"),
             HeaderValue::from_static("nosniff"),
         )?;
+        if !self.is_for_us(request) {
+            response.status = StatusCode::MISDIRECTED_REQUEST;
+            return Ok(());
+        }
         let method = request.method();
         if *method != Method::GET && *method != Method::HEAD {
             response.status = StatusCode::METHOD_NOT_ALLOWED;
@@ -63,6 +70,19 @@ impl<
     M: Moments + Drop,
     J: WatchedJournal + Drop,
 > StatusService<'_, C, A, R, M, J> {
+    /// Whether a request is for this machine, where that is wanted. Without a field for it, it is no
+    /// browser's.
+    fn is_for_us(&self, request: &Request<Bytes>) -> bool {
+        let Some(given) = &self.port.given else {
+            return true;
+        };
+        let mut hosts = request.headers().get_all(HOST).into_iter();
+        hosts.all(|value| match value.to_str() {
+            Ok(host) => is_own_host(host, given.as_str()),
+            Err(_) => false,
+        })
+    }
+
     /// What a request is answered. The book is locked to be copied, which shares what it holds, and
     /// not while a text is made.
     fn answer(&self, request: &Request<Bytes>) -> Result<StatusAnswer, AllocError> {

@@ -3,8 +3,8 @@
 use crate::reports::{machine, news, report};
 use crate::same::{holds, same, same_text};
 use site_status::{
-    Health, StatusPath, answer_of, connector_picture, health_answer, metrics_text, site_page,
-    state_json, status_path,
+    Health, StatusPath, answer_of, connector_picture, health_answer, is_own_host, metrics_text,
+    site_page, state_json, status_path,
 };
 use std::alloc::Global;
 use std::process::Abort;
@@ -143,6 +143,33 @@ fn paths(rt: HostRuntime) {
         "/points/CP1/a.svg",
     ] {
         holds(&rt, status_path(path).is_none(), path);
+    }
+}
+
+/// Hosts that a request may be for, with whether it is answered at a port that was given as `box:9100`.
+#[test]
+fn hosts(rt: HostRuntime) {
+    for (host, is_own) in [
+        ("127.0.0.1", true),
+        ("127.0.0.1:9100", true),
+        ("192.0.2.1:9100", true),
+        ("[::1]", true),
+        ("[::1]:9100", true),
+        ("localhost", true),
+        ("LocalHost:9100", true),
+        ("box", true),
+        ("BOX:80", true),
+        ("", false),
+        (":9100", false),
+        ("example.com", false),
+        ("example.com:9100", false),
+        ("localhost.example.com", false),
+        ("127.0.0.1.example.com:9100", false),
+        ("box.example.com", false),
+        ("[::1].example.com", false),
+        ("1.2.3", false),
+    ] {
+        holds(&rt, is_own_host(host, "box:9100") == is_own, host);
     }
 }
 

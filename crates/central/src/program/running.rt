@@ -42,6 +42,8 @@ struct Plan<'a> {
     options: SeatOptions,
     /// Where it is told how the site is, if it is.
     status: Option<TcpListener>,
+    /// The address that was given for that, where it is at this machine alone.
+    status_address: Option<&'a str>,
 }
 
 /// Runs the site of a file with the journal of a folder: goes on where that stopped. Returns only
@@ -83,6 +85,11 @@ pub fn run_file<
             keys,
         },
         status,
+        status_address: if running.is_status_open {
+            None
+        } else {
+            running.status
+        },
     };
     // One pass more than seats: the restore has it.
     let Some(passes) = running.seats.checked_add(1) else {
@@ -174,6 +181,7 @@ fn run_counted<
         workers,
         options,
         status,
+        status_address,
     } = plan;
     let book: SeatedBook<C, A> = SeatedBook::make(rt.alloc(), blanks, site, seats)?;
     let SeatedBook {
@@ -182,7 +190,11 @@ fn run_counted<
         seats,
     } = book;
     // It is told that the site is being restored, too.
-    let port = Arc::new(rt.alloc(), StatusPort::new(*rt, rt.alloc()))?;
+    let given = match status_address {
+        Some(address) => Some(String::from_str(rt.alloc(), address)?),
+        None => None,
+    };
+    let port = Arc::new(rt.alloc(), StatusPort::new(*rt, rt.alloc(), given))?;
     if let Some(listener) = status {
         if let Err(fault) = begin_status(&port, listener) {
             return Err(ProgramFault::Serve(fault));
