@@ -29,7 +29,7 @@ def slow_handshakes(field):
     began = time.monotonic()
     if field.door != "serve":
         field.serves_a_newcomer(5)
-    while time.monotonic() < began + (field.seconds if field.door == "serve" or field.is_short else LONGEST_HANDSHAKE - 1):
+    while time.monotonic() < began + (field.seconds if field.door == "serve" or field.is_short else LONGEST_HANDSHAKE - 2):
         for client in clients:
             with contextlib.suppress(OSError):
                 client.send_bytes(b"a")

@@ -12,9 +12,12 @@ from run_data import SITE, Data, size, tell
 from serving import PATIENCE, Running, Unexpected, expect, until
 from texts import CALL_0, OCPP, accepted, call, heartbeat, install, install_call, plain_site, profile
 
-# Kilobytes, of the proved program. The aims of 60 and 300 MiB are missed: it took 68, and 427 to 546. Hostile clients are held
-# to what the systemd unit allows.
-IDLE_MEMORY, HOSTILE_MEMORY, GROWTH = 80 * 1024, 1024 * 1024, 20 * 1024
+# Kilobytes. The aim of 60 MiB for idle seats is missed: the proved program took 72. That of 300 MiB for hostile ones is met: 208.
+IDLE_MEMORY, GROWTH = 80 * 1024, 20 * 1024
+HOSTILE_MEMORY = size(400 * 1024, 1024 * 1024, 400 * 1024)
+
+# As the package's unit has it.
+GIVES_BACK = {"MALLOC_TRIM_THRESHOLD_": "131072"}
 
 
 def memory(running):
@@ -203,7 +206,7 @@ LONG_TEXTS = (
 def hostile_seats(program):
     """All seats have clients that send the longest texts, and then one of which the last bytes never come."""
     count = size(256, 16, 256)
-    with Data(in_memory=True) as data, Running(program, SITE, data.path) as running:
+    with Data(in_memory=True) as data, Running(program, SITE, data.path, environment=GIVES_BACK) as running:
         clients = [RawClient.connected(running, "/operator/P1") for _ in range(count)]
         faults = []
         threads = [threading.Thread(target=is_hostile, args=(client, number, faults)) for number, client in enumerate(clients)]
