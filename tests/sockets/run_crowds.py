@@ -154,7 +154,8 @@ def gets_its_call(running, point):
     fields = profile(1, [7.0])
     with RawClient.connected(running, f"/operator/{point.name}") as operator:
         expect("an install", operator.texts_of(install("i", fields)), [accepted("i")])
-    texts = point.client.texts_of(heartbeat("h"))[1:]
+    # A call goes out at a tick, too: before the answer then.
+    texts = [text for text in point.client.texts_of(heartbeat("h")) if not text.startswith('[3,"h",')]
     if texts == [CALL_0]:
         texts = point.client.texts_of(accepted("0"))
     expect(f"{point.name}: the call", texts, [install_call(1, fields)])
