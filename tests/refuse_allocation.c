@@ -1,7 +1,7 @@
 /* Loaded before the C library by tests/program.py and tests/sockets: of the program's allocations the
    REFUSED_ALLOCATION-th is refused, and as many after it as REFUSED_IN_A_ROW says, itself included. With
    REFUSED_WHILE_THERE they count while a file is there, and with REFUSED_TO_ONE_THREAD only those of the thread are
-   refused to which the first one was. With REPORT_REFUSED the program says at its exit whether one was. */
+   refused to which the first one was. With REPORT_REFUSED it is said on standard error once one is. */
 #define _GNU_SOURCE
 #include <dlfcn.h>
 #include <errno.h>
@@ -33,9 +33,10 @@ __attribute__((constructor)) static void begin(void) {
     made = 0;
 }
 
-__attribute__((destructor)) static void end(void) {
+/* At once: a program on threads may end without what libraries do at its end. */
+static void report(void) {
     static const char said[] = "an allocation was refused\n";
-    if (was_refused && getenv("REPORT_REFUSED") && write(2, said, sizeof said - 1) < 0) {
+    if (getenv("REPORT_REFUSED") && write(2, said, sizeof said - 1) < 0) {
         _exit(1);
     }
 }
@@ -60,7 +61,9 @@ static int is_refused(void) {
     if (number < first || past <= number || is_of_another_thread()) {
         return 0;
     }
-    was_refused = 1;
+    if (!atomic_exchange(&was_refused, 1)) {
+        report();
+    }
     errno = ENOMEM;
     return 1;
 }
