@@ -189,7 +189,7 @@ def limits_of(top, files):
     """The limits of the definitions: 'crate name' to its value."""
     limits = {}
     sources = [name for name in files if re.fullmatch(r"crates/\w+/specs/Limits\.antt", name)]
-    for name in [*sources, "crates/central/specs/CommandLine.antt"]:
+    for name in sources:
         crate = name.split("/")[1]
         for limit, value in re.findall(r"^(\w+) = ([\d_]+)$", text_of(top, name), re.MULTILINE):
             limits[f"{crate} {limit}"] = int(value.replace("_", ""))
@@ -250,7 +250,7 @@ def numbers_in_literals(text):
 def limit_in_words_problems(top, files):
     """A number in a sentence or in the help of an option is a limit: so a limit isn't changed without its words."""
     known = {written(limit, value).replace(",", "") for limit, value in limits_of(top, files).items()}
-    help_text = text_of(top, "crates/central/src/program/help_text.rt")
+    help_text = text_of(top, "crates/command_line/src/help_text.rt")
     options = re.findall(r"pub const (?:\w+_HELP|STATUSES): &str =\s*\"(?:[^\"\\]|\\.)*\";", help_text, re.DOTALL)
     sources = ("crates/findings/src/sentences.rt", "crates/findings/src/field_fault.rt")
     texts = {**{source: text_of(top, source) for source in sources}, "the help": "\n".join(options)}
@@ -395,14 +395,14 @@ def case_problems(top, files):
 
 def version_problems(top, files):
     changelog = re.findall(r"^## \[(\d+\.\d+\.\d+)\]", text_of(top, "CHANGELOG.md"), re.MULTILINE)
-    program = re.search(r'VERSION: &str = "(\d+\.\d+\.\d+)', text_of(top, "crates/central/src/program/help_text.rt"))
+    program = re.search(r'VERSION: &str = "(\d+\.\d+\.\d+)', text_of(top, "crates/command_line/src/help_text.rt"))
     if not changelog or program is None or changelog[0] != program.group(1):
         yield f"CHANGELOG's newest version {changelog[:1]} isn't the program's {program and program.group(1)}"
 
 
 def kit_problems(top, files):
     """The program prints the kit and the logic that it was proved with; README and WORKING name the same."""
-    source = text_of(top, "crates/central/src/program/help_text.rt")
+    source = text_of(top, "crates/command_line/src/help_text.rt")
     found = re.search(r"proved in the logic (\w+) of ([\w-]+)\"", source)
     if found is None:
         yield "help_text.rt names no logic and no kit"

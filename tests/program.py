@@ -363,9 +363,11 @@ def full_sites(size):
         ("connectors", (one_point, itertools.repeat(b"1"), b"]}]}"), 1, 1),
         ("connectors of another kind", (one_point, itertools.repeat(b"{}"), b"]}]}"), 1, 1),
         ("points in no JSON", (HEAD, itertools.repeat(POINT), b"]"), 1, 1),
-        # A replay makes a tree of these.
-        ("numbers and a malformed one", (noted + b"[", itertools.repeat(b"1"), b",01]}"), None, 1),
-        ("malformed numbers", (noted + b"{", named(b'"%s":01'), b"}}"), None, 1),
+        ("numbers and a malformed one", (noted + b"[", itertools.repeat(b"1"), b",01]}"), 1, 1),
+        ("a list of numbers and a malformed one", (b"[", itertools.repeat(b"0"), b",01]"), 1, 1),
+        ("malformed numbers", (noted + b"{", named(b'"%s":01'), b"}}"), 1, 1),
+        ("malformed numbers and a note", (noted + b"{", named(b'"%s":01'), b'},"note":0}'), 0, 2),
+        ("numbers in the place of keys", (noted + b"{", itertools.repeat(b"1:0"), b"}}"), 1, 1),
     ):
         yield name, filled(size, *parts), replayed, checked
     yield "a long id", HEAD + POINT.replace(b"CP1", b"a" * (size - 100)) + b"]}", 1, 1

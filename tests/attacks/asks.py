@@ -100,5 +100,5 @@ def pings_beside_an_ask(field):
 ATTACKS = (
     Attack("30 worst asks", "the workers, while somebody waits", "nothing is done for who is gone", worst_asks),
     Attack("70 worst asks", "those that find no room", "others find it", more_asks_than_may_be_open, (RUN,)),
-    Attack("pings beside a worst ask", "nothing", "pongs within 1 s", pings_beside_an_ask, is_open=True),
+    Attack("pings beside a worst ask", "nothing", "pongs within 1 s", pings_beside_an_ask),
 )

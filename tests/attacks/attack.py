@@ -21,8 +21,6 @@ class Attack:
     is_repeated: bool = False
     # Whether it means something without a proof: allocations can't be refused there.
     needs_proof: bool = False
-    # Whether it isn't held yet, or wasn't tried on a proved program: the short form leaves it out, and the whole one has it.
-    is_open: bool = False
     # What the program has: limits, an environment, its standard error, a clock that moves.
     more: Callable = dict
 

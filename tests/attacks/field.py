@@ -10,6 +10,7 @@ import threading
 import time
 
 from raw_client import RawClient
+from run_crowds import GIVES_BACK
 from run_data import Data, read
 from run_keys import Keys, basic
 from serving import PATIENCE, Running, Serving, Unexpected, expect
@@ -22,6 +23,11 @@ IS_PROVED = "UNPROVED" not in os.environ
 SITE = site({"P1": (63.0, [32.0]), "P2": (63.0, [32.0] * 64), "P3": (63.0, [32.0])})
 PROTOCOL = f"Sec-WebSocket-Protocol: {OCPP}"
 SEATS, SESSIONS = 256, 64
+
+# A client that doesn't read, with packets as a network has them: with the longer ones within a machine, its system and that of the
+# program would take in megabytes for it before a write waits. And for how many seconds `run` lets a write wait.
+UNREADING = {"receive_buffer": 4_096, "segment": 1_460}
+LONGEST_WRITE = 10
 
 
 class Witness:
@@ -115,7 +121,8 @@ class Field:
     def __enter__(self):
         self.data = Data(in_memory=True).__enter__()
         self.keys = Keys(self.program).__enter__() if self.door == "keys" else None
-        environment = dict(self.more.pop("environment", {}))
+        # `run` gives memory back as the package's unit has it do.
+        environment = {**({} if self.door == "serve" else GIVES_BACK), **self.more.pop("environment", {})}
         if self.more.pop("moves_clock", False):
             self.clock = Clock()
             environment.update(self.clock.environment)
@@ -305,6 +312,22 @@ def all_end(clients, within):
             raise Unexpected(f"{len(left)} of {len(clients)} connections are still open after {within} seconds")
         time.sleep(0.05)
     return time.monotonic() - began
+
+
+def all_are_cut_off(clients, began, within):
+    """All connections are reset though nobody reads them: within so many seconds of a moment, and none before it may be."""
+    poll, left = select.poll(), len(clients)
+    for client in clients:
+        poll.register(client.socket, 0)
+    within = within if IS_PROVED else PATIENCE
+    while left:
+        ended = poll.poll(50)
+        for handle, _ in ended:
+            poll.unregister(handle)
+        left, passed = left - len(ended), time.monotonic() - began
+        expect(f"connections that ended after {passed:.1f} seconds, before they may", len(ended) if passed < LONGEST_WRITE else 0, 0)
+        if left and passed > within:
+            raise Unexpected(f"{left} of {len(clients)} connections are still open after {within} seconds")
 
 
 def close_all(clients):

@@ -5,7 +5,7 @@ import time
 import zlib
 
 from attack import RUN, SERVE, Attack
-from field import IS_PROVED, all_end, close_all, in_threads, sent_until_full
+from field import IS_PROVED, UNREADING, all_are_cut_off, close_all, in_threads, sent_until_full
 from raw_client import BINARY, CLOSE, CONTINUATION, PING, TEXT, frame_bytes
 from serving import expect
 from texts import call, heartbeat
@@ -69,13 +69,11 @@ def pings(field):
 
 
 def unread_pings(field):
-    """The same by clients that don't read: `run` closes them after 10 seconds."""
-    clients = field.strangers(8, receive_buffer=4_096)
+    """The same by clients that don't read: `run` closes them 10 seconds after there is no room for a pong."""
+    clients, began = field.strangers(8, **UNREADING), time.monotonic()
     in_threads(len(clients), lambda number: sent_until_full(clients[number], frame_bytes(PING, bytes(125)) * 500, field.seconds))
     if not field.is_short and field.door != "serve":
-        time.sleep(11)
-        # What was sent before is still to be read.
-        all_end(clients, 30)
+        all_are_cut_off(clients, began, 18)
     close_all(clients)
 
 

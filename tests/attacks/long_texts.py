@@ -1,9 +1,10 @@
 """Attacks by texts: JSON of each odd shape, line breaks, the longest ones on all seats, and answers that nobody reads."""
+import contextlib
 import threading
 import time
 
 from attack import RUN, SERVE, Attack
-from field import IS_PROVED, all_end, close_all, in_threads
+from field import IS_PROVED, UNREADING, all_are_cut_off, close_all, in_threads
 from raw_client import CONTINUATION, TEXT, frame_bytes
 from run_crowds import filled, is_hostile
 from serving import expect
@@ -91,21 +92,19 @@ def line_breaks(field):
 
 
 def unread_answers(field):
-    """Clients on all seats that ask on and on, and read nothing."""
+    """Clients on all seats that ask on and on, and read nothing: `run` closes them 10 seconds after there is no room for an answer."""
     block = frame_bytes(TEXT, call("x" * 36, "PointStatus").encode()) * 200
-    clients = field.strangers(field.seats, receive_buffer=4_096)
-    end = time.monotonic() + field.seconds
+    clients = field.strangers(field.seats if IS_PROVED else 32, **UNREADING)
+    sent, began = [0] * len(clients), time.monotonic()
     for client in clients:
         client.socket.setblocking(False)
-    while time.monotonic() < end:
-        for client in clients:
-            try:
-                while client.socket.send(block) == len(block):
-                    pass
-            except OSError:
-                continue
+    while time.monotonic() < began + field.seconds:
+        for number, client in enumerate(clients):
+            with contextlib.suppress(OSError):
+                # What is sent in part goes on where it stopped: otherwise the session would end for a breach of the protocol.
+                sent[number] += client.socket.send(block[sent[number] % len(block):])
     if not field.is_short and field.door != "serve":
-        all_end(clients, 60)
+        all_are_cut_off(clients, began, 40)
         field.serves_a_newcomer(5)
     close_all(clients)
 
@@ -137,7 +136,7 @@ def unfinished(field):
 ATTACKS = (
     Attack("JSON of odd shapes", "processor time", "answered, refused or dropped", odd_json, (RUN, SERVE)),
     Attack("a million line breaks", "room in the journal", "answered; one line each", line_breaks, (RUN, SERVE)),
-    Attack("answers that nobody reads", "all seats, for 10 s", "closed", unread_answers, (RUN, SERVE), is_open=True),
+    Attack("answers that nobody reads", "all seats, for 10 s", "closed", unread_answers, (RUN, SERVE)),
     Attack("the longest messages on all seats", "processor time and memory", "answered", hostile_seats, (RUN,), needs_proof=True),
     Attack("unfinished messages on all seats", "all seats, at most 30 s", "the others are served", unfinished, (RUN,)),
 )

@@ -192,9 +192,9 @@ ATTACKS = (
     Attack("no file descriptors", "newcomers, for a while", "accepted once there are some", no_descriptors),
     Attack(
         "little address space", "whoever needs memory", "told so or ended; later as before", little_address_space, may_cut=True,
-        may_refuse=True, needs_proof=True, is_open=True,
+        may_refuse=True, needs_proof=True,
     ),
-    Attack("each allocation refused", "that session", "told so or ended", each_allocation, needs_proof=True, is_open=True),
+    Attack("each allocation refused", "that session", "told so or ended", each_allocation, needs_proof=True),
     Attack("stopped and continued", "the time in which it is stopped", "all go on", stop_and_continue),
     Attack(
         "standard error that nobody reads", "what it says", "a newcomer is served", unread_standard_error,

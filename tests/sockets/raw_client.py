@@ -56,12 +56,17 @@ def key_answer(key):
 
 
 class RawClient:
-    """A connection. At the end of a `with` block its stream is closed, without a close frame."""
+    """A connection. At the end of a `with` block its stream is closed, without a close frame.
 
-    def __init__(self, serving, receive_buffer=None):
+    `receive_buffer` and `segment` are the bytes that its system takes in before they are read, and in one packet.
+    """
+
+    def __init__(self, serving, receive_buffer=None, segment=None):
         self.socket = socket.socket()
         if receive_buffer is not None:
             self.socket.setsockopt(socket.SOL_SOCKET, socket.SO_RCVBUF, receive_buffer)
+        if segment is not None:
+            self.socket.setsockopt(socket.IPPROTO_TCP, socket.TCP_MAXSEG, segment)
         self.socket.settimeout(PATIENCE)
         self.socket.connect(("127.0.0.1", serving.port))
         self.socket.setsockopt(socket.IPPROTO_TCP, socket.TCP_NODELAY, 1)

@@ -8,7 +8,7 @@ from serving import PATIENCE, Running, expect, until
 from texts import CALL_0, accepted, ask, heartbeat, install, install_call, profile
 
 # Seconds, as the program has them.
-LONGEST_MESSAGE, SILENCE_BEFORE_PING, LONGEST_SILENCE, SILENCE_BEFORE_CALL = 30, 150, 660, 10
+LONGEST_MESSAGE, LONGEST_WRITE, SILENCE_BEFORE_PING, LONGEST_SILENCE, SILENCE_BEFORE_CALL = 30, 10, 150, 660, 10
 
 
 def seconds_until_it_ends(client, most):
@@ -58,6 +58,23 @@ def pings_for_long(program):
                 expect("what comes", operator.texts_now(), [])
                 time.sleep(1)
             expect("an answer", operator.texts_of(ask("a"))[0][:7], '[3,"a",')
+
+
+def a_client_that_does_not_read(program):
+    """It is closed once there was no room for a pong for too long. Packets are those of a network, which have room for fewer."""
+    pings = frame_bytes(PING, bytes(125)) * 500
+    with Data() as data, Running(program, SITE, data.path) as running:
+        with RawClient.connected(running, "/operator/P1", receive_buffer=4_096, segment=1_460) as client:
+            sent, began = 0, time.monotonic()
+            client.socket.settimeout(0.2)
+            while time.monotonic() < began + LONGEST_WRITE + 15:
+                try:
+                    sent += client.socket.send(pings[sent % len(pings):])
+                except TimeoutError:
+                    continue
+                except OSError:
+                    break
+            lies_between("the end", LONGEST_WRITE - 1, time.monotonic() - began, LONGEST_WRITE + 8)
 
 
 def a_call_without_a_reply(program):
@@ -133,6 +150,7 @@ def long_messages(program):
 def tests():
     yield "a message byte by byte", a_message_byte_by_byte
     yield "pings for long", pings_for_long
+    yield "a client that doesn't read", a_client_that_does_not_read
     yield "a call without a reply", a_call_without_a_reply
     yield "a call to a silent point", a_call_to_a_silent_point
     yield "long messages", long_messages

@@ -2,10 +2,12 @@
 import base64
 import hashlib
 import os
+import re
+import select
 import subprocess
 import tempfile
 
-from raw_client import RawClient
+from raw_client import RawClient, request_bytes
 from run_data import SITE, Data, SiteFile
 from serving import ENVIRONMENT, PATIENCE, Running, expect
 from texts import CALL_0, OCPP, accepted, heartbeat, install, profile
@@ -96,6 +98,44 @@ def who_may_come(program):
             expect("it is served", point.texts_of(heartbeat("h"))[1:], [CALL_0])
 
 
+def next_refusal(running):
+    """What the next line on standard error says of a client that isn't let in."""
+    came, _, _ = select.select([running.process.stderr], [], [], PATIENCE)
+    expect("whether a line came", len(came), 1)
+    line = running.process.stderr.readline().decode()
+    found = re.fullmatch(r"central: \S+Z 127\.0\.0\.1:\d+: refused, (.*)\n", line)
+    return found[1] if found else line
+
+
+def what_is_said_of_others(program):
+    """Of each that isn't let in its path and its user are told, on one line, and nothing of its password."""
+    with Keys(program) as keys, Data() as data, Running(program, SITE, data.path, keys=keys.path) as running:
+        p1, p2, secret = keys.of["P1"], keys.of["P2"], "S3cret"
+        wrong = secret.encode()
+        for path, headers, wanted in (
+            ("/ocpp/P1", [basic("P1", wrong)], "HTTP 401: /ocpp/P1, user P1"),
+            ("/P1?token=" + secret, [basic("P3", wrong)], "HTTP 401: /P1, user P3"),
+            ("/P1", [basic("P2", p2.encode())], "HTTP 403: /P1, user P2"),
+            ("/P1", [basic("P1", p1.encode()), "Origin: http://elsewhere.example"], "HTTP 403: /P1, user P1"),
+            ("/operator/P1", [basic("bob", b"a:" + wrong)], "HTTP 401: /operator/P1, user bob"),
+            ("/P1", [], "HTTP 401: /P1, no user"),
+            ("/P1", ["Authorization: Bearer " + secret], "HTTP 401: /P1, no user"),
+            ("/P1", ["Authorization: Basic !"], "HTTP 401: /P1, no user"),
+            ("/P1", ["Authorization: Basic " + base64.b64encode(wrong).decode()], "HTTP 401: /P1, no user"),
+            ("/P1", ["Authorization: Basic " + base64.b64encode(b"\xff:" + wrong).decode()], "HTTP 401: /P1, no user"),
+            ("/P1", [basic("", wrong)], "HTTP 401: /P1, user "),
+            ("/P1", [basic(p1, b"P1")], "HTTP 401: /P1, a user that looks like a key"),
+            ("/P1", [basic("P1\r\ncentral \x1b[2Jlost\0", wrong)], "HTTP 401: /P1, user P1  central  [2Jlost "),
+            ("/P1", [basic(500 * "\u00fc", wrong)], "HTTP 401: /P1, user " + 100 * "\u00fc"),
+            ("/" + 500 * "a" + "/P1", [], "HTTP 401: " + 97 * "a" + "/P1, no user"),
+        ):
+            status = status_of(running, path, *headers)
+            said = next_refusal(running)
+            expect(f"what is said of {path} with {headers}", said, wanted)
+            expect("its status", said.partition(":")[0], f"HTTP {status}")
+        expect("what else is said", running.kill_and_hear(), b"")
+
+
 def clients_with_keys(program):
     """`call` and `point` come with the name and the key of a file, and aren't let in without."""
     with Keys(program) as keys, Data() as data, Running(program, SITE, data.path, keys=keys.path) as running, SiteFile(SITE) as site:
@@ -103,12 +143,44 @@ def clients_with_keys(program):
         login = keys.file("ann", f"ann:{keys.of['ann']}\n")
         call = "call", "--url", f"{base}/operator/P1"
         expect("an operator", done(program, *call, "--login", login, "--status")[0], 0)
-        refused = 3, "", "central: url: no OCPP 1.6 there, or it wants a --login\n"
-        expect("without a key", done(program, *call, "--status"), refused)
+        wants = "central: url: HTTP 401: it wants --login FILE with the NAME:KEY of a key: an operator's at /operator/ID, else the point's own\n"
+        expect("without a key", done(program, *call, "--status"), (3, "", wants))
         point = "point", "--url", base, "--site", site, "--id", "P1"
         own = keys.file("P1", f"P1:{keys.of['P1']}")
         expect("a point", done(program, *point, "--login", own, given=b"heartbeat\n")[0], 0)
-        expect("a point with another's key", done(program, *point, "--login", login), refused)
+        expect("a point with an operator's key", done(program, *point, "--login", login), (3, "", wants))
+        another = keys.file("P2", f"P2:{keys.of['P2']}")
+        is_anothers = 3, "", "central: url: HTTP 403: the --login is another point's\n"
+        expect("a point with another's key", done(program, *point, "--login", another), is_anothers)
+
+
+def checked_keys(program):
+    """`check` says whom a file of keys lets in, its faulty lines, and which points it leaves out."""
+    with Keys(program) as keys, SiteFile(SITE) as site:
+
+        def check(path, status, *wanted):
+            seen, printed, said = done(program, "check", "--site", site, "--keys", path)
+            found = [line for line in printed.splitlines() if not line.startswith(f"{site}: ")]
+            expect("what is found", (seen, found, said), (status, [f"{path}: {line}" for line in wanted], ""))
+
+        check(keys.path, 0, "line 3: remark: it lets in point P1", "line 4: remark: it lets in point P2",
+              "line 5: remark: it lets in operator ann")
+        with open(keys.path, encoding="ascii") as file:
+            lines = file.read().split("\n")
+        other = [lines[2].replace("P1", "P9"), "point P1 00 00", "# point P1 0 0", "nobody P1 0 0", lines[3] + "\r", lines[3]]
+        check(
+            keys.file("faulty", "\n".join(other)), 1,
+            "line 1: warning: it lets in point P9, which the site file hasn't", "line 2: its salt isn't 32 hex digits",
+            "line 4: its first word is neither point nor operator", "line 5: remark: it lets in point P2",
+            "line 6: remark: it lets in point P2", "the file: warning: no line lets in point P1",
+        )
+        check(keys.file("less", lines[3]), 2, "line 1: remark: it lets in point P2", "the file: warning: no line lets in point P1")
+        absent = keys.path + "-absent"
+        status, _, said = done(program, "check", "--site", site, "--keys", absent)
+        expect("no such file", (status, said), (3, f"central: {absent}: No such file or directory (os error 2)\ncentral: device: read\n"))
+        with SiteFile("[]") as faulty:
+            status, printed, said = done(program, "check", "--site", faulty, "--keys", keys.file("P9", other[0]))
+            expect("without a site", (status, printed.endswith("P9: line 1: remark: it lets in point P9\n")), (1, True))
 
 
 def without_keys(program):
@@ -122,6 +194,32 @@ def without_keys(program):
         status, printed, said = done(program, "run", "--site", site, "--data", data.path, "--listen", "0.0.0.0:0")
         wanted = "central: command line: without --keys it listens at this machine alone, such as 127.0.0.1:9000\n"
         expect("an address of all networks", (status, printed, said), (4, "", wanted))
+
+
+def status_for(running, host, *headers):
+    """The status of a request of P1 for a host, or for none."""
+    field = "" if host is None else f"Host: {host}\r\n"
+    with RawClient(running) as client:
+        request = request_bytes("/P1", [PROTOCOL, *headers])
+        client.send_bytes(request.replace(b"Host: 127.0.0.1\r\n", field.encode()))
+        return client.read_response().status
+
+
+def names_of_others(program):
+    """Without keys a request is for this machine, and no web page's whose name leads here. With keys it may have any name."""
+    own = ("127.0.0.1", "127.0.0.1:9", "localhost", "LOCALHOST:80", "[::1]", "[::1]:9", "192.0.2.1:9000", None)
+    others = ("elsewhere.example", "elsewhere.example:9", "localhost.elsewhere.example", "127.0.0.1.elsewhere.example", "[::1].example", ":9")
+    with Data() as data, Running(program, SITE, data.path) as running:
+        for host in (*own, f"127.0.0.1:{running.port}"):
+            expect(f"for {host}", status_for(running, host), 101)
+        for host in others:
+            expect(f"for {host}", status_for(running, host), 421)
+            expect("one of two names", status_for(running, f"127.0.0.1\r\nHost: {host}"), 421)
+        expect("a web page", status_for(running, "elsewhere.example", "Origin: http://elsewhere.example"), 403)
+    with Keys(program) as keys, Data() as data, Running(program, SITE, data.path, keys=keys.path) as running:
+        for host in (*own, *others):
+            expect(f"with a key, for {host}", status_for(running, host, basic("P1", keys.of["P1"].encode())), 101)
+            expect(f"without a key, for {host}", status_for(running, host), 401)
 
 
 def faulty_keys(program):
@@ -140,6 +238,9 @@ def faulty_keys(program):
 
 def tests():
     yield "who may come", who_may_come
+    yield "what is said of others", what_is_said_of_others
     yield "clients with keys", clients_with_keys
+    yield "checked keys", checked_keys
     yield "without keys", without_keys
+    yield "names of others", names_of_others
     yield "faulty keys", faulty_keys

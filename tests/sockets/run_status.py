@@ -12,9 +12,9 @@ from xml.etree import ElementTree
 
 from browser import browser, contrast, schemes, seen_at
 from raw_client import RawClient
-from run_data import SITE, Data, SmallDevice
+from run_data import SITE, Data, SmallDevice, read
 from serving import ENVIRONMENT, PATIENCE, Running, Unexpected, expect, free_port, until
-from texts import CALL_0, accepted, call, error, heartbeat, install, plain_site, profile, rejected, start
+from texts import CALL_0, accepted, ask, call, error, heartbeat, install, plain_site, profile, rejected, start
 
 sys.path.insert(0, os.path.join(os.path.dirname(os.path.realpath(__file__)), ".."))
 from png_colours import shares_of_colours
@@ -159,6 +159,127 @@ def point_that_may_have_forgotten(program):
             expect("once it is confirmed anew", forgotten(), False)
 
 
+def boots_in(data):
+    """The file of boots of a folder: none where it isn't there, or a line in its words each."""
+    path = os.path.join(data.path, "boots")
+    if not os.path.isfile(path):
+        return None
+    with open(path, encoding="latin-1") as file:
+        return [line.split(" ") for line in file.read().splitlines()]
+
+
+def remarks_on_boots(program, data):
+    """What `check` says of points that booted."""
+    status, printed, said = read(program, data, "check")
+    expect("how check ends", (status, said), (0, ""))
+    return [line for line in printed.splitlines() if "booted" in line]
+
+
+def boots_over_restarts(program):
+    """A restart knows which points booted, and so does `check`, until an install is confirmed behind it."""
+    fields = profile(1, [7.0])
+    forgotten = lambda running: point_of(running)["mayHaveForgotten"]
+    with Data() as data:
+        with Running(program, SITE, data.path, has_status=True) as running:
+            with RawClient.connected(running, "/operator/P1") as operator, RawClient.connected(running, "/P1") as point:
+                operator.texts_of(install("i", fields))
+                point.texts_of(heartbeat("h"))
+                point.texts_of(accepted("0"))
+                point.texts_of(accepted("1"))
+                expect("before a boot", (boots_in(data), remarks_on_boots(program, data)), ([], []))
+                point.texts_of(boot("b"))
+                until("the boot is in the folder", lambda: bool(boots_in(data)))
+                moment = point_of(running)["booted"]
+                expect("its line", boots_in(data), [[moment, "P1", "2"]])
+            with RawClient.connected(running, "/P2") as other:
+                other.texts_of(boot("b"))
+                until("the other's boot too", lambda: len(boots_in(data)) == 2)
+        journal = data.bytes()
+        with Running(program, SITE, data.path, has_status=True) as running:
+            expect("behind a restart", (forgotten(running), point_of(running)["booted"]), (True, moment))
+            expect("of one without profiles", point_of(running, "P2")["mayHaveForgotten"], False)
+            expect("whether the journal has the boot", data.bytes().startswith(journal) and b"boot" not in data.bytes(), True)
+            wanted = f"script: P1, at the end: remark: it booted at {moment}, and may have forgotten its profiles: audit it, or install them anew"
+            expect("what check says", remarks_on_boots(program, data), [wanted])
+            with RawClient.connected(running, "/operator/P1") as operator, RawClient.connected(running, "/P1") as point:
+                operator.texts_of(install("j", fields))
+                expect("with the install that waits", (forgotten(running), remarks_on_boots(program, data)), (False, []))
+                point.texts_of(heartbeat("h"))
+                point.texts_of(accepted("2"))
+                expect("once it is confirmed", forgotten(running), False)
+                until("the boot is out of the folder", lambda: [line[1] for line in boots_in(data)] == ["P2"])
+        with Running(program, SITE, data.path, has_status=True) as running:
+            expect("behind another restart", forgotten(running), False)
+            expect("what check says then", remarks_on_boots(program, data), [])
+
+
+def faulty_boots(program):
+    """Lines that are no boots are left out, and a start without a file of boots goes on."""
+    fields = profile(1, [7.0])
+    with Data() as data:
+        path = os.path.join(data.path, "boots")
+        with Running(program, SITE, data.path) as running:
+            with RawClient.connected(running, "/operator/P1") as operator, RawClient.connected(running, "/P1") as point:
+                operator.texts_of(install("i", fields))
+                point.texts_of(heartbeat("h"))
+                point.texts_of(accepted("0"))
+                point.texts_of(accepted("1"))
+                point.texts_of(heartbeat("k"))  # the replies are on the disk before its answer leaves
+        with open(path, "wb") as file:
+            file.write(b"2025-01-01T00:00:00Z P1 99\nP2\n2025-01-01T00:00:00Z P9 0\n2025-01-01 P2 0\n\n2025-01-01T00:00:00Z P2 x\n\xff P2 0\n2025-01-01T00:00:00Z P2")
+        left_out = f"central: {path}: 7 of its lines are of no point's boot, and are left out\n"
+        status, printed, said = read(program, data, "check")
+        expect("what check says", (status, said, printed.count("it booted at 2025-01-01T00:00:00Z")), (0, left_out, 1))
+        with Running(program, SITE, data.path, has_status=True) as running:
+            expect("the boots", [point_of(running, name)["booted"] for name in ("P1", "P2")], ["2025-01-01T00:00:00Z", None])
+            with RawClient.connected(running, "/operator/P1") as operator, RawClient.connected(running, "/P1") as point:
+                expect("of another journal", point_of(running)["mayHaveForgotten"], True)
+                operator.texts_of(install("j", fields))
+                point.texts_of(heartbeat("h"))
+                point.texts_of(accepted("2"))
+                expect("behind an install", point_of(running)["mayHaveForgotten"], False)
+                until("it is out of the folder", lambda: boots_in(data) == [])
+            said = running.kill_and_hear().decode().splitlines(True)
+            expect("what is said", [line for line in said if path in line or "boots" in line], [left_out])
+        os.remove(path)
+        os.mkdir(path)
+        with Running(program, SITE, data.path, has_status=True) as running:
+            with RawClient.connected(running, "/P1") as point:
+                point.texts_of(boot("b"))
+            said = running.kill_and_hear().decode().splitlines(True)
+            expect("what is said of a folder", [line for line in said if "boots" in line], [f"central: {path}: Is a directory (os error 21)\n"] * 2)
+
+
+def calls_that_wait(program):
+    """Since when the call waits that waits longest; those of an earlier run wait since the start."""
+    since = lambda running: point_of(running)["waitingSince"]
+    seconds = lambda running: metrics(running).get('central_call_waiting_seconds{point="P1"}')
+    with Data() as data:
+        with Running(program, SITE, data.path, has_status=True) as running:
+            began = since(running)
+            expect("call 0 at the start", bool(INSTANT.fullmatch(began)), True)
+            with RawClient.connected(running, "/operator/P1") as operator, RawClient.connected(running, "/P1") as point:
+                expect("call 0", point.texts_of(heartbeat("h"))[1:], [CALL_0])
+                expect("while it is in flight", (since(running), seconds(running)), (None, None))
+                operator.texts_of(ask("a"))
+                expect("behind what adds no call", since(running), None)
+                until("the clock went on", lambda: state(running)["moment"] > began)
+                operator.texts_of(install("i", profile(1, [7.0])))
+                first = since(running)
+                expect("whether it waits since then", began < first <= state(running)["moment"], True)
+                until("the clock went on again", lambda: seconds(running) > 0)
+                operator.texts_of(install("j", profile(2, [7.0], 1)))
+                expect("with another behind it", (since(running), point_of(running)["waiting"]), (first, 2))
+                expect("on the page", f'<dt>Call waiting since</dt><dd><time datetime="{first}">' in get(running, "/")[2], True)
+                point.texts_of(accepted("0"))
+                expect("once the first is in flight", (since(running) > first, point_of(running)["waiting"]), (True, 1))
+                point.texts_of(accepted("1"))
+                expect("once both are sent", (since(running), seconds(running)), (None, None))
+                ended = state(running)["moment"]
+        with Running(program, SITE, data.path, has_status=True) as running:
+            expect("behind a restart", since(running) >= ended, True)
+
+
 def shown(program, running):
     """What `central status` says: its exit status, what it prints, and what it says on standard error."""
     words = [program, "status", "--url", f"http://127.0.0.1:{running.status_port}"]
@@ -173,8 +294,8 @@ def as_a_table(program):
             status, printed, said = shown(program, running)
             expect("how it ends", (status, said), (0, ""))
             lines = [re.split(r"  +", INSTANT.sub("AT", line)) for line in printed.splitlines()]
-            expect("its head", lines[0], ["point", "connected since", "last text", "booted", "confirmed", "in flight since", "waiting", "rejected"])
-            expect("its points", lines[1:], [["P1", "AT", "AT", "AT", "0", "AT", "0", "0"], ["P2", "-", "-", "-", "0", "-", "1", "0"]])
+            expect("its head", lines[0], ["point", "connected since", "last text", "booted", "confirmed", "in flight since", "waiting", "waiting since", "rejected"])
+            expect("its points", lines[1:], [["P1", "AT", "AT", "AT", "0", "AT", "0", "-", "0"], ["P2", "-", "-", "-", "0", "-", "1", "AT", "0"]])
         nobody = free_port()
         for url, wanted in (("http://127.0.0.1", 3), (f"http://127.0.0.1:{nobody}", 3), (f"ws://127.0.0.1:{nobody}", 4), (f"http://127.0.0.1:{running.port}", 3)):
             done = subprocess.run([program, "status", "--url", url], capture_output=True, timeout=PATIENCE, check=False, env=ENVIRONMENT)
@@ -260,6 +381,26 @@ def in_a_browser(program):
         expect("what is drawn", len(shares_of_colours(picture)) > 10, True)
 
 
+def status_for(running, host):
+    """The status of a request for a host, or for none."""
+    field = "" if host is None else f"Host: {host}\r\n"
+    with socket.create_connection(("127.0.0.1", running.status_port), PATIENCE) as client:
+        client.sendall(f"GET /health HTTP/1.{0 if host is None else 1}\r\n{field}\r\n".encode())
+        return client.makefile("rb").readline().split()[1].decode()
+
+
+def names_of_others(program):
+    """A request is for this machine, and no web page's whose name leads here, unless the port is open to others."""
+    own = ("127.0.0.1", "localhost:9", "LOCALHOST", "[::1]", "[::1]:9", "192.0.2.1", None)
+    others = ("elsewhere.example", "elsewhere.example:9", "localhost.elsewhere.example", "127.0.0.1.elsewhere.example")
+    for is_open in (False, True):
+        with Data() as data, Running(program, SITE, data.path, has_status=True, is_status_open=is_open) as running:
+            for host in (*own, f"127.0.0.1:{running.status_port}"):
+                expect(f"for {host}", status_for(running, host), "200")
+            for host in others:
+                expect(f"for {host}", status_for(running, host), "200" if is_open else "421")
+
+
 def refused_addresses(program):
     """Without a word for it the port is at this machine alone."""
     with Data() as data:
@@ -291,10 +432,14 @@ def tests():
     yield "each path", each_path
     yield "figures that follow", figures_that_follow
     yield "a point that may have forgotten", point_that_may_have_forgotten
+    yield "boots over restarts", boots_over_restarts
+    yield "faulty boots", faulty_boots
+    yield "calls that wait", calls_that_wait
     yield "as a table", as_a_table
     yield "slow clients", slow_clients
     yield "five at once", five_at_once
     yield "in a browser", in_a_browser
     yield "a full device", full_device
+    yield "names of others", names_of_others
     yield "refused addresses", refused_addresses
     yield "standard error that nobody reads", standard_error_that_nobody_reads

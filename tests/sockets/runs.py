@@ -18,6 +18,9 @@ from texts import (
 )
 
 SHORT = error("short", "InternalError", "OutOfMemory")
+# What the system says of a file or a device that takes no more.
+TOO_LARGE = "File too large (os error 27)"
+FULL = "No space left on device (os error 28)"
 
 
 def what_is_noted(program):
@@ -430,7 +433,8 @@ def a_file_that_is_full(program):
             expect("the answers behind", answers[count:], [None] * (8 - count))
             expect("what is written", len(data.bytes()), 1_000)
             said = running.kill().decode()
-        expect("what is said", said, f"central: {data.journal}: File too large (os error 27)\n")
+        wanted = [f"reserve: no room is set aside: {TOO_LARGE}", f"journal: {TOO_LARGE}"]
+        expect("what is said", said.splitlines(), [f"central: {data.path}/{line}" for line in wanted])
         with Running(program, SITE, data.path) as running:
             expect("what is kept", running.resumed, (2, count, 0, 2 + count))
 
@@ -454,7 +458,7 @@ def a_full_device(program):
             data.has_room_again()
             until("there is room", lambda: told(running, install("short", profile(50, [9], 50))) == accepted("short"))
             said = running.kill().decode()
-        wanted = [f"central: {data.journal}: {what}" for what in ("No space left on device (os error 28)", "there is room again")]
+        wanted = [f"central: {data.journal}: {what}" for what in (FULL, "there is room again")]
         expect("what is said", said.splitlines(), wanted)
         with Running(program, SITE, data.path) as running:
             expect("what is kept", running.resumed, (2, count + 1, 0, 3 + count))
@@ -519,7 +523,9 @@ def killed_on_a_full_device(program):
             expect("a change that can't be kept", told(running, wide(answered + 2)) in (None, SHORT), True)
             data.has_room_again()
             until("there is room", lambda: told(running, install("short", profile(60, [9], 60))) == accepted("short"))
-            running.kill()
+            said = running.kill().decode().splitlines()
+        wanted = f"central: {data.path}/reserve: no room is set aside: {FULL}"
+        expect("whether the start says that nothing is set aside", said.count(wanted), 1)
         with Running(program, SITE, data.path) as running:
             profiles = running.resumed[1]
             expect("what is kept", profiles - answered in (1, 2), True)  # what wasn't answered may be there

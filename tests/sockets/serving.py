@@ -163,7 +163,7 @@ class Running(Serving):
     `resumed` is what it says that it goes on with: points, profiles, transactions, calls. It runs below what `under` says.
     """
 
-    def __init__(self, program, site, data, seats=None, under=(), call_timeout=None, keys=None, has_status=False, **more):
+    def __init__(self, program, site, data, seats=None, under=(), call_timeout=None, keys=None, has_status=False, is_status_open=False, **more):
         super().__init__(program, site, None, **more)
         self.data = data
         self.seats = seats
@@ -171,6 +171,7 @@ class Running(Serving):
         self.call_timeout = call_timeout
         self.keys = keys
         self.has_status = has_status
+        self.is_status_open = is_status_open
         self.status_port = None
         self.resumed = None
 
@@ -179,6 +180,7 @@ class Running(Serving):
         status = f"127.0.0.1:{self.status_port}" if self.has_status else None
         numbers = {"--seats": self.seats, "--call-timeout": self.call_timeout, "--keys": self.keys, "--status": status}
         options = [word for name, number in numbers.items() if number is not None for word in (name, str(number))]
+        options += ["--status-open"] if self.is_status_open else []
         return [*self.under, self.program, "run", "--site", path, "--data", self.data, "--listen", address, *options]
 
     def _first_line(self):

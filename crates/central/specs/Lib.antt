@@ -1,3 +1,2 @@
 pub mod ExitStatus
 pub mod SiteStop
-pub mod CommandLine

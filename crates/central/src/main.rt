@@ -9,7 +9,6 @@ mod program;
 
 use crate::program::calling::call_site;
 use crate::program::checking::check_file;
-use crate::program::command_line::{Job, job_of};
 use crate::program::explaining::explain_file;
 use crate::program::key_file::make_key;
 use crate::program::last_line::say_fault;
@@ -22,6 +21,7 @@ use crate::program::serving::serve_file;
 use crate::program::showing::show_file;
 use crate::program::status::show_status;
 use clap::error::ErrorKind;
+use command_line::{Job, job_of};
 use data_folder::print_journal;
 use std::alloc::AllocGlobal;
 use std::fs::File;

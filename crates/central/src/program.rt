@@ -2,10 +2,9 @@
 
 pub mod calling;
 pub mod checking;
-pub mod command_line;
-pub mod commands;
 pub mod explaining;
-pub mod help_text;
+pub mod kept_boots;
+pub mod key_check;
 pub mod key_file;
 pub mod last_line;
 pub mod login;

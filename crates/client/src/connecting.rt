@@ -2,12 +2,12 @@
 
 use crate::fault::ClientFault;
 use base64::engine::general_purpose::STANDARD;
-use http::{HeaderName, HeaderValue, Request};
+use http::{HeaderName, HeaderValue, Request, StatusCode};
 use std::alloc::{Alloc, Global};
 use std::net::{Net, TcpStream};
 use std::random::RandomSource;
 use tungstenite::handshake::client::request_of;
-use tungstenite::{Error, RandomKeys, WebSocket, client};
+use tungstenite::{Error, HandshakeError, RandomKeys, WebSocket, client};
 
 /// A connection whose handshake is done.
 pub type Connection<R> = WebSocket<TcpStream, RandomKeys<R>>;
@@ -80,7 +80,17 @@ pub fn connect<R: Net<Stream = TcpStream> + RandomSource + Copy + Drop>(
     let _ = stream.set_nodelay(true);
     match client(alloc, *rt, request, stream) {
         Ok((socket, _)) => Ok(socket),
+        Err(HandshakeError::Failure(Error::Http(response))) => Err(refusal_of(response.status())),
         Err(_) => Err(ClientFault::Handshake),
+    }
+}
+
+/// Why whoever listens there doesn't let a client in, by the status of its answer.
+fn refusal_of(status: StatusCode) -> ClientFault {
+    match status.as_u16() {
+        401 => ClientFault::Unauthorized,
+        403 => ClientFault::Forbidden,
+        _ => ClientFault::Handshake,
     }
 }
 

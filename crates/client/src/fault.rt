@@ -16,10 +16,15 @@ pub enum ClientFault {
     /// Nobody listens there.
     #[error("url: no connection")]
     Connection,
-    /// Whoever listens there doesn't speak WebSocket with the subprotocol of OCPP 1.6, or doesn't let
-    /// this client in.
-    #[error("url: no OCPP 1.6 there, or it wants a --login")]
+    /// Whoever listens there doesn't speak WebSocket with the subprotocol of OCPP 1.6.
+    #[error("url: no OCPP 1.6 there")]
     Handshake,
+    /// It wants another name and key than those that this client told, if it told any: status 401.
+    #[error("url: HTTP 401: it wants --login FILE with the NAME:KEY of a key: an operator's at /operator/ID, else the point's own")]
+    Unauthorized,
+    /// The name and the key are right, and those of another point: status 403.
+    #[error("url: HTTP 403: the --login is another point's")]
+    Forbidden,
     /// The central system closed the connection before the end. It does so at once where its site
     /// has no such point.
     #[error("url: closed by the central system, which may have no such point")]

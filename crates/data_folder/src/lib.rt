@@ -1,7 +1,8 @@
 //! The folder in which `central run` keeps a site: its journal, written, synced, restored, and read
-//! while the site is run.
+//! while the site is run; and which points booted.
 #![tactic(auto)]
 
+mod boots_file;
 mod folder_fault;
 mod followed_journal;
 mod journal_file;
@@ -14,6 +15,7 @@ mod restoring;
 mod script_end;
 mod system_clock;
 
+pub use boots_file::{BootsFile, read_boots};
 pub use folder_fault::FolderFault;
 pub use followed_journal::{FollowedJournal, Following, follow_journal};
 pub use journal_file::JournalFile;

@@ -82,7 +82,7 @@ fn journal_path(alloc: Global, folder: &str) -> Result<String, AllocError> {
 }
 
 /// The name of a file in a folder.
-fn path_in(alloc: Global, folder: &str, name: &str) -> Result<String, AllocError> {
+pub fn path_in(alloc: Global, folder: &str, name: &str) -> Result<String, AllocError> {
     let mut path = String::from_str(alloc, folder)?;
     if !folder.ends_with('/') {
         path.push_str("/")?;

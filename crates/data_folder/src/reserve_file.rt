@@ -22,21 +22,21 @@ pub struct ReserveFile {
 }
 
 impl ReserveFile {
-    /// The reserve in the file of a name. Where the device has no room for it there is none, and
-    /// nothing else changes.
-    pub fn make<R: Files<File = File>>(rt: &R, path: &str) -> ReserveFile {
-        let mut options = OpenOptions::new();
-        let opened = options.write(true).create(true).open(rt, path);
-        let Ok(mut file) = opened else {
-            return ReserveFile {
-                file: None,
-                is_filled: false,
-            };
-        };
-        let is_filled = fill(&mut file);
-        ReserveFile {
-            file: if is_filled { Some(file) } else { None },
-            is_filled,
+    /// The reserve in the file of a name. Where the device has no room for it there is none, which
+    /// is said on standard error, and nothing else changes.
+    pub fn make<R: Files<File = File> + Eprint>(rt: &R, path: &str) -> ReserveFile {
+        match make_filled(rt, path) {
+            Ok(file) => ReserveFile {
+                file: Some(file),
+                is_filled: true,
+            },
+            Err(error) => {
+                let _ = eprintln!(rt; "central: {path}: no room is set aside: {error}");
+                ReserveFile {
+                    file: None,
+                    is_filled: false,
+                }
+            }
         }
     }
 
@@ -44,7 +44,7 @@ impl ReserveFile {
     pub fn fill(&mut self) -> bool {
         if let Some(file) = &mut self.file {
             if !self.is_filled {
-                self.is_filled = fill(file);
+                self.is_filled = fill(file).is_ok();
             }
             return self.is_filled;
         }
@@ -62,14 +62,22 @@ impl ReserveFile {
     }
 }
 
+/// The file of a name, which is made where it isn't there, filled with zeros.
+fn make_filled<R: Files<File = File>>(rt: &R, path: &str) -> io::Result<File> {
+    let mut options = OpenOptions::new();
+    let mut file = options.write(true).create(true).open(rt, path)?;
+    fill(&mut file)?;
+    Ok(file)
+}
+
 /// Fills a file with zeros, so that the device has the room for them. Where it hasn't, the file is
 /// emptied: a part is of no use.
-fn fill(file: &mut File) -> bool {
-    if write_zeros(file).is_ok() {
-        return true;
+fn fill(file: &mut File) -> io::Result<()> {
+    let filled = write_zeros(file);
+    if filled.is_err() {
+        let _ = file.set_len(0);
     }
-    let _ = file.set_len(0);
-    false
+    filled
 }
 
 /// Writes the zeros that are set aside.

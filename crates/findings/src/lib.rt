@@ -2,6 +2,7 @@
 #![tactic(auto)]
 
 mod audit_check;
+mod boot_check;
 mod broken_json;
 mod call_check;
 mod change_check;
@@ -41,6 +42,7 @@ mod together;
 mod words;
 mod zone_check;
 
+pub use boot_check::check_boot;
 pub use change_check::{RowChange, check_change};
 pub use finding::{FaultName, Finding, Location, Severity, exit_status, sort_by_line};
 pub use never::{NeverRated, never_rated};

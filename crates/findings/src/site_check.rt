@@ -82,7 +82,7 @@ fn is_json(alloc: Global, text: &str, marked: &str) -> Result<bool, AllocError> 
     match verdict_on(alloc, marked)? {
         Verdict::Json => Ok(true),
         Verdict::NotJson => Ok(false),
-        // Nobody writes such a file. Reading it takes many times its size.
+        // Nobody writes such a file.
         Verdict::Unsure => match read_site(alloc, text.as_bytes()) {
             Err(SiteFault::OutOfMemory) => Err(AllocError),
             Err(SiteFault::NotJson) => Ok(false),

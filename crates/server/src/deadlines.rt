@@ -3,7 +3,7 @@
 /// For a handshake as a whole.
 pub(crate) const LONGEST_HANDSHAKE: u64 = 10;
 
-/// For a client that doesn't read, in each write.
+/// For a client that doesn't read, until it has taken what leaves at once.
 pub(crate) const LONGEST_WRITE: u64 = 10;
 
 /// For a message as a whole, once its first byte came.

@@ -4,6 +4,7 @@ ghost use Rattle.std.specs.Prelude.{◌≡◌, ◌↔◌, List, ℕ, None, IfOk,
 ghost use Rattle.site_keys.specs.Admission.{IsAdmittedAs, MayCome};
 ghost use Rattle.server.specs.PathRole.{identity_of, role_of};
 
+use crate::own_host::is_for_this_machine;
 use crate::path::{PathPeer, peer_of_path};
 use http::{Request, StatusCode};
 use site_keys::{Admission, Keys, Role};
@@ -12,26 +13,31 @@ use std::alloc::{AllocError, Global};
 /// Each page of a browser sends it (RFC 6455, section 10.2).
 const ORIGIN: &str = "origin";
 
-const AUTHORIZATION: &str = "authorization";
+/// Has a user and a password (RFC 7617).
+pub(crate) const AUTHORIZATION: &str = "authorization";
 
 /// Whom a server lets in.
 #[derive(Clone, Copy, Debug)]
 pub(crate) enum Entry<'a> {
     /// Whoever comes.
     Open,
-    /// No web page; and where there are keys, only whom they let come.
-    Guarded(Option<&'a Keys>),
+    /// No web page. Where there are keys, only whom they let come; else whoever asks for this machine,
+    /// where this address is listened at.
+    Guarded {
+        keys: Option<&'a Keys>,
+        address: &'a str,
+    },
 }
 
 impl Entry<'_> {
-    /// The status that refuses a request (RFC 9110, sections 15.5.2 and 15.5.4), or None where it is
-    /// let in.
+    /// The status that refuses a request (RFC 9110, sections 15.5.2, 15.5.4 and 15.5.20), or None where
+    /// it is let in.
     pub(crate) fn refusal(
         self,
         alloc: Global,
         request: &Request<()>,
     ) -> Result<Option<StatusCode>, AllocError> {
-        let Entry::Guarded(keys) = self else {
+        let Entry::Guarded { keys, address } = self else {
             return Ok(None);
         };
         let headers = request.headers();
@@ -39,7 +45,12 @@ impl Entry<'_> {
             return Ok(Some(StatusCode::FORBIDDEN));
         }
         let Some(keys) = keys else {
-            return Ok(None);
+            // No web page knows a key, so that with keys a proxy may hand on whatever name it has.
+            return Ok(if is_for_this_machine(headers, address) {
+                None
+            } else {
+                Some(StatusCode::MISDIRECTED_REQUEST)
+            });
         };
         let peer = peer_of_path(request.uri().path());
         match headers.get(AUTHORIZATION) {

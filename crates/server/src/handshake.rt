@@ -1,6 +1,7 @@
 //! The handshake of a connection (RFC 6455, section 4.2): who connects, and whether in OCPP 1.6.
 
 use crate::entry::Entry;
+use crate::refused_request::said_of;
 use http::{HeaderMap, HeaderName, HeaderValue, Request, Response, StatusCode};
 use std::alloc::{AllocError, Global};
 use std::io::{Read, Write};
@@ -30,14 +31,15 @@ struct Reading<'a> {
     alloc: Global,
     entry: Entry<'a>,
     asked: &'a mut Option<ClientRequest>,
-    refused: &'a mut Option<StatusCode>,
+    /// What is said of the request, if it is refused.
+    refused: &'a mut Option<Result<String, AllocError>>,
 }
 
 /// Why there is no session for a connection.
-#[derive(Clone, Copy, Debug)]
+#[derive(Debug, Drop)]
 pub(crate) enum Unshaken {
-    /// Its client was answered this status.
-    Refused(StatusCode),
+    /// Its request was refused, of which this is said.
+    Refused(Result<String, AllocError>),
     /// It wasn't whole in time, or malformed, or memory ran out.
     Failed,
 }
@@ -59,7 +61,7 @@ impl Callback for Reading<'_> {
             Ok(Some(status)) => status,
             Err(AllocError) => StatusCode::SERVICE_UNAVAILABLE,
         };
-        *refused = Some(status);
+        *refused = Some(said_of(alloc, status, request));
         Err(refusal(alloc, status))
     }
 }
@@ -135,8 +137,8 @@ pub(crate) fn shake_hands<S: Read + Write + Drop>(
         refused: &mut refused,
     };
     let socket = accept_hdr(alloc, stream, reading).ok();
-    if let Some(status) = refused {
-        return Err(Unshaken::Refused(status));
+    if let Some(said) = refused {
+        return Err(Unshaken::Refused(said));
     }
     match (socket, asked) {
         (Some(socket), Some(asked)) => Ok((socket, asked)),

@@ -42,6 +42,8 @@ pub(crate) struct IncomingStream<'a, R> {
     /// When the last byte came, or else the handshake began.
     heard: Instant,
     unfinished: Option<Unfinished>,
+    /// When a write began that didn't take all, until all of that is taken.
+    untaken: Option<Instant>,
     /// How often it may still be read in this look, while its session looks at it.
     reads_left: Option<u32>,
 }
@@ -77,6 +79,7 @@ impl<'a, R: Clock + Wait> IncomingStream<'a, R> {
             handshake: Some(deadline),
             heard: now,
             unfinished: None,
+            untaken: None,
             reads_left: None,
         })
     }
@@ -237,9 +240,21 @@ impl<R: Clock + Wait> Read for IncomingStream<'_, R> {
 }
 
 impl<R: Clock> Write for IncomingStream<'_, R> {
+    /// What leaves has one time as a whole. Where its client doesn't read, a write waits and takes a
+    /// part, and the next one would wait as long.
     fn write(&mut self, buf: &[u8]) -> io::Result<usize> {
+        let begun = match self.untaken {
+            None => Instant::now(self.rt)?,
+            Some(begun) if seconds_since(self.rt, begun) < LONGEST_WRITE => begun,
+            Some(_) => return Err(io::Error::from(ErrorKind::TimedOut)),
+        };
         let mut stream: &TcpStream = &self.stream;
-        match stream.write(buf) {
+        let written = stream.write(buf);
+        self.untaken = match &written {
+            Ok(bytes) if *bytes == buf.len() => None,
+            _ => Some(begun),
+        };
+        match written {
             // Its client doesn't read. Else the socket would wait for it once more.
             Err(error) if error.kind() == ErrorKind::WouldBlock => {
                 Err(io::Error::from(ErrorKind::TimedOut))

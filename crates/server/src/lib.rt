@@ -5,6 +5,8 @@
 
 mod accepting;
 mod attending;
+mod boot_changes;
+mod boot_keeper;
 mod connection;
 mod connections;
 mod deadlines;
@@ -14,8 +16,10 @@ mod handshake;
 mod incoming_stream;
 mod long_messages;
 mod notices;
+mod own_host;
 mod path;
 mod present_streams;
+mod refused_request;
 mod seat;
 mod seat_context;
 mod seats;
@@ -31,6 +35,9 @@ mod unfinished_handshakes;
 mod watched_journal;
 mod workers;
 
+pub use boot_keeper::{BootKeeper, begin_boots};
+pub use notices::push_on_one_line;
+pub use own_host::is_own_host;
 pub use path::{PathPeer, peer_of_path};
 pub use seat::keep_seat;
 pub use seat_context::{SeatContext, SeatOptions};

@@ -41,12 +41,10 @@ impl LongMessages {
         }
     }
 
-    /// Asks for a place, perhaps once more. Without a free one the connection waits for it.
+    /// Asks for a place for a connection that has none, perhaps once more. Without a free one the
+    /// connection waits for it.
     pub(crate) fn ask<R: Wait>(&self, rt: &R, place: Place) -> Place {
         let mut places = self.places.lock(rt);
-        if place == Place::Taken {
-            return place;
-        }
         if places.free == 0 {
             if place == Place::Unasked {
                 places.waiting = places.waiting.saturating_add(1);

@@ -120,8 +120,9 @@ fn line_of(alloc: Global, moment: Instant, who: &str, what: &str) -> Result<Stri
     Ok(line)
 }
 
-/// Appends a text. A control character becomes a space, so that nobody else's words begin a line.
-fn push_on_one_line(line: &mut String, text: &str) -> Result<(), AllocError> {
+/// Appends a text of somebody else. A control character becomes a space, so that it begins no line.
+/// Where memory runs out, a part of the text may be there.
+pub fn push_on_one_line(line: &mut String, text: &str) -> Result<(), AllocError> {
     for character in text.chars() {
         line.push(if character.is_control() {
             ' '

@@ -72,7 +72,10 @@ fn serve_incoming<C: Ledger, A: Ledger, R: Wait + Clock, M: Moments, J: Journal>
     else {
         return pass;
     };
-    let entry = Entry::Guarded(seats.options.keys.as_ref());
+    let entry = Entry::Guarded {
+        keys: seats.options.keys.as_ref(),
+        address: seats.options.address.as_str(),
+    };
     let handshake = match stream.share() {
         Some(share) => seats.handshakes.begin(context.rt, share),
         None => None,

@@ -9,6 +9,7 @@ use crate::unfinished_handshakes::UnfinishedHandshakes;
 use ocpp_scalars::Moments;
 use session::Journal;
 use site_keys::Keys;
+use site_status::{Boot, resumed_boot};
 use std::alloc::{AllocError, Global};
 use std::rt::Clock;
 use std::sync::ledger::Ledger;
@@ -20,8 +21,11 @@ use version_store::Shared;
 pub struct SeatOptions {
     /// For so many seconds a call waits for its reply. Then its connection is closed.
     pub call_timeout: u64,
-    /// The keys of all who may come. Without them anybody may, but for web pages.
+    /// The keys of all who may come. Without them anybody may who asks for this machine, but for web
+    /// pages.
     pub keys: Option<Keys>,
+    /// The address that is listened at, as it was given.
+    pub address: String,
 }
 
 /// What all threads share that serve a site.
@@ -60,8 +64,14 @@ impl<
         options: SeatOptions,
     ) -> Result<SeatContext<C, A, R, M, J>, AllocError> {
         let book = shared.lock(&rt);
-        let points = book.present().site().len();
+        let copied = book.present().copy();
         drop(book);
+        let machine = copied?;
+        let points = machine.site().len();
+        let watch = SiteWatch::make(alloc, points)?;
+        if let Some(moment) = clock.now() {
+            watch.see_all_calls(&rt, &machine, moment);
+        }
         Ok(SeatContext {
             rt,
             alloc,
@@ -72,11 +82,29 @@ impl<
             free: FreeSeats::new(),
             long_messages: LongMessages::new(),
             handshakes: UnfinishedHandshakes::new(alloc),
-            watch: SiteWatch::make(alloc, points)?,
+            watch,
             notices: Notices::new(alloc),
             options,
             reading: Mutex::new(()),
         })
+    }
+
+    /// Goes on with the boots that were kept of points, each at the place of its point in the site.
+    pub fn resume_boots(&self, boots: &[Option<Boot>]) -> Result<(), AllocError> {
+        let book = self.shared.lock(&self.rt);
+        let copied = book.present().copy();
+        drop(book);
+        let machine = copied?;
+        for (place, boot) in boots.iter().enumerate() {
+            let (Some(boot), Some(point)) = (*boot, machine.site().point(place)) else {
+                continue;
+            };
+            if let Some(outbox) = machine.outbox_of(point.id) {
+                let boot = resumed_boot(boot, outbox);
+                self.watch.resume_boot(&self.rt, place, boot);
+            }
+        }
+        Ok(())
     }
 
     /// The journal of what is served.

@@ -5,7 +5,7 @@ use crate::site_watch::Reply;
 use messages::ActionKind;
 use ocpp_scalars::{Instant, Moments};
 use session::{Journal, SentCall, SessionCore, Told};
-use site_status::{Boot, SentMoment, Sighting};
+use site_status::{Boot, CallNumbers, SentMoment, Sighting};
 use std::alloc::{AllocError, Global};
 use std::rt::Clock;
 use std::sync::Wait;
@@ -59,9 +59,13 @@ impl<C: Ledger, A: Ledger, R: Wait + Clock, M: Moments, J: Journal> SessionWatch
 
     /// A message came, and told this.
     pub(crate) fn hear(&self, core: &SessionCore, told: Told) {
-        let (Some(_), Some(moment)) = (self.link, self.seats.clock.now()) else {
+        let Some(moment) = self.seats.clock.now() else {
             return;
         };
+        if self.link.is_none() {
+            self.hear_operator(core, moment);
+            return;
+        }
         self.see(Sighting::Heard { moment });
         match told {
             Told::Boot => self.hear_boot(core, moment),
@@ -91,6 +95,22 @@ impl<C: Ledger, A: Ledger, R: Wait + Clock, M: Moments, J: Journal> SessionWatch
     /// The call of this number has no reply in time.
     pub(crate) fn give_up(&self, core: &SessionCore, call: u64) {
         self.say_made(core, without_reply(self.seats.alloc, call));
+    }
+
+    /// An operator's message may have added a call.
+    fn hear_operator(&self, core: &SessionCore, moment: Instant) {
+        let seats = self.seats;
+        let book = seats.shared.lock(&seats.rt);
+        let numbers = match book.present().outbox_of(core.point_id().as_str()) {
+            Some(outbox) => Some(CallNumbers::of(outbox)),
+            None => None,
+        };
+        drop(book);
+        if let Some(numbers) = numbers {
+            seats
+                .watch
+                .see_calls(&seats.rt, self.place, numbers, moment);
+        }
     }
 
     fn hear_boot(&self, core: &SessionCore, moment: Instant) {

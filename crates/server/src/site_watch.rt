@@ -1,8 +1,10 @@
 //! What is seen of a site's connections.
 
+use crate::boot_changes::BootChanges;
 use messages::ActionKind;
 use ocpp_scalars::Instant;
-use site_status::{PointNews, Sighting, SiteCounts};
+use site_core::Machine;
+use site_status::{Boot, CallMoments, CallNumbers, PointNews, Sighting, SiteCounts, boot_to_keep};
 use std::alloc::{AllocError, Global};
 use std::sync::{Mutex, Wait};
 
@@ -10,6 +12,9 @@ use std::sync::{Mutex, Wait};
 #[derive(Drop)]
 pub(crate) struct SiteWatch {
     seen: Mutex<Seen>,
+    /// When the calls to each point were added, by its place in the site.
+    calls: Mutex<Vec<CallMoments>>,
+    boots: BootChanges,
 }
 
 /// What was seen.
@@ -33,14 +38,18 @@ impl SiteWatch {
     /// Of a site with so many points, of which nothing was seen.
     pub(crate) fn make(alloc: Global, points: usize) -> Result<SiteWatch, AllocError> {
         let mut places = Vec::with_capacity(alloc, points)?;
+        let mut calls = Vec::with_capacity(alloc, points)?;
         for _point in 0..points {
             places.push(PointNews::new())?;
+            calls.push(CallMoments::new(alloc))?;
         }
         Ok(SiteWatch {
             seen: Mutex::new(Seen {
                 points: places,
                 counts: no_counts(),
             }),
+            calls: Mutex::new(calls),
+            boots: BootChanges::new(),
         })
     }
 
@@ -77,17 +86,79 @@ impl SiteWatch {
 
     /// This was seen of the point at a place.
     pub(crate) fn see<R: Wait>(&self, rt: &R, place: usize, sighting: Sighting) {
+        let is_boot = matches!(sighting, Sighting::Booted(_));
         let mut seen = self.seen.lock(rt);
         if let Some(news) = seen.points.get_mut(place) {
             news.see(sighting);
         }
+        drop(seen);
+        if is_boot {
+            self.boots.note(rt);
+        }
+    }
+
+    /// The point at a place booted before the program began, and is kept as such.
+    pub(crate) fn resume_boot<R: Wait>(&self, rt: &R, place: usize, boot: Boot) {
+        let mut seen = self.seen.lock(rt);
+        if let Some(news) = seen.points.get_mut(place) {
+            news.see(Sighting::Booted(boot));
+        }
+    }
+
+    /// The point at a place has these calls at a moment. Where memory runs out they are seen the next
+    /// time.
+    pub(crate) fn see_calls<R: Wait>(
+        &self,
+        rt: &R,
+        place: usize,
+        numbers: CallNumbers,
+        moment: Instant,
+    ) {
+        let mut calls = self.calls.lock(rt);
+        if let Some(moments) = calls.get_mut(place) {
+            let _ = moments.see(numbers, moment);
+        }
+    }
+
+    /// The points have the calls of this state at a moment.
+    pub(crate) fn see_all_calls<R: Wait>(&self, rt: &R, machine: &Machine, moment: Instant) {
+        let site = machine.site();
+        for place in 0..site.len() {
+            if let Some(point) = site.point(place) {
+                if let Some(outbox) = machine.outbox_of(point.id) {
+                    self.see_calls(rt, place, CallNumbers::of(outbox), moment);
+                }
+            }
+        }
+    }
+
+    /// Since when the call to each point waits that waits longest, by the state of the site.
+    pub(crate) fn waiting_since<R: Wait>(
+        &self,
+        rt: &R,
+        alloc: Global,
+        machine: &Machine,
+    ) -> Result<Vec<Option<Instant>>, AllocError> {
+        let calls = self.calls.lock(rt);
+        let mut since = Vec::with_capacity(alloc, calls.len())?;
+        for (place, moments) in calls.iter().enumerate() {
+            since.push(waiting_at(machine, place, moments))?;
+        }
+        Ok(since)
     }
 
     /// The point at a place replied to a call. Returns what that asked, where it is known.
     pub(crate) fn reply<R: Wait>(&self, rt: &R, place: usize, reply: Reply) -> Option<ActionKind> {
         let mut seen = self.seen.lock(rt);
         let news = seen.points.get_mut(place)?;
-        news.reply(reply.call, reply.rejection, reply.moment)
+        let kept = boot_to_keep(news);
+        let action = news.reply(reply.call, reply.rejection, reply.moment);
+        let is_new = boot_to_keep(news) != kept;
+        drop(seen);
+        if is_new {
+            self.boots.note(rt);
+        }
+        action
     }
 
     /// The connection over which the point at a place had this link has ended. Returns whether it
@@ -98,6 +169,25 @@ impl SiteWatch {
             Some(news) => news.connection.leave(link),
             None => false,
         }
+    }
+
+    /// What tells that the boots changed which are to be kept.
+    pub(crate) fn changed_boots(&self) -> &BootChanges {
+        &self.boots
+    }
+
+    /// The boot of each point that is to be kept, if there is one.
+    pub(crate) fn boots<R: Wait>(
+        &self,
+        rt: &R,
+        alloc: Global,
+    ) -> Result<Vec<Option<Boot>>, AllocError> {
+        let seen = self.seen.lock(rt);
+        let mut boots = Vec::with_capacity(alloc, seen.points.len())?;
+        for news in &seen.points {
+            boots.push(boot_to_keep(news))?;
+        }
+        Ok(boots)
     }
 
     /// A copy of what was seen.
@@ -112,6 +202,12 @@ impl SiteWatch {
             counts: seen.counts,
         })
     }
+}
+
+/// Since when a call to the point at a place waits, if one does.
+fn waiting_at(machine: &Machine, place: usize, moments: &CallMoments) -> Option<Instant> {
+    let point = machine.site().point(place)?;
+    moments.waiting_since(machine.outbox_of(point.id)?)
 }
 
 fn sessions_of(counts: &mut SiteCounts, is_point: bool) -> &mut u64 {

@@ -37,6 +37,9 @@ const LONGEST_BODY: usize = 0;
 pub struct StatusPort<C: Ledger, A: Ledger, R, M, J> {
     pub(crate) rt: R,
     pub(crate) alloc: Global,
+    /// The address that is listened at, as it was given, where only requests for this machine are
+    /// answered. None where it is open to others, who may have any name for it.
+    pub(crate) address: Option<String>,
     /// What is watched. None while the site is being restored.
     pub(crate) seats: Mutex<Option<SharedSeats<C, A, R, M, J>>>,
 }
@@ -45,11 +48,13 @@ pub struct StatusPort<C: Ledger, A: Ledger, R, M, J> {
 pub(crate) type SharedSeats<C, A, R, M, J> = Arc<SeatContext<C, A, R, M, J>, Global>;
 
 impl<C: Ledger, A: Ledger, R: Wait + Drop, M: Drop, J: Drop> StatusPort<C, A, R, M, J> {
-    /// The port of a site that is being restored.
-    pub fn new(rt: R, alloc: Global) -> StatusPort<C, A, R, M, J> {
+    /// The port of a site that is being restored, at this address if it answers only requests for this
+    /// machine.
+    pub fn new(rt: R, alloc: Global, address: Option<String>) -> StatusPort<C, A, R, M, J> {
         StatusPort {
             rt,
             alloc,
+            address,
             seats: Mutex::new(None),
         }
     }

@@ -1,5 +1,6 @@
 //! What is answered at the status port.
 
+use crate::own_host::is_for_this_machine;
 use crate::seat_context::SeatContext;
 use crate::site_watch::Seen;
 use crate::status_port::StatusPort;
@@ -43,6 +44,10 @@ impl<C: Ledger, A: Ledger, R: Wait + Drop, M: Moments + Drop, J: WatchedJournal 
             HeaderName::from_static("x-content-type-options"),
             HeaderValue::from_static("nosniff"),
         )?;
+        if !self.is_for_us(request) {
+            response.status = StatusCode::MISDIRECTED_REQUEST;
+            return Ok(());
+        }
         let method = request.method();
         if *method != Method::GET && *method != Method::HEAD {
             response.status = StatusCode::METHOD_NOT_ALLOWED;
@@ -63,6 +68,14 @@ impl<
     M: Moments + Drop,
     J: WatchedJournal + Drop,
 > StatusService<'_, C, A, R, M, J> {
+    /// Whether a request is for this machine, where that is wanted.
+    fn is_for_us(&self, request: &Request<Bytes>) -> bool {
+        match &self.port.address {
+            Some(address) => is_for_this_machine(request.headers(), address.as_str()),
+            None => true,
+        }
+    }
+
     /// What a request is answered. The book is locked to be copied, which shares what it holds, and
     /// not while a text is made.
     fn answer(&self, request: &Request<Bytes>) -> Result<StatusAnswer, AllocError> {
@@ -96,10 +109,12 @@ fn answer_by<C: Ledger, A: Ledger, R: Wait, M: Moments, J>(
     let (copied, totals) = (book.present().copy(), book.totals());
     drop(book);
     let machine = copied?;
+    let waiting_since = seats.watch.waiting_since(&seats.rt, seats.alloc, &machine)?;
     let report = SiteReport {
         moment,
         machine: &machine,
         points: points.as_slice(),
+        waiting_since: waiting_since.as_slice(),
         counts: SiteCounts {
             free_seats,
             changes: totals.changes,

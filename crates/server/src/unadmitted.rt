@@ -1,6 +1,7 @@
 //! Connections for which there is no session.
 
 use crate::handshake::{ClientRequest, Unshaken};
+use crate::refused_request::push_path;
 use crate::seat_context::SeatContext;
 use ocpp_scalars::Moments;
 use std::alloc::{AllocError, Global};
@@ -9,9 +10,6 @@ use std::rt::Clock;
 use std::sync::Wait;
 use std::sync::ledger::Ledger;
 
-/// So many characters of a path are told.
-const LONGEST_PATH: usize = 100;
-
 /// Says that a connection wasn't let in. One that failed by itself, as a probe of the port does, is
 /// none of these.
 pub(crate) fn note_unshaken<C: Ledger, A: Ledger, R: Wait + Clock, M: Moments, J>(
@@ -19,13 +17,8 @@ pub(crate) fn note_unshaken<C: Ledger, A: Ledger, R: Wait + Clock, M: Moments, J
     unshaken: Unshaken,
     from: Option<SocketAddr>,
 ) {
-    if let Unshaken::Refused(status) = unshaken {
-        let status = status.as_u16();
-        note_refused(
-            seats,
-            from,
-            format!(in seats.alloc; "refused, HTTP {status}"),
-        );
+    if let Unshaken::Refused(said) = unshaken {
+        note_refused(seats, from, said);
     }
 }
 
@@ -47,10 +40,7 @@ fn push_unknown(what: &mut String, asked: &ClientRequest) -> Result<(), AllocErr
     } else {
         "refused, no subprotocol ocpp1.6: "
     })?;
-    for character in asked.path.chars().take(LONGEST_PATH) {
-        what.push(character)?;
-    }
-    Ok(())
+    push_path(what, asked.path.as_str())
 }
 
 fn note_refused<C: Ledger, A: Ledger, R: Wait + Clock, M: Moments, J>(

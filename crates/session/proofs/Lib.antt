@@ -4,3 +4,4 @@ pub mod NotingLemmas
 pub mod PerformLemmas
 pub mod ServedLemmas
 pub mod TodoLemmas
+pub mod VerdictLemmas

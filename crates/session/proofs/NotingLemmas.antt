@@ -1,14 +1,17 @@
 -- The line of a step that was made leads where the step led.
-use Rattle.std.proofs.Common.{◌≡◌, ℕ, List, Bool, true, false, Some, None, Option, Result, Ok, Err, IfSome, IfOk, option_map, inl, inr, refl, sym, subst, ◌∙◌}
+use Rattle.std.proofs.Common.{◌≡◌, ℕ, List, Bool, true, false, Some, None, Option, Result, Ok, Err, IfSome, IfOk, option_map, inl, inr, refl, sym, subst}
 use Rattle.ocpp_scalars.specs.declared.refusal.Refusal.{Refusal}
 use Rattle.messages.specs.declared.call.Call.{Call}
 use Rattle.messages.specs.declared.side.Side.{Side}
 use Rattle.messages.specs.declared.action_kind.ActionKind.{ActionKind}
+use Rattle.messages.specs.declared.side.Side.TheVariants.{Point}
 use Rattle.sweep_compiler.specs.Judged.{Judgement}
+use Rattle.sweep_compiler.specs.Verdict.{IsVerdict}
 use Rattle.site_core.specs.declared.step.Step.{Step}
 use Rattle.site_core.specs.declared.step.Step.TheVariants as steps
 use Rattle.site_core.specs.declared.reply.Reply.{Reply}
 use Rattle.site_core.specs.declared.reply.Reply.TheVariants as replies
+use Rattle.site_core.specs.Equal.{AreOne, same_request}
 use Rattle.site_core.specs.Step.{Made}
 use Rattle.version_store.specs.Passes.{PassState}
 use Rattle.version_store.specs.Store.{StoreState, IsStore}
@@ -17,17 +20,20 @@ use Rattle.site_journal.specs.Entry.{EntryState, IsEntryOf}
 use Rattle.site_journal.specs.Line.{NotedState, noted_state}
 use Rattle.site_journal.specs.Line as kinds
 use Rattle.site_journal.specs.declared.line.Noted.{Noted}
-use Rattle.site_journal.specs.NotedStep.{ChangesAreRestored, LinksAreRestored, SendsAreRestored, LossesAreRestored, IsStep, line_at, noted_by}
+use Rattle.site_journal.specs.NotedStep.{ChangesAreRestored, ConfirmsAreRestored, VerdictsAreRestored, LinksAreRestored, SendsAreRestored, LossesAreRestored, IsStep, line_at, noted_by}
 use Rattle.site_journal.specs.Restore.{is_change, number_drawn}
 use Rattle.texts.specs.declared.asked.Asked.TheVariants as asked
 use Rattle.texts.specs.Asked.{asked_of}
-use Rattle.texts.specs.SentText.{Sent}
+use Rattle.texts.specs.Said.{said_of}
+use Rattle.texts.specs.SentText.{Sent, sent}
 use Rattle.session.specs.declared.journal.JournalFault.{JournalFault}
 use Rattle.session.specs.declared.outcome.Outcome.TheVariants as outcomes
 use Rattle.session.specs.declared.outcome.Performed.{Performed}
 use Rattle.session.specs.declared.outcome.Performed.TheVariants.{Outcome}
-use Rattle.session.specs.Noting.{IsOfMadeStep, IsEntryAt, IsEntryFor, IsEntryToNote, AsksFor, IsNotable, is_confirm}
+use Rattle.session.specs.Audit.{IsVerdictNoted}
+use Rattle.session.specs.Noting.{LeadsWith, IsOfMadeStep, IsEntryAt, IsEntryFor, IsEntryToNote, AsksFor, IsNotable, is_confirm}
 use Rattle.session.specs.Perform.{Performs}
+use Rattle.session.proofs.VerdictLemmas.{AreComputed, verdict_leads}
 
 -- ---- a call on the book is the machine's step
 
@@ -144,15 +150,35 @@ lost_noted point there link maybe entry result done locked old new law at entry_
     (subst (λ (r : Result (Unit {0}) Refusal). IfOk r (λ (d : Unit {0}).
     Makes old (steps.Lost point link) replies.LinkLost new)) result_is makes)
 
+-- the line of a verdict, with the reply that was judged or, where memory ran out, another
+verdict_line : (old : StoreState) (moment : ℕ) (point : List ℕ) (call : ℕ) (frame : List ℕ)
+    (text : Sent) (judged : Judgement) (made : Made) (short : Bool)
+    → VerdictsAreRestored → AreOne same_request → AreComputed
+    → (short ≡ false → frame ≡ text.frame) → IsVerdictNoted text judged short
+    → IsStep old.present (steps.Judge point call judged) made
+    → LeadsWith old (line_at moment point (kinds.verdict call frame)) (kinds.verdict call frame)
+    (steps.Judge point call judged) made
+verdict_line old moment point call frame text judged made true law one computed frame_is right
+    step = inr right
+verdict_line old moment point call frame text judged made false law one computed frame_is right
+    step =
+    inl (verdict_leads old.present (sent moment Point point frame) call judged made law one computed
+    refl
+    (subst (λ f. IsVerdict judged.audit (said_of (sent moment Point point f)) judged.verdict)
+    (sym (frame_is refl)) right)
+    step)
+
 -- a verdict that was kept
-pub verdict_noted : (moment : ℕ) (there point : List ℕ) (call : ℕ) (frame : List ℕ)
-    (judged : Judgement) (maybe : Option EntryState) (entry : EntryState)
+pub verdict_noted : (text : Sent) (short : Bool) (moment : ℕ) (there point : List ℕ) (call : ℕ)
+    (frame : List ℕ) (judged : Judgement) (maybe : Option EntryState) (entry : EntryState)
     (locked old new : StoreState)
+    → VerdictsAreRestored → AreOne same_request → AreComputed
+    → (short ≡ false → frame ≡ text.frame) → IsVerdictNoted text judged short
     → IfSome maybe (λ (e : EntryState). IsEntryOf e (line_at moment there (kinds.verdict call frame)))
-    → maybe ≡ Some entry → IsStore locked → old ≡ locked
+    → maybe ≡ Some entry → there ≡ point → IsStore locked → old ≡ locked
     → Makes old (steps.Judge point call judged) replies.VerdictKept new → IsOfMadeStep entry call
-verdict_noted moment there point call frame judged maybe entry locked old new at entry_is store
-    locked_is makes = record {
+verdict_noted text short moment there point call frame judged maybe entry locked old new law one
+    computed frame_is right at entry_is same store locked_is makes = record {
       line = line_at moment there (kinds.verdict call frame);
       entry_is = subst (λ (m : Option EntryState). IfSome m (λ (e : EntryState).
           IsEntryOf e (line_at moment there (kinds.verdict call frame)))) entry_is at;
@@ -162,7 +188,12 @@ verdict_noted moment there point call frame judged maybe entry locked old new at
       told = replies.VerdictKept;
       store = subst IsStore (sym locked_is) store;
       makes = makes;
-      leads = tt;
+      leads = subst (λ p. LeadsWith old (line_at moment p (kinds.verdict call frame))
+          (kinds.verdict call frame) (steps.Judge point call judged)
+          (after replies.VerdictKept new)) (sym same)
+          (verdict_line old moment point call frame text judged (after replies.VerdictKept new)
+          short law one computed frame_is right
+          (made_step old new (steps.Judge point call judged) replies.VerdictKept makes));
     }
 
 -- ---- messages
@@ -280,10 +311,12 @@ change_noted maybe entry confirms performed told new number law notable entry_is
 
 -- a confirm is what it performs, and is noted with its reply
 confirm_made : (step : Step) (entry : EntryState) (told : Reply) (old new : StoreState)
-    (was pass : PassState) → IsEntryToNote step entry → is_confirm step ≡ true → IsStore old
+    (was pass : PassState) → ConfirmsAreRestored → IsEntryToNote step entry
+    → is_confirm step ≡ true → IsStore old
     → Performs old was step (Outcome (outcomes.Made told)) new pass → IsOfMadeStep entry 0
-confirm_made (steps.Confirm point link call accepted) entry told old new was pass it is store
+confirm_made (steps.Confirm point link call accepted) entry told old new was pass law it is store
     performs =
+    let own = it.asks.1 in
     let same : it.noted ≡ kinds.reply link it.text.frame = cc (it.noted_is) in
     record {
       line = line_at it.text.moment it.text.point (kinds.reply link it.text.frame);
@@ -294,18 +327,22 @@ confirm_made (steps.Confirm point link call accepted) entry told old new was pas
       told = told;
       store = store;
       makes = performs.0;
-      leads = tt;
+      leads = law old.present it.text link call accepted (after told new) it.asks.0
+          (subst (λ p. asked_of it.text ≡ asked.Confirm p call accepted) own it.asks.2)
+          (subst (λ p. IsStep old.present (steps.Confirm p link call accepted) (after told new)) own
+          (made_step old new (steps.Confirm point link call accepted) told performs.0));
     }
-confirm_made step entry told old new was pass it is store performs = absurd (cc)
+confirm_made step entry told old new was pass law it is store performs = absurd (cc)
 
 pub confirm_noted : (maybe : Option EntryState) (entry : EntryState) (confirms : Bool)
     (performed : Performed) (told : Reply) (new : StoreState)
-    → AreNotable maybe confirms performed new
+    → ConfirmsAreRestored → AreNotable maybe confirms performed new
     → maybe ≡ Some entry → confirms ≡ true → performed ≡ Outcome (outcomes.Made told)
     → IsOfMadeStep entry 0
-confirm_noted maybe entry confirms performed told new notable entry_is confirms_is performed_is =
+confirm_noted maybe entry confirms performed told new law notable entry_is confirms_is
+    performed_is =
     let it = subst (λ (p : Performed). IsNotable entry true p new) performed_is
     (subst (λ b. IsNotable entry b performed new) confirms_is
     (subst (λ (m : Option EntryState). AreNotable m confirms performed new) entry_is notable)) in
-    confirm_made it.step entry told it.old new it.was it.pass it.entry_is (sym it.confirms_is)
-    it.store it.performs
+    confirm_made it.step entry told it.old new it.was it.pass law it.entry_is
+    (sym it.confirms_is) it.store it.performs

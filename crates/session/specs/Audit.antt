@@ -1,9 +1,9 @@
 -- What becomes of a point's reply to its audit, beside the Confirm that it asks for.
-use Rattle.std.specs.Prelude.{◌≡◌, ◌⊎◌, ℕ, List, Option, Some, None, IfSome, option_map}
+use Rattle.std.specs.Prelude.{◌≡◌, ◌⊎◌, ℕ, Bool, true, false, List, Option, None, IfSome, option_map}
 use Rattle.ocpp_scalars.specs.declared.refusal.Refusal.{Refusal}
 use Rattle.sweep_compiler.specs.declared.verdict.Verdict.TheVariants.{Unsettled}
 use Rattle.sweep_compiler.specs.Judged.{Judgement, IsVerdictFor}
-use Rattle.sweep_compiler.specs.Verdict.{AuditRequest}
+use Rattle.sweep_compiler.specs.Verdict.{AuditRequest, IsVerdict}
 use Rattle.site_core.specs.declared.step.Step.{Step}
 use Rattle.site_core.specs.declared.step.Step.TheVariants as steps
 use Rattle.site_core.specs.declared.reply.Reply.TheVariants.{Confirmed, VerdictKept}
@@ -35,6 +35,12 @@ pub record IsJudgedBy (text : Sent) (asked : AuditRequest) (judged : Judgement) 
   pub audit : judged.audit ≡ asked
   pub right : IsVerdictFor asked (said_of text) judged.verdict judged.short
       ⊎ (judged.verdict ≡ Unsettled)
+
+-- A restore comes to this verdict, too. It judges the reply as it came, whose verdict this is; or, where
+-- memory ran out, one that isn't read, whose verdict is Unsettled.
+abbrev pub IsVerdictNoted : Sent → Judgement → Bool → Type 0
+IsVerdictNoted text judged false = IsVerdict judged.audit (said_of text) judged.verdict
+IsVerdictNoted text judged true = judged.verdict ≡ Unsettled
 
 -- a Judge is made, or refused: the audit was replaced or judged meanwhile, the store was stopped, or
 -- memory ran out

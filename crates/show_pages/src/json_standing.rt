@@ -201,12 +201,17 @@ impl Page {
         self.json.u64(waiting.call.number)?;
         self.json.key("state")?;
         self.json.string(state_name(waiting.is_in_flight))?;
-        self.json.key("action")?;
-        self.json.string(waiting.call.body.action())?;
         let mut fields = String::new(self.alloc);
         push_payload_fields(&mut fields, &waiting.call.body)?;
-        self.write_text(fields.as_str())?;
+        self.write_action(waiting.call.body.action(), fields.as_str())?;
         self.json.end_object()
+    }
+
+    /// What a call asks for: its action, and the fields of its payload.
+    fn write_action(&mut self, action: &str, fields: &str) -> Result<(), AllocError> {
+        self.json.key("action")?;
+        self.json.string(action)?;
+        self.write_text(fields)
     }
 
     /// The calls that the point confirmed without doing them.
@@ -221,6 +226,7 @@ impl Page {
             self.json.string(answered.status.as_str())?;
             self.json.key("line")?;
             self.json.u64(answered.line)?;
+            self.write_action(answered.call.action, answered.call.fields.as_str())?;
             self.json.end_object()?;
         }
         self.json.end_array()

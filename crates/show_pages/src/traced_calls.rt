@@ -1,7 +1,7 @@
 //! What became of a charge point's calls, line after line.
 
 use crate::reply::rejection_in;
-use messages::{Call, push_subject};
+use messages::{Call, push_payload_fields, push_subject};
 use ocppj_frame::ReadingMemory;
 use site_core::Outbox;
 use std::alloc::{AllocError, Global};
@@ -12,6 +12,9 @@ pub struct SentCall {
     pub number: u64,
     /// Its action and the profiles that it is for, in words.
     pub what: String,
+    pub action: &'static str,
+    /// The fields of its payload, as JSON with commas between them.
+    pub fields: String,
     /// The line after which it went out.
     pub line: u64,
 }
@@ -81,7 +84,15 @@ impl PointCalls {
         let action = call.body.action();
         let mut what = format!(in alloc; "{action}, ")?;
         push_subject(&mut what, &call.body)?;
-        self.in_flight = Some(SentCall { number, what, line });
+        let mut fields = String::new(alloc);
+        push_payload_fields(&mut fields, &call.body)?;
+        self.in_flight = Some(SentCall {
+            number,
+            what,
+            action,
+            fields,
+            line,
+        });
         self.waiting.retain(|added| added.number > number);
         Ok(())
     }

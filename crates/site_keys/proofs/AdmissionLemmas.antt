@@ -1,13 +1,14 @@
 -- What is decided case by case is who may come.
 use Rattle.std.proofs.Common.{◌≡◌, ℕ, Bool, true, false, cond, List, Option, Some, None, string_bytes, refl, sym, ap, ◌∙◌}
 use Rattle.std.specs.Prelude.{◌↔◌}
+use Rattle.std.specs.Option.{option_map}
 use Rattle.std.proofs.lemmas.Slice.Eq.{bytes_eq-Decides}
 use Rattle.site_keys.specs.declared.role.Role.{Role}
 use Rattle.site_keys.specs.declared.role.Role.TheVariants.{Point, Operator}
 use Rattle.site_keys.specs.declared.admission.Admission.{Admission}
 use Rattle.site_keys.specs.declared.admission.Admission.TheVariants.{Admitted, Unauthorized, Forbidden}
 use Rattle.site_keys.specs.Key.{KeyState}
-use Rattle.site_keys.specs.Credentials.{IsBasic, HasSent}
+use Rattle.site_keys.specs.Credentials.{IsBasic, HasSent, HasUser}
 use Rattle.site_keys.specs.Admission.{IsRight, IsOwn, IsUnauthorized, Decides}
 use Rattle.site_keys.specs.ByCases.Key.{has_right_key}
 use Rattle.site_keys.specs.ByCases.Credentials.{CredentialsState, credentials_of}
@@ -38,6 +39,25 @@ says_nothing header none = record {
     λ basic. absurd (none basic.bytes basic.sent),
   );
 }
+
+-- the user of a header, by what it says
+pub user_said : (header : List ℕ) (sent : Option CredentialsState) → Says header sent
+    → (found : Option (List ℕ)) → found ≡ option_map (λ (s : CredentialsState). s.user) sent
+    → (user : List ℕ) → (found ≡ Some user) ↔ HasUser header user
+user_said header None says found is user = (
+  λ same. absurd (cc (is, same)),
+  λ has. absurd (cc ((says.each user has.password).1 has.sent)),
+)
+user_said header (Some sent) says found is user = (
+  λ same.
+      let one : sent.user ≡ user = cc (is, same) in
+      rw (← one) (record { password = sent.password; sent = (says.each sent.user sent.password).0 refl }),
+  λ has.
+      let other : CredentialsState = record { user = user; password = has.password } in
+      let so : Some sent ≡ Some other = (says.each user has.password).1 has.sent in
+      let same : sent ≡ other = cc so in
+      is ∙ ap (λ (s : CredentialsState). Some s.user) same,
+)
 
 -- ---- by the decision
 

@@ -35,3 +35,8 @@ pub record IsBasic (header user password : List ℕ) : Type 0 where
   pub bytes : List ℕ
   pub sent : HasSent header bytes
   pub credentials : AreCredentials bytes user password
+
+-- a header with this user, whatever the password
+pub record HasUser (header user : List ℕ) : Type 0 where
+  pub password : List ℕ
+  pub sent : IsBasic header user password

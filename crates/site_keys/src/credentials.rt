@@ -2,8 +2,9 @@
 
 ghost use Rattle.std.specs.Prelude.{ℕ, ◌≡◌, ◌↔◌, List, Some, IfOk};
 ghost use Rattle.std.specs.Option.{option_copied, option_map};
+ghost use Rattle.std.specs.String.{string_bytes};
 ghost use Rattle.site_keys.specs.ByCases.Credentials.{credentials_of, credentials_view, token_in};
-ghost use Rattle.site_keys.specs.Credentials.{HasSent, IsBase64};
+ghost use Rattle.site_keys.specs.Credentials.{HasSent, HasUser, IsBase64};
 
 use crate::bytes::{cut, without_spaces};
 use crate::name::text_in;
@@ -64,4 +65,26 @@ pub(crate) fn credentials_of(bytes: &[u8]) -> Option<Credentials<'_>>
     let (user, password) = cut(bytes, b':')?;
     let user = text_in(user)?;
     Some(Credentials { user, password })
+}
+
+/// The user that an `Authorization` header with the scheme Basic has, whatever the password.
+pub fn user_in(alloc: Global, header: &[u8]) -> Result<Option<String>, AllocError>
+    ensures { IfOk result (λ found. (user : List ℕ)
+        → (option_map string_bytes found ≡ Some user) ↔ HasUser header.now user) }
+{
+    match sent_bytes(alloc, header)? {
+        Some(bytes) => user_of(alloc, bytes.as_slice()),
+        None => Ok(None),
+    }
+}
+
+/// The user before the first colon.
+fn user_of(alloc: Global, bytes: &[u8]) -> Result<Option<String>, AllocError>
+    ensures { IfOk result (λ found. option_map string_bytes found
+        ≡ option_map (λ sent. sent.user) (credentials_of bytes.now)) }
+{
+    match credentials_of(bytes) {
+        Some(sent) => Ok(Some(String::from_str(alloc, sent.user)?)),
+        None => Ok(None),
+    }
 }

@@ -17,6 +17,7 @@ mod role;
 mod written_keys;
 
 pub use admission::Admission;
+pub use credentials::user_in;
 pub use keys::Keys;
 pub use keys_fault::KeysFault;
 pub use line_fault::LineFault;

@@ -1,14 +1,14 @@
 -- A value from outside: the tree that its tokens are, by the token that begins it.
-use Rattle.std.proofs.Common.{◌≡◌, ℕ, List, ◌∷◌, Bool, false, Some, option_map, Result, Ok, Err, IfOk, refl, ap, ◌∙◌}
+use Rattle.std.proofs.Common.{◌≡◌, ℕ, List, ◌∷◌, Bool, false, Some, unwrap_or, refl, sym, ap, ◌∙◌}
+use Rattle.json.specs.Json.{parse_map}
 use Rattle.json.specs.Token.{Token}
 use Rattle.json.proofs.Grammar.{value_is}
 use Rattle.serde_json.specs.Read.{converted, of_json}
-use Rattle.ocppj_frame.specs.Read.{tree_of, tree_of_string}
+use Rattle.ocppj_frame.specs.Read.{tree_of_string}
 use Rattle.ocppj_frame.specs.Tree.{Tree, null, boolean, text, number, list, object, is_object}
 use Rattle.site_rules.specs.declared.reading.glance.Glance.{Glance}
 use Rattle.site_rules.specs.declared.reading.glance.Glance.TheVariants as glances
-use Rattle.site_rules.specs.declared.reading.part_fault.PartFault.{PartFault}
-use Rattle.site_rules.specs.ByCases.Parts.{shown, glance_tree, IsGlanceAt}
+use Rattle.site_rules.specs.ByCases.Parts.{mended_tree, shown, glance_tree, IsGlanceAt}
 
 shown-glance : (glance : Glance) → glance_tree glance ≡ shown (glance_tree glance)
 shown-glance glances.Null = refl
@@ -20,19 +20,18 @@ shown-glance glances.Object = refl
 
 module _ (depth : ℕ) (rest : List Token) where
   pub null_glance : IsGlanceAt depth (Token.null ∷ rest) rest glances.Null
-  null_glance = record { tree = null; here = ap (λ o. converted tree_of (converted of_json o)) (value_is depth (Token.null ∷ rest)); seen = refl }
+  null_glance = record { tree = null; here = ap (λ o. parse_map mended_tree (converted of_json o)) (value_is depth (Token.null ∷ rest)); seen = refl }
 
   pub boolean_glance : (b : Bool) → IsGlanceAt depth (Token.boolean b ∷ rest) rest glances.Bool
-  boolean_glance b = record { tree = boolean b; here = ap (λ o. converted tree_of (converted of_json o)) (value_is depth (Token.boolean b ∷ rest)); seen = refl }
+  boolean_glance b = record { tree = boolean b; here = ap (λ o. parse_map mended_tree (converted of_json o)) (value_is depth (Token.boolean b ∷ rest)); seen = refl }
 
-  pub string_glance : (bytes : List ℕ) (found : Result Glance PartFault) → IfOk found (λ (glance : Glance). tree_of_string bytes ≡ Some (glance_tree glance))
-      → IfOk found (λ (glance : Glance). IsGlanceAt depth (Token.string bytes ∷ rest) rest glance)
-  string_glance bytes (Ok glance) h = record {
+  pub string_glance : (bytes : List ℕ) (glance : Glance) → glance_tree glance ≡ unwrap_or (tree_of_string bytes) null
+      → IsGlanceAt depth (Token.string bytes ∷ rest) rest glance
+  string_glance bytes glance h = record {
     tree = glance_tree glance;
-    here = ap (λ o. converted tree_of (converted of_json o)) (value_is depth (Token.string bytes ∷ rest)) ∙ ap (option_map (λ (t : Tree). (t, rest))) h;
+    here = ap (λ o. parse_map mended_tree (converted of_json o)) (value_is depth (Token.string bytes ∷ rest)) ∙ ap (λ (t : Tree). Some (t, rest)) (sym h);
     seen = shown-glance glance;
   }
-  string_glance bytes (Err fault) h = tt
 
 -- an object looks like one
 

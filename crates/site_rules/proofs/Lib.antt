@@ -7,8 +7,11 @@ pub mod ReadingSteps
 pub mod SiteFiles
 pub mod ReadingFaults
 pub mod SiteFaults
-pub mod Conversion
 pub mod GlanceTrees
 pub mod TokenTrees
 pub mod PartsRead
 pub mod PartsKept
+pub mod BrokenMembers
+pub mod MarkedTrees
+pub mod MembersRead
+pub mod MendedTrees

@@ -13,6 +13,7 @@ mod glance;
 mod part_fault;
 mod point;
 mod steps;
+mod trees;
 mod whole;
 
 use crate::fault::SiteFault;
@@ -56,7 +57,8 @@ fn read_site_text(alloc: Global, text: &str) -> Result<Site, SiteFault>
     }
 }
 
-/// Reads the text as a tree first, in many times its size.
+/// Reads the text as a tree first, in many times its size. It never comes to that, since a text
+/// that isn't JSON is refused before; but that isn't proved.
 fn read_text_whole(alloc: Global, text: &str) -> Result<Site, SiteFault>
     ensures { ReadsUnless is_memory (λ site. site) result (site_by (tree_of_text text.now)) }
 {

@@ -1,4 +1,7 @@
+pub mod Asked
 pub mod Calls
+pub mod Found
 pub mod Health
+pub mod KeptBoot
 pub mod Reboot
 pub mod News

@@ -1,7 +1,18 @@
--- A point's newest connection. Links are numbered in the order in which points get them.
-use Rattle.std.specs.Prelude.{ℕ, nat_lt, ◌==◌, Option, None, Some, if◌then◌else◌}
+-- What was seen of a point, and what each sighting changes. Links are numbered in the order in which
+-- points get them, and so are the calls to a point.
+use Rattle.std.specs.Prelude.{ℕ, ◌+◌, ◌-◌, ◌^◌, min, nat_lt, ◌==◌, Bool, true, false, Option, None, Some, if◌then◌else◌}
+use Rattle.std.specs.declared.alloc.Global.{Global}
+use Rattle.std.specs.declared.string.String.{String}
 use Rattle.ocpp_scalars.specs.declared.instant.Instant.{Instant}
+use Rattle.messages.specs.declared.action_kind.ActionKind.{ActionKind}
+use Rattle.messages.specs.declared.action_kind.ActionKind.TheVariants.{SetChargingProfile}
 use Rattle.site_status.specs.declared.point_news.Connection.{Connection}
+use Rattle.site_status.specs.declared.point_news.PointNews.{PointNews}
+use Rattle.site_status.specs.declared.point_news.SentMoment.{SentMoment}
+use Rattle.site_status.specs.declared.point_news.Sighting.{Sighting}
+use Rattle.site_status.specs.declared.point_news.Sighting.TheVariants.{Connected, Heard, Booted, Sent}
+
+-- ---- connections
 
 -- a connection over which the point has this link since a moment: of two the later one stays
 abbrev pub connected : Connection → ℕ → Instant → Connection
@@ -11,3 +22,54 @@ connected newest link moment =
 -- such a connection has ended; another one stays
 abbrev pub left : Connection → ℕ → Connection
 left newest link = if newest.link == link then record newest { since = None } else newest
+
+-- ---- sightings
+
+abbrev pub unseen : PointNews
+unseen = record {
+  connection = record { link = 0; since = None };
+  heard = None;
+  boot = None;
+  sent = None;
+  installed = None;
+  rejections = 0;
+  rejection = None;
+}
+
+-- each changes what it is about, and nothing else
+abbrev pub seen : PointNews → Sighting → PointNews
+seen old (Connected link moment) =
+    record old { connection = connected old.connection link moment }
+seen old (Heard moment) = record old { heard = Some moment }
+seen old (Booted boot) = record old { boot = Some boot }
+seen old (Sent sent) = record old { sent = Some sent }
+
+-- ---- replies
+
+-- what the call of a number asked, where it is the last one that was sent
+abbrev pub action_of : Option SentMoment → ℕ → Option ActionKind
+action_of None call = None
+action_of (Some sent) call = if sent.number == call then Some sent.action else None
+
+-- the last install that was confirmed, after a call that asked this was
+abbrev pub installed_by : Option ActionKind → ℕ → Option ℕ → Option ℕ
+installed_by (Some SetChargingProfile) call before = Some call
+installed_by _ call before = before
+
+-- a count goes no further than its type
+abbrev pub one_more : ℕ → ℕ
+one_more count = min (count + 1) (2 ^ 64 - 1)
+
+-- after a reply to a call, which rejects it for a reason, or doesn't
+abbrev pub replied : PointNews → ℕ → Option (String Global) → Instant → PointNews
+replied old call None moment =
+    record old { installed = installed_by (action_of old.sent call) call old.installed }
+replied old call (Some reason) moment = record old {
+  rejections = one_more old.rejections;
+  rejection = Some (record {
+    call = call;
+    action = action_of old.sent call;
+    moment = moment;
+    reason = reason;
+  });
+}

@@ -1,5 +1,9 @@
 //! What is asked for at the status port.
 
+ghost use Rattle.std.specs.Prelude.{◌≡◌, ◌↔◌, IfSome, Some, codes};
+ghost use Rattle.site_status.specs.Asked.{IsOneOfMany};
+ghost use Rattle.site_status.specs.declared.asked_path.StatusPath.TheVariants as asked;
+
 /// What is asked for by a path.
 #[derive(Clone, Copy, Debug, PartialEq, Eq)]
 pub enum StatusPath<'a> {
@@ -16,7 +20,12 @@ pub enum StatusPath<'a> {
 }
 
 /// What is asked for by this path, if it is anything.
-pub fn status_path(path: &str) -> Option<StatusPath<'_>> {
+pub fn status_path(path: &str) -> Option<StatusPath<'_>>
+    ensures health { (result ≡ Some asked.Health) ↔ (path.now ≡ codes "/health") }
+    ensures metrics { (result ≡ Some asked.Metrics) ↔ (path.now ≡ codes "/metrics") }
+    ensures state { (result ≡ Some asked.State) ↔ (path.now ≡ codes "/state.json") }
+    ensures opening { path.now ≡ codes "/" → result ≡ Some (asked.Page 1) }
+{
     match path {
         "/health" => Some(StatusPath::Health),
         "/metrics" => Some(StatusPath::Metrics),
@@ -26,7 +35,9 @@ pub fn status_path(path: &str) -> Option<StatusPath<'_>> {
     }
 }
 
-fn long_path(path: &str) -> Option<StatusPath<'_>> {
+fn long_path(path: &str) -> Option<StatusPath<'_>>
+    ensures { IfSome result IsOneOfMany }
+{
     if let Some(number) = path.strip_prefix("/page/") {
         let number = number.parse::<usize>().ok()?;
         return Some(StatusPath::Page { number });

@@ -3,10 +3,13 @@
 #![tactic(auto)]
 
 mod asked_path;
+mod boot_line;
+mod call_moments;
 mod calls;
 mod health;
 mod journal_report;
 mod json_page;
+mod kept_boot;
 mod metrics;
 mod next_day;
 mod page;
@@ -20,9 +23,12 @@ mod status_answer;
 mod strip;
 
 pub use asked_path::{StatusPath, status_path};
+pub use boot_line::{BootLine, push_boot_line, read_boot_line};
+pub use call_moments::{CallMoments, CallNumbers};
 pub use calls::{in_flight_calls, in_flight_since, waiting_calls};
 pub use health::Health;
 pub use journal_report::{JournalReport, JournalState};
+pub use kept_boot::{boot_to_keep, may_forget_since, resumed_boot};
 pub use metrics::metrics_text;
 pub use next_day::connector_picture;
 pub use page::{POINTS_OF_PAGE, site_page};

@@ -206,6 +206,7 @@ enum PointFigure {
     LastText,
     Boot,
     Waiting,
+    WaitingSeconds,
     InFlight,
     InFlightSeconds,
     Confirmed,
@@ -213,11 +214,12 @@ enum PointFigure {
     MayHaveForgotten,
 }
 
-const POINT_FIGURES: [PointFigure; 9] = [
+const POINT_FIGURES: [PointFigure; 10] = [
     PointFigure::Connected,
     PointFigure::LastText,
     PointFigure::Boot,
     PointFigure::Waiting,
+    PointFigure::WaitingSeconds,
     PointFigure::InFlight,
     PointFigure::InFlightSeconds,
     PointFigure::Confirmed,
@@ -232,6 +234,7 @@ impl PointFigure {
             PointFigure::LastText => "central_point_last_text_timestamp_seconds",
             PointFigure::Boot => "central_point_boot_timestamp_seconds",
             PointFigure::Waiting => "central_calls_waiting",
+            PointFigure::WaitingSeconds => "central_call_waiting_seconds",
             PointFigure::InFlight => "central_calls_in_flight",
             PointFigure::InFlightSeconds => "central_call_in_flight_seconds",
             PointFigure::Confirmed => "central_calls_confirmed_total",
@@ -246,6 +249,8 @@ impl PointFigure {
             PointFigure::LastText => "When its last message came.",
             PointFigure::Boot => "When its last BootNotification came.",
             PointFigure::Waiting => "Calls to it that wait.",
+            PointFigure::WaitingSeconds =>
+                "How long ago the first of them was added, or the program began.",
             PointFigure::InFlight => "Calls to it that were sent and have no reply: one at most.",
             PointFigure::InFlightSeconds => "How long ago that call was sent.",
             PointFigure::Confirmed => "Calls that it confirmed, whatever it replied.",
@@ -267,14 +272,17 @@ impl PointFigure {
             PointFigure::LastText => Some(point.news.heard?.seconds()),
             PointFigure::Boot => Some(point.news.boot?.moment.seconds()),
             PointFigure::Waiting => Some(point.calls.waiting as u64),
+            PointFigure::WaitingSeconds => seconds_since(point.calls.waiting_since, now),
             PointFigure::InFlight => Some(point.calls.in_flight as u64),
-            PointFigure::InFlightSeconds => {
-                let since = point.calls.in_flight_since?;
-                Some(now.seconds().saturating_sub(since.seconds()))
-            }
+            PointFigure::InFlightSeconds => seconds_since(point.calls.in_flight_since, now),
             PointFigure::Confirmed => Some(point.calls.confirmed),
             PointFigure::Rejected => Some(point.news.rejections),
             PointFigure::MayHaveForgotten => Some(u64::from(point.calls.may_have_forgotten)),
         }
     }
+}
+
+/// How many seconds ago a moment was, if there is one.
+fn seconds_since(moment: Option<Instant>, now: Instant) -> Option<u64> {
+    Some(now.seconds().saturating_sub(moment?.seconds()))
 }

@@ -1,6 +1,9 @@
 //! The limits of a connector over the next 24 hours.
 
-ghost use Rattle.std.specs.Prelude.{◌≡◌, ◌≤◌, length, IfSome};
+ghost use Rattle.std.specs.Prelude.{◌≡◌, ◌≤◌, IfOk, IfSome, is_some, length};
+ghost use Rattle.point_book.specs.Book.{state_of};
+ghost use Rattle.site_status.specs.Found.{asked_day, day, has_picture};
+ghost use Rattle.sweep_compiler.specs.Explained.{IsExplanation};
 
 use crate::site_report::SiteReport;
 use explain_pages::{ExplainedAsk, not_counted, write_picture};
@@ -16,7 +19,8 @@ const DAY: u32 = 86_400;
 /// What is asked of a connector of this book from a moment on. None where the book hasn't it, and
 /// in the last day of the calendar.
 fn ask_of(book: &PointBook, connector: u32, moment: Instant) -> Option<Ask>
-    ensures { IfSome result (λ ask. ask.connector ≤ length book.now.ceilings) }
+    ensures asked { result ≡ asked_day book.now connector moment }
+    ensures within { IfSome result (λ ask. ask.connector ≤ length book.now.ceilings) }
 {
     if connector > book.connectors() {
         return None;
@@ -33,7 +37,10 @@ pub(crate) fn explained_day(
     book: &PointBook,
     connector: u32,
     moment: Instant,
-) -> Result<Option<Explanation>, AllocError> {
+) -> Result<Option<Explanation>, AllocError>
+    ensures { IfOk result (λ found. IfSome found (λ explained.
+        IsExplanation (state_of book.now) connector moment day explained)) }
+{
     let Some(ask) = ask_of(book, connector, moment) else {
         return Ok(None);
     };
@@ -47,7 +54,10 @@ pub fn connector_picture(
     report: &SiteReport<'_>,
     point: &str,
     connector: u32,
-) -> Result<Option<String>, AllocError> {
+) -> Result<Option<String>, AllocError>
+    ensures { IfOk result (λ picture. is_some picture
+        ≡ has_picture report.now.machine.now point.now connector report.now.moment) }
+{
     let Some(book) = report.machine.book_of(point) else {
         return Ok(None);
     };

@@ -1,6 +1,9 @@
 //! The page of a site: how each point is, and its limits over the next 24 hours, as HTML. It loads
 //! nothing, and needs no script.
 
+ghost use Rattle.std.specs.Prelude.{◌≡◌, IfOk, is_some, length};
+ghost use Rattle.site_status.specs.Found.{is_page};
+
 use crate::health::Health;
 use crate::next_day::explained_day;
 use crate::page_style::STYLE;
@@ -20,16 +23,18 @@ pub fn site_page(
     alloc: Global,
     report: &SiteReport<'_>,
     number: usize,
-) -> Result<Option<String>, AllocError> {
-    let calls = calls_of_points(alloc, report)?;
-    let pages = calls.len().div_ceil(POINTS_OF_PAGE);
-    let first = number.saturating_sub(1).saturating_mul(POINTS_OF_PAGE);
-    if number == 0 || number > pages {
+) -> Result<Option<String>, AllocError>
+    ensures { IfOk result (λ page.
+        is_some page ≡ is_page (length report.now.points.now) number) }
+{
+    let points = report.points.len();
+    let Some(first) = first_of_page(points, number) else {
         return Ok(None);
-    }
+    };
+    let calls = calls_of_points(alloc, report)?;
     let mut out = String::new(alloc);
     push_opening(&mut out, report)?;
-    push_pages(&mut out, number, pages)?;
+    push_pages(&mut out, number, points.div_ceil(POINTS_OF_PAGE))?;
     out.push_str("<main>\n")?;
     for (place, calls) in calls.iter().enumerate().skip(first).take(POINTS_OF_PAGE) {
         if let Some(point) = summary_at(report, place, *calls) {
@@ -38,6 +43,14 @@ pub fn site_page(
     }
     out.push_str("</main>\n</body>\n</html>\n")?;
     Ok(Some(out))
+}
+
+/// The place of the first point of a page, among so many.
+fn first_of_page(points: usize, number: usize) -> Option<usize>
+    ensures { is_some result ≡ is_page points number }
+{
+    let first = number.checked_sub(1)?.checked_mul(POINTS_OF_PAGE)?;
+    if first < points { Some(first) } else { None }
 }
 
 fn push_opening(out: &mut String, report: &SiteReport<'_>) -> Result<(), AllocError> {
@@ -132,6 +145,12 @@ fn push_state(out: &mut String, point: &PointSummary<'_>) -> Result<(), AllocErr
         "none is",
     )?;
     push_count(out, "Calls waiting", point.calls.waiting as u64)?;
+    push_seen(
+        out,
+        "Call waiting since",
+        point.calls.waiting_since,
+        "none is",
+    )?;
     push_count(out, "Calls confirmed", point.calls.confirmed)?;
     push_count(out, "Calls rejected", point.news.rejections)?;
     out.push_str("</dl>\n")?;

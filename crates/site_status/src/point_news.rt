@@ -1,7 +1,7 @@
 //! What was seen of a charge point since the program began.
 
-ghost use Rattle.std.specs.Prelude.{◌≡◌, ◌==◌};
-ghost use Rattle.site_status.specs.News.{connected, left};
+ghost use Rattle.std.specs.Prelude.{◌≡◌, ◌==◌, IfOk};
+ghost use Rattle.site_status.specs.News.{action_of, connected, left, replied, seen, unseen};
 
 use messages::ActionKind;
 use ocpp_scalars::Instant;
@@ -99,7 +99,9 @@ impl Connection {
 
 impl PointNews {
     /// Nothing was seen of it yet.
-    pub fn new() -> PointNews {
+    pub fn new() -> PointNews
+        ensures { result ≡ unseen }
+    {
         PointNews {
             connection: Connection {
                 link: 0,
@@ -114,8 +116,10 @@ impl PointNews {
         }
     }
 
-    /// A copy.
-    pub fn copy(&self, alloc: Global) -> Result<PointNews, AllocError> {
+    /// A copy. No clause speaks of the last rejection's.
+    pub fn copy(&self, alloc: Global) -> Result<PointNews, AllocError>
+        ensures { IfOk result (λ copy. copy ≡ record self.now { rejection = copy.rejection }) }
+    {
         let rejection = match &self.rejection {
             Some(rejection) => Some(rejection.copy(alloc)?),
             None => None,
@@ -132,7 +136,9 @@ impl PointNews {
     }
 
     /// Takes note of what was seen.
-    pub fn see(&mut self, sighting: Sighting) {
+    pub fn see(&mut self, sighting: Sighting)
+        ensures { self.new ≡ seen self.old sighting }
+    {
         match sighting {
             Sighting::Connected { link, moment } => self.connection.connect(link, moment),
             Sighting::Heard { moment } => self.heard = Some(moment),
@@ -148,7 +154,10 @@ impl PointNews {
         call: u64,
         rejection: Option<String>,
         moment: Instant,
-    ) -> Option<ActionKind> {
+    ) -> Option<ActionKind>
+        ensures news { self.new ≡ replied self.old call rejection moment }
+        ensures action { result ≡ action_of self.old.sent call }
+    {
         let action = self.action_of(call);
         match rejection {
             Some(reason) => {
@@ -167,7 +176,9 @@ impl PointNews {
     }
 
     /// What the call of this number asked, if it is the last one that was sent.
-    fn action_of(&self, call: u64) -> Option<ActionKind> {
+    fn action_of(&self, call: u64) -> Option<ActionKind>
+        ensures { result ≡ action_of self.now.sent call }
+    {
         match self.sent {
             Some(sent) if sent.number == call => Some(sent.action),
             _ => None,

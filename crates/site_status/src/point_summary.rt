@@ -24,6 +24,8 @@ pub(crate) struct PointCalls {
     /// How many it confirmed.
     pub(crate) confirmed: u64,
     pub(crate) waiting: usize,
+    /// Since when the one waits that waits longest.
+    pub(crate) waiting_since: Option<Instant>,
     pub(crate) in_flight: usize,
     pub(crate) in_flight_since: Option<Instant>,
     pub(crate) audit: AuditOutcome,
@@ -61,6 +63,7 @@ fn calls_at(
     Ok(PointCalls {
         confirmed: outbox.first_number(),
         waiting: waiting_calls(outbox),
+        waiting_since: waiting_since_at(report, place),
         in_flight: in_flight_calls(outbox),
         in_flight_since: in_flight_since(outbox, news.sent),
         audit: match audit {
@@ -71,10 +74,19 @@ fn calls_at(
     })
 }
 
+/// Since when a call to the point at a place waits, where one does.
+fn waiting_since_at(report: &SiteReport<'_>, place: usize) -> Option<Instant> {
+    match report.waiting_since.get(place) {
+        Some(since) => *since,
+        None => None,
+    }
+}
+
 fn no_calls() -> PointCalls {
     PointCalls {
         confirmed: 0,
         waiting: 0,
+        waiting_since: None,
         in_flight: 0,
         in_flight_since: None,
         audit: AuditOutcome::NoAudit,

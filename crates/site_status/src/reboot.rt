@@ -1,9 +1,9 @@
 //! Whether a point may have forgotten its profiles.
 
-ghost use Rattle.std.specs.Prelude.{◌≡◌};
-ghost use Rattle.site_status.specs.Reboot.{is_before, may_have_forgotten};
+ghost use Rattle.std.specs.Prelude.{◌≡◌, IfOk, option_map};
+ghost use Rattle.site_status.specs.Reboot.{agreed_in, first_call_at, has_installed, is_before, is_install_of, is_installed_by, may_have_forgotten, reboot_of, waiting_bodies};
 
-use crate::point_news::PointNews;
+use crate::point_news::{Boot, PointNews};
 use messages::{AuditOutcome, CallBody};
 use point_book::PointBook;
 use profile::Row;
@@ -35,7 +35,7 @@ pub fn may_have_forgotten(reboot: Reboot) -> bool
 }
 
 /// Whether there is no such call, or the point had confirmed it before the first call since it booted.
-fn is_before(call: Option<u64>, first: u64) -> bool
+pub(crate) fn is_before(call: Option<u64>, first: u64) -> bool
     ensures { result ≡ is_before call first }
 {
     match call {
@@ -46,51 +46,76 @@ fn is_before(call: Option<u64>, first: u64) -> bool
 
 impl Reboot {
     /// What decides it for a point with this book and this outbox.
-    pub(crate) fn of(
+    pub fn of(
         alloc: Global,
         news: &PointNews,
         book: &PointBook,
         outbox: &Outbox,
         audit: Option<&PointAudit>,
-    ) -> Result<Reboot, AllocError> {
-        let first_call = match news.boot {
-            Some(boot) => Some(boot.first_call),
-            None => None,
-        };
-        let bodies = outbox.bodies(alloc)?;
+    ) -> Result<Reboot, AllocError>
+        ensures { IfOk result (λ reboot. reboot ≡ reboot_of news.now book.now outbox.now
+            (option_map (λ asked. asked.now) audit.entry)) }
+    {
+        let has_profiles = has_profiles(alloc, book, outbox)?;
         Ok(Reboot {
-            first_call,
+            first_call: first_call_at(news.boot),
             installed: news.installed,
             agreed: agreed_in(audit),
-            has_profiles: has_installed(book.view().rows, bodies.as_slice()),
+            has_profiles,
         })
     }
 }
 
-fn agreed_in(audit: Option<&PointAudit>) -> Option<u64> {
-    match audit {
-        Some(audit) if audit.outcome() == AuditOutcome::Agrees => Some(audit.number()),
+/// The first call that a point hadn't confirmed when it booted.
+fn first_call_at(boot: Option<Boot>) -> Option<u64>
+    ensures { result ≡ first_call_at boot }
+{
+    match boot {
+        Some(boot) => Some(boot.first_call),
+        None => None,
+    }
+}
+
+/// Whether a point ought to have a profile whose install doesn't wait in its outbox.
+fn has_profiles(alloc: Global, book: &PointBook, outbox: &Outbox) -> Result<bool, AllocError>
+    ensures { IfOk result (λ has.
+        has ≡ has_installed book.now.rows (waiting_bodies outbox.now)) }
+{
+    let bodies = outbox.bodies(alloc)?;
+    Ok(has_installed(book.view().rows, bodies.as_slice()))
+}
+
+/// The call of a point's last audit, if it agreed there.
+fn agreed_in(audit: Option<&PointAudit>) -> Option<u64>
+    ensures { result ≡ agreed_in (option_map (λ asked. asked.now) audit.entry) }
+{
+    let audit = audit?;
+    match audit.outcome() {
+        AuditOutcome::Agrees => Some(audit.number()),
         _ => None,
     }
 }
 
 /// Whether there is a row whose install is none of these calls.
-fn has_installed(rows: &[Row], calls: &[CallBody]) -> bool {
-    for row in rows {
-        if !is_installed_by(row, calls) {
-            return true;
-        }
-    }
-    false
+fn has_installed(rows: &[Row], calls: &[CallBody]) -> bool
+    ensures { result ≡ has_installed rows.now calls.now }
+{
+    rows.iter().any(|row| !is_installed_by(calls, row))
 }
 
-fn is_installed_by(row: &Row, calls: &[CallBody]) -> bool {
-    for call in calls {
-        if let CallBody::Set { profile, .. } = call {
-            if profile.id == row.profile.id {
-                return true;
-            }
-        }
+/// Whether the install of a row's profile is one of these calls.
+fn is_installed_by(calls: &[CallBody], row: &Row) -> bool
+    ensures { result ≡ is_installed_by calls.now row.now }
+{
+    calls.iter().any(|call| is_install_of(row, call))
+}
+
+/// Whether a call installs a row's profile.
+fn is_install_of(row: &Row, call: &CallBody) -> bool
+    ensures { result ≡ is_install_of row.now call.now }
+{
+    match call {
+        CallBody::Set { profile, .. } => profile.id == row.profile.id,
+        CallBody::Clear(_) | CallBody::Audit { .. } | CallBody::RemoteStart { .. } => false,
     }
-    false
 }

@@ -14,6 +14,8 @@ pub struct SiteReport<'a> {
     pub machine: &'a Machine,
     /// What was seen of each point, in the order of the site file.
     pub points: &'a [PointNews],
+    /// Since when the call waits that waits longest, where one waits, in that order too.
+    pub waiting_since: &'a [Option<Instant>],
     pub counts: SiteCounts,
     pub journal: JournalReport,
 }

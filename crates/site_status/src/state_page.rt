@@ -66,6 +66,7 @@ fn push_point(page: &mut JsonPage, point: &PointSummary<'_>) -> Result<(), Alloc
     page.number("inFlight", point.calls.in_flight as u64)?;
     page.instant("inFlightSince", point.calls.in_flight_since)?;
     page.number("waiting", point.calls.waiting as u64)?;
+    page.instant("waitingSince", point.calls.waiting_since)?;
     push_rejected(page, point.news)?;
     page.text("audit", point.calls.audit.name())?;
     push_transactions(page, point.book)?;

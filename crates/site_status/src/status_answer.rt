@@ -1,6 +1,7 @@
 //! What is answered at the status port.
 
-ghost use Rattle.std.specs.Prelude.{◌≡◌, IfOk};
+ghost use Rattle.std.specs.Prelude.{◌≡◌, IfOk, is_some};
+ghost use Rattle.site_status.specs.Found.{found, status_at};
 ghost use Rattle.site_status.specs.Health.{status_of};
 
 use crate::asked_path::StatusPath;
@@ -77,7 +78,9 @@ pub fn answer_of(
     alloc: Global,
     path: StatusPath<'_>,
     report: &SiteReport<'_>,
-) -> Result<StatusAnswer, AllocError> {
+) -> Result<StatusAnswer, AllocError>
+    ensures { IfOk result (λ answer. answer.status ≡ status_at report.now path.entry) }
+{
     match path {
         StatusPath::Health => health_answer(alloc, Health::of(Some(report.journal.state))),
         StatusPath::Metrics => {
@@ -103,14 +106,18 @@ fn found_if_any(
     alloc: Global,
     kind: ContentKind,
     body: Option<String>,
-) -> Result<StatusAnswer, AllocError> {
+) -> Result<StatusAnswer, AllocError>
+    ensures { IfOk result (λ answer. answer.status ≡ found (is_some body)) }
+{
     match body {
         Some(body) => Ok(found(kind, body)),
         None => nothing_there(alloc),
     }
 }
 
-fn found(kind: ContentKind, body: String) -> StatusAnswer {
+fn found(kind: ContentKind, body: String) -> StatusAnswer
+    ensures { result.status ≡ 200 }
+{
     StatusAnswer {
         status: 200,
         kind,

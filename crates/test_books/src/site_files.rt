@@ -17,7 +17,18 @@ NotJson {"unit":"kW","points":[7]
 NotJson {"unit":"kW","points":[]} 1
 NotJson {"unit":"kW","points":[],"model":01}
 NotJson {"unit":"kW","points":[],1:2}
+NotJson {"unit":"kW","points":[],"model":[0,0,01]}
+NotJson {"unit":"kW","points":[],"model":1,"model":01}
+NotJson {"unit":"kW","points":[],"model":{"a":01,"b":01,"a":1}}
+NotJson {"unit":"kW","points":[],"model":{1:2},1:2,"model":1}
+NotJson {"unit":"kW","points":01}
+NotJson {"unit":"kW","points":[{"id":01}]}
 BadUnit {"unit":"kW","points":[],"model":01,"model":1}
+BadUnit {"unit":"kW","points":[],"model":{1:2},"model":1}
+BadUnit {"unit":"kW","points":[],"model":{"a":01,"b":[01],"b":1,"a":1}}
+BadUnit {"unit":01,"unit":"kW","points":[]}
+BadPoints {"unit":"A","points":[01],"points":[]}
+BadId {"unit":"A","points":[{"id":[01],@,"id":1}]}
 NotAnObject []
 NotAnObject null
 BadUnit {}
@@ -63,9 +74,9 @@ BadConnectors {"unit":"A","points":[{"id":"1","ceiling":1,"connectors":{"1":1}}]
 BadConnectors {"unit":"A","points":[{"id":"1",@,"connectors":[]}]}"#;
 
 /// A site file whose identities are `b`, `B`, `a` and one of each kind of character. Of two fields of
-/// one name the last counts.
+/// one name the last counts, so that a malformed number may stand in the first.
 const SITE: &str =
-    r#"{"points":[7],"unit":"W","model":[{"a":[1]}],"unit":"A","points":[{"id":"b",@},{"id":"B",@,"model":1},{"id":"a",@},{"id":"AZaz09._-~",@}]}"#;
+    r#"{"points":[{"id":01}],"unit":"W","model":[{"a":[1]}],"unit":"A","points":[{"id":"b",@},{"id":"B",@,"model":1},{"id":"a",@},{"id":"AZaz09._-~",@}]}"#;
 
 fn fault_of(alloc: Global, text: &[u8]) -> Option<SiteFault> {
     read_site(alloc, text).err()

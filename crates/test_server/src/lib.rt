@@ -5,6 +5,8 @@
 #[cfg(test)]
 mod clients;
 #[cfg(test)]
+mod hosts;
+#[cfg(test)]
 mod loopback;
 #[cfg(test)]
 mod paths;

@@ -110,6 +110,7 @@ fn totals_of_a_seat<
     let options = SeatOptions {
         call_timeout: 60,
         keys: None,
+        address: String::from_str(alloc, "127.0.0.1:9000").expect(rt, "error"),
     };
     let context = SeatContext::make(*rt, alloc, shared, TenPastMidnight, NoJournal, options).expect(
         rt, "error",

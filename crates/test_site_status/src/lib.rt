@@ -2,6 +2,10 @@
 #![tactic(auto)]
 
 #[cfg(test)]
+mod boots;
+#[cfg(test)]
+mod calls;
+#[cfg(test)]
 mod reports;
 #[cfg(test)]
 mod same;

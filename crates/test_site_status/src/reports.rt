@@ -60,16 +60,23 @@ fn first_news(rt: &impl Abort, alloc: Global) -> PointNews {
     news
 }
 
+/// A call to the first point waits since a moment; of the second that isn't known.
+pub(crate) fn waits(rt: &impl Abort) -> [Option<Instant>; 2] {
+    [Some(at(rt, 5)), None]
+}
+
 /// What is told of the site 60 seconds after midnight.
 pub(crate) fn report<'a>(
     rt: &impl Abort,
     machine: &'a Machine,
     points: &'a [PointNews],
+    waiting_since: &'a [Option<Instant>],
 ) -> SiteReport<'a> {
     SiteReport {
         moment: at(rt, 60),
         machine,
         points,
+        waiting_since,
         counts: SiteCounts {
             point_sessions: 1,
             operator_sessions: 2,

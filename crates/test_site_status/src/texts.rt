@@ -1,6 +1,6 @@
 //! The texts of a small site, each as it was written by hand.
 
-use crate::reports::{machine, news, report};
+use crate::reports::{machine, news, report, waits};
 use crate::same::{holds, same, same_text};
 use site_status::{
     Health, StatusPath, answer_of, connector_picture, health_answer, metrics_text, site_page,
@@ -10,14 +10,15 @@ use std::alloc::Global;
 use std::process::Abort;
 
 const STATE: &str =
-    r#"{"moment":"2025-01-01T00:01:00Z","health":"device full","sessions":{"points":1,"operators":2},"seats":256,"freeSeats":253,"changes":4,"answers":5,"refusedHandshakes":6,"turnedAway":7,"journal":{"bytes":1234,"syncs":9,"syncMicroseconds":12003450},"points":[{"id":"CP1","connectedSince":"2025-01-01T00:00:01Z","lastText":"2025-01-01T00:00:02Z","booted":"2025-01-01T00:00:02Z","mayHaveForgotten":false,"confirmed":0,"inFlight":0,"inFlightSince":null,"waiting":1,"rejections":1,"rejected":{"call":0,"action":"ClearChargingProfile","moment":"2025-01-01T00:00:04Z","reason":"no <room> & \"none\" \\ 'either'\n"},"audit":"None","transactions":[],"profiles":[]},{"id":"CP2","connectedSince":null,"lastText":null,"booted":null,"mayHaveForgotten":false,"confirmed":0,"inFlight":0,"inFlightSince":null,"waiting":1,"rejections":0,"rejected":null,"audit":"None","transactions":[],"profiles":[]}]}
+    r#"{"moment":"2025-01-01T00:01:00Z","health":"device full","sessions":{"points":1,"operators":2},"seats":256,"freeSeats":253,"changes":4,"answers":5,"refusedHandshakes":6,"turnedAway":7,"journal":{"bytes":1234,"syncs":9,"syncMicroseconds":12003450},"points":[{"id":"CP1","connectedSince":"2025-01-01T00:00:01Z","lastText":"2025-01-01T00:00:02Z","booted":"2025-01-01T00:00:02Z","mayHaveForgotten":false,"confirmed":0,"inFlight":0,"inFlightSince":null,"waiting":1,"waitingSince":"2025-01-01T00:00:05Z","rejections":1,"rejected":{"call":0,"action":"ClearChargingProfile","moment":"2025-01-01T00:00:04Z","reason":"no <room> & \"none\" \\ 'either'\n"},"audit":"None","transactions":[],"profiles":[]},{"id":"CP2","connectedSince":null,"lastText":null,"booted":null,"mayHaveForgotten":false,"confirmed":0,"inFlight":0,"inFlightSince":null,"waiting":1,"waitingSince":null,"rejections":0,"rejected":null,"audit":"None","transactions":[],"profiles":[]}]}
 "#;
 
 #[test]
 fn a_state(rt: HostRuntime) {
     let alloc = rt.alloc();
     let (machine, points) = (machine(&rt, alloc), news(&rt, alloc));
-    let report = report(&rt, &machine, points.as_slice());
+    let waits = waits(&rt);
+    let report = report(&rt, &machine, points.as_slice(), &waits);
     let text = state_json(alloc, &report).expect(&rt, "error");
     same_text(&rt, text.as_str(), STATE, "the state");
 }
@@ -43,6 +44,7 @@ central_point_last_text_timestamp_seconds{point="CP1"} 1735689602
 central_point_boot_timestamp_seconds{point="CP1"} 1735689602
 central_calls_waiting{point="CP1"} 1
 central_calls_waiting{point="CP2"} 1
+central_call_waiting_seconds{point="CP1"} 55
 central_calls_in_flight{point="CP1"} 0
 central_calls_confirmed_total{point="CP2"} 0
 central_calls_rejected_total{point="CP1"} 1
@@ -52,7 +54,8 @@ central_point_may_have_forgotten{point="CP1"} 0"#;
 fn figures(rt: HostRuntime) {
     let alloc = rt.alloc();
     let (machine, points) = (machine(&rt, alloc), news(&rt, alloc));
-    let report = report(&rt, &machine, points.as_slice());
+    let waits = waits(&rt);
+    let report = report(&rt, &machine, points.as_slice(), &waits);
     let text = metrics_text(alloc, &report).expect(&rt, "error");
     for sample in SAMPLES.lines() {
         has_line(&rt, text.as_str(), sample);
@@ -83,7 +86,8 @@ const PARTS: &str = r#"<html lang="en">
 fn a_page(rt: HostRuntime) {
     let alloc = rt.alloc();
     let (machine, points) = (machine(&rt, alloc), news(&rt, alloc));
-    let report = report(&rt, &machine, points.as_slice());
+    let waits = waits(&rt);
+    let report = report(&rt, &machine, points.as_slice(), &waits);
     let page = site_page(alloc, &report, 1).expect(&rt, "error");
     let page = page.expect(&rt, "a page");
     for part in PARTS.lines() {
@@ -99,7 +103,8 @@ fn a_page(rt: HostRuntime) {
 fn pictures(rt: HostRuntime) {
     let alloc = rt.alloc();
     let (machine, points) = (machine(&rt, alloc), news(&rt, alloc));
-    let report = report(&rt, &machine, points.as_slice());
+    let waits = waits(&rt);
+    let report = report(&rt, &machine, points.as_slice(), &waits);
     for (point, connector, is_there) in [
         ("CP1", 0, true),
         ("CP1", 1, true),
@@ -150,7 +155,8 @@ fn paths(rt: HostRuntime) {
 fn answers(rt: HostRuntime) {
     let alloc = rt.alloc();
     let (machine, points) = (machine(&rt, alloc), news(&rt, alloc));
-    let report = report(&rt, &machine, points.as_slice());
+    let waits = waits(&rt);
+    let report = report(&rt, &machine, points.as_slice(), &waits);
     let full = answer_of(alloc, StatusPath::Health, &report).expect(&rt, "error");
     same(&rt, u64::from(full.status), 503, "its device is full");
     let page = answer_of(alloc, StatusPath::Page { number: 9 }, &report).expect(&rt, "error");

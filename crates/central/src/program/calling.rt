@@ -1,6 +1,5 @@
 //! The job of `central call`.
 
-use crate::program::command_line::{Calling, Starting};
 use crate::program::login::logged_in;
 use crate::program::payload_file::read_payload_file;
 use crate::program::program_fault::ProgramFault;
@@ -8,6 +7,7 @@ use client::{
     Address, CallEnd, ClientFault, Lines, OperatorClient, ask_call, audit_call, clear_call,
     connect, remote_start_call, set_profile_call, status_call,
 };
+use command_line::{Calling, Starting};
 use findings::{SentCheck, Severity, answer_sentence, check_sent, json_break};
 use std::alloc::AllocGlobal;
 use std::fmt::Display;

@@ -2,13 +2,13 @@
 
 ghost use Rattle.std.specs.Prelude.{◌≡◌, ◌≤◌, length};
 
-use crate::program::command_line::Explaining;
 use crate::program::pages::{Screen, note_refused_lines, print_page, write_file};
 use crate::program::picture_name::{PictureForm, picture_form};
 use crate::program::program_fault::ProgramFault;
 use crate::program::script_end::script_end;
 use crate::program::script_input::read_script;
 use crate::program::site_file::read_digested_site;
+use command_line::Explaining;
 use data_folder::{Following, ScriptEnd, follow_journal};
 use explain_pages::{
     ExplainedAsk, not_counted, write_json, write_page, write_picture, write_table,

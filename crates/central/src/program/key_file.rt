@@ -1,7 +1,7 @@
 //! The file of those who may come, and how a key for it is made.
 
-use crate::program::command_line::KeyMaking;
 use crate::program::program_fault::ProgramFault;
+use command_line::KeyMaking;
 use data_folder::or_stop;
 use replay::{InputFault, read_all};
 use site_keys::{KeyText, Keys, Role, write_key};
@@ -19,10 +19,19 @@ pub fn read_key_file<R: Files<File = File> + Eprint + AllocGlobal>(
     rt: &R,
     path: &str,
 ) -> Result<Keys, ProgramFault> {
+    let bytes = read_key_bytes(rt, path)?;
+    Ok(Keys::read(rt.alloc(), bytes.as_slice())?)
+}
+
+/// Reads the bytes of a file of keys. One that can't be read is named on standard error.
+pub fn read_key_bytes<R: Files<File = File> + Eprint + AllocGlobal>(
+    rt: &R,
+    path: &str,
+) -> Result<Vec<u8>, ProgramFault> {
     let opened = fs::open(rt, path);
     let mut file = or_stop(rt, path, opened, ProgramFault::File)?;
     match read_all(rt.alloc(), &mut file, MAX_KEY_BYTES) {
-        Ok(bytes) => Ok(Keys::read(rt.alloc(), bytes.as_slice())?),
+        Ok(bytes) => Ok(bytes),
         Err(InputFault::OutOfMemory) => Err(ProgramFault::OutOfMemory),
         Err(InputFault::Read | InputFault::TooLong) => {
             let _ = eprintln!(rt;

@@ -1,10 +1,10 @@
 //! The job of `central point`.
 
-use crate::program::command_line::Pointing;
 use crate::program::login::logged_in;
 use crate::program::program_fault::ProgramFault;
 use crate::program::site_file::read_site_file;
 use client::{Address, Lines, TerminalPoint, connect};
+use command_line::Pointing;
 use data_folder::SystemClock;
 use sim_point::SimPoint;
 use site_rules::Site;

@@ -1,8 +1,8 @@
 //! The job of `central replay`.
 
-use crate::program::command_line::Replaying;
 use crate::program::program_fault::ProgramFault;
 use crate::program::site_file::read_site_file;
+use command_line::Replaying;
 use data_folder::read_journal_script;
 use replay::{Summary, replay};
 use site_rules::Site;

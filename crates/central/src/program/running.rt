@@ -2,17 +2,19 @@
 
 ghost use Rattle.std.specs.Prelude.{◌≡◌, ◌≤◌, ◌+◌};
 
-use crate::program::command_line::Running;
+use crate::program::kept_boots::KeptBoots;
 use crate::program::key_file::read_key_file;
 use crate::program::program_fault::ProgramFault;
 use crate::program::site_file::read_digested_site;
 use crate::program::watched_file::WatchedFile;
+use command_line::{MAX_SEATS, MAX_WORKERS, Running};
 use data_folder::{
     FolderFault, JournalFile, OpenJournal, Resumed, SystemClock, open_journal, or_stop,
     restore_shared,
 };
 use server::{
-    SeatContext, SeatOptions, SeatedBook, ServeFault, StatusPort, begin_status, run_seats,
+    SeatContext, SeatOptions, SeatedBook, ServeFault, StatusPort, begin_boots, begin_status,
+    run_seats,
 };
 use site_keys::Keys;
 use site_rules::Site;
@@ -27,6 +29,11 @@ use std::sync::{Arc, Wait};
 use std::thread::Threads;
 use version_store::Shared;
 
+// The command line lets in as many as the server does.
+const _: () = prove!(MAX_SEATS == server::MAX_SEATS);
+
+const _: () = prove!(MAX_WORKERS == server::MAX_WORKERS as u64);
+
 /// What is run.
 #[derive(Drop)]
 struct Plan<'a> {
@@ -34,6 +41,7 @@ struct Plan<'a> {
     /// The SHA-256 of the site file.
     digest: [u8; 32],
     opened: OpenJournal,
+    boots: KeptBoots,
     listener: TcpListener,
     listen: &'a str,
     seats: u64,
@@ -41,6 +49,8 @@ struct Plan<'a> {
     options: SeatOptions,
     /// Where it is told how the site is, if it is.
     status: Option<TcpListener>,
+    /// The address of that, where it answers only requests for this machine.
+    status_address: Option<&'a str>,
 }
 
 /// Runs the site of a file with the journal of a folder: goes on where that stopped. Returns only
@@ -67,12 +77,14 @@ pub fn run_file<
     let (site, digest) = read_digested_site(rt, running.site)?;
     let keys = read_keys(rt, running.keys)?;
     let opened = open_journal(rt, running.folder)?;
+    let boots = KeptBoots::read(rt, running.folder, &site)?;
     let listener = listen(rt, running.listen, keys.is_some(), ProgramFault::NoKeys)?;
     let status = listen_for_status(rt, &running)?;
     let plan = Plan {
         site,
         digest,
         opened,
+        boots,
         listener,
         listen: running.listen,
         seats: running.seats,
@@ -80,8 +92,14 @@ pub fn run_file<
         options: SeatOptions {
             call_timeout: running.call_timeout,
             keys,
+            address: String::from_str(rt.alloc(), running.listen)?,
         },
         status,
+        status_address: if running.is_status_open {
+            None
+        } else {
+            running.status
+        },
     };
     // One pass more than seats: the restore has it.
     let Some(passes) = running.seats.checked_add(1) else {
@@ -167,12 +185,14 @@ fn run_counted<
         site,
         digest,
         opened,
+        boots,
         listener,
         listen,
         seats,
         workers,
         options,
         status,
+        status_address,
     } = plan;
     let book: SeatedBook<C, A> = SeatedBook::make(rt.alloc(), blanks, site, seats)?;
     let SeatedBook {
@@ -181,7 +201,11 @@ fn run_counted<
         seats,
     } = book;
     // It is told that the site is being restored, too.
-    let port = Arc::new(rt.alloc(), StatusPort::new(*rt, rt.alloc()))?;
+    let address = match status_address {
+        Some(address) => Some(String::from_str(rt.alloc(), address)?),
+        None => None,
+    };
+    let port = Arc::new(rt.alloc(), StatusPort::new(*rt, rt.alloc(), address))?;
     if let Some(listener) = status {
         if let Err(fault) = begin_status(&port, listener) {
             return Err(ProgramFault::Serve(fault));
@@ -190,6 +214,7 @@ fn run_counted<
     let (journal, resumed) = restore_shared(rt, opened, &digest, &shared, restoring)?;
     print_resumed(rt, resumed)?;
     let context = context_of(rt, shared, journal, options)?;
+    keep_boots(&context, boots)?;
     port.watch(&context)?;
     if let Err(fault) = run_seats(&context, listener, seats, workers as usize) {
         return Err(ProgramFault::Serve(fault));
@@ -199,6 +224,26 @@ fn run_counted<
     }
     context.journal().file.until_broken();
     Err(ProgramFault::Folder(FolderFault::Write))
+}
+
+/// Goes on with the boots that the folder keeps, and begins to keep those that come.
+fn keep_boots<
+    C: Ledger + Send + Sync + Drop + 'static,
+    A: Ledger + Send + Sync + Drop + 'static,
+    R: Eprint + AllocGlobal + Clock + Threads + Wait + Copy + Send + Sync + Drop + 'static,
+>(
+    context: &Arc<SeatContext<C, A, R, SystemClock<R>, WatchedFile<R>>, Global>,
+    kept: KeptBoots,
+) -> Result<(), ProgramFault> {
+    let KeptBoots { boots, file } = kept;
+    context.resume_boots(boots.as_slice())?;
+    let Some(file) = file else {
+        return Ok(());
+    };
+    match begin_boots(context, file) {
+        Ok(()) => Ok(()),
+        Err(fault) => Err(ProgramFault::Serve(fault)),
+    }
 }
 
 /// What the threads share that serve this book.

@@ -2,9 +2,9 @@
 
 ghost use Rattle.std.specs.Prelude.{◌≤◌};
 
-use crate::program::command_line::Serving;
 use crate::program::program_fault::ProgramFault;
 use crate::program::site_file::read_site_file;
+use command_line::{MAX_SESSIONS, Serving};
 use data_folder::SystemClock;
 use server::{ServeFault, serve};
 use site_rules::Site;
@@ -15,6 +15,9 @@ use std::rt::{Clock, Files, Net};
 use std::sync::Wait;
 use std::thread::Threads;
 use version_store::Totals;
+
+// The command line lets in as many as the server does.
+const _: () = prove!(MAX_SESSIONS == server::MAX_SESSIONS);
 
 /// Serves the site of a file, and prints where it listens, and in the end how many changes were
 /// made and answers handed out.

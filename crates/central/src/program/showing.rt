@@ -1,11 +1,11 @@
 //! The job of `central show`.
 
-use crate::program::command_line::Showing;
 use crate::program::pages::{note_refused_lines, print_page};
 use crate::program::program_fault::ProgramFault;
 use crate::program::script_end::script_end;
 use crate::program::script_input::read_script;
 use crate::program::site_file::read_digested_site;
+use command_line::Showing;
 use data_folder::{Following, ScriptEnd, follow_journal};
 use show_pages::{Depth, Standing, standing_json, standing_text, trace_script};
 use site_rules::Site;

@@ -2,11 +2,12 @@
 
 use crate::program::program_fault::ProgramFault;
 use json::{Error, Scratch, Value};
+use server::push_on_one_line;
 use show_pages::Table;
 use std::alloc::{AllocError, Global};
 
 /// What a table of points has at its head.
-const HEADINGS: [&str; 8] = [
+const HEADINGS: [&str; 9] = [
     "point",
     "connected since",
     "last text",
@@ -14,6 +15,7 @@ const HEADINGS: [&str; 8] = [
     "confirmed",
     "in flight since",
     "waiting",
+    "waiting since",
     "rejected",
 ];
 
@@ -60,7 +62,7 @@ pub fn status_table(alloc: Global, state: &str) -> Result<StatusTable, ProgramFa
 }
 
 /// The cells of a point.
-fn cells_of(alloc: Global, point: &Value<'_>) -> Result<[String; 8], AllocError> {
+fn cells_of(alloc: Global, point: &Value<'_>) -> Result<[String; 9], AllocError> {
     Ok([
         cell(alloc, text_in(point, "id"))?,
         cell(alloc, text_in(point, "connectedSince"))?,
@@ -69,6 +71,7 @@ fn cells_of(alloc: Global, point: &Value<'_>) -> Result<[String; 8], AllocError>
         cell(alloc, number_in(point, "confirmed"))?,
         cell(alloc, text_in(point, "inFlightSince"))?,
         cell(alloc, number_in(point, "waiting"))?,
+        cell(alloc, text_in(point, "waitingSince"))?,
         rejected_cell(alloc, point)?,
     ])
 }
@@ -92,18 +95,6 @@ fn rejected_cell(alloc: Global, point: &Value<'_>) -> Result<String, AllocError>
         push_on_one_line(&mut cell, reason)?;
     }
     Ok(cell)
-}
-
-/// Appends a text. A control character becomes a space: it is a point's own text.
-fn push_on_one_line(out: &mut String, text: &str) -> Result<(), AllocError> {
-    for character in text.chars() {
-        out.push(if character.is_control() {
-            ' '
-        } else {
-            character
-        })?;
-    }
-    Ok(())
 }
 
 /// Appends what is to be done for a point, where there is something.

@@ -1,7 +1,7 @@
 //! A point's reply to its audit: which audit that is, and the verdict on it.
 
-ghost use Rattle.std.specs.Prelude.{◌≡◌, IfOk, IsTrue, OnOk};
-ghost use Rattle.session.specs.Audit.{BringsVerdict, IsJudgedBy, MakesOrRefuses, audit_confirmed, audit_to_judge};
+ghost use Rattle.std.specs.Prelude.{◌≡◌, false, IfOk, IsTrue, OnOk};
+ghost use Rattle.session.specs.Audit.{BringsVerdict, IsJudgedBy, IsVerdictNoted, MakesOrRefuses, audit_confirmed, audit_to_judge};
 ghost use Rattle.site_core.specs.declared.reply.Reply.{Reply};
 ghost use Rattle.site_core.specs.declared.step.Step.TheVariants as steps;
 ghost use Rattle.version_store.specs.Calls.{Makes};
@@ -13,13 +13,13 @@ use crate::serving::ended::{Ended, ended_unsaved};
 use crate::serving::reading::read_reply;
 use meaning::Said;
 use ocpp_scalars::Moments;
-use site_core::{PointId, Reply, Step};
-use site_journal::{Noted, UNREAD_REPLY};
+use site_core::{PointId, Reply, Step, equal_books_are_one};
+use site_journal::{Noted, UNREAD_REPLY, noted_steps_are_restored};
 use std::alloc::{AllocError, Global};
 use std::marker::Model;
 use std::sync::Wait;
 use std::sync::ledger::Ledger;
-use sweep_compiler::{AuditJob, Judged};
+use sweep_compiler::{AuditJob, Judged, verdicts_are_computed};
 use texts::SentText;
 use version_store::Book;
 
@@ -93,9 +93,13 @@ pub(crate) fn judge_reply<C: Ledger, A: Ledger, R: Wait, M: Moments, J: Journal>
 ) -> Result<(), Ended>
     ensures { OnOk result (BringsVerdict sent.now audit) }
 {
+    // Laws: nothing runs.
+    noted_steps_are_restored();
+    equal_books_are_one();
+    verdicts_are_computed();
     let OpenAudit { point, call, job } = audit;
     let (judged, is_short) = judged_by(context, sent, job);
-    let frame = if is_short { UNREAD_REPLY } else { sent.frame() };
+    let frame = reply_to_note(sent, is_short);
     let noted = Noted::Verdict { call, frame };
     let prepared = context
         .journal
@@ -112,6 +116,13 @@ pub(crate) fn judge_reply<C: Ledger, A: Ledger, R: Wait, M: Moments, J: Journal>
     Ok(())
 }
 
+/// The reply that is noted with its verdict: as it came, or, where memory ran out, one that isn't read.
+fn reply_to_note<'s>(sent: &'s SentText<'_>, is_short: bool) -> &'s str
+    ensures { is_short ≡ false → result.now ≡ sent.now.frame }
+{
+    if is_short { UNREAD_REPLY } else { sent.frame() }
+}
+
 /// Keeps a verdict on the audit of a point whose call has this number. What is refused is dropped.
 /// Returns whether it is kept.
 fn bring_verdict<C: Ledger, A: Ledger>(
@@ -123,6 +134,7 @@ fn bring_verdict<C: Ledger, A: Ledger>(
     ensures either { MakesOrRefuses book.old (steps.Judge point call judged) book.new }
     ensures made { IsTrue result
         → Makes book.old (steps.Judge point call judged) Reply.VerdictKept book.new }
+    ensures dropped { result ≡ false → book.new ≡ book.old }
 {
     match book.judge(point, call, judged) {
         Ok(()) => true,
@@ -137,7 +149,8 @@ fn judged_by<C: Ledger, A: Ledger, R: Wait, M: Moments, J: Journal>(
     sent: &SentText<'_>,
     job: AuditJob,
 ) -> (Judged, bool)
-    ensures { IsJudgedBy sent.now job result.0 }
+    ensures judged { IsJudgedBy sent.now job result.0 }
+    ensures noted { IsVerdictNoted sent.now result.0 result.1 }
 {
     match read_reply(context, sent) {
         Ok(said) => {

@@ -18,7 +18,7 @@ use version_store::{Job, Shared};
 
 /// After so many milliseconds the socket is looked at for the first time: most answers are there by
 /// then.
-const FIRST_WAIT: u64 = 1_000;
+const FIRST_WAIT: u64 = 500;
 
 /// And after so many again and again.
 const NEXT_WAIT: u64 = 200;

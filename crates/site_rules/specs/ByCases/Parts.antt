@@ -5,14 +5,15 @@ use Rattle.std.specs.Result.{result_ok}
 use Rattle.std.specs.Str.{bytes_eq}
 use Rattle.std.specs.declared.alloc.Global.{Global}
 use Rattle.json.specs.Token.{Token}
-use Rattle.json.specs.Json.{items, members, value}
-use Rattle.serde_json.specs.Data.{Members}
+use Rattle.json.specs.Json.{items, members, parse_map, value}
+use Rattle.serde_json.specs.Data as json
 use Rattle.serde_json.specs.Read.{converted, of_json, of_items, of_members}
 use Rattle.ocpp_scalars.specs.ByCases.Number.{tenths_of}
 use Rattle.ocpp_scalars.specs.ResultSteps.{◌>>=◌}
 use Rattle.ocppj_frame.specs.Field.{of_kind, of_scalar, unless_null}
-use Rattle.ocppj_frame.specs.Read.{tree_of, trees_of, fields_of, name_of_key}
-use Rattle.ocppj_frame.specs.Tree.{Tree, null, boolean, text, number, list, object, Trees, no_entries, Fields, no_fields, field_at, as_list, as_number, as_text, is_object}
+use Rattle.ocppj_frame.specs.Read.{name_of_key, tree_of_string}
+use Rattle.ocppj_frame.specs.Tree as parts
+use Rattle.ocppj_frame.specs.Tree.{Tree, null, boolean, text, number, list, object, Trees, no_entries, Fields, no_fields, field, field_at, as_list, as_number, as_text, is_object}
 use Rattle.profile.specs.declared.unit.Unit.TheVariants.{A}
 use Rattle.profile.specs.Names.{unit_named}
 use Rattle.site_rules.specs.declared.fault.SiteFault.{SiteFault}
@@ -26,18 +27,45 @@ use Rattle.site_rules.specs.Limits.{max_connectors, max_points}
 use Rattle.site_rules.specs.Site.{PointEntry, SiteState}
 use Rattle.site_rules.specs.ByCases.SiteReading.{or_fault, some_or, few_or, id_or_wrong, unused_id, ceiling_of, with_point, with_points}
 
+-- a field of this name; none where there is no name
+abbrev pub with_named : Option (List ℕ) → Tree → Fields → Fields
+with_named None value others = others
+with_named (Some name) value others = field name value others
+
+-- The tree of a value, with null in the place of each malformed number and without each field whose
+-- key is none. Where `tree_of` has a tree it is the same.
+abbrev mutual
+  pub mended_tree : json.Data → Tree
+  mended_tree json.null = null
+  mended_tree (json.boolean b) = boolean b
+  mended_tree (json.number n) = null
+  mended_tree (json.string bytes) = unwrap_or (tree_of_string bytes) null
+  mended_tree (json.array ds) = list (mended_trees ds)
+  mended_tree (json.object ms) = object (mended_fields ms)
+
+  pub mended_trees : json.Items → Trees
+  mended_trees json.no_items = no_entries
+  mended_trees (json.item d ds) = parts.entry (mended_tree d) (mended_trees ds)
+
+  pub mended_fields : json.Members → Fields
+  mended_fields json.no_members = no_fields
+  mended_fields (json.member key d ms) =
+      with_named (name_of_key key) (mended_tree d) (mended_fields ms)
+
 -- the tree that the tokens begin with, and the tokens after it
 abbrev pub tree_at : ℕ → List Token → Option (Tree × List Token)
-tree_at depth tokens = converted tree_of (converted of_json (value depth tokens))
+tree_at depth tokens = parse_map mended_tree (converted of_json (value depth tokens))
 
 -- the trees up to the end of a list, in at most n turns
 abbrev pub trees_at : ℕ → ℕ → List Token → Option (Trees × List Token)
-trees_at depth n tokens = converted trees_of (converted of_items (items (value depth) n tokens))
+trees_at depth n tokens =
+    parse_map mended_trees (converted of_items (items (value depth) n tokens))
 
 -- the fields up to the end of an object, in at most n turns, after those that were found
-abbrev pub fields_at : ℕ → ℕ → Members → List Token → Option (Fields × List Token)
+abbrev pub fields_at : ℕ → ℕ → json.Members → List Token → Option (Fields × List Token)
 fields_at depth n found tokens =
-    converted fields_of (converted (λ ms. of_members ms found) (members (value depth) n tokens))
+    parse_map mended_fields
+    (converted (λ ms. of_members ms found) (members (value depth) n tokens))
 
 -- a tree from outside: without what a list or an object holds, and without a boolean's value
 abbrev pub shown : Tree → Tree
@@ -95,6 +123,11 @@ IsPut name tree fields more =
     (other : List ℕ)
     → field_at other more ≡ (if bytes_eq name other then Some tree else field_at other fields)
 
+-- the fields with this tree at the name of this key; the same where it is none
+abbrev pub IsPutBy : Option (List ℕ) → Tree → Fields → Fields → Type 0
+IsPutBy None tree fields more = (other : List ℕ) → field_at other more ≡ field_at other fields
+IsPutBy (Some name) tree fields more = IsPut name tree fields more
+
 -- the value of a field; an absent one counts as null
 abbrev pub field_or_null : List ℕ → Fields → Tree
 field_or_null name fields = unwrap_or (field_at name fields) null
@@ -109,15 +142,22 @@ pub record ArePointFields (point : PointFields) (fields : Fields) : Type 0 where
 abbrev pub HasFew : Option PointFields → Type 0
 HasFew entry = IfSome entry (λ point. HasFewCeilings point.connectors)
 
--- after the key comes a tree, which is now read too
-pub record IsPointFieldMore (depth : ℕ) (tokens rest : List Token) (key : List ℕ)
+-- after the name comes a tree, which is now read too
+pub record IsPointFieldMore (depth : ℕ) (tokens rest : List Token) (name : List ℕ)
     (point more : PointFields) : Type 0 where
-  pub name : List ℕ
-  pub named : name_of_key key ≡ Some name
   pub tree : Tree
   pub here : tree_at depth tokens ≡ Some (tree, rest)
   pub fields : (before after : Fields) → ArePointFields point before
       → IsPut name tree before after
+      → ArePointFields more after
+
+-- the same after a key, which may be none
+pub record IsPointMemberMore (depth : ℕ) (tokens rest : List Token) (key : List ℕ)
+    (point more : PointFields) : Type 0 where
+  pub tree : Tree
+  pub here : tree_at depth tokens ≡ Some (tree, rest)
+  pub fields : (before after : Fields) → ArePointFields point before
+      → IsPutBy (name_of_key key) tree before after
       → ArePointFields more after
 
 -- what was read of any entry
@@ -170,15 +210,22 @@ pub record AreSiteFields (site : SiteFields) (fields : Fields) : Type 0 where
   pub unit : glance_tree site.unit ≡ shown (field_or_null (codes "unit") fields)
   pub points : site.points ≡ points_in (field_or_null (codes "points") fields)
 
--- after the key comes a tree, which is now read too
-pub record IsSiteFieldMore (depth : ℕ) (tokens rest : List Token) (key : List ℕ)
+-- after the name comes a tree, which is now read too
+pub record IsSiteFieldMore (depth : ℕ) (tokens rest : List Token) (name : List ℕ)
     (site more : SiteFields) : Type 0 where
-  pub name : List ℕ
-  pub named : name_of_key key ≡ Some name
   pub tree : Tree
   pub here : tree_at depth tokens ≡ Some (tree, rest)
   pub fields : (before after : Fields) → AreSiteFields site before
       → IsPut name tree before after
+      → AreSiteFields more after
+
+-- the same after a key, which may be none
+pub record IsSiteMemberMore (depth : ℕ) (tokens rest : List Token) (key : List ℕ)
+    (site more : SiteFields) : Type 0 where
+  pub tree : Tree
+  pub here : tree_at depth tokens ≡ Some (tree, rest)
+  pub fields : (before after : Fields) → AreSiteFields site before
+      → IsPutBy (name_of_key key) tree before after
       → AreSiteFields more after
 
 unfoldable pub site_by_fields : Tree → Result SiteState SiteFault → Result SiteState SiteFault

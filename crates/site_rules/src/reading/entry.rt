@@ -6,10 +6,10 @@ ghost use Rattle.serde_json.specs.Data.{no_members};
 ghost use Rattle.ocppj_frame.specs.Tree.{Tree, Fields};
 ghost use Rattle.site_rules.specs.Site.{kept_entry, place_of};
 ghost use Rattle.site_rules.specs.ByCases.SiteReading.{is_memory};
-ghost use Rattle.site_rules.specs.ByCases.Parts.{HasFewCeilings, HasFew, IsEntry, ArePointFields, IsPointFieldMore, fields_at, glance_tree, point_by, tree_at};
+ghost use Rattle.site_rules.specs.ByCases.Parts.{HasFewCeilings, HasFew, IsEntry, ArePointFields, IsPointFieldMore, IsPointMemberMore, fields_at, glance_tree, point_by, tree_at};
 
 use super::connectors::read_connectors;
-use super::glance::{Glance, glance_from, name_of, read_glance, tenths_in, text_in};
+use super::glance::{Glance, glance_from, read_glance, tenths_in, text_in};
 use super::part_fault::PartFault;
 use super::point::{id_or_wrong, unused_id};
 use super::steps::{or_fault, some_or};
@@ -17,6 +17,7 @@ use crate::fault::SiteFault;
 use crate::point::PointLimits;
 use crate::site::Site;
 use json::{Reader, Token};
+use ocppj_frame::after_mark;
 use std::alloc::Global;
 
 /// What was read of a point: the last value of each field that counts, null where it is absent.
@@ -71,13 +72,13 @@ fn read_fields<'a>(
         connectors: None,
     };
     'members: while let Some(key) = reader.next_key()? {
-        point = with_field(alloc, point, reader, key, depth)?;
+        point = with_member(alloc, point, reader, key, depth)?;
     }
     Ok(point)
 }
 
-/// Reads the value of one field more.
-fn with_field<'a>(
+/// Reads the value of one member more, which counts if its key is a text.
+fn with_member<'a>(
     alloc: Global,
     point: PointFields<'a>,
     reader: &mut Reader<'a>,
@@ -85,8 +86,31 @@ fn with_field<'a>(
     depth: usize,
 ) -> Result<PointFields<'a>, PartFault>
     requires { HasFewCeilings point.connectors }
+    ensures member { IfOk result
+        (λ more. IsPointMemberMore depth reader.old reader.new key.now point.entry more) }
+    ensures few { IfOk result (λ more. HasFewCeilings more.connectors) }
+    ensures shorter { OnOk result (length reader.new < length reader.old) }
+{
+    match after_mark(key, b's') {
+        Some(name) => Ok(with_field(alloc, point, reader, name, depth)?),
+        None => {
+            read_glance(reader, depth)?;
+            Ok(point)
+        }
+    }
+}
+
+/// Reads the value of one field more.
+fn with_field<'a>(
+    alloc: Global,
+    point: PointFields<'a>,
+    reader: &mut Reader<'a>,
+    name: &str,
+    depth: usize,
+) -> Result<PointFields<'a>, PartFault>
+    requires { HasFewCeilings point.connectors }
     ensures field { IfOk result
-        (λ more. IsPointFieldMore depth reader.old reader.new key.now point.entry more) }
+        (λ more. IsPointFieldMore depth reader.old reader.new name.now point.entry more) }
     ensures few { IfOk result (λ more. HasFewCeilings more.connectors) }
     ensures shorter { OnOk result (length reader.new < length reader.old) }
 {
@@ -95,7 +119,6 @@ fn with_field<'a>(
         ceiling,
         connectors,
     } = point;
-    let name = name_of(key)?;
     if name == "id" {
         let id = read_glance(reader, depth)?;
         return Ok(PointFields {

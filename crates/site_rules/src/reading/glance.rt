@@ -1,12 +1,12 @@
 //! A value from outside. It is read and passed, whatever it holds, and takes no memory.
 
-ghost use Rattle.std.specs.Prelude.{◌≡◌, ◌<◌, ◌≤◌, ◌∷◌, Some, IfOk, OnOk, length};
+ghost use Rattle.std.specs.Prelude.{◌≡◌, ◌<◌, ◌≤◌, ◌∷◌, Some, IfOk, OnOk, length, unwrap_or};
 ghost use Rattle.json.specs.Reads.{token_of};
 ghost use Rattle.serde_json.specs.Data.{no_members};
 ghost use Rattle.ocpp_scalars.specs.ByCases.Number.{tenths_of};
 ghost use Rattle.ocppj_frame.specs.Field.{field_map, of_kind, of_scalar, unless_null};
-ghost use Rattle.ocppj_frame.specs.Read.{name_of_key, tree_of_string};
-ghost use Rattle.ocppj_frame.specs.Tree.{as_number, as_text, Trees, Fields};
+ghost use Rattle.ocppj_frame.specs.Read.{tree_of_string};
+ghost use Rattle.ocppj_frame.specs.Tree.{as_number, as_text, null, Trees, Fields};
 ghost use Rattle.site_rules.specs.ByCases.Parts.{IsGlanceAt, glance_tree, trees_at, fields_at};
 
 use super::part_fault::PartFault;
@@ -50,7 +50,7 @@ pub(crate) fn glance_from<'a>(
     ensures shorter { OnOk result (length reader.new ≤ length reader.old) }
 {
     match token {
-        Token::String(marked) => glance_of_string(marked),
+        Token::String(marked) => Ok(glance_of_string(marked)),
         Token::Bool(_) => Ok(Glance::Bool),
         Token::Null => Ok(Glance::Null),
         Token::BeginArray => {
@@ -93,30 +93,22 @@ fn pass_members(reader: &mut Reader<'_>, depth: usize) -> Result<(), PartFault>
         × (fields_at depth (length reader.old) no_members reader.old ≡ Some (fields, reader.new))) }
     ensures shorter { OnOk result (length reader.new < length reader.old) }
 {
-    'members: while let Some(key) = reader.next_key()? {
-        name_of(key)?;
+    'members: while let Some(_) = reader.next_key()? {
         read_glance(reader, depth)?;
     }
     Ok(())
 }
 
-/// The name that a key stands for.
-pub(crate) fn name_of(key: &str) -> Result<&str, PartFault>
-    ensures { IfOk result (λ name. name_of_key key.now ≡ Some name.now) }
-{
-    after_mark(key, b's').ok_or(PartFault::Unsure)
-}
-
-/// The text or the number that a marked string stands for.
-fn glance_of_string(marked: &str) -> Result<Glance<'_>, PartFault>
-    ensures { IfOk result (λ glance. tree_of_string marked.now ≡ Some (glance_tree glance)) }
+/// The text or the number that a marked string stands for, null where it is a malformed number.
+fn glance_of_string(marked: &str) -> Glance<'_>
+    ensures { glance_tree result ≡ unwrap_or (tree_of_string marked.now) null }
 {
     if let Some(text) = after_mark(marked, b's') {
-        return Ok(Glance::Text(text));
+        return Glance::Text(text);
     }
     match after_mark(marked, b'n') {
-        Some(number) if is_number_text(number) => Ok(Glance::Number(number)),
-        _ => Err(PartFault::Unsure),
+        Some(number) if is_number_text(number) => Glance::Number(number),
+        _ => Glance::Null,
     }
 }
 

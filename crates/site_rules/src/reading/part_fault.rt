@@ -6,7 +6,7 @@ use std::alloc::{AllocError, AllocFailed};
 /// Why a site file isn't read part by part.
 #[derive(Clone, Copy, Drop)]
 pub(crate) enum PartFault {
-    /// It is no JSON, or has a malformed number, or a number in the place of a key.
+    /// It is no JSON.
     Unsure,
     /// Memory ran out.
     OutOfMemory,

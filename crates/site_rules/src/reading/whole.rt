@@ -1,28 +1,28 @@
 //! Reading a site file from its first byte to its last, each value as it comes.
 
-ghost use Rattle.std.specs.Prelude.{◌≡◌, ◌<◌, [], Some, IfOk, IfSome, OnOk, is_some, length};
+ghost use Rattle.std.specs.Prelude.{◌≡◌, ◌<◌, [], Some, IfOk, OnOk, length};
 ghost use Rattle.json.specs.Lex.{tokens};
 ghost use Rattle.serde_json.specs.Data.{no_members};
-ghost use Rattle.serde_json.specs.Read.{max_depth, read};
-ghost use Rattle.ocppj_frame.specs.ByCases.Tokens.{HaveNoNumber};
+ghost use Rattle.serde_json.specs.Read.{max_depth};
 ghost use Rattle.ocppj_frame.specs.Read.{tree_of_text};
 ghost use Rattle.ocppj_frame.specs.Tree.{Tree, Fields};
 ghost use Rattle.site_rules.specs.ByCases.SiteReading.{site_by, site_of_tree};
-ghost use Rattle.site_rules.specs.ByCases.Parts.{AreSiteFields, IsSiteFieldMore, fields_at, glance_tree, site_by_fields, tree_at};
+ghost use Rattle.site_rules.specs.ByCases.Parts.{AreSiteFields, IsSiteFieldMore, IsSiteMemberMore, fields_at, glance_tree, site_by_fields, tree_at};
 
 use super::entries::read_points;
-use super::glance::{Glance, glance_from, name_of, read_glance, text_in};
+use super::glance::{Glance, glance_from, read_glance, text_in};
 use super::part_fault::PartFault;
 use super::steps::{or_fault, some_or};
+use super::trees::has_tree;
 use crate::fault::SiteFault;
 use crate::site::Site;
 use json::{Reader, Scratch, Token};
-use ocppj_frame::mark_text;
+use ocppj_frame::{after_mark, mark_text};
 use profile::{Named, Unit};
-use std::alloc::{AllocError, Global};
+use std::alloc::Global;
 
 /// How deep lists and objects may nest: as deep as `serde_json` reads.
-const MAX_DEPTH: usize = 127;
+pub(crate) const MAX_DEPTH: usize = 127;
 
 /// What was read of the file's object: the last value of each field that counts.
 #[derive(Drop)]
@@ -32,51 +32,35 @@ pub(crate) struct SiteFields<'a> {
     pub points: Result<Site, SiteFault>,
 }
 
-/// Reads a site file part by part. `Unsure` where it is JSON but for a malformed number, or a
-/// number in the place of a key.
+/// Reads a site file part by part.
 pub(crate) fn read_parts(alloc: Global, text: &str) -> Result<Result<Site, SiteFault>, PartFault>
     ensures { IfOk result (λ site. site ≡ site_by (tree_of_text text.now)) }
 {
     let mut room = Vec::new(alloc);
     let mut scratch = Scratch::new(alloc);
     let marked = mark_text(text, &mut room)?;
-    if let Some(site) = read_marked(alloc, marked, &mut scratch)? {
-        return Ok(site);
+    // From here on malformed numbers and keys don't count: a later value replaces each of them.
+    if !has_tree(alloc, marked, &mut scratch)? {
+        return Ok(Err(SiteFault::NotJson));
     }
-    if is_json(marked, &mut scratch)? {
-        Err(PartFault::Unsure)
-    } else {
-        Ok(Err(SiteFault::NotJson))
-    }
+    read_marked(alloc, marked, &mut scratch)
 }
 
-/// Reads a marked text, or gives `None` where it isn't sure.
+/// Reads a marked text whose value has a tree.
 fn read_marked(
     alloc: Global,
     marked: &str,
     scratch: &mut Scratch,
-) -> Result<Option<Result<Site, SiteFault>>, PartFault>
-    ensures { IfOk result (λ found. IfSome found (λ site. (tree : Tree)
-        × (tree_at max_depth (tokens marked.now) ≡ Some (tree, [])) × (site ≡ site_of_tree tree))) }
+) -> Result<Result<Site, SiteFault>, PartFault>
+    ensures { IfOk result (λ site. (tree : Tree)
+        × (tree_at max_depth (tokens marked.now) ≡ Some (tree, [])) × (site ≡ site_of_tree tree)) }
 {
     let mut reader = Reader::new(marked, scratch)?;
-    match read_whole(alloc, &mut reader, MAX_DEPTH) {
-        Ok(site) if reader.next().is_none() => Ok(Some(site)),
-        Ok(_) | Err(PartFault::Unsure) => Ok(None),
-        Err(PartFault::OutOfMemory) => Err(PartFault::OutOfMemory),
+    let site = read_whole(alloc, &mut reader, MAX_DEPTH)?;
+    if reader.next().is_some() {
+        return Err(PartFault::Unsure);
     }
-}
-
-/// Whether `serde_json` reads the text.
-fn is_json(text: &str, scratch: &mut Scratch) -> Result<bool, AllocError>
-    requires { HaveNoNumber (tokens text.now) }
-    ensures { IfOk result (λ is_read. is_read ≡ is_some (read text.now)) }
-{
-    let mut reader = Reader::new(text, scratch)?;
-    if reader.skip_value(MAX_DEPTH).is_err() {
-        return Ok(false);
-    }
-    Ok(reader.next().is_none())
+    Ok(site)
 }
 
 fn read_whole(
@@ -116,9 +100,30 @@ fn read_fields<'a>(
         points: Err(SiteFault::BadPoints),
     };
     'members: while let Some(key) = reader.next_key()? {
-        site = with_field(alloc, site, reader, key, depth)?;
+        site = with_member(alloc, site, reader, key, depth)?;
     }
     Ok(site)
+}
+
+/// Reads the value of one member more, which counts if its key is a text.
+fn with_member<'a>(
+    alloc: Global,
+    site: SiteFields<'a>,
+    reader: &mut Reader<'a>,
+    key: &str,
+    depth: usize,
+) -> Result<SiteFields<'a>, PartFault>
+    ensures member { IfOk result
+        (λ more. IsSiteMemberMore depth reader.old reader.new key.now site.entry more) }
+    ensures shorter { OnOk result (length reader.new < length reader.old) }
+{
+    match after_mark(key, b's') {
+        Some(name) => Ok(with_field(alloc, site, reader, name, depth)?),
+        None => {
+            read_glance(reader, depth)?;
+            Ok(site)
+        }
+    }
 }
 
 /// Reads the value of one field more.
@@ -126,15 +131,14 @@ fn with_field<'a>(
     alloc: Global,
     site: SiteFields<'a>,
     reader: &mut Reader<'a>,
-    key: &str,
+    name: &str,
     depth: usize,
 ) -> Result<SiteFields<'a>, PartFault>
     ensures field { IfOk result
-        (λ more. IsSiteFieldMore depth reader.old reader.new key.now site.entry more) }
+        (λ more. IsSiteFieldMore depth reader.old reader.new name.now site.entry more) }
     ensures shorter { OnOk result (length reader.new < length reader.old) }
 {
     let SiteFields { unit, points } = site;
-    let name = name_of(key)?;
     if name == "unit" {
         let unit = read_glance(reader, depth)?;
         return Ok(SiteFields { unit, points });

@@ -43,7 +43,7 @@ const REJECTED: &str = "CP1
 ";
 
 const JSON: &str =
-    r#"{"lines":7,"faults":0,"points":[{"id":"CP1","profiles":[],"transactions":[],"audit":{"outcome":"Rejected","call":2,"connectorId":0,"duration":3600},"waitingStarts":[],"linked":true,"confirmed":3,"calls":[],"rejected":[{"number":2,"status":"Rejected","line":7}]}],"held":[]}"#;
+    r#"{"lines":7,"faults":0,"points":[{"id":"CP1","profiles":[],"transactions":[],"audit":{"outcome":"Rejected","call":2,"connectorId":0,"duration":3600},"waitingStarts":[],"linked":true,"confirmed":3,"calls":[],"rejected":[{"number":2,"status":"Rejected","line":7,"action":"GetCompositeSchedule","connectorId":0,"duration":3600,"chargingRateUnit":"A"}]}],"held":[]}"#;
 
 const ENDING: &str =
     "CP1: call 2 (GetCompositeSchedule, connector 0 for 3600 s), which went out after line 6, was answered Rejected at line 7

@@ -59,7 +59,7 @@ CP1: 1 call never went out, waiting since line 6: a call goes out after a messag
 ";
 
 const JSON: &str =
-    r#"{"lines":7,"faults":1,"points":[{"id":"CP1","profiles":[],"transactions":[],"audit":null,"waitingStarts":[],"linked":true,"confirmed":2,"calls":[{"number":2,"state":"waiting","action":"ClearChargingProfile","id":1}],"rejected":[{"number":1,"status":"Rejected","line":4}]}],"held":[{"number":1,"messageId":"h","point":"CP1","connectorId":1,"start":"2025-01-01T00:00:04Z","duration":60}]}"#;
+    r#"{"lines":7,"faults":1,"points":[{"id":"CP1","profiles":[],"transactions":[],"audit":null,"waitingStarts":[],"linked":true,"confirmed":2,"calls":[{"number":2,"state":"waiting","action":"ClearChargingProfile","id":1}],"rejected":[{"number":1,"status":"Rejected","line":4,"action":"SetChargingProfile","connectorId":1,"csChargingProfiles":{"chargingProfileId":1,"stackLevel":2,"chargingProfilePurpose":"TxDefaultProfile","chargingProfileKind":"Recurring","recurrencyKind":"Daily","validTo":"2025-03-01T00:00:00Z","chargingSchedule":{"duration":28800,"startSchedule":"2025-01-01T22:00:00Z","chargingRateUnit":"A","chargingSchedulePeriod":[{"startPeriod":0,"limit":10.5}]}}}]}],"held":[{"number":1,"messageId":"h","point":"CP1","connectorId":1,"start":"2025-01-01T00:00:04Z","duration":60}]}"#;
 
 #[test]
 fn stands(rt: HostRuntime) -> Result<(), Fail> {

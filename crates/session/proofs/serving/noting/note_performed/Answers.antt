@@ -6,7 +6,8 @@ use Rattle.session.proofs.serving.noting.note_performed.Goals as goal
 pub note-requires : goal.note-requires
 note-requires g c =
     confirm_noted c.args.entry _ c.args.confirms c.args.performed.now c.in-Some-Some.reply.now
-    c.args.book.now c.requires (search rules) c.if-confirms.true (search rules)
+    c.args.book.now c.noted_steps_are_restored.ensures.confirms
+    c.requires (search rules) c.if-confirms.true (search rules)
 
 pub note-requires-in-Some : goal.note-requires-in-Some
 note-requires-in-Some g c =

@@ -1,11 +1,10 @@
 -- A value is passed by its tokens: those of a list or an object one after another.
-use Rattle.std.proofs.Common.{◌≡◌, ◌<◌, ◌∷◌, length, Some, None, IfOk, refl, sym, ap, subst, arith}
+use Rattle.std.proofs.Common.{◌≡◌, ◌<◌, ◌∷◌, length, Some, None, refl, sym, ap, subst, arith}
 use Rattle.json.specs.Json.{after_end_array, read_key}
 use Rattle.json.specs.Reads.{token_of}
 use Rattle.json.specs.Token.{Token}
 use Rattle.json.proofs.Grammar.{read_key-shorter}
 use Rattle.ocppj_frame.specs.Tree.{list, object}
-use Rattle.site_rules.specs.declared.reading.glance.Glance.{Glance}
 use Rattle.site_rules.specs.declared.reading.glance.Glance.TheVariants as glances
 use Rattle.site_rules.specs.ByCases.Parts.{IsGlanceAt}
 use Rattle.site_rules.proofs.GlanceTrees.{null_glance, boolean_glance, string_glance}
@@ -15,7 +14,7 @@ use Rattle.site_rules.proofs.reading.glance.+glance.Goals as goal
 pub glance_from-returns-in-String-clause-glance : goal.glance_from-returns-in-String-clause-glance
 glance_from-returns-in-String-clause-glance t c =
     let is : token_of c.args.token ≡ Token.string c.in-String.marked.now = ap token_of c.in-String.is in
-    subst (λ (token : Token). IfOk c.glance_of_string.result (λ (glance : Glance). IsGlanceAt c.args.depth (token ∷ c.args.reader.now) c.args.reader.now glance)) (sym is)
+    subst (λ (token : Token). IsGlanceAt c.args.depth (token ∷ c.args.reader.now) c.args.reader.now c.glance_of_string.result) (sym is)
     (string_glance c.args.depth c.args.reader.now c.in-String.marked.now c.glance_of_string.result c.glance_of_string.ensures)
 
 pub glance_from-returns-in-Bool-clause-glance : goal.glance_from-returns-in-Bool-clause-glance
@@ -71,11 +70,12 @@ pass_members-members-init t c = (_, object_begun c.args.depth c.args.reader.now,
 pub pass_members-members-preserved : goal.pass_members-members-preserved
 pass_members-members-preserved t c =
     let l = c.members in
-    let keyed : read_key l.reader ≡ Some (Some c.in-Some.key.now, c.next_key.new.self) = grind arith in
+    let key = c.in-Some.field-0.now in
+    let keyed : read_key l.reader ≡ Some (Some key, c.next_key.new.self) = grind arith in
     let passed = c.in_ok-read_glance.ensures in
-    let more = object_more c.args.depth c.args.reader.now l.reader c.next_key.new.self c.read_glance.new.reader l.invariant.0 c.in-Some.key.now c.in_ok-name_of.field-0.now passed.glance.tree
-    l.invariant.1 keyed c.in_ok-name_of.ensures passed.glance.here passed.shorter in
-    let less = read_key-shorter l.reader (Some c.in-Some.key.now) c.next_key.new.self keyed in
+    let more = object_more c.args.depth c.args.reader.now l.reader c.next_key.new.self c.read_glance.new.reader l.invariant.0 key passed.glance.tree
+    l.invariant.1 keyed passed.glance.here passed.shorter in
+    let less = read_key-shorter l.reader (Some key) c.next_key.new.self keyed in
     let lesser = passed.shorter in
     (more.more, more.sofar, omega (arith, l.invariant.2))
 

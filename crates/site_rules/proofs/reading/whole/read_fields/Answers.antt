@@ -15,10 +15,10 @@ members-preserved c =
     let keyed : read_key l.reader ≡ Some (Some c.in-Some.key.now, c.next_key.new.self) = grind arith in
     let less = read_key-shorter l.reader (Some c.in-Some.key.now) c.next_key.new.self keyed in
     let lesser = c.in_ok-site.ensures.shorter in
-    let field = c.in_ok-site.ensures.field in
-    let more = object_more c.args.depth c.args.reader.now l.reader c.next_key.new.self c.with_field.new.reader l.invariant.0 c.in-Some.key.now field.name field.tree
-    l.invariant.1 keyed field.named field.here lesser in
-    (more.more, more.sofar, omega (arith, l.invariant.2), field.fields l.invariant.0 more.more l.invariant.3 more.put)
+    let member = c.in_ok-site.ensures.member in
+    let more = object_more c.args.depth c.args.reader.now l.reader c.next_key.new.self c.with_member.new.reader l.invariant.0 c.in-Some.key.now member.tree
+    l.invariant.1 keyed member.here lesser in
+    (more.more, more.sofar, omega (arith, l.invariant.2), member.fields l.invariant.0 more.more l.invariant.3 more.put)
 
 pub returns : goal.returns
 returns c =

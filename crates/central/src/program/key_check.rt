@@ -1,0 +1,120 @@
+//! What is found in a file of keys: whom it lets in, and what is wrong with it.
+
+use findings::{Finding, Location, Severity};
+use site_keys::{Keys, KeysFault};
+use site_rules::Site;
+use std::alloc::{AllocError, Global};
+
+/// What is found in a line.
+#[derive(Drop)]
+struct InLine<'a> {
+    severity: Severity,
+    message: String,
+    /// The point that the line lets in, if it does.
+    point: Option<&'a str>,
+}
+
+/// What is found in the bytes of a file of keys, line by line. Where the site is read, a line that
+/// lets in a point which the site hasn't is a warning, and so is a point that no line lets in.
+pub fn find_in_keys(
+    alloc: Global,
+    bytes: &[u8],
+    site: Option<&Site>,
+) -> Result<Vec<Finding>, AllocError> {
+    let mut findings = Vec::new(alloc);
+    let mut points = Vec::new(alloc);
+    let mut number = 0u64;
+    for line in bytes.split(|byte| *byte == b'\n') {
+        number = number.saturating_add(1);
+        let Some(found) = found_in_line(alloc, line, site)? else {
+            continue;
+        };
+        let InLine {
+            severity,
+            message,
+            point,
+        } = found;
+        if let Some(point) = point {
+            points.push(point)?;
+        }
+        findings.push(found_at(Location::Line(number), severity, message))?;
+    }
+    if let Some(site) = site {
+        find_left_out(alloc, points.as_slice(), site, &mut findings)?;
+    }
+    Ok(findings)
+}
+
+fn found_at(place: Location, severity: Severity, message: String) -> Finding {
+    Finding {
+        severity,
+        place,
+        name: None,
+        message,
+    }
+}
+
+/// What is found in a line, if it isn't left out: a fault, or whom it lets in.
+fn found_in_line<'a>(
+    alloc: Global,
+    line: &'a [u8],
+    site: Option<&Site>,
+) -> Result<Option<InLine<'a>>, AllocError> {
+    // Each line of a file of keys is such a file, too.
+    match Keys::read(alloc, line) {
+        Ok(_) => {}
+        Err(KeysFault::Line { fault, .. }) => {
+            return Ok(Some(InLine {
+                severity: Severity::Fault,
+                message: fault.to_string(alloc)?,
+                point: None,
+            }));
+        }
+        Err(KeysFault::OutOfMemory) => return Err(AllocError),
+    }
+    let Some((role, name)) = user_of(line) else {
+        return Ok(None);
+    };
+    let is_point = role == "point";
+    let is_missing = is_point && site.is_some_and(|site| site.place_of(name).is_none());
+    let (severity, behind) = if is_missing {
+        (Severity::Warning, ", which the site file hasn't")
+    } else {
+        (Severity::Remark, "")
+    };
+    Ok(Some(InLine {
+        severity,
+        message: format!(in alloc; "it lets in {role} {name}{behind}")?,
+        point: if is_point { Some(name) } else { None },
+    }))
+}
+
+/// The role and the name of a line with a key; none where the line is left out.
+fn user_of(line: &[u8]) -> Option<(&str, &str)> {
+    let text = str::from_utf8(line).ok()?;
+    if text.starts_with('#') {
+        return None;
+    }
+    let (role, rest) = text.split_once(' ')?;
+    let (name, _) = rest.split_once(' ')?;
+    Some((role, name))
+}
+
+/// Adds a warning for each point of the site that isn't among those that are let in.
+fn find_left_out(
+    alloc: Global,
+    let_in: &[&str],
+    site: &Site,
+    findings: &mut Vec<Finding>,
+) -> Result<(), AllocError> {
+    for place in 0..site.len() {
+        let Some(point) = site.point(place) else {
+            continue;
+        };
+        if !let_in.iter().any(|name| *name == point.id) {
+            let message = format!(in alloc; "no line lets in point {}", point.id)?;
+            findings.push(found_at(Location::File, Severity::Warning, message))?;
+        }
+    }
+    Ok(())
+}

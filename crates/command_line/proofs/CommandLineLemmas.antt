@@ -1,0 +1,104 @@
+-- What clap says of a command line, said of this program's command.
+use Rattle.std.proofs.Common.{◌≡◌, ℕ, ◌<◌, ◌^◌, Bool, not, List, Option, Some, None, IfSome, Result, Ok, Err, IfOk, option_map, true, false, refl, sym, ap, ◌∙◌, subst}
+use Rattle.std.specs.Prelude.{IsSomeAnd}
+use Rattle.std.specs.Str.Parse.{IsNumeral, ParsesUnsigned, digits_value, without_leading_plus}
+use Rattle.clap.specs.Words.{AddsArg, AddsSubcommand, App, HasMatchesOf, Kinds, Row, Rule, Text, app_of, fault_of, is_simple, is_simple_and_free, rule_of, shape_of, subcommand_of, subcommand_rows_of, with_rule, with_subcommand}
+use Rattle.clap.specs.Matches.{ReadsOne, subcommand_name_of}
+use Rattle.clap.specs.declared.builder.arg.Arg.{Arg}
+use Rattle.clap.specs.declared.builder.command.Command.{Command}
+use Rattle.clap.specs.declared.builder.command.Command.TheViews.{out-Command}
+use Rattle.clap.specs.declared.parser.matches.ArgMatches.{ArgMatches}
+use Rattle.clap.specs.declared.parser.matches.ArgMatches.TheViews.{out-ArgMatches}
+use Rattle.clap.proofs.OnLiterals.{clap_on_literals}
+use Rattle.clap.proofs.WalkLemmas.{both}
+use Rattle.command_line.specs.CommandLine.{central_app, line_faults, subcommand_named}
+
+central_is_free : is_simple_and_free central_app ≡ true
+unfolding central_app clap_on_literals
+central_is_free = refl
+
+pub fails_as : (app : App) (words : List Text) (P : Kinds → Type 0) → app ≡ central_app → (is_simple_and_free app ≡ true → P (fault_of app words)) → P (line_faults words)
+unfolding line_faults
+fails_as app words P same fails = subst (λ (a : App). P (fault_of a words)) same (fails (ap is_simple_and_free same ∙ central_is_free))
+
+central_is_simple : is_simple central_app ≡ true
+unfolding central_app clap_on_literals
+central_is_simple = refl
+
+-- the subcommand that was met is the one that the words name
+pub met_is_named : (app : App) (words : List Text) (all : ArgMatches) → app ≡ central_app → HasMatchesOf app words all
+    → subcommand_rows_of all ≡ subcommand_named words
+unfolding subcommand_named
+met_is_named app words all same read =
+    (read (ap is_simple same ∙ central_is_simple)).1 ∙ ap (λ (a : App). subcommand_of a words) same
+
+paired : {A : Type 0} (f : A → Text) (g : A → List Row) (met : Option A) (both : Option (Text × List Row)) (name : Text) (rows : List Row)
+    → both ≡ option_map {U = Text × List Row} (λ a. (f a, g a)) met → Some name ≡ option_map f met
+    → Some rows ≡ option_map (λ (p : Text × List Row). p.1) both → both ≡ Some (name, rows)
+paired f g None both name rows same named given = absurd (cc)
+paired f g (Some met) both name rows same named given =
+    let same_name : name ≡ f met = cc in
+    let same_rows : rows ≡ g met = cc in
+    rw (same, same_name, same_rows) refl
+
+-- the name and the options of the subcommand that was met, together
+pub met_with : (all : ArgMatches) (name : Text) (rows : List Row) → Some name ≡ subcommand_name_of all
+    → Some rows ≡ option_map (λ p. p.1) (subcommand_rows_of all) → subcommand_rows_of all ≡ Some (name, rows)
+met_with all name rows named given = paired _ _ (out-ArgMatches all).subcommand (subcommand_rows_of all) name rows refl named given
+
+-- what is so of the subcommand that was met is so of the one that the words name
+pub named_with : (P : Text × List Row → Type 0) (met : Option (Text × List Row)) (words : List Text) (name : Text) (rows : List Row)
+    → met ≡ subcommand_named words → met ≡ Some (name, rows) → P (name, rows) → IsSomeAnd (subcommand_named words) P
+named_with P met words name rows same is holds =
+    subst (λ (o : Option (Text × List Row)). IsSomeAnd o P) (sym is ∙ same) holds
+
+-- the number that clap reads is that of the option's text
+pub number_read : {E : Type 0} (gives : Text → Result ℕ E → Type 0) → ((text : Text) (r : Result ℕ E) → gives text r → ParsesUnsigned 64 10 text r)
+    → (found text : Option Text) (number : Option ℕ) → found ≡ text → (found ≡ None → number ≡ None)
+    → ((t : Text) → found ≡ Some t → ReadsOne gives t number)
+    → IfSome number (λ n. (t : Text) × (text ≡ Some t) × IsNumeral 10 (without_leading_plus t) × (n ≡ digits_value 10 (without_leading_plus t)))
+number_read gives unsigned found text None same none value = tt
+number_read gives unsigned None text (Some n) same none value =
+    let never : Some n ≡ None = none refl in
+    absurd (cc)
+number_read gives unsigned (Some t) text (Some n) same none value =
+    let read = unsigned t (Ok n) (value t refl) in
+    (t, sym same, read.0.0, read.1)
+
+-- a numeral that fits is read, and its number is that of the option's text
+pub number_given : {E : Type 0} (gives : Text → Result ℕ E → Type 0) → ((text : Text) (r : Result ℕ E) → gives text r → ParsesUnsigned 64 10 text r)
+    → (found text : Option Text) (number : Option ℕ) → found ≡ text → ((t : Text) → found ≡ Some t → ReadsOne gives t number)
+    → (t : Text) → text ≡ Some t → IsNumeral 10 (without_leading_plus t) → digits_value 10 (without_leading_plus t) < 2 ^ 64
+    → number ≡ Some (digits_value 10 (without_leading_plus t))
+number_given gives unsigned found text None same value t is numeral fits =
+    let read = value t (same ∙ is) in
+    absurd (unsigned t (Err read.0) read.1 (numeral, fits))
+number_given gives unsigned found text (Some n) same value t is numeral fits = ap Some (unsigned t (Ok n) (value t (same ∙ is))).1
+
+-- ---- commands
+
+pub on_ok : {A E : Type 0} (P Q : A → Type 0) (r : Result A E) → ((x : A) → P x → Q x) → IfOk r P → IfOk r Q
+on_ok P Q (Ok x) step h = step x h
+on_ok P Q (Err e) step h = tt
+
+-- a command with one argument more
+pub argued : (old new : Command) (arg : Arg) (app : App) (rule : Rule) → AddsArg old arg new → arg.global ≡ false
+    → app_of old ≡ app → rule_of arg ≡ rule → app_of new ≡ with_rule app rule
+argued old new arg app rule adds local is of =
+    adds.shape local ∙ ap (λ (a : App). with_rule a (rule_of arg)) is ∙ ap (with_rule app) of
+
+not_true : (b : Bool) → not b ≡ true → b ≡ false
+not_true true h = absurd (cc)
+not_true false h = refl
+
+-- a command that reads words plainly has no global argument
+has_no_globals : (c : Command) → (app_of c).top.is_plain ≡ true → (out-Command c).has_globals ≡ false
+has_no_globals c plain = not_true _ (both _ _ (both _ _ (both _ _ plain).1).1).0
+
+-- a command with one subcommand more
+pub joined : (old new sub : Command) (app only : App) → AddsSubcommand old sub new → app_of old ≡ app → app_of sub ≡ only
+    → only.top.is_plain ≡ true → app_of new ≡ with_subcommand app only.top
+joined old new sub app only adds is of plain =
+    adds.shape (has_no_globals sub (ap (λ (a : App). a.top.is_plain) of ∙ plain))
+    ∙ ap (λ (a : App). with_subcommand a (shape_of sub)) is
+    ∙ ap (λ (a : App). with_subcommand app a.top) of

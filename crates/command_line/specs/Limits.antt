@@ -1,0 +1,30 @@
+-- What the numbers of options may be, and what they are where they aren't said.
+use Rattle.std.specs.Prelude.{ℕ}
+
+-- the most workers, and the most connections in all
+abbrev pub max_workers : ℕ
+max_workers = 8
+
+abbrev pub max_sessions : ℕ
+max_sessions = 64
+
+-- the most connections at a time; that many where it isn't said, and so many workers
+abbrev pub max_seats : ℕ
+max_seats = 1000
+
+abbrev pub default_seats : ℕ
+default_seats = 256
+
+abbrev pub default_workers : ℕ
+default_workers = 2
+
+-- how long a call may wait for its reply, in seconds; so long where it isn't said
+abbrev pub max_call_timeout : ℕ
+max_call_timeout = 3600
+
+abbrev pub default_call_timeout : ℕ
+default_call_timeout = 60
+
+-- the most connectors of a point, as in a site file
+abbrev pub max_connectors : ℕ
+max_connectors = 64

@@ -1,0 +1,16 @@
+//! The limits of options. `central` compares them with those of the server.
+
+/// The most connections at a time.
+pub const MAX_SEATS: u64 = 1_000;
+
+/// The most connections in all.
+pub const MAX_SESSIONS: u64 = 64;
+
+/// The most workers.
+pub const MAX_WORKERS: u64 = 8;
+
+/// The most connectors of a point.
+pub(crate) const MAX_CONNECTORS: u64 = 64;
+
+/// The longest time for which a call waits for its reply, in seconds.
+pub(crate) const MAX_CALL_TIMEOUT: u64 = 3_600;

@@ -1,0 +1,328 @@
+//! The command line, by clap's own definition of how words are read.
+
+ghost use Rattle.std.specs.Prelude.{◌≡◌, IfOk, IfSome, IsSomeAnd, codes, map, option_map, string_bytes};
+ghost use Rattle.clap.specs.Words.{FailsBy, all_of, first_of, found_of, rows_of};
+ghost use Rattle.command_line.specs.CommandLine.{IsAsking, IsCalling, IsChecking, IsExplaining, IsFlag, IsJob, IsKeyMaking, IsNumber, IsOptionalNumber, IsPointing, IsReplaying, IsRunning, IsServing, IsShowing, IsStarting, line_faults, subcommand_named};
+
+use crate::commands::central_command;
+use crate::job::{
+    Asking, Calling, Checking, Explaining, Job, KeyMaking, Pointing, Replaying, Running, Serving,
+    Showing, Starting,
+};
+use clap::{ArgMatches, Error};
+use std::alloc::{AllocError, Global};
+/// How many connections are served at a time, and how many workers compile, where that isn't said.
+const SEATS: u64 = 256;
+
+const WORKERS: u64 = 2;
+
+/// For so many seconds a call waits for its reply, where that isn't said.
+const CALL_TIMEOUT: u64 = 60;
+
+/// The job of a command line, whose first word is the program's name.
+pub fn job_of<'a>(alloc: Global, words: &'a [String]) -> Result<Job<'a>, Error>
+    ensures job { IfOk result (λ job. IsSomeAnd (subcommand_named (map string_bytes words.now))
+        (λ named. IsJob named.0 named.1 job)) }
+    ensures faults { FailsBy (line_faults (map string_bytes words.now)) result }
+{
+    let command = central_command(alloc)?;
+    let matches = command.try_get_matches_from(words)?;
+    let Some((name, given)) = matches.subcommand() else {
+        return Err(Error::from(AllocError));
+    };
+    // clap has seen to it that the options are there, and their numbers in range.
+    let Some(job) = job_named(name, given) else {
+        return Err(Error::from(AllocError));
+    };
+    Ok(job)
+}
+
+/// The job of a subcommand with its options.
+fn job_named<'a>(name: &str, given: &ArgMatches<'a>) -> Option<Job<'a>>
+    ensures { IfSome result (λ job. IsJob name.now (rows_of (found_of given.now)) job) }
+{
+    if name == "serve" {
+        let serving = serving_of(given)?;
+        return Some(Job::Serve(serving));
+    }
+    if name == "run" {
+        let running = running_of(given)?;
+        return Some(Job::Run(running));
+    }
+    if name == "key" {
+        let making = key_making_of(given)?;
+        return Some(Job::Key(making));
+    }
+    if name == "call" {
+        let calling = calling_of(given)?;
+        return Some(Job::Call(calling));
+    }
+    if name == "point" {
+        let pointing = pointing_of(given)?;
+        return Some(Job::Point(pointing));
+    }
+    if name == "status" {
+        let url = text_of(given, "url")?;
+        return Some(Job::Status { url });
+    }
+    reader_named(name, given)
+}
+
+/// The job of a subcommand that reads a script or a journal, and prints what it has.
+fn reader_named<'a>(name: &str, given: &ArgMatches<'a>) -> Option<Job<'a>>
+    ensures { IfSome result (λ job. IsJob name.now (rows_of (found_of given.now)) job) }
+{
+    if name == "replay" {
+        let replaying = replaying_of(given)?;
+        return Some(Job::Replay(replaying));
+    }
+    if name == "journal" {
+        let folder = text_of(given, "data")?;
+        return Some(Job::Journal { folder });
+    }
+    page_named(name, given)
+}
+
+/// The job of a subcommand that prints a page for people.
+fn page_named<'a>(name: &str, given: &ArgMatches<'a>) -> Option<Job<'a>>
+    ensures { IfSome result (λ job. IsJob name.now (rows_of (found_of given.now)) job) }
+{
+    if name == "explain" {
+        let explaining = explaining_of(given)?;
+        return Some(Job::Explain(explaining));
+    }
+    if name == "check" {
+        let checking = checking_of(given)?;
+        return Some(Job::Check(checking));
+    }
+    if name == "show" {
+        let showing = showing_of(given)?;
+        return Some(Job::Show(showing));
+    }
+    None
+}
+
+fn serving_of<'a>(given: &ArgMatches<'a>) -> Option<Serving<'a>>
+    ensures { IfSome result (λ serving. IsServing (rows_of (found_of given.now)) serving) }
+{
+    let site = text_of(given, "site")?;
+    let listen = text_of(given, "listen")?;
+    let workers = number_of(given, "workers")?;
+    let sessions = number_of(given, "sessions")?;
+    if workers < 1 || sessions < 1 {
+        return None;
+    }
+    Some(Serving {
+        site,
+        listen,
+        workers,
+        sessions,
+    })
+}
+
+fn replaying_of<'a>(given: &ArgMatches<'a>) -> Option<Replaying<'a>>
+    ensures { IfSome result (λ replaying. IsReplaying (rows_of (found_of given.now)) replaying) }
+{
+    let site = text_of(given, "site")?;
+    let folder = text_of(given, "data");
+    Some(Replaying { site, folder })
+}
+
+fn running_of<'a>(given: &ArgMatches<'a>) -> Option<Running<'a>>
+    ensures { IfSome result (λ running. IsRunning (rows_of (found_of given.now)) running) }
+{
+    let site = text_of(given, "site")?;
+    let folder = text_of(given, "data")?;
+    let seats = optional_number_of(given, "seats").unwrap_or(SEATS);
+    let workers = optional_number_of(given, "workers").unwrap_or(WORKERS);
+    let call_timeout = optional_number_of(given, "call-timeout").unwrap_or(CALL_TIMEOUT);
+    let keys = text_of(given, "keys");
+    let status = text_of(given, "status");
+    let is_status_open = is_given(given, "status-open");
+    if seats < 1 || workers < 1 {
+        return None;
+    }
+    Some(Running {
+        site,
+        folder,
+        listen: text_of(given, "listen")?,
+        seats,
+        workers,
+        call_timeout,
+        keys,
+        status,
+        is_status_open,
+    })
+}
+
+fn key_making_of<'a>(given: &ArgMatches<'a>) -> Option<KeyMaking<'a>>
+    ensures { IfSome result (λ making. IsKeyMaking (rows_of (found_of given.now)) making) }
+{
+    let name = text_of(given, "name")?;
+    let is_operator = is_given(given, "operator");
+    Some(KeyMaking { name, is_operator })
+}
+
+fn calling_of<'a>(given: &ArgMatches<'a>) -> Option<Calling<'a>>
+    ensures { IfSome result (λ calling. IsCalling (rows_of (found_of given.now)) calling) }
+{
+    let url = text_of(given, "url")?;
+    let login = text_of(given, "login");
+    let set_profile = text_of(given, "set-profile");
+    let clear = text_of(given, "clear");
+    let remote_start = starting_of(given)?;
+    let ask = asking_of(given, "ask")?;
+    let audit = asking_of(given, "audit")?;
+    let status = is_given(given, "status");
+    Some(Calling {
+        url,
+        login,
+        set_profile,
+        clear,
+        remote_start,
+        ask,
+        audit,
+        status,
+    })
+}
+
+/// What is to be started, where it is given. None where its values are neither two nor three.
+fn starting_of<'a>(given: &ArgMatches<'a>) -> Option<Option<Starting<'a>>>
+    ensures { IfSome result (λ starting.
+        IsStarting (all_of (codes "remote-start") (rows_of (found_of given.now))) starting) }
+{
+    match texts_of(given, "remote-start") {
+        Some(&[connector, id_tag]) => Some(Some(Starting {
+            connector,
+            id_tag,
+            profile: None,
+        })),
+        Some(&[connector, id_tag, profile]) => Some(Some(Starting {
+            connector,
+            id_tag,
+            profile: Some(profile),
+        })),
+        Some(_) => None,
+        None => Some(None),
+    }
+}
+
+/// What is asked for by the two values of an option, where it is given. None where they aren't two.
+fn asking_of<'a>(given: &ArgMatches<'a>, option: &str) -> Option<Option<Asking<'a>>>
+    ensures { IfSome result
+        (λ asking. IsAsking (all_of option.now (rows_of (found_of given.now))) asking) }
+{
+    match texts_of(given, option) {
+        Some(&[connector, seconds]) => Some(Some(Asking { connector, seconds })),
+        Some(_) => None,
+        None => Some(None),
+    }
+}
+
+fn pointing_of<'a>(given: &ArgMatches<'a>) -> Option<Pointing<'a>>
+    ensures { IfSome result (λ pointing. IsPointing (rows_of (found_of given.now)) pointing) }
+{
+    let url = text_of(given, "url")?;
+    let site = text_of(given, "site")?;
+    let id = text_of(given, "id")?;
+    let login = text_of(given, "login");
+    Some(Pointing {
+        url,
+        site,
+        id,
+        login,
+    })
+}
+
+fn explaining_of<'a>(given: &ArgMatches<'a>) -> Option<Explaining<'a>>
+    ensures { IfSome result
+        (λ explaining. IsExplaining (rows_of (found_of given.now)) explaining) }
+{
+    let site = text_of(given, "site")?;
+    let point = text_of(given, "point")?;
+    let connector = number_of(given, "connector")?;
+    let start = text_of(given, "start")?;
+    let duration = number_of(given, "duration")?;
+    let folder = text_of(given, "data");
+    let at = text_of(given, "at");
+    let picture = text_of(given, "picture");
+    let json = is_given(given, "json");
+    Some(Explaining {
+        site,
+        point,
+        connector,
+        start,
+        duration,
+        folder,
+        at,
+        picture,
+        json,
+    })
+}
+
+fn checking_of<'a>(given: &ArgMatches<'a>) -> Option<Checking<'a>>
+    ensures { IfSome result (λ checking. IsChecking (rows_of (found_of given.now)) checking) }
+{
+    let site = text_of(given, "site")?;
+    let keys = text_of(given, "keys");
+    let folder = text_of(given, "data");
+    let trace = is_given(given, "trace");
+    Some(Checking {
+        site,
+        keys,
+        folder,
+        trace,
+    })
+}
+
+fn showing_of<'a>(given: &ArgMatches<'a>) -> Option<Showing<'a>>
+    ensures { IfSome result (λ showing. IsShowing (rows_of (found_of given.now)) showing) }
+{
+    let site = text_of(given, "site")?;
+    let folder = text_of(given, "data");
+    let json = is_given(given, "json");
+    Some(Showing {
+        site,
+        folder,
+        at: text_of(given, "at"),
+        json,
+    })
+}
+
+/// The value of an option.
+fn text_of<'a>(given: &ArgMatches<'a>, option: &str) -> Option<&'a str>
+    ensures { option_map (λ text. text.now) result
+        ≡ first_of option.now (rows_of (found_of given.now)) }
+{
+    given.get_str(option)
+}
+
+/// The values of an option.
+fn texts_of<'b, 'a>(given: &'b ArgMatches<'a>, option: &str) -> Option<&'b [&'a str]>
+    ensures { option_map (λ texts. map (λ text. text.now) texts.now) result
+        ≡ all_of option.now (rows_of (found_of given.now)) }
+{
+    given.get_raw(option)
+}
+
+/// The whole number that is the value of an option.
+fn number_of(given: &ArgMatches<'_>, option: &str) -> Option<u64>
+    ensures { IfSome result
+        (λ number. IsNumber option.now (rows_of (found_of given.now)) number) }
+{
+    given.get_one(option)
+}
+
+/// The whole number that is the value of an option, where it is given.
+fn optional_number_of(given: &ArgMatches<'_>, option: &str) -> Option<u64>
+    ensures { IsOptionalNumber option.now (rows_of (found_of given.now)) result }
+{
+    given.get_one(option)
+}
+
+/// Whether an option without a value is given.
+fn is_given(given: &ArgMatches<'_>, option: &str) -> bool
+    ensures { IsFlag option.now (rows_of (found_of given.now)) result }
+{
+    given.get_flag(option)
+}

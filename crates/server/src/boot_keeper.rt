@@ -1,0 +1,105 @@
+//! The boots of points, which are kept over a restart of the program.
+
+use crate::seat_context::SeatContext;
+use crate::serving::ServeFault;
+use ocpp_scalars::Moments;
+use session::Journal;
+use site_rules::Site;
+use site_status::{Boot, BootLine, push_boot_line};
+use std::alloc::{AllocError, Global};
+use std::marker::{Send, Sync};
+use std::rt::Clock;
+use std::sync::ledger::Ledger;
+use std::sync::{Arc, Wait};
+use std::thread::Threads;
+use std::time::Duration;
+use std::{io, thread};
+
+/// So many seconds pass at least from one file of boots to the next.
+const SECONDS_BETWEEN: u64 = 1;
+
+/// Who keeps the boots of points.
+pub trait BootKeeper {
+    /// Keeps these lines in place of those that were kept before.
+    fn keep(&self, lines: &str) -> io::Result<()>;
+}
+
+/// Begins the thread that keeps the boots of points, each time that they change. No session waits for
+/// it. It goes on when this returns, for as long as the program runs.
+pub fn begin_boots<
+    C: Ledger + Send + Sync + Drop + 'static,
+    A: Ledger + Send + Sync + Drop + 'static,
+    R: Threads + Wait + Clock + Send + Sync + Drop + 'static,
+    M: Moments + Send + Sync + Drop + 'static,
+    J: Journal + Send + Sync + Drop + 'static,
+    K: BootKeeper + Send + Drop + 'static,
+>(context: &Arc<SeatContext<C, A, R, M, J>, Global>, keeper: K) -> Result<(), ServeFault> {
+    let own = Arc::try_clone(context)?;
+    let begun = thread::Builder::new().spawn(&context.rt, move || keep_boots(&own, &keeper));
+    match begun {
+        Ok(_) => Ok(()),
+        Err(_) => Err(ServeFault::OutOfMemory),
+    }
+}
+
+/// Keeps the boots of points for ever. Where they can't be kept, that is said once until they are, and
+/// it is tried again at the next change.
+fn keep_boots<C: Ledger, A: Ledger, R: Wait + Clock, M: Moments, J: Journal, K: BootKeeper>(
+    seats: &SeatContext<C, A, R, M, J>,
+    keeper: &K,
+) {
+    let mut is_said = false;
+    for _change in seats.rt.forever() {
+        seats.watch.changed_boots().wait(&seats.rt);
+        is_said = match keep_now(seats, keeper) {
+            Ok(()) => false,
+            Err(_) if is_said => true,
+            Err(error) => {
+                say_unkept(seats, &error);
+                true
+            }
+        };
+        thread::sleep(&seats.rt, Duration::from_secs(SECONDS_BETWEEN));
+    }
+}
+
+/// Keeps the boots of points as they are now. The book is locked to be copied, and nothing is locked
+/// while the lines are made and kept.
+fn keep_now<C: Ledger, A: Ledger, R: Wait, M, J, K: BootKeeper>(
+    seats: &SeatContext<C, A, R, M, J>,
+    keeper: &K,
+) -> io::Result<()> {
+    let boots = seats.watch.boots(&seats.rt, seats.alloc)?;
+    let book = seats.shared.lock(&seats.rt);
+    let copied = book.present().copy();
+    drop(book);
+    let machine = copied?;
+    let lines = boot_lines(seats.alloc, machine.site(), boots.as_slice())?;
+    keeper.keep(lines.as_str())
+}
+
+/// A line for each boot of a point, by the point's place in the site.
+fn boot_lines(alloc: Global, site: &Site, boots: &[Option<Boot>]) -> Result<String, AllocError> {
+    let mut lines = String::new(alloc);
+    for (place, boot) in boots.iter().enumerate() {
+        if let (Some(point), Some(boot)) = (site.point(place), *boot) {
+            let line = BootLine {
+                point: point.id,
+                boot,
+            };
+            push_boot_line(&mut lines, &line)?;
+        }
+    }
+    Ok(lines)
+}
+
+/// Says that the boots can't be kept.
+fn say_unkept<C: Ledger, A: Ledger, R: Wait, M: Moments, J>(
+    seats: &SeatContext<C, A, R, M, J>,
+    error: &io::Error,
+) {
+    let what = format!(in seats.alloc; "they can't be kept over a restart: {error}");
+    seats
+        .notices
+        .say_made(&seats.rt, &seats.clock, "boots", what);
+}

@@ -1,0 +1,47 @@
+//! Whether a request is for this machine.
+
+use http::{HeaderMap, HeaderValue};
+use std::net::IpAddr;
+
+/// Whom a request is for (RFC 9110, section 7.2).
+const HOST: &str = "host";
+
+/// The name that each machine has for itself (RFC 6761, section 6.3).
+const LOCALHOST: &str = "localhost";
+
+/// Whether a request with these headers is for this machine, where this address is listened at.
+/// Without a field for it, it is no browser's.
+pub(crate) fn is_for_this_machine(headers: &HeaderMap<HeaderValue>, address: &str) -> bool {
+    headers
+        .get_all(HOST)
+        .into_iter()
+        .all(|value| match value.to_str() {
+            Ok(host) => is_own_host(host, address),
+            Err(_) => false,
+        })
+}
+
+/// Whether a `Host` field with this value is for this machine, where this address is listened at: it
+/// has an IP address, `localhost`, or the name of that address. A web page whose own name leads to this
+/// machine asks by that name (DNS rebinding).
+pub fn is_own_host(host: &str, address: &str) -> bool {
+    let name = name_of(host);
+    name.parse::<IpAddr>().is_ok()
+        || name.eq_ignore_ascii_case(LOCALHOST)
+        || name.eq_ignore_ascii_case(name_of(address))
+}
+
+/// The name or the address of a host, without its port and the brackets of an IPv6 address (RFC 3986,
+/// section 3.2.2).
+fn name_of(host: &str) -> &str {
+    if let Some(bracketed) = host.strip_prefix('[') {
+        return match bracketed.split_once(']') {
+            Some((address, port)) if port.is_empty() || port.starts_with(':') => address,
+            _ => host,
+        };
+    }
+    match host.rsplit_once(':') {
+        Some((name, _)) => name,
+        None => host,
+    }
+}

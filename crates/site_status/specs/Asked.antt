@@ -1,0 +1,12 @@
+-- What is asked for by a path of the status port.
+use Rattle.std.specs.Prelude.{⊤}
+use Rattle.site_status.specs.declared.asked_path.StatusPath.{StatusPath}
+use Rattle.site_status.specs.declared.asked_path.StatusPath.TheVariants.{Health, Metrics, State, Page, Picture}
+
+-- a page, or a picture: of these there are several
+abbrev pub IsOneOfMany : StatusPath → Type 0
+IsOneOfMany Health = ⊥
+IsOneOfMany Metrics = ⊥
+IsOneOfMany State = ⊥
+IsOneOfMany (Page number) = ⊤
+IsOneOfMany (Picture point connector) = ⊤

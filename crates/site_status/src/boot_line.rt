@@ -1,0 +1,43 @@
+//! A line of the file of boots, and how it is written and read.
+
+use crate::point_news::Boot;
+use ocpp_scalars::{push_instant, push_integer, read_instant};
+use std::alloc::AllocError;
+
+/// A line of the file of boots: what is kept of a point that booted.
+#[derive(Clone, Copy, Debug, PartialEq, Eq)]
+pub struct BootLine<'a> {
+    /// The identity of the point.
+    pub point: &'a str,
+    pub boot: Boot,
+}
+
+/// Appends a line, with its line feed.
+pub fn push_boot_line(out: &mut String, line: &BootLine<'_>) -> Result<(), AllocError> {
+    push_instant(out, line.boot.moment)?;
+    out.push(' ')?;
+    out.push_str(line.point)?;
+    out.push(' ')?;
+    push_integer(out, line.boot.first_call)?;
+    out.push('\n')?;
+    Ok(())
+}
+
+/// Reads a line, without its line feed. What is written is read back.
+pub fn read_boot_line(text: &str) -> Option<BootLine<'_>> {
+    let (moment, rest) = text.split_once(' ')?;
+    let (point, first_call) = rest.split_once(' ')?;
+    let Ok(moment) = read_instant(moment) else {
+        return None;
+    };
+    let first_call = read_number(first_call)?;
+    Some(BootLine {
+        point,
+        boot: Boot { moment, first_call },
+    })
+}
+
+/// The number that a word is.
+fn read_number(word: &str) -> Option<u64> {
+    word.parse::<u64>().ok()
+}
