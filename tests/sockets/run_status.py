@@ -116,9 +116,9 @@ def figures_that_follow(program):
             expect("an error's text", reason, error("2", "InternalError", "<script>alert(1)</script>"))
             page = get(running, "/")[2]
             expect("whether the page has it as text", ("<script" in page, "&lt;script&gt;alert(1)" in page), (False, True))
-            point.texts_of(start("s"))
+            point.texts_of(start("s", tag="a card"))
             expect("a transaction", [entry["connectorId"] for entry in point_of(running)["transactions"]], [1])
-            expect("whether an idTag is told", "T1" in get(running, "/state.json")[2], False)
+            expect("whether an idTag is told", "a card" in get(running, "/state.json")[2], False)
         until("the point is lost", lambda: point_of(running)["connectedSince"] is None)
         with RawClient(running) as stranger:
             stranger.shake_hands("/P9", ["Sec-WebSocket-Protocol: ocpp1.6"])

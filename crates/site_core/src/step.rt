@@ -1,6 +1,5 @@
 //! The steps of the central system.
 
-ghost use Rattle.std.specs.Prelude.{◌≡◌, IfOk};
 ghost use Rattle.site_core.specs.Step.{work};
 ghost use Rattle.site_core.specs.ByCases.Made.{IsAtPoint, IsFor};
 
@@ -8,7 +7,6 @@ use crate::point_id::PointId;
 use crate::via::Via;
 use ocpp_scalars::{IdTag, Instant};
 use profile::{Criteria, Profile, Row, Unit};
-use std::alloc::{AllocError, Global};
 use sweep_compiler::Judged;
 use transactions::Begin;
 
@@ -125,104 +123,5 @@ impl Step {
             Step::Judge { point, .. } => (point, Via::Audit),
             Step::Take(_) | Step::Compile(_) | Step::Answer(_) | Step::Finish => unreachable!(),
         }
-    }
-
-    /// A copy.
-    pub fn copy(&self, alloc: Global) -> Result<Step, AllocError>
-        ensures { IfOk result (λ copy. copy ≡ self.now) }
-    {
-        Ok(match self {
-            Step::Install { point, row } => Step::Install {
-                point: point.copy(alloc)?,
-                row: row.copy()?,
-            },
-            Step::Clear { point, criteria } => Step::Clear {
-                point: point.copy(alloc)?,
-                criteria: *criteria,
-            },
-            Step::Start {
-                point,
-                connector,
-                begin,
-            } => Step::Start {
-                point: point.copy(alloc)?,
-                connector: *connector,
-                begin: begin.copy(alloc)?,
-            },
-            Step::Stop { point, transaction } => Step::Stop {
-                point: point.copy(alloc)?,
-                transaction: *transaction,
-            },
-            Step::Take(take) => Step::Take(take.copy(alloc)?),
-            Step::Compile(number) => Step::Compile(*number),
-            Step::Answer(number) => Step::Answer(*number),
-            Step::Finish => Step::Finish,
-            Step::Attach(point) => Step::Attach(point.copy(alloc)?),
-            Step::Send { point, link } => Step::Send {
-                point: point.copy(alloc)?,
-                link: *link,
-            },
-            Step::Confirm {
-                point,
-                link,
-                call,
-                accepted,
-            } => Step::Confirm {
-                point: point.copy(alloc)?,
-                link: *link,
-                call: *call,
-                accepted: *accepted,
-            },
-            Step::Lost { point, link } => Step::Lost {
-                point: point.copy(alloc)?,
-                link: *link,
-            },
-            Step::Audit {
-                point,
-                connector,
-                duration,
-            } => Step::Audit {
-                point: point.copy(alloc)?,
-                connector: *connector,
-                duration: *duration,
-            },
-            Step::Judge {
-                point,
-                call,
-                judged,
-            } => Step::Judge {
-                point: point.copy(alloc)?,
-                call: *call,
-                judged: judged.share()?,
-            },
-            Step::Status(point) => Step::Status(point.copy(alloc)?),
-            Step::RemoteStart {
-                point,
-                connector,
-                id_tag,
-                profile,
-            } => Step::RemoteStart {
-                point: point.copy(alloc)?,
-                connector: *connector,
-                id_tag: id_tag.copy(alloc)?,
-                profile: Profile::copy_if_any(profile)?,
-            },
-        })
-    }
-}
-
-impl Take {
-    /// A copy.
-    pub fn copy(&self, alloc: Global) -> Result<Take, AllocError>
-        ensures { IfOk result (λ copy. copy ≡ self.now) }
-    {
-        Ok(Take {
-            point: self.point.copy(alloc)?,
-            connector: self.connector,
-            start: self.start,
-            duration: self.duration,
-            unit: self.unit,
-            seen: self.seen,
-        })
     }
 }

@@ -16,8 +16,8 @@ use profile::Unit;
 use std::alloc::{AllocError, Global};
 use std::marker::Model;
 
-/// An audit with its verdict. Whoever has one needn't trust who made it: the verdict is right for this
-/// audit and something that its point said.
+/// An audit with its verdict: right for this audit and something that a point may say, or Unsettled where
+/// memory ran out.
 #[derive(Drop)]
 pub struct Judged {
     job: AuditJob,

@@ -80,6 +80,21 @@ pub(crate) fn judging(
     }
 }
 
+/// That step twice, for a book and a machine.
+pub(crate) fn judging_both(
+    rt: &impl Abort,
+    alloc: Global,
+    point: &str,
+    call: u64,
+    judged: Judged,
+) -> (Step, Step) {
+    let shared = judged.share().expect(rt, "error");
+    (
+        judging(rt, alloc, point, call, judged),
+        judging(rt, alloc, point, call, shared),
+    )
+}
+
 /// The number of a word.
 fn number(rt: &impl Abort, word: &str) -> u64 {
     word.parse::<u64>().expect(rt, word)
@@ -135,14 +150,14 @@ impl<C: Ledger, A: Ledger> Audits<C, A> {
         let name = parts.word();
         let call = number(rt, parts.word());
         let verdict = self.verdict(rt, said_of(rt, alloc, name, parts.rest()));
-        let step = judging(rt, alloc, point, call, verdict);
-        self.quiet(rt, step, words)
+        let steps = judging_both(rt, alloc, point, call, verdict);
+        self.quiet(rt, steps, words)
     }
 
     /// Makes a step on both that changes no version and counts nothing.
-    fn quiet(&mut self, rt: &impl Abort, step: Step, words: &str) -> (&'static str, u64) {
+    fn quiet(&mut self, rt: &impl Abort, steps: (Step, Step), words: &str) -> (&'static str, u64) {
         let before = counts(&self.desk);
-        let said = make_both(rt, &mut self.desk, &mut self.machine, step, words);
+        let said = make_both(rt, &mut self.desk, &mut self.machine, steps, words);
         holds(rt, counts(&self.desk) == before, words);
         said
     }

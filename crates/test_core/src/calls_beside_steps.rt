@@ -3,7 +3,7 @@
 
 ghost use Rattle.std.specs.Prelude.{◌≡◌};
 
-use crate::audits::{judged, judging, schedule};
+use crate::audits::{judged, judging_both, schedule};
 use crate::obeying_point::RandomNumbers;
 use crate::runs::opening;
 use crate::same::{holds, same_outcome};
@@ -166,19 +166,21 @@ pub(crate) fn step_both<C: Ledger, A: Ledger>(
     machine: &mut Machine,
     words: &str,
 ) -> (&'static str, u64) {
-    let step = step_of(rt, desk.alloc, words);
-    make_both(rt, desk, machine, step, words)
+    let steps = (
+        step_of(rt, desk.alloc, words),
+        step_of(rt, desk.alloc, words),
+    );
+    make_both(rt, desk, machine, steps, words)
 }
 
-/// Makes a step on both.
+/// Makes a step on both, given once for each.
 pub(crate) fn make_both<C: Ledger, A: Ledger>(
     rt: &impl Abort,
     desk: &mut Desk<C, A>,
     machine: &mut Machine,
-    step: Step,
+    (step, other): (Step, Step),
     words: &str,
 ) -> (&'static str, u64) {
-    let other = step.copy(desk.alloc).expect(rt, "error");
     let said = desk.comes_to(step);
     same_outcome(rt, said, machine_words(machine, other), words);
     holds(rt, read_machine(machine) == read_book(desk), words);
@@ -204,8 +206,8 @@ fn judge_both<C: Ledger, A: Ledger>(
     }
     let limit = u32::from(course.random.below(2)).wrapping_add(159);
     let verdict = judged(rt, alloc, &job, schedule(rt, alloc, limit));
-    let step = judging(rt, alloc, "CP1", call, verdict);
-    let said = make_both(rt, desk, machine, step, "judge");
+    let steps = judging_both(rt, alloc, "CP1", call, verdict);
+    let said = make_both(rt, desk, machine, steps, "judge");
     same_outcome(rt, said, ("VerdictKept", 0), "judge");
     step_both(rt, desk, machine, "CP1 status");
     course.verdicts = course.verdicts.saturating_add(1);
