@@ -7,64 +7,30 @@ use site_rules::Site;
 use site_status::{Boot, BootLine, read_boot_line};
 use std::alloc::{AllocError, AllocGlobal, Global};
 use std::fs::{File, OpenOptions};
-use std::io::{ErrorKind, Read, Write};
+use std::io;
+use std::io::{ErrorKind, Read};
 use std::rt::Files;
-use std::{fs, io};
 
-/// The file's name in its folder, and that of the file that is to take its place.
+/// The file's name in its folder.
 const NAME: &str = "boots";
-
-const NEXT_NAME: &str = "boots.next";
 
 /// A file of boots has a line for each point of a site: fewer bytes than these.
 const LONGEST_FILE: u64 = 1_048_576;
 
-/// The file of boots in a folder.
-#[derive(Drop)]
-pub struct BootsFile<R> {
-    rt: R,
-    path: String,
-    next_path: String,
-}
-
-impl<R: Files<File = File> + AllocGlobal + Drop> BootsFile<R> {
-    /// That of a folder, which may have none yet.
-    pub fn new(rt: R, folder: &str) -> Result<BootsFile<R>, AllocError> {
-        let path = path_in(rt.alloc(), folder, NAME)?;
-        let next_path = path_in(rt.alloc(), folder, NEXT_NAME)?;
-        Ok(BootsFile {
-            rt,
-            path,
-            next_path,
-        })
-    }
-
-    /// Writes these lines in place of those that it has. Where that fails it has these still.
-    pub fn write(&self, lines: &str) -> io::Result<()> {
-        let written = self.replace(lines);
-        if written.is_err() {
-            // Part of it is of no use.
-            let _ = fs::remove_file(&self.rt, self.next_path.as_str());
+/// The file of boots of a folder, opened to be written, and made where there is none. None where that
+/// fails, which is said on standard error.
+pub fn open_boots<R: Files<File = File> + Eprint + AllocGlobal>(
+    rt: &R,
+    folder: &str,
+) -> Result<Option<File>, AllocError> {
+    let path = path_in(rt.alloc(), folder, NAME)?;
+    let mut options = OpenOptions::new();
+    match options.write(true).create(true).open(rt, path.as_str()) {
+        Ok(file) => Ok(Some(file)),
+        Err(error) => {
+            let _ = eprintln!(rt; "central: {path}: {error}");
+            Ok(None)
         }
-        written
-    }
-
-    fn replace(&self, lines: &str) -> io::Result<()> {
-        self.write_next(lines)?;
-        fs::rename(&self.rt, self.next_path.as_str(), self.path.as_str())
-    }
-
-    /// Writes these lines into the file that is to take its place.
-    fn write_next(&self, lines: &str) -> io::Result<()> {
-        let mut options = OpenOptions::new();
-        let opened = options
-            .write(true)
-            .create(true)
-            .truncate(true)
-            .open(&self.rt, self.next_path.as_str());
-        let mut file = opened?;
-        file.write_all(lines.as_bytes())?;
-        file.sync_data()
     }
 }
 

@@ -15,7 +15,7 @@ mod restoring;
 mod script_end;
 mod system_clock;
 
-pub use boots_file::{BootsFile, read_boots};
+pub use boots_file::{open_boots, read_boots};
 pub use folder_fault::FolderFault;
 pub use followed_journal::{FollowedJournal, Following, follow_journal};
 pub use journal_file::JournalFile;

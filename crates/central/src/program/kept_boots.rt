@@ -1,11 +1,11 @@
 //! The boots that are kept in the folder of a site.
 
-use data_folder::read_boots;
+use data_folder::{open_boots, read_boots};
 use server::BootKeeper;
 use site_rules::Site;
 use site_status::Boot;
 use std::alloc::{AllocError, AllocGlobal};
-use std::fs::{File, OpenOptions};
+use std::fs::File;
 use std::io;
 use std::os::unix::fs::FileExt;
 use std::rt::Files;
@@ -26,29 +26,17 @@ pub struct BootsFile {
 }
 
 impl KeptBoots {
-    /// What a folder has of the points of a site. Where its file can't be opened, that is said on
-    /// standard error.
+    /// What a folder has of the points of a site.
     pub fn read<R: Files<File = File> + Eprint + AllocGlobal>(
         rt: &R,
         folder: &str,
         site: &Site,
     ) -> Result<KeptBoots, AllocError> {
-        let boots = read_boots(rt, folder, site)?;
-        let path = format!(in rt.alloc(); "{folder}/boots")?;
-        let file = match open(rt, path.as_str()) {
-            Ok(file) => Some(BootsFile { file }),
-            Err(error) => {
-                let _ = eprintln!(rt; "central: {path}: {error}");
-                None
-            }
-        };
-        Ok(KeptBoots { boots, file })
+        Ok(KeptBoots {
+            boots: read_boots(rt, folder, site)?,
+            file: open_boots(rt, folder)?.map(|file| BootsFile { file }),
+        })
     }
-}
-
-fn open<R: Files<File = File>>(rt: &R, path: &str) -> io::Result<File> {
-    let mut options = OpenOptions::new();
-    options.write(true).create(true).open(rt, path)
 }
 
 impl BootKeeper for BootsFile {
