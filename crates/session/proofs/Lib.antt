@@ -4,4 +4,5 @@ pub mod NotingLemmas
 pub mod PerformLemmas
 pub mod ServedLemmas
 pub mod TodoLemmas
+pub mod UnreadReply
 pub mod VerdictLemmas

@@ -1,6 +1,7 @@
 -- The line of a step that was made leads where the step led.
 use Rattle.std.proofs.Common.{◌≡◌, ℕ, List, Bool, true, false, Some, None, Option, Result, Ok, Err, IfSome, IfOk, option_map, inl, inr, refl, sym, subst}
 use Rattle.ocpp_scalars.specs.declared.refusal.Refusal.{Refusal}
+use Rattle.meaning.specs.declared.said.Said.{Said}
 use Rattle.messages.specs.declared.call.Call.{Call}
 use Rattle.messages.specs.declared.side.Side.{Side}
 use Rattle.messages.specs.declared.action_kind.ActionKind.{ActionKind}
@@ -20,7 +21,7 @@ use Rattle.site_journal.specs.Entry.{EntryState, IsEntryOf}
 use Rattle.site_journal.specs.Line.{NotedState, noted_state}
 use Rattle.site_journal.specs.Line as kinds
 use Rattle.site_journal.specs.declared.line.Noted.{Noted}
-use Rattle.site_journal.specs.NotedStep.{ChangesAreRestored, ConfirmsAreRestored, VerdictsAreRestored, LinksAreRestored, SendsAreRestored, LossesAreRestored, IsStep, line_at, noted_by}
+use Rattle.site_journal.specs.NotedStep.{ChangesAreRestored, ConfirmsAreRestored, VerdictsAreRestored, LinksAreRestored, SendsAreRestored, LossesAreRestored, IsStep, LeadsTo, line_at, noted_by}
 use Rattle.site_journal.specs.Restore.{is_change, number_drawn}
 use Rattle.texts.specs.declared.asked.Asked.TheVariants as asked
 use Rattle.texts.specs.Asked.{asked_of}
@@ -30,9 +31,10 @@ use Rattle.session.specs.declared.journal.JournalFault.{JournalFault}
 use Rattle.session.specs.declared.outcome.Outcome.TheVariants as outcomes
 use Rattle.session.specs.declared.outcome.Performed.{Performed}
 use Rattle.session.specs.declared.outcome.Performed.TheVariants.{Outcome}
-use Rattle.session.specs.Audit.{IsVerdictNoted}
-use Rattle.session.specs.Noting.{LeadsWith, IsOfMadeStep, IsEntryAt, IsEntryFor, IsEntryToNote, AsksFor, IsNotable, is_confirm}
+use Rattle.session.specs.Audit.{IsVerdictNoted, reply_noted}
+use Rattle.session.specs.Noting.{IsOfMadeStep, IsEntryAt, IsEntryFor, IsEntryToNote, AsksFor, IsNotable, is_confirm}
 use Rattle.session.specs.Perform.{Performs}
+use Rattle.session.proofs.UnreadReply.{is_unread}
 use Rattle.session.proofs.VerdictLemmas.{AreComputed, verdict_leads}
 
 -- ---- a call on the book is the machine's step
@@ -150,30 +152,36 @@ lost_noted point there link maybe entry result done locked old new law at entry_
     (subst (λ (r : Result (Unit {0}) Refusal). IfOk r (λ (d : Unit {0}).
     Makes old (steps.Lost point link) replies.LinkLost new)) result_is makes)
 
--- the line of a verdict, with the reply that was judged or, where memory ran out, another
+-- the verdict is the one on the reply that is noted
+on_noted : (text : Sent) (moment : ℕ) (point : List ℕ) (judged : Judgement) (short : Bool)
+    → IsVerdictNoted text judged short
+    → IsVerdict judged.audit (said_of (sent moment Point point (reply_noted short text.frame)))
+    judged.verdict
+on_noted text moment point judged true right =
+    subst (λ (said : Said). IsVerdict judged.audit said judged.verdict)
+    (sym (is_unread moment point)) right
+on_noted text moment point judged false right = right
+
+-- the line of a verdict, with the reply that was judged or, where memory ran out, one that isn't read
 verdict_line : (old : StoreState) (moment : ℕ) (point : List ℕ) (call : ℕ) (frame : List ℕ)
     (text : Sent) (judged : Judgement) (made : Made) (short : Bool)
     → VerdictsAreRestored → AreOne same_request → AreComputed
-    → (short ≡ false → frame ≡ text.frame) → IsVerdictNoted text judged short
+    → frame ≡ reply_noted short text.frame → IsVerdictNoted text judged short
     → IsStep old.present (steps.Judge point call judged) made
-    → LeadsWith old (line_at moment point (kinds.verdict call frame)) (kinds.verdict call frame)
-    (steps.Judge point call judged) made
-verdict_line old moment point call frame text judged made true law one computed frame_is right
-    step = inr right
-verdict_line old moment point call frame text judged made false law one computed frame_is right
+    → LeadsTo old.present (line_at moment point (kinds.verdict call frame)) made
+verdict_line old moment point call frame text judged made short law one computed frame_is right
     step =
-    inl (verdict_leads old.present (sent moment Point point frame) call judged made law one computed
-    refl
+    verdict_leads old.present (sent moment Point point frame) call judged made law one computed refl
     (subst (λ f. IsVerdict judged.audit (said_of (sent moment Point point f)) judged.verdict)
-    (sym (frame_is refl)) right)
-    step)
+    (sym frame_is) (on_noted text moment point judged short right))
+    step
 
 -- a verdict that was kept
 pub verdict_noted : (text : Sent) (short : Bool) (moment : ℕ) (there point : List ℕ) (call : ℕ)
     (frame : List ℕ) (judged : Judgement) (maybe : Option EntryState) (entry : EntryState)
     (locked old new : StoreState)
     → VerdictsAreRestored → AreOne same_request → AreComputed
-    → (short ≡ false → frame ≡ text.frame) → IsVerdictNoted text judged short
+    → frame ≡ reply_noted short text.frame → IsVerdictNoted text judged short
     → IfSome maybe (λ (e : EntryState). IsEntryOf e (line_at moment there (kinds.verdict call frame)))
     → maybe ≡ Some entry → there ≡ point → IsStore locked → old ≡ locked
     → Makes old (steps.Judge point call judged) replies.VerdictKept new → IsOfMadeStep entry call
@@ -188,8 +196,7 @@ verdict_noted text short moment there point call frame judged maybe entry locked
       told = replies.VerdictKept;
       store = subst IsStore (sym locked_is) store;
       makes = makes;
-      leads = subst (λ p. LeadsWith old (line_at moment p (kinds.verdict call frame))
-          (kinds.verdict call frame) (steps.Judge point call judged)
+      leads = subst (λ p. LeadsTo old.present (line_at moment p (kinds.verdict call frame))
           (after replies.VerdictKept new)) (sym same)
           (verdict_line old moment point call frame text judged (after replies.VerdictKept new)
           short law one computed frame_is right

@@ -1,5 +1,5 @@
 -- What becomes of a point's reply to its audit, beside the Confirm that it asks for.
-use Rattle.std.specs.Prelude.{◌≡◌, ◌⊎◌, ℕ, Bool, true, false, List, Option, None, IfSome, option_map}
+use Rattle.std.specs.Prelude.{◌≡◌, ◌⊎◌, ℕ, Bool, true, false, List, codes, Option, None, IfSome, option_map}
 use Rattle.ocpp_scalars.specs.declared.refusal.Refusal.{Refusal}
 use Rattle.sweep_compiler.specs.declared.verdict.Verdict.TheVariants.{Unsettled}
 use Rattle.sweep_compiler.specs.Judged.{Judgement, IsVerdictFor}
@@ -36,11 +36,24 @@ pub record IsJudgedBy (text : Sent) (asked : AuditRequest) (judged : Judgement) 
   pub right : IsVerdictFor asked (said_of text) judged.verdict judged.short
       ⊎ (judged.verdict ≡ Unsettled)
 
--- A restore comes to this verdict, too. It judges the reply as it came, whose verdict this is; or, where
--- memory ran out, one that isn't read, whose verdict is Unsettled.
+-- ---- the reply that is noted with a verdict
+
+-- a reply that isn't read: it says no schedule
+abbrev pub unread_reply : List ℕ
+unread_reply = codes "[3,\"\",{\"status\":\"Accepted\"}]"
+
+-- the reply as it came or, where memory ran out for it, one that isn't read
+abbrev pub reply_noted : Bool → List ℕ → List ℕ
+reply_noted false frame = frame
+reply_noted true frame = unread_reply
+
+-- The verdict is the one on that reply, so a restore comes to it, too. On one that isn't read it is
+-- Unsettled.
 abbrev pub IsVerdictNoted : Sent → Judgement → Bool → Type 0
 IsVerdictNoted text judged false = IsVerdict judged.audit (said_of text) judged.verdict
 IsVerdictNoted text judged true = judged.verdict ≡ Unsettled
+
+-- ---- a verdict that is brought to the book
 
 -- a Judge is made, or refused: the audit was replaced or judged meanwhile, the store was stopped, or
 -- memory ran out

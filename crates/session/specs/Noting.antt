@@ -1,8 +1,7 @@
 -- What a session notes of a step that it made: a line that leads where the step led.
-use Rattle.std.specs.Prelude.{ℕ, ◌≡◌, ◌⊎◌, Bool, true, false, List, Option, Some, None}
+use Rattle.std.specs.Prelude.{ℕ, ◌≡◌, Bool, true, false, List, Option, Some, None}
 use Rattle.messages.specs.declared.action_kind.ActionKind.{ActionKind}
 use Rattle.messages.specs.declared.side.Side.TheVariants.{Point}
-use Rattle.sweep_compiler.specs.declared.verdict.Verdict.TheVariants.{Unsettled}
 use Rattle.site_core.specs.declared.step.Step.{Step}
 use Rattle.site_core.specs.declared.step.Step.TheVariants as steps
 use Rattle.site_core.specs.declared.reply.Reply.{Reply}
@@ -11,7 +10,7 @@ use Rattle.version_store.specs.Passes.{PassState}
 use Rattle.version_store.specs.Store.{StoreState, IsStore}
 use Rattle.version_store.specs.Calls.{Makes}
 use Rattle.site_journal.specs.Entry.{EntryState, IsEntryOf, numbered}
-use Rattle.site_journal.specs.Line.{NotedState, LineState, verdict}
+use Rattle.site_journal.specs.Line.{NotedState, LineState}
 use Rattle.site_journal.specs.NotedStep.{LeadsTo, line_at, noted_by}
 use Rattle.texts.specs.declared.asked.Asked.TheVariants as asked
 use Rattle.texts.specs.Asked.{asked_of}
@@ -20,18 +19,6 @@ use Rattle.session.specs.declared.outcome.Performed.{Performed}
 use Rattle.session.specs.Perform.{Performs}
 
 -- ---- a line of a step that was made
-
--- a verdict that is Unsettled, perhaps since memory ran out
-abbrev pub IsUnsettled : Step → Type 0
-IsUnsettled (steps.Judge point call judged) = judged.verdict ≡ Unsettled
-IsUnsettled step = ⊥
-
--- A line leads where a step led. Of a verdict that is Unsettled nothing is said: a restore has memory,
--- and so the line has a reply that isn't read.
-abbrev pub LeadsWith : StoreState → LineState → NotedState → Step → Made → Type 0
-LeadsWith old line (verdict call frame) step made =
-    LeadsTo old.present line made ⊎ IsUnsettled step
-LeadsWith old line noted step made = LeadsTo old.present line made
 
 -- A step was made on the book while the session had it, and the entry with this number is a line that
 -- leads where the step led.
@@ -44,7 +31,7 @@ pub record IsOfMadeStep (entry : EntryState) (number : ℕ) : Type 0 where
   pub told : Reply
   pub store : IsStore old
   pub makes : Makes old step told new
-  pub leads : LeadsWith old (numbered line number) line.noted step
+  pub leads : LeadsTo old.present (numbered line number)
       (record { reply = told; after = new.present })
 
 -- an entry of what is noted of a point, at some moment

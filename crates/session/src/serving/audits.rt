@@ -1,7 +1,7 @@
 //! A point's reply to its audit: which audit that is, and the verdict on it.
 
 ghost use Rattle.std.specs.Prelude.{◌≡◌, false, IfOk, IsTrue, OnOk};
-ghost use Rattle.session.specs.Audit.{BringsVerdict, IsJudgedBy, IsVerdictNoted, MakesOrRefuses, audit_confirmed, audit_to_judge};
+ghost use Rattle.session.specs.Audit.{BringsVerdict, IsJudgedBy, IsVerdictNoted, MakesOrRefuses, audit_confirmed, audit_to_judge, reply_noted};
 ghost use Rattle.site_core.specs.declared.reply.Reply.{Reply};
 ghost use Rattle.site_core.specs.declared.step.Step.TheVariants as steps;
 ghost use Rattle.version_store.specs.Calls.{Makes};
@@ -118,7 +118,7 @@ pub(crate) fn judge_reply<C: Ledger, A: Ledger, R: Wait, M: Moments, J: Journal>
 
 /// The reply that is noted with its verdict: as it came, or, where memory ran out, one that isn't read.
 fn reply_to_note<'s>(sent: &'s SentText<'_>, is_short: bool) -> &'s str
-    ensures { is_short ≡ false → result.now ≡ sent.now.frame }
+    ensures { result.now ≡ reply_noted is_short sent.now.frame }
 {
     if is_short { UNREAD_REPLY } else { sent.frame() }
 }

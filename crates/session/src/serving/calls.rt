@@ -1,5 +1,8 @@
 //! The link of a point's session, and the calls that go out over it (OCPP-J 1.6, chapter 4).
 
+ghost use Rattle.std.specs.Prelude.{◌≡◌, IfOk, string_bytes};
+ghost use Rattle.messages.specs.ActionKind.{row_of};
+ghost use Rattle.messages.specs.CallText.{action_name, call_text};
 ghost use Rattle.session.specs.Serving.{KeepsPass};
 
 use crate::context::Context;
@@ -97,7 +100,10 @@ pub fn send_call<
     }))
 }
 
-fn action_of(body: &CallBody) -> ActionKind {
+/// The action of a call, as its text names it.
+fn action_of(body: &CallBody) -> ActionKind
+    ensures { (row_of result).name ≡ action_name body.now }
+{
     match body {
         CallBody::Clear(_) => ActionKind::ClearChargingProfile,
         CallBody::Set { .. } => ActionKind::SetChargingProfile,
@@ -137,7 +143,10 @@ fn next_call<C: Ledger, A: Ledger, R: Wait, M: Moments, J: Journal>(
     }
 }
 
-fn text_of_call(alloc: Global, call: &Call) -> Result<String, AllocError> {
+/// The text of a call.
+fn text_of_call(alloc: Global, call: &Call) -> Result<String, AllocError>
+    ensures { IfOk result (λ text. string_bytes text ≡ call_text call.now) }
+{
     let mut text = String::with_capacity(alloc, 128)?;
     push_call(&mut text, call)?;
     Ok(text)
