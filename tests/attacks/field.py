@@ -333,17 +333,3 @@ def all_are_cut_off(clients, began, within):
 def close_all(clients):
     for client in clients:
         client.socket.close()
-
-
-def sent_until_full(client, content, seconds):
-    """Sends the same bytes again and again for so many seconds, but never waits long. How many bytes went out."""
-    sent, end = 0, time.monotonic() + seconds
-    client.socket.settimeout(0.2)
-    while time.monotonic() < end:
-        try:
-            sent += client.socket.send(content[sent % len(content):])
-        except TimeoutError:
-            continue
-        except OSError:
-            break
-    return sent

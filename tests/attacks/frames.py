@@ -5,8 +5,8 @@ import time
 import zlib
 
 from attack import RUN, SERVE, Attack
-from field import IS_PROVED, UNREADING, all_are_cut_off, close_all, in_threads, sent_until_full
-from raw_client import BINARY, CLOSE, CONTINUATION, PING, TEXT, frame_bytes
+from field import IS_PROVED, UNREADING, all_are_cut_off, close_all, in_threads
+from raw_client import BINARY, CLOSE, CONTINUATION, PING, TEXT, frame_bytes, sent_until_full
 from serving import expect
 from texts import call, heartbeat
 

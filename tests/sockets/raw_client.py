@@ -5,6 +5,7 @@ import hashlib
 import os
 import socket
 import struct
+import time
 
 from serving import PATIENCE, Unexpected, expect
 from texts import OCPP
@@ -186,3 +187,16 @@ class RawClient:
         expect("the answer to a close frame", self.read_frame(), Frame(CLOSE, payload))
         expect("what follows the answer to a close frame", self.read_frame(), None)
         self.socket.close()
+
+
+def sent_until_full(client, content, seconds):
+    """Sends the same bytes again and again for so many seconds, or until the connection ends, and never waits long."""
+    sent, end = 0, time.monotonic() + seconds
+    client.socket.settimeout(0.2)
+    while time.monotonic() < end:
+        try:
+            sent += client.socket.send(content[sent % len(content):])
+        except TimeoutError:
+            continue
+        except OSError:
+            return

@@ -65,15 +65,8 @@ def a_client_that_does_not_read(program):
     pings = frame_bytes(PING, bytes(125)) * 500
     with Data() as data, Running(program, SITE, data.path) as running:
         with RawClient.connected(running, "/operator/P1", receive_buffer=4_096, segment=1_460) as client:
-            sent, began = 0, time.monotonic()
-            client.socket.settimeout(0.2)
-            while time.monotonic() < began + LONGEST_WRITE + 15:
-                try:
-                    sent += client.socket.send(pings[sent % len(pings):])
-                except TimeoutError:
-                    continue
-                except OSError:
-                    break
+            began = time.monotonic()
+            sent_until_full(client, pings, LONGEST_WRITE + 15)
             lies_between("the end", LONGEST_WRITE - 1, time.monotonic() - began, LONGEST_WRITE + 8)
 
 
