@@ -91,10 +91,10 @@ fn read_periods(alloc: Global, entries: Entries<'_, '_>) -> Result<PeriodList, C
     for entry in entries.iter() {
         periods.push(read_period(entry)?)?;
     }
-    match PeriodList::try_new(periods) {
-        Ok(periods) => Ok(periods),
+    match PeriodList::try_new(periods)? {
+        Some(periods) => Ok(periods),
         // A required list that is empty counts as absent.
-        Err(_) => Err(CallFault::OccurenceConstraintViolation(ChargingSchedulePeriod)),
+        None => Err(CallFault::OccurenceConstraintViolation(ChargingSchedulePeriod)),
     }
 }
 

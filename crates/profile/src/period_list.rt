@@ -1,36 +1,44 @@
 //! Periods as they come in.
 
-ghost use Rattle.std.specs.Prelude.{◌≡◌, ◌<◌, ◌↔◌, List, length, IsOk, MatchResult};
-ghost use Rattle.profile.specs.declared.period.Period.{Period};
-
 use crate::period::Period;
+use std::alloc::AllocError;
 use std::marker::Model;
+use std::sync::ArcSlice;
 
 /// Periods as they come in, in order, not yet judged (chapter 7, chargingSchedulePeriod): one or
-/// more.
+/// more. They are shared with the profile that is made of them, and with its copies.
 #[derive(Debug, Drop)]
 pub struct PeriodList {
-    items: Vec<Period>,
+    items: ArcSlice<Period>,
 }
 
 impl Model for PeriodList {
+    ghost use Rattle.std.specs.Prelude.{◌<◌, List, length};
+    ghost use Rattle.std.specs.Arc.{arc_slice_items};
+    ghost use Rattle.profile.specs.declared.period.Period.{Period};
+
     ghost Value = { List Period };
 
-    ghost view = { λ l. l.items.items };
+    ghost view = { λ l. arc_slice_items l.items };
 
-    ghost invariant = { λ l. 0 < length l.items.items };
+    ghost invariant = { λ l. 0 < length (arc_slice_items l.items) };
 }
 
 impl PeriodList {
-    /// The list of these periods, or the periods again where there are none. Takes no memory.
-    pub fn try_new(items: Vec<Period>) -> Result<PeriodList, Vec<Period>>
-        ensures valid { IsOk result ↔ (0 < length items.items) }
-        ensures value { MatchResult result (λ list. list ≡ items.items) (λ back. back ≡ items) }
+    ghost use Rattle.std.specs.Prelude.{◌≡◌, ◌<◌, ◌↔◌, length, IsSome, IfOk, IfSome};
+    ghost use Rattle.std.specs.Arc.{arc_slice_items};
+
+    /// The list of these periods, or none where there are none.
+    pub fn try_new(items: Vec<Period>) -> Result<Option<PeriodList>, AllocError>
+        ensures some { IfOk result (λ list. IsSome list ↔ (0 < length items.items)) }
+        ensures value { IfOk result (λ list. IfSome list (λ l. l ≡ items.items)) }
     {
         if items.is_empty() {
-            return Err(items);
+            return Ok(None);
         }
-        Ok(PeriodList { items })
+        Ok(Some(PeriodList {
+            items: ArcSlice::from_vec(items)?,
+        }))
     }
 
     /// The periods in order.
@@ -41,9 +49,9 @@ impl PeriodList {
         self.items.as_slice()
     }
 
-    /// The periods, given back.
-    pub fn into_vec(self) -> Vec<Period>
-        ensures value { result.items ≡ self }
+    /// The periods, to be shared.
+    pub fn into_shared(self) -> ArcSlice<Period>
+        ensures value { arc_slice_items result ≡ self }
         ensures some { 0 < length self }
     {
         self.items

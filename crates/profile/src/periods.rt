@@ -1,29 +1,35 @@
 //! The periods of a schedule, in order.
 
-ghost use Rattle.std.specs.Prelude.{◌≡◌, ◌↔◌, ℕ, List, IsTrue, IfOk};
-ghost use Rattle.profile.specs.declared.period.Period.{Period};
+ghost use Rattle.std.specs.Prelude.{◌≡◌, ◌↔◌, ℕ, IsTrue, IfOk};
 ghost use Rattle.profile.specs.Periods.{are_in_order, AreSchedulePeriods, limit_in};
 
 use crate::period::Period;
 use crate::period_list::PeriodList;
 use std::alloc::AllocError;
 use std::marker::Model;
+use std::sync::ArcSlice;
 
 /// The most periods that a schedule has.
 pub const MAX_PERIODS: usize = 200;
 
-/// The periods of a schedule: 1 to 200 of them, each starting later than the one before.
+/// The periods of a schedule: 1 to 200 of them, each starting later than the one before. Copies share
+/// them.
 #[derive(Debug, Drop)]
 pub struct Periods {
-    items: Vec<Period>,
+    items: ArcSlice<Period>,
 }
 
 impl Model for Periods {
+    ghost use Rattle.std.specs.Prelude.{List};
+    ghost use Rattle.std.specs.Arc.{arc_slice_items};
+    ghost use Rattle.profile.specs.declared.period.Period.{Period};
+    ghost use Rattle.profile.specs.Periods.{AreSchedulePeriods};
+
     ghost Value = { List Period };
 
-    ghost view = { λ p. p.items.items };
+    ghost view = { λ p. arc_slice_items p.items };
 
-    ghost invariant = { λ p. AreSchedulePeriods p.items.items };
+    ghost invariant = { λ p. AreSchedulePeriods (arc_slice_items p.items) };
 }
 
 impl Periods {
@@ -33,7 +39,7 @@ impl Periods {
         ensures { result ≡ list }
     {
         Periods {
-            items: list.into_vec(),
+            items: list.into_shared(),
         }
     }
 
@@ -45,13 +51,13 @@ impl Periods {
         self.items.as_slice()
     }
 
-    /// A copy.
-    pub fn copy(&self) -> Result<Periods, AllocError>
-        ensures { IfOk result (λ copy. copy ≡ self.now) }
+    /// The same periods with one owner more. Copies none of them.
+    pub fn share(&self) -> Result<Periods, AllocError>
+        ensures { IfOk result (λ shared. shared ≡ self.now) }
     {
-        let alloc = *self.items.allocator();
-        let items = Vec::from_slice(alloc, self.items.as_slice())?;
-        Ok(Periods { items })
+        Ok(Periods {
+            items: self.items.clone()?,
+        })
     }
 
     /// Whether two schedules have equal periods.

@@ -23,7 +23,7 @@ pub struct Schedule {
 }
 
 impl Schedule {
-    /// A copy.
+    /// A copy, which shares the periods.
     pub fn copy(&self) -> Result<Schedule, AllocError>
         ensures { IfOk result (λ copy. copy ≡ self.now) }
     {
@@ -31,7 +31,7 @@ impl Schedule {
             duration: self.duration,
             start: self.start,
             unit: self.unit,
-            periods: self.periods.copy()?,
+            periods: self.periods.share()?,
             min_charging_rate: self.min_charging_rate,
         })
     }

@@ -103,7 +103,7 @@ fn answers_up_to_the_most_periods(rt: HostRuntime) {
 fn expect_copies(rt: &impl Abort, schedule: &Schedule) {
     let copy = schedule.copy().expect(rt, "error");
     holds(rt, copy.same(schedule), "a schedule");
-    let copy = schedule.periods.copy().expect(rt, "error");
+    let copy = schedule.periods.share().expect(rt, "error");
     holds(rt, copy.same(&schedule.periods), "its periods");
     same(rt, schedule.periods.as_slice().len() as u64, 200, "periods");
 }

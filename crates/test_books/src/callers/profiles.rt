@@ -21,7 +21,7 @@ fn a_profile_has_a_limit(rt: HostRuntime) -> Result<(), Fail> {
         duration: Some(7_200),
         start: None,
         unit: Unit::A,
-        periods: PeriodList::try_new(periods).ok().ok_or("no period")?,
+        periods: PeriodList::try_new(periods)?.ok_or("no period")?,
         min_charging_rate: None,
     };
     let parts = ProfileParts {
