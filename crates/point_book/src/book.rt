@@ -20,6 +20,7 @@ use profile::{Criteria, Profile, Purpose, Row};
 use stacking::{Candidates, Rows};
 use std::alloc::{AllocError, Global};
 use std::marker::Model;
+use std::sync::ArcSlice;
 use transactions::{ActiveTable, Began, Begin, Transaction};
 
 /// What the central system keeps of a charge point: its ceilings, its profiles and its active
@@ -29,27 +30,28 @@ use transactions::{ActiveTable, Began, Begin, Transaction};
 pub struct PointBook {
     /// The point's ceiling, in tenths of A or W.
     ceiling: u32,
-    /// The ceilings of connectors 1, 2, .., in tenths.
-    ceilings: Vec<u32>,
+    /// The ceilings of connectors 1, 2, .., in tenths. Copies of the book share them.
+    ceilings: ArcSlice<u32>,
     rows: Rows,
     transactions: ActiveTable,
 }
 
 impl Model for PointBook {
+    ghost use Rattle.std.specs.Arc.{arc_slice_items};
     ghost use Rattle.point_book.specs.Book.{BookState, IsBook};
 
     ghost Value = { BookState };
 
     ghost view = { λ b. record {
       ceiling = b.ceiling;
-      ceilings = b.ceilings.items;
+      ceilings = arc_slice_items b.ceilings;
       rows = b.rows;
       transactions = b.transactions;
     } };
 
     ghost invariant = { λ b. IsBook (record {
       ceiling = b.ceiling;
-      ceilings = b.ceilings.items;
+      ceilings = arc_slice_items b.ceilings;
       rows = b.rows;
       transactions = b.transactions;
     }) };
@@ -65,7 +67,7 @@ impl PointBook {
         let transactions = ActiveTable::new(alloc, connectors)?;
         Ok(PointBook {
             ceiling,
-            ceilings,
+            ceilings: ArcSlice::from_vec(ceilings)?,
             rows: Rows::new(alloc),
             transactions,
         })
@@ -243,15 +245,11 @@ impl PointBook {
     pub fn copy(&self) -> Result<PointBook, AllocError>
         ensures { IfOk result (λ copy. copy ≡ self.now) }
     {
-        let alloc = *self.ceilings.allocator();
-        let ceilings = Vec::from_slice(alloc, self.ceilings.as_slice())?;
-        let rows = self.rows.copy()?;
-        let transactions = self.transactions.copy()?;
         Ok(PointBook {
             ceiling: self.ceiling,
-            ceilings,
-            rows,
-            transactions,
+            ceilings: self.ceilings.clone()?,
+            rows: self.rows.copy()?,
+            transactions: self.transactions.copy()?,
         })
     }
 }

@@ -1,5 +1,6 @@
 -- That the profiles after an install are those of a book.
 use Rattle.std.proofs.Common.{◌≡◌, ◌≤◌, None, length, rules}
+use Rattle.std.specs.Arc.{arc_slice_items}
 use Rattle.point_book.specs.Book.{active_on}
 use Rattle.point_book.specs.Changes.{transaction_refusal}
 use Rattle.point_book.proofs.BookLemmas.{book-installed}
@@ -8,7 +9,7 @@ use Rattle.point_book.proofs.book.PointBook.install.Goals.{in-Ok, in-Err}
 
 pub invariant_of-self : goal.invariant_of-self
 invariant_of-self c =
-    let has : c.args.row.connector ≤ length c.self.inside.ceilings.items = search rules in
+    let has : c.args.row.connector ≤ length arc_slice_items c.self.inside.ceilings = search rules in
     let allowed : transaction_refusal (active_on c.self.inside.transactions c.args.row.connector) c.args.row.profile ≡ None = search rules in
     elim c.match-install.branch [
       | in-Ok w ↦ rw w.in-Ok.ensures.rows (book-installed _ _ c.self.invariant has allowed)

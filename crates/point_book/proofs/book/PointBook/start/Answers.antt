@@ -1,6 +1,7 @@
 -- That the profiles and transactions after a fresh start are those of a book.
 use Rattle.std.proofs.Common.{◌≡◌, ◌≤◌, ◌-◌, length, ap, ◌∙◌, set, Some, rules}
 use Rattle.std.proofs.lemmas.Int.{to_z-of_z}
+use Rattle.std.specs.Arc.{arc_slice_items}
 use mir.Syntax.{w32}
 use mir.Val.{SFits}
 use Rattle.stacking.specs.Rows.{rows_begun}
@@ -18,5 +19,5 @@ invariant_of-self-2 c =
     let placed-are = rw (to_z-of_z w32 c.args.next fits) at c.start.ensures.slots in
     let slots-are : c.start.new.self ≡ set c.self.inside.transactions (c.args.connector - 1) (Some (record { id = c.args.next; begin = c.args.begin })) =
     placed-are ∙ ap (λ (b : Began). placed b c.self.inside.transactions c.args.connector (record { id = c.args.next; begin = c.args.begin })) fresh in
-    let has : c.args.connector ≤ length c.self.inside.ceilings.items = search rules in
+    let has : c.args.connector ≤ length arc_slice_items c.self.inside.ceilings = search rules in
     rw (rows-are, slots-are) (book-begun _ _ _ _ _ c.self.invariant c.requires.above has)
