@@ -19,5 +19,5 @@ invariant_of-self-2 c =
     let placed-are = rw (to_z-of_z w32 c.args.next fits) at c.start.ensures.slots in
     let slots-are : c.start.new.self ≡ set c.self.inside.transactions (c.args.connector - 1) (Some (record { id = c.args.next; begin = c.args.begin })) =
     placed-are ∙ ap (λ (b : Began). placed b c.self.inside.transactions c.args.connector (record { id = c.args.next; begin = c.args.begin })) fresh in
-    let has : c.args.connector ≤ length arc_slice_items c.self.inside.ceilings = search rules in
+    let has : c.args.connector ≤ length (arc_slice_items c.self.inside.ceilings) = search rules in
     rw (rows-are, slots-are) (book-begun _ _ _ _ _ c.self.invariant c.requires.above has)
