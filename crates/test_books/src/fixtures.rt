@@ -108,10 +108,7 @@ fn period_list(alloc: Global, keyed: &mut KeyedWords<'_>) -> Result<PeriodList, 
         Some(seconds) => periods_by_turns(alloc, seconds),
         None => periods_of_words(alloc, keyed.value("periods=").unwrap_or("0:160")),
     };
-    match PeriodList::try_new(periods?) {
-        Ok(list) => Ok(list),
-        Err(_) => Err(UnreadWords::Words),
-    }
+    PeriodList::try_new(periods?)?.ok_or(UnreadWords::Words)
 }
 
 fn parts_of(keyed: &mut KeyedWords<'_>, periods: PeriodList) -> ProfileParts {
