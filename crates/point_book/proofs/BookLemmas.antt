@@ -12,9 +12,7 @@ use Rattle.stacking.specs.Limits.{max_rows}
 use Rattle.stacking.specs.Rows.{installed_if_room, rows_begun, transaction_row}
 use Rattle.transactions.specs.declared.begin.Begin.{Begin}
 use Rattle.transactions.specs.declared.transaction.Transaction.{Transaction}
-use Rattle.transactions.specs.declared.active_table.Began.{Began}
-use Rattle.transactions.specs.declared.active_table.Began.TheVariants.{Fresh, Repeat}
-use Rattle.transactions.specs.ActiveTable.{began, placed, started, emptied, has_id}
+use Rattle.transactions.specs.ActiveTable.{emptied, has_id}
 use Rattle.point_book.specs.Book.{BookState, IsBook, MayStand, active_on, empty_book}
 use Rattle.point_book.specs.Changes.{transaction_refusal, rows_after_stop, book_installed, book_stopped}
 
