@@ -6,4 +6,5 @@ pub mod Bounds
 pub mod Causes
 pub mod Compiling
 pub mod WhyNots
+pub mod Higher
 pub mod WorkedExamples

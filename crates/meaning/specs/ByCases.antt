@@ -3,3 +3,4 @@ pub mod Ask
 pub mod Said
 pub mod PlainCompiler
 pub mod Cause
+pub mod WhyNot

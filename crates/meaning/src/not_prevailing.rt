@@ -1,12 +1,15 @@
 //! Why a profile that a point has doesn't prevail.
 
 ghost use Rattle.std.specs.Prelude.{◌≡◌, ℕ, ◌<◌, Option, Some, length, slice_get};
+ghost use Rattle.std.specs.List.{list_any};
 ghost use Rattle.profile.specs.declared.row.Row.{Row};
 ghost use Rattle.meaning.specs.View.{point_state};
-ghost use Rattle.meaning.specs.Cause.{counts_for};
-ghost use Rattle.meaning.specs.WhyNot.{why_not, why_not_counted, why_no_limit, why_no_limit_in, why_behind, is_elsewhere};
+ghost use Rattle.meaning.specs.Cause.{counts_for, prevailing_row};
+ghost use Rattle.meaning.specs.WhyNot.{why_not, why_not_counted, why_no_limit, why_no_limit_in, why_behind, is_above, is_elsewhere};
+ghost use Rattle.meaning.specs.ByCases.WhyNot.{is_higher};
 
 use crate::cause::WhyNot;
+use crate::prevailing::has_its_transaction;
 use crate::view::View;
 use ocpp_scalars::Instant;
 use profile::{Purpose, Row, is_candidate};
@@ -89,10 +92,8 @@ impl View<'_> {
         ensures { result ≡ why_behind (point_state self.now) connector asked instant row.now }
     {
         let purpose = row.profile.purpose;
-        if let Some(best) = self.prevailing_profile(purpose, connector, asked, instant) {
-            if row.profile.stack_level < best.profile.stack_level {
-                return Some(WhyNot::BelowHigherLevel);
-            }
+        if self.has_higher(purpose, row.profile.stack_level, connector, asked, instant) {
+            return Some(WhyNot::BelowHigherLevel);
         }
         let is_default = matches!(purpose, Purpose::TxDefaultProfile);
         if is_default
@@ -103,6 +104,47 @@ impl View<'_> {
             return Some(WhyNot::BehindTxProfile);
         }
         None
+    }
+
+    /// Whether a profile of a purpose with a higher stack level has a limit for a connector at an
+    /// instant.
+    fn has_higher(
+        &self,
+        purpose: Purpose,
+        level: u32,
+        connector: usize,
+        asked: Instant,
+        instant: Instant,
+    ) -> bool
+        ensures { result ≡ is_above level
+            (prevailing_row purpose (point_state self.now) connector asked instant) }
+    {
+        has_its_transaction(purpose, self.active_since(connector))
+            && self.any_higher(purpose, level, connector, asked, instant)
+    }
+
+    /// Whether any candidate of a higher stack level has a limit for a connector at an instant.
+    fn any_higher(
+        &self,
+        purpose: Purpose,
+        level: u32,
+        connector: usize,
+        asked: Instant,
+        instant: Instant,
+    ) -> bool
+        ensures { result ≡ list_any
+            (is_higher purpose (point_state self.now) connector asked instant level)
+            self.now.rows.now }
+    {
+        let started = self.active_since(connector);
+        self.rows.iter().any(|row| {
+            level < row.profile.stack_level
+                && is_candidate(purpose, self.rows, connector, row)
+                && row
+                    .profile
+                    .rate(row.base(started, asked), instant)
+                    .is_some()
+        })
     }
 }
 
