@@ -1,5 +1,6 @@
 -- What a heap says of its items, as rows that wait.
-use Rattle.std.proofs.Common.{◌≡◌, ℕ, ◌≤◌, nat_lt, ◌==◌, Bool, true, false, List, [], ◌∷◌, map, cond, refl, ap, subst, ◌∙◌, arith}
+use Rattle.std.proofs.Common.{◌≡◌, ℕ, ◌<◌, ◌≤◌, nat_lt, ◌==◌, Bool, true, false, List, [], ◌∷◌, length, drop, map, cond, refl, ap, sym, subst, ◌∙◌, arith}
+use Rattle.std.specs.Prelude.{slice_index_or}
 use Rattle.std.specs.List.{AllByRecursion, Contains}
 use Rattle.std.specs.List.Sorted.{IsPermutation}
 use Rattle.std.specs.Ordering.{is_lt, nat_cmp, ordering_then}
@@ -7,7 +8,7 @@ use Rattle.std.specs.declared.cmp.Ordering.{Ordering}
 use Rattle.std.specs.declared.cmp.Ordering.TheVariants.{Less, Equal, Greater}
 use Rattle.std.specs.declared.cmp.Reverse.{Reverse}
 use Rattle.std.proofs.lemmas.Bool.Decides.{nat_tests}
-use Rattle.std.proofs.lemmas.List.Sorted.{IsPermutation-map}
+use Rattle.std.proofs.lemmas.List.Sorted.{IsPermutation-map, IsPermutation-cons, IsPermutation-trans}
 use Rattle.std.proofs.lemmas.List.{get_or-map, length-map}
 use Rattle.sweep_compiler.specs.ByCases.Queue.{Due, IsSoonestOf}
 
@@ -23,8 +24,21 @@ order x y = ordering_then (nat_cmp y.0.0 x.0.0) (ordering_then (nat_cmp y.0.1.0 
 pub pushed : (item : Item) (old new : List Item) (items : List Due) → map due_of old ≡ items → IsPermutation (item ∷ old) new → IsPermutation (due_of item ∷ items) (map due_of new)
 pushed item old new items e p = subst (λ (items : List Due). IsPermutation (due_of item ∷ items) (map due_of new)) e (IsPermutation-map due_of (item ∷ old) new p)
 
-pub popped : (item : Item) (old new : List Item) (items : List Due) → map due_of old ≡ items → IsPermutation old (item ∷ new) → IsPermutation items (due_of item ∷ map due_of new)
-popped item old new items e p = subst (λ (items : List Due). IsPermutation items (due_of item ∷ map due_of new)) e (IsPermutation-map due_of old (item ∷ new) p)
+pub first_of : (item : Item) (xs : List Item) (items : List Due) → map due_of xs ≡ items → 0 < length xs → item ≡ slice_index_or xs 0 item → items ≡ due_of item ∷ drop 1 items
+first_of item [] items e some is = absurd (omega (arith, some))
+first_of item (x ∷ xs) items e some is = subst (λ (items : List Due). items ≡ due_of item ∷ drop 1 items) e (ap (λ (first : Item). due_of first ∷ map due_of xs) (sym is))
+
+drop_first : (xs : List Item) (items : List Due) → map due_of xs ≡ items → map due_of (drop 1 xs) ≡ drop 1 items
+drop_first [] items e = subst (λ (items : List Due). [] ≡ drop 1 items) e refl
+drop_first (x ∷ xs) items e = subst (λ (items : List Due). map due_of xs ≡ drop 1 items) e refl
+
+pub replaced : (item : Item) (old rest new : List Item) (items : List Due) → map due_of old ≡ items → IsPermutation (drop 1 old) rest → IsPermutation (item ∷ rest) new → IsPermutation (due_of item ∷ drop 1 items) (map due_of new)
+replaced item old rest new items e p q =
+    pushed item (drop 1 old) new (drop 1 items) (drop_first old items e) (IsPermutation-trans (item ∷ drop 1 old) (item ∷ rest) new (IsPermutation-cons item (drop 1 old) rest p) q)
+
+pub removed : (old rest new : List Item) (items : List Due) → map due_of old ≡ items → IsPermutation (drop 1 old) rest → IsPermutation rest new → IsPermutation (drop 1 items) (map due_of new)
+removed old rest new items e p q =
+    subst (λ (items : List Due). IsPermutation items (map due_of new)) (drop_first old items e) (IsPermutation-map due_of (drop 1 old) new (IsPermutation-trans (drop 1 old) rest new p q))
 
 not_less : (a b : ℕ) (rest : Ordering) → is_lt (ordering_then (nat_cmp b a) rest) ≡ false → a ≤ b
 not_less a b rest h = go (nat_lt b a) refl h

@@ -1,11 +1,11 @@
 -- The row that is due the soonest, taken from those that wait.
-use Rattle.std.proofs.Common.{◌≡◌, ℕ, ◌<◌, ◌≤◌, ◌==◌, zero, suc, Bool, true, false, not, List, [], ◌∷◌, length, cond, Option, Some, None, refl, ap, sym, subst, arith}
+use Rattle.std.proofs.Common.{◌≡◌, ℕ, ◌<◌, ◌≤◌, ◌==◌, zero, suc, Bool, true, false, not, List, [], ◌∷◌, length, drop, cond, Option, Some, None, refl, ap, sym, subst, arith}
 use Rattle.std.specs.List.{AllByRecursion, Contains}
 use Rattle.std.specs.List.Sorted.{IsPermutation}
 use Rattle.std.specs.Option.{option_eq}
 use Rattle.std.proofs.lemmas.Bool.{eq-eqb}
 use Rattle.std.proofs.lemmas.Bool.Decides.{nat_tests}
-use Rattle.std.proofs.lemmas.List.Sorted.{Contains-permutation, IsPermutation-sym, sum_by_popped, sum_by_pushed}
+use Rattle.std.proofs.lemmas.List.Sorted.{Contains-permutation, IsPermutation-cons, IsPermutation-sym, sum_by_popped, sum_by_pushed}
 use Rattle.meaning.specs.View.{PointState}
 use Rattle.sweep_compiler.specs.ByCases.Running.{RunningBound}
 use Rattle.sweep_compiler.specs.ByCases.Queue.{Due, IsSoonestOf}
@@ -39,6 +39,11 @@ taken_is state connector asked last at bounds items rest sum due swept here p le
       has_row = row;
       has_bound = has_bound bounds due.bound due.row row;
     }
+
+-- ---- the first, taken out
+
+pub first_out : (items rest : List Due) (due : Due) → items ≡ due ∷ drop 1 items → IsPermutation (drop 1 items) rest → IsPermutation items (due ∷ rest)
+first_out items rest due is p = subst (λ (all : List Due). IsPermutation all (due ∷ rest)) (sym is) (IsPermutation-cons due (drop 1 items) rest p)
 
 -- ---- how many still wait here
 

@@ -150,20 +150,22 @@ impl LimitCurve<'_> {
         ensures at { IfOk result (λ _. self.new.at ≡ self.old.at) }
         ensures cause { IfErr result (λ refusal. refusal ≡ OutOfMemory) }
     {
-        let Some(due) = self.queue.pop() else {
+        let Some(due) = self.queue.first() else {
             return Ok(());
         };
         // Each row waits once, so this never holds: the test is in the place of a proof of that.
         if self.bounds[due.bound].due(due.row) != Some(due.instant) {
+            self.queue.remove_first();
             return Ok(());
         }
         let next = pass_row(&mut self.bounds, &mut self.sum, due.bound, due.row)?;
-        if let Some(instant) = next {
-            self.queue.push(Due {
+        match next {
+            Some(instant) => self.queue.replace_first(Due {
                 instant,
                 bound: due.bound,
                 row: due.row,
-            })?;
+            }),
+            None => self.queue.remove_first(),
         }
         Ok(())
     }
@@ -201,8 +203,8 @@ fn pass_row(
 {
     let before = bounds[bound].limit();
     bounds[bound].pass(row)?;
-    let after = bounds[bound].limit();
     if bound > 0 {
+        let after = bounds[bound].limit();
         *sum = *sum - u64::from(before) + u64::from(after);
     }
     Ok(bounds[bound].due(row))

@@ -1,12 +1,13 @@
 //! The rows that wait for their next places.
 
-ghost use Rattle.std.specs.Prelude.{◌≡◌, ◌≤◌, [], ◌∷◌, IfOk, IfSome, IfNone, IsPermutation};
+ghost use Rattle.std.specs.Prelude.{◌≡◌, ◌≤◌, ◌<◌, [], ◌∷◌, drop, length, IfOk, IfSome, IfNone, IsPermutation};
 ghost use Rattle.std.specs.List.{AllByRecursion};
 
 use ocpp_scalars::Instant;
 use std::alloc::{AllocError, Global};
 use std::cmp::Reverse;
 use std::collections::BinaryHeap;
+use std::collections::binary_heap::PeekMut;
 use std::marker::Model;
 
 /// A row of a bound, and the instant at which it is due.
@@ -72,21 +73,38 @@ impl Queue {
         }
     }
 
-    /// Takes the one that is due the soonest.
-    pub(crate) fn pop(&mut self) -> Option<Due>
-        ensures empty { IfNone result (self.old ≡ []) }
-        ensures taken { IfSome result (λ due. IsPermutation self.old (due ∷ self.new)) }
+    /// The one that is due the soonest.
+    pub(crate) fn first(&self) -> Option<Due>
+        ensures empty { IfNone result (self.now ≡ []) }
+        ensures first { IfSome result (λ due. self.now ≡ due ∷ drop 1 self.now) }
         ensures soonest { IfSome result (λ due.
-            AllByRecursion (λ (other : Due). due.instant ≤ other.instant) self.old) }
+            AllByRecursion (λ (other : Due). due.instant ≤ other.instant) self.now) }
     {
-        let item = self.heap.pop()?;
-        let instant = item.0.0;
-        let bound = item.0.1.0;
-        let row = item.0.1.1;
-        Some(Due {
-            instant,
-            bound,
-            row,
-        })
+        match self.heap.peek() {
+            Some(first) => Some(Due {
+                instant: first.0.0,
+                bound: first.0.1.0,
+                row: first.0.1.1,
+            }),
+            None => None,
+        }
+    }
+
+    /// Puts a row in the place of the first. Allocates nothing.
+    pub(crate) fn replace_first(&mut self, due: Due)
+        requires some { 0 < length self.old }
+        ensures { IsPermutation (due ∷ drop 1 self.old) self.new }
+    {
+        let mut first = self.heap.peek_mut().unwrap();
+        *first = Reverse((due.instant, (due.bound, due.row)));
+    }
+
+    /// Takes the first out.
+    pub(crate) fn remove_first(&mut self)
+        requires some { 0 < length self.old }
+        ensures { IsPermutation (drop 1 self.old) self.new }
+    {
+        let first = self.heap.peek_mut().unwrap();
+        PeekMut::pop(first);
     }
 }

@@ -18,10 +18,10 @@ overflow_add-sum c =
     let less : c.from.result ≡ bound_now c.index.result.now = c.from.ensures ∙ c.limit-before.ensures in
     let from = c.from-then-bound-gt0.ensures in
     let limit = c.limit-after.ensures in
-    let more : c.from-then-bound-gt0.result ≡ bound_now c.index-2.result.now = search (rules, from, limit) in
-    let after = sum_after c.args.bounds.now.items c.args.bound c.args.row c.pass.new.self c.index_mut.result.now c.index.result.now c.index-2.result.now
+    let more : c.from-then-bound-gt0.result ≡ bound_now c.index-then-bound-gt0.result.now = search (rules, from, limit) in
+    let after = sum_after c.args.bounds.now.items c.args.bound c.args.row c.pass.new.self c.index_mut.result.now c.index.result.now c.index-then-bound-gt0.result.now
     c.from.result c.from-then-bound-gt0.result c.args.sum.now c.if-bound-gt0.true c.requires.has_bound c.requires.small c.requires.few c.requires.sum
-    c.in_ok-pass.ensures.passed c.index_mut.ensures.value c.index.ensures less c.index-2.ensures more in
+    c.in_ok-pass.ensures.passed c.index_mut.ensures.value c.index.ensures less c.index-then-bound-gt0.ensures more in
     let fits = after.fits in
     omega (arith, fits)
 
@@ -34,7 +34,7 @@ due-requires c =
     let has = c.requires.has_row in
     let long : n < length (slice_set items n c.pass.new.self) = subst (λ (bounds : List RunningBound). n < length bounds) (sym list) (omega (arith, inside, length_kept n c.args.row items)) in
     let row : c.args.row < row_count (slice_set items n c.pass.new.self) n = subst (λ (bounds : List RunningBound). c.args.row < row_count bounds n) (sym list) (omega (arith, has, count_kept n c.args.row n items)) in
-    record { within = row_inside (slice_set items n c.pass.new.self) n c.args.row c.index-3.result.now long row c.index-3.ensures }
+    record { within = row_inside (slice_set items n c.pass.new.self) n c.args.row c.index-2.result.now long row c.index-2.ensures }
 
 pub returns-clause-passed : goal.returns-clause-passed
 returns-clause-passed c = written c.args.bounds.now.items c.args.bound c.args.row c.pass.new.self c.index_mut.result.now c.in_ok-pass.ensures.passed c.index_mut.ensures.value
@@ -47,5 +47,5 @@ returns-clause-next c =
     let inside = c.requires.has_bound in
     let long : n < length (slice_set items n c.pass.new.self) = subst (λ (bounds : List RunningBound). n < length bounds) (sym list) (omega (arith, inside, length_kept n c.args.row items)) in
     c.due.ensures
-    ∙ (ap (λ (bound : RunningBound). due_at bound.runs c.args.row) c.index-3.ensures
-    ∙ sym (due_of_bound (slice_set items n c.pass.new.self) n c.args.row c.index-3.result.now long))
+    ∙ (ap (λ (bound : RunningBound). due_at bound.runs c.args.row) c.index-2.ensures
+    ∙ sym (due_of_bound (slice_set items n c.pass.new.self) n c.args.row c.index-2.result.now long))
