@@ -213,6 +213,28 @@ def boots_over_restarts(program):
             expect("what check says then", remarks_on_boots(program, data), [])
 
 
+def boots_on_a_full_device(program):
+    """That boots can't be kept is said once, until they can be again."""
+    with SmallDevice() as data:
+        if data is None:
+            return
+        with Running(program, SITE, data.path, has_status=True) as running:
+            with RawClient.connected(running, "/P1") as point, RawClient.connected(running, "/P2") as other:
+                for client in (point, other):
+                    client.texts_of(heartbeat("h"))
+                    client.texts_of(accepted("0"))
+                data.fill()
+                for client in (point, other):
+                    client.texts_of(boot("b"))
+                    time.sleep(1.5)  # at most once a second they are to be kept
+                expect("what is kept", boots_in(data), [])
+                data.has_room_again()
+                point.texts_of(boot("c"))
+                until("all are kept", lambda: sorted(line[1] for line in boots_in(data)) == ["P1", "P2"])
+            said = [line for line in running.kill_and_hear().decode().splitlines() if "boots: they can't be kept" in line]
+            expect(f"how often it is said: {said}", len(said), 1)
+
+
 def faulty_boots(program):
     """Lines that are no boots are left out, and a start without a file of boots goes on."""
     fields = profile(1, [7.0])
@@ -433,6 +455,7 @@ def tests():
     yield "figures that follow", figures_that_follow
     yield "a point that may have forgotten", point_that_may_have_forgotten
     yield "boots over restarts", boots_over_restarts
+    yield "boots on a full device", boots_on_a_full_device
     yield "faulty boots", faulty_boots
     yield "calls that wait", calls_that_wait
     yield "as a table", as_a_table
