@@ -1,3 +1,4 @@
 pub mod Workers
 pub mod Wait
 pub mod Work
+pub mod Unsent

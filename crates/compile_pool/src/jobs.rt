@@ -1,6 +1,7 @@
 //! The ways to the workers.
 
 ghost use Rattle.std.specs.Prelude.{◌≡◌, ◌⊎◌, IfErr, IsTrue};
+ghost use Rattle.compile_pool.specs.Unsent.{job_of};
 ghost use Rattle.compile_pool.specs.Work.{is_short};
 
 use crate::work::is_short;
@@ -60,7 +61,9 @@ impl<'a> Jobs<'a> {
     }
 
     /// The same, if there is room at once.
-    pub fn try_send<R: Wait>(&self, rt: &R, job: Job) -> Result<(), Unsent> {
+    pub fn try_send<R: Wait>(&self, rt: &R, job: Job) -> Result<(), Unsent>
+        ensures back { IfErr result (λ unsent. job_of unsent ≡ job) }
+    {
         match self.way_of(&job).try_send(rt, job) {
             Ok(()) => Ok(()),
             Err(TrySendError::Full(job)) => Err(Unsent::NoRoom(job)),
