@@ -130,6 +130,7 @@ def limit_cases(good):
     else:
         yield "a script of the limit", good, b"\n" * 16_777_216, b"", b"", 0
     yield "a script past the limit", good, b"x\n" * 8_388_608 + b"x", b"", b"central: script: ScriptTooLong\n", 2
+    yield from file_limit_cases(good)
     yield "a line of the limit", good, b"x" * 1_048_576 + b"\r\n", b"! 1 BadLine\n", b"", 2
     yield "a line past the limit", good, b"\n" + b"x" * 1_048_577 + b"\r\ny", b"! 2 TooLong\n! 3 BadLine\n", b"", 2
     yield "a line that is no text", good, b"\xff\n", b"! 1 BadText\n", b"", 2
@@ -141,6 +142,26 @@ def limit_cases(good):
     yield "a frame on a line past the limit", good, prefix + b"x" * (room + 1) + end + b"\n", b"! 1 TooLong\n", b"", 2
     frames = (prefix + b"x" * (room - 1) + end + b"\n") * 16
     yield "a script of frames of the limit", good, frames, answer + call + answer * 15, b"", 0
+
+
+def file_limit_cases(good):
+    """The same of a script in a file, which is read in place of standard input."""
+    site = good[-1]
+    kept, longer, none = (os.path.join(os.path.dirname(site), name) for name in ("script-of-the-limit", "script-past-it", "no-script"))
+    line = b"x" * 1_048_575 + b"\n"
+    for path, content in ((kept, line * 16), (longer, line * 16 + b"x")):
+        with open(path, "wb") as file:
+            file.write(content)
+    printed = b"".join(b"! %d BadLine\n" % number for number in range(1, 17))
+    yield "a script of the limit in a file", [*good, "--script", kept], b"", printed, b"", 2
+    too_long, read = b"central: script: ScriptTooLong\n", b"central: device: read\n"
+    missing, folder = b"No such file or directory (os error 2)", b"Is a directory (os error 21)"
+    for command in (["replay"], ["explain", *DAY], ["show"]):
+        arguments = [*command, "--site", site, "--script"]
+        yield f"{command[0]}: a script past the limit in a file", [*arguments, longer], b"", b"", too_long, 2
+        for path, cause in ((none, missing), (os.path.dirname(site), folder)):
+            error = b"central: %s: %s\n%s" % (path.encode(), cause, read)
+            yield f"{command[0]}: a script that can't be read: {cause.decode()}", [*arguments, path], b"", b"", error, 3
 
 
 def cut_messages():
@@ -236,6 +257,13 @@ def command_line_problems(program):
         done = run(program, arguments, b"")
         ok = done.returncode == 4 and not done.stdout and done.stderr
         yield f"central {' '.join(arguments)}", [] if ok else [f"status {done.returncode}, {done.stdout[:200]!r}"]
+    conflict = b"error: the argument '--data <DIR>' cannot be used with '--script <FILE>'\n\nUsage: central <COMMAND>\n"
+    for command in (["replay"], ["explain", *DAY], ["check"], ["show"]):
+        # What clap finds comes first, and nothing that is named is read.
+        for wrong, begins in ([], conflict), (["--data", "c"], b"error: the argument '--data <DIR>' cannot be used multiple times\n"):
+            done = run(program, [*command, "--site", "a", "--script", "b", "--data", "c", *wrong], b"")
+            ok = done.returncode == 4 and not done.stdout and done.stderr.startswith(begins)
+            yield f"central {command[0]} with two scripts {' '.join(wrong)}", [] if ok else [f"status {done.returncode}, {done.stderr!r}"]
 
 
 def help_example_problems(program, folder):
@@ -571,6 +599,7 @@ def order_problems(program, folder):
         ("show: a site file with a fault, and no script", ["show", "--site", bad], b"central: site: NotAnObject\n", 1),
         ("show: no script", ["show", "--site", good], read, 3),
         ("check: no site file, and no script", ["check", "--site", none], no_site, 3),
+        ("show: no site file, and no script in a file", ["show", "--site", none, "--script", none], no_site, 3),
         ("point: a URL, and no site file", ["point", "--url", "http://x", "--site", none, "--id", "CP1"], url, 4),
         ("point: no site file, and nobody listens", [*point, none, "--id", "CP1"], no_site, 3),
         ("point: a site file with a fault, and no such point", [*point, bad, "--id", "CP9"], b"central: site: NotAnObject\n", 1),
@@ -592,6 +621,10 @@ def order_problems(program, folder):
         done = run_on(program, ["check", "--site", site], folder, False)
         ok = (done.returncode, done.stderr) == (3, read) and found in done.stdout
         yield f"check: {name}, and no script", [] if ok else [f"{done}"]
+        done = run_on(program, ["check", "--site", site, "--script", none], b"", False)
+        error = f"central: {none}: No such file or directory (os error 2)\n".encode() + read
+        ok = (done.returncode, done.stderr) == (3, error) and found in done.stdout
+        yield f"check: {name}, and no script in a file", [] if ok else [f"{done}"]
 
 
 def drawn_problems(program, folder):

@@ -65,5 +65,6 @@ def played_as_replayed(program, case):
 
 def tests():
     for case in all_cases():
-        if case.words[0] == "replay":
+        # Over sockets comes what stands on standard input.
+        if case.words[0] == "replay" and "--script" not in case.words:
             yield case.name, lambda program, case=case: played_as_replayed(program, case)

@@ -1,25 +1,62 @@
 -- What clap says of a command line, said of this program's command.
-use Rattle.std.proofs.Common.{◌≡◌, ℕ, ◌<◌, ◌^◌, Bool, not, List, Option, Some, None, IfSome, Result, Ok, Err, IfOk, option_map, true, false, refl, sym, ap, ◌∙◌, subst}
+use Rattle.std.proofs.Common.{◌≡◌, ℕ, ◌<◌, ◌^◌, Bool, not, List, [], ◌∷◌, inl, inr, Option, Some, None, IfSome, Result, Ok, Err, IfOk, option_map, true, false, refl, sym, ap, ◌∙◌, subst}
 use Rattle.std.specs.Prelude.{IsSomeAnd}
 use Rattle.std.specs.Str.Parse.{IsNumeral, ParsesUnsigned, digits_value, without_leading_plus}
-use Rattle.clap.specs.Words.{AddsArg, AddsSubcommand, App, HasMatchesOf, Kinds, Row, Rule, Text, app_of, fault_of, is_simple, is_simple_and_free, rule_of, shape_of, subcommand_of, subcommand_rows_of, with_rule, with_subcommand}
+use Rattle.clap.specs.Kinds.{or_else}
+use Rattle.clap.specs.Words.{AddsArg, AddsSubcommand, App, HasKind, HasMatchesOf, IsAmong, Kinds, kind_of, Row, Rule, Text, app_of, fault_of, is_simple, is_simple_and_free, rule_of, shape_of, subcommand_of, subcommand_rows_of, with_rule, with_subcommand}
 use Rattle.clap.specs.Matches.{ReadsOne, subcommand_name_of}
 use Rattle.clap.specs.declared.builder.arg.Arg.{Arg}
 use Rattle.clap.specs.declared.builder.command.Command.{Command}
 use Rattle.clap.specs.declared.builder.command.Command.TheViews.{out-Command}
+use Rattle.clap.specs.declared.error.Error.{Error}
+use Rattle.clap.specs.declared.error.kind.ErrorKind.{ErrorKind}
+use Rattle.clap.specs.declared.error.kind.ErrorKind.TheVariants.{ArgumentConflict}
 use Rattle.clap.specs.declared.parser.matches.ArgMatches.{ArgMatches}
 use Rattle.clap.specs.declared.parser.matches.ArgMatches.TheViews.{out-ArgMatches}
 use Rattle.clap.proofs.OnLiterals.{clap_on_literals}
 use Rattle.clap.proofs.WalkLemmas.{both}
-use Rattle.command_line.specs.CommandLine.{central_app, line_faults, subcommand_named}
+use Rattle.command_line.specs.CommandLine.{central_app, has_two_scripts, line_faults, script_faults, subcommand_named}
 
 central_is_free : is_simple_and_free central_app ≡ true
 unfolding central_app clap_on_literals
 central_is_free = refl
 
-pub fails_as : (app : App) (words : List Text) (P : Kinds → Type 0) → app ≡ central_app → (is_simple_and_free app ≡ true → P (fault_of app words)) → P (line_faults words)
+-- what clap says of the words' faults, said of this program's command
+fault_as : (app : App) (words : List Text) (P : Kinds → Type 0) → app ≡ central_app → (is_simple_and_free app ≡ true → P (fault_of app words)) → P (fault_of central_app words)
+fault_as app words P same fails = subst (λ (a : App). P (fault_of a words)) same (fails (ap is_simple_and_free same ∙ central_is_free))
+
+among_first : (k : ErrorKind) (kinds next : Kinds) → IsAmong k kinds → IsAmong k (or_else kinds next)
+among_first k [] next h = absurd h
+among_first k (x ∷ xs) next h = h
+
+kind_of_first : (kinds next : Kinds) (e : Error) → HasKind kinds e → HasKind (or_else kinds next) e
+kind_of_first kinds next e (inl memory) = inl memory
+kind_of_first kinds next e (inr among) = inr (among_first _ kinds next among)
+
+-- an error of clap's is one of the line
+pub fails_as : (app : App) (words : List Text) (e : Error) → app ≡ central_app → (is_simple_and_free app ≡ true → HasKind (fault_of app words) e) → HasKind (line_faults words) e
 unfolding line_faults
-fails_as app words P same fails = subst (λ (a : App). P (fault_of a words)) same (fails (ap is_simple_and_free same ∙ central_is_free))
+fails_as app words e same fails = kind_of_first _ _ e (fault_as app words (λ kinds. HasKind kinds e) same fails)
+
+second : (kinds next : Kinds) → kinds ≡ [] → or_else kinds next ≡ next
+second kinds next none = rw none refl
+
+-- where clap takes the words, the line's faults are those of its scripts
+pub faults_of_scripts : (app : App) (words : List Text) (name : Text) (rows : List Row) → app ≡ central_app
+    → (is_simple_and_free app ≡ true → fault_of app words ≡ []) → subcommand_named words ≡ Some (name, rows)
+    → line_faults words ≡ script_faults (Some (name, rows))
+unfolding line_faults
+faults_of_scripts app words name rows same taken named =
+    second _ _ (fault_as app words (λ (kinds : Kinds). kinds ≡ []) same taken) ∙ ap script_faults named
+
+pub none_of_one : (name : Text) (rows : List Row) → has_two_scripts rows ≡ false → script_faults (Some (name, rows)) ≡ []
+none_of_one name rows one = rw one refl
+
+pub conflict_of_two : (name : Text) (rows : List Row) → has_two_scripts rows ≡ true → script_faults (Some (name, rows)) ≡ ArgumentConflict ∷ []
+conflict_of_two name rows two = rw two refl
+
+pub has_conflict : (kinds : Kinds) (e : Error) → kinds ≡ ArgumentConflict ∷ [] → kind_of e ≡ ArgumentConflict → HasKind kinds e
+has_conflict kinds e same is = subst (λ (k : Kinds). HasKind k e) (sym same) (inr (inl is))
 
 central_is_simple : is_simple central_app ≡ true
 unfolding central_app clap_on_literals

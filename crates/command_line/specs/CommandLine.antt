@@ -1,11 +1,15 @@
--- What a command line says, by clap's definition of how words are read.
-use Rattle.std.specs.Prelude.{◌≡◌, ◌<◌, ◌≤◌, ◌^◌, Bool, true, false, ℕ, List, [], ◌∷◌, codes, Option, None, Some, IfSome, option_map}
+-- What a command line says, by clap's definition of how words are read; and one rule more, that
+-- of two scripts.
+use Rattle.std.specs.Prelude.{◌≡◌, ◌<◌, ◌≤◌, ◌^◌, ◌&&◌, Bool, true, false, ℕ, List, [], ◌∷◌, codes, Option, None, Some, IfSome, if◌then◌else◌, is_some, option_map}
+use Rattle.std.specs.Option.{option_map_or}
 use Rattle.std.specs.Str.Parse.{IsNumeral, digits_value, without_leading_plus}
 use Rattle.meaning.specs.Limits.{max_duration}
 use Rattle.command_line.specs.Limits.{default_call_timeout, default_seats, default_workers, max_call_timeout, max_connectors, max_seats, max_sessions, max_workers}
+use Rattle.clap.specs.Kinds.{or_else}
 use Rattle.clap.specs.Words.{App, Kinds, Row, Rule, Text, all_of, fault_of, first_of, new_app, new_rule, one_of, subcommand_of, with_rule, with_subcommand}
 use Rattle.clap.specs.declared.builder.action.ArgAction.TheVariants.{Set, SetTrue}
 use Rattle.clap.specs.declared.builder.value_parser.ValueParser.TheVariants.{Unsigned}
+use Rattle.clap.specs.declared.error.kind.ErrorKind.TheVariants.{ArgumentConflict}
 use Rattle.command_line.specs.declared.job.Job.{Job}
 use Rattle.command_line.specs.declared.job.Job.TheVariants.{Replay, Serve, Run, Journal, Key, Call, Point, Explain, Check, Show, Status}
 use Rattle.command_line.specs.declared.job.Replaying.{Replaying}
@@ -19,6 +23,8 @@ use Rattle.command_line.specs.declared.job.Pointing.{Pointing}
 use Rattle.command_line.specs.declared.job.Explaining.{Explaining}
 use Rattle.command_line.specs.declared.job.Checking.{Checking}
 use Rattle.command_line.specs.declared.job.Showing.{Showing}
+use Rattle.command_line.specs.declared.job.Source.{Source}
+use Rattle.command_line.specs.declared.job.Source.TheVariants as source
 
 -- ---- the commands
 
@@ -69,12 +75,13 @@ key_command =
 abbrev pub journal_command : App
 journal_command = with_rule (new_app (codes "journal")) (needed (codes "data"))
 
--- `replay --site F [--data DIR]`
+-- `replay --site F [--data DIR | --script FILE]`
 abbrev pub replay_command : App
 replay_command =
-    with_rule (with_rule (new_app (codes "replay"))
+    with_rule (with_rule (with_rule (new_app (codes "replay"))
     (needed (codes "site")))
-    (optional (codes "data"))
+    (optional (codes "data")))
+    (optional (codes "script"))
 
 -- `serve --site F --listen A --workers N --sessions K`
 abbrev pub serve_command : App
@@ -130,10 +137,10 @@ abbrev pub status_command : App
 status_command = with_rule (new_app (codes "status")) (needed (codes "url"))
 
 -- `explain --site F --point ID --connector C --start INSTANT --duration D
--- [--data DIR] [--at PLACE] [--picture FILE] [--json]`
+-- [--data DIR | --script FILE] [--at PLACE] [--picture FILE] [--json]`
 abbrev pub explain_command : App
 explain_command =
-    with_rule (with_rule (with_rule (with_rule (with_rule (with_rule (with_rule (with_rule (with_rule
+    with_rule (with_rule (with_rule (with_rule (with_rule (with_rule (with_rule (with_rule (with_rule (with_rule
     (new_app (codes "explain"))
     (needed (codes "site")))
     (needed (codes "point")))
@@ -141,25 +148,28 @@ explain_command =
     (needed (codes "start")))
     (numbered 1 max_duration (needed (codes "duration"))))
     (optional (codes "data")))
+    (optional (codes "script")))
     (optional (codes "at")))
     (optional (codes "picture")))
     (flag (codes "json"))
 
--- `check --site F [--keys FILE] [--data DIR] [--trace]`
+-- `check --site F [--keys FILE] [--data DIR | --script FILE] [--trace]`
 abbrev pub check_command : App
 check_command =
-    with_rule (with_rule (with_rule (with_rule (new_app (codes "check"))
+    with_rule (with_rule (with_rule (with_rule (with_rule (new_app (codes "check"))
     (needed (codes "site")))
     (optional (codes "keys")))
     (optional (codes "data")))
+    (optional (codes "script")))
     (flag (codes "trace"))
 
--- `show --site F [--data DIR] [--at PLACE] [--json]`
+-- `show --site F [--data DIR | --script FILE] [--at PLACE] [--json]`
 abbrev pub show_command : App
 show_command =
-    with_rule (with_rule (with_rule (with_rule (new_app (codes "show"))
+    with_rule (with_rule (with_rule (with_rule (with_rule (new_app (codes "show"))
     (needed (codes "site")))
     (optional (codes "data")))
+    (optional (codes "script")))
     (optional (codes "at")))
     (flag (codes "json"))
 
@@ -187,13 +197,23 @@ with_readers app =
 unfoldable pub central_app : App
 central_app = with_readers (with_served (top_command (codes "central")))
 
--- the kinds of error that the words give, none where clap takes them
-unfoldable pub line_faults : List Text → Kinds
-line_faults words = fault_of central_app words
-
 -- the subcommand that the words name, and what they say of its options
 unfoldable pub subcommand_named : List Text → Option (Text × List Row)
 subcommand_named words = subcommand_of central_app words
+
+-- two options say what is read as a script
+abbrev pub has_two_scripts : List Row → Bool
+has_two_scripts rows =
+    is_some (first_of (codes "data") rows) && is_some (first_of (codes "script") rows)
+
+abbrev pub script_faults : Option (Text × List Row) → Kinds
+script_faults named = option_map_or (λ named.
+    if has_two_scripts named.1 then ArgumentConflict ∷ [] else []) named []
+
+-- the kinds of error that the words give, by clap or because they name two scripts; none where
+-- they are taken
+unfoldable pub line_faults : List Text → Kinds
+line_faults words = or_else (fault_of central_app words) (script_faults (subcommand_named words))
 
 -- ---- the job
 
@@ -229,10 +249,19 @@ pub record IsServing (rows : List Row) (serving : Serving) : Type 0 where
   pub sessions : IsNumber (codes "sessions") rows serving.sessions
   pub some_sessions : 1 ≤ serving.sessions
 
+-- what is read as a script: of the two options at most one is given
+abbrev pub IsSource : List Row → Source → Type 0
+IsSource rows source.Input =
+    (first_of (codes "data") rows ≡ None) × (first_of (codes "script") rows ≡ None)
+IsSource rows (source.File file) =
+    (first_of (codes "data") rows ≡ None) × (first_of (codes "script") rows ≡ Some file.now)
+IsSource rows (source.Journal folder) =
+    (first_of (codes "data") rows ≡ Some folder.now) × (first_of (codes "script") rows ≡ None)
+
 -- which script is to be played, on which site
 pub record IsReplaying (rows : List Row) (replaying : Replaying) : Type 0 where
   pub site : first_of (codes "site") rows ≡ Some replaying.site.now
-  pub folder : first_of (codes "data") rows ≡ option_map (λ text. text.now) replaying.folder
+  pub source : IsSource rows replaying.source
 
 abbrev pub number_or : ℕ → Option ℕ → ℕ
 number_or default None = default
@@ -307,7 +336,7 @@ pub record IsExplaining (rows : List Row) (explaining : Explaining) : Type 0 whe
   pub connector : IsNumber (codes "connector") rows explaining.connector
   pub start : first_of (codes "start") rows ≡ Some explaining.start.now
   pub duration : IsNumber (codes "duration") rows explaining.duration
-  pub folder : first_of (codes "data") rows ≡ option_map (λ text. text.now) explaining.folder
+  pub source : IsSource rows explaining.source
   pub at : first_of (codes "at") rows ≡ option_map (λ text. text.now) explaining.at
   pub picture : first_of (codes "picture") rows ≡ option_map (λ text. text.now) explaining.picture
   pub json : IsFlag (codes "json") rows explaining.json
@@ -316,13 +345,13 @@ pub record IsExplaining (rows : List Row) (explaining : Explaining) : Type 0 whe
 pub record IsChecking (rows : List Row) (checking : Checking) : Type 0 where
   pub site : first_of (codes "site") rows ≡ Some checking.site.now
   pub keys : first_of (codes "keys") rows ≡ option_map (λ text. text.now) checking.keys
-  pub folder : first_of (codes "data") rows ≡ option_map (λ text. text.now) checking.folder
+  pub source : IsSource rows checking.source
   pub trace : IsFlag (codes "trace") rows checking.trace
 
 -- which site is to be shown, after how many lines of a script, and how
 pub record IsShowing (rows : List Row) (showing : Showing) : Type 0 where
   pub site : first_of (codes "site") rows ≡ Some showing.site.now
-  pub folder : first_of (codes "data") rows ≡ option_map (λ text. text.now) showing.folder
+  pub source : IsSource rows showing.source
   pub at : first_of (codes "at") rows ≡ option_map (λ text. text.now) showing.at
   pub json : IsFlag (codes "json") rows showing.json
 

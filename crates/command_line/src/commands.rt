@@ -11,10 +11,10 @@ use crate::help_text::{
     JOURNAL_NOTES, JSON_HELP, KEY_ABOUT, KEY_NAME_HELP, KEY_NOTES, KEY_OPERATOR_HELP, KEYS_HELP,
     LISTEN_HELP, LOGIN_HELP, OPERATOR_URL_HELP, PICTURE_HELP, POINT_ABOUT, POINT_HELP, POINT_NOTES,
     POINT_URL_HELP, REMOTE_START_HELP, REPLAY_ABOUT, REPLAY_EXAMPLE, RUN_ABOUT, RUN_DATA_HELP,
-    RUN_NOTES, RUN_STATUS_HELP, RUN_WORKERS_HELP, SEATS_HELP, SERVE_ABOUT, SERVE_NOTES,
-    SESSIONS_HELP, SET_PROFILE_HELP, SHOW_ABOUT, SHOW_NOTES, SITE_HELP, START_HELP, START_VALUES,
-    STATUS_ABOUT, STATUS_HELP, STATUS_NOTES, STATUS_OPEN_HELP, STATUS_URL_HELP, STATUSES,
-    TRACE_HELP, VERSION, WORKERS_HELP,
+    RUN_NOTES, RUN_STATUS_HELP, RUN_WORKERS_HELP, SCRIPT_HELP, SEATS_HELP, SERVE_ABOUT,
+    SERVE_NOTES, SESSIONS_HELP, SET_PROFILE_HELP, SHOW_ABOUT, SHOW_NOTES, SITE_HELP, START_HELP,
+    START_VALUES, STATUS_ABOUT, STATUS_HELP, STATUS_NOTES, STATUS_OPEN_HELP, STATUS_URL_HELP,
+    STATUSES, TRACE_HELP, VERSION, WORKERS_HELP,
 };
 use crate::limits::{MAX_CALL_TIMEOUT, MAX_CONNECTORS, MAX_SEATS, MAX_SESSIONS, MAX_WORKERS};
 use clap::builder::ValueParser;
@@ -125,7 +125,7 @@ fn key<'a>(alloc: Global) -> Result<Command<'a>, AllocError>
         .arg(flag(alloc, "operator", KEY_OPERATOR_HELP))
 }
 
-/// `replay --site F [--data DIR]`.
+/// `replay --site F [--data DIR | --script FILE]`.
 fn replay<'a>(alloc: Global) -> Result<Command<'a>, AllocError>
     ensures { IfOk result (λ command. app_of command ≡ replay_command) }
 {
@@ -133,7 +133,8 @@ fn replay<'a>(alloc: Global) -> Result<Command<'a>, AllocError>
         .about(REPLAY_ABOUT)
         .after_help(REPLAY_EXAMPLE)
         .arg(needed(alloc, "site", "F", SITE_HELP))?
-        .arg(optional(alloc, "data", "DIR", DATA_HELP))
+        .arg(optional(alloc, "data", "DIR", DATA_HELP))?
+        .arg(optional(alloc, "script", "FILE", SCRIPT_HELP))
 }
 
 /// `serve --site F --listen A --workers N --sessions K`.
@@ -186,7 +187,7 @@ fn point<'a>(alloc: Global) -> Result<Command<'a>, AllocError>
 }
 
 /// `explain --site F --point ID --connector C --start INSTANT --duration D
-/// [--data DIR] [--at PLACE] [--picture FILE] [--json]`.
+/// [--data DIR | --script FILE] [--at PLACE] [--picture FILE] [--json]`.
 fn explain<'a>(alloc: Global) -> Result<Command<'a>, AllocError>
     ensures { IfOk result (λ command. app_of command ≡ explain_command) }
 {
@@ -201,12 +202,13 @@ fn explain<'a>(alloc: Global) -> Result<Command<'a>, AllocError>
         .arg(needed(alloc, "start", "INSTANT", START_HELP))?
         .arg(numbered(duration, 1, MAX_DURATION as u64))?
         .arg(optional(alloc, "data", "DIR", DATA_HELP))?
+        .arg(optional(alloc, "script", "FILE", SCRIPT_HELP))?
         .arg(optional(alloc, "at", "PLACE", AT_HELP))?
         .arg(optional(alloc, "picture", "FILE", PICTURE_HELP))?
         .arg(flag(alloc, "json", JSON_HELP))
 }
 
-/// `check --site F [--keys FILE] [--data DIR] [--trace]`.
+/// `check --site F [--keys FILE] [--data DIR | --script FILE] [--trace]`.
 fn check<'a>(alloc: Global) -> Result<Command<'a>, AllocError>
     ensures { IfOk result (λ command. app_of command ≡ check_command) }
 {
@@ -216,10 +218,11 @@ fn check<'a>(alloc: Global) -> Result<Command<'a>, AllocError>
         .arg(needed(alloc, "site", "F", SITE_HELP))?
         .arg(optional(alloc, "keys", "FILE", CHECK_KEYS_HELP))?
         .arg(optional(alloc, "data", "DIR", DATA_HELP))?
+        .arg(optional(alloc, "script", "FILE", SCRIPT_HELP))?
         .arg(flag(alloc, "trace", TRACE_HELP))
 }
 
-/// `show --site F [--data DIR] [--at PLACE] [--json]`.
+/// `show --site F [--data DIR | --script FILE] [--at PLACE] [--json]`.
 fn show<'a>(alloc: Global) -> Result<Command<'a>, AllocError>
     ensures { IfOk result (λ command. app_of command ≡ show_command) }
 {
@@ -228,6 +231,7 @@ fn show<'a>(alloc: Global) -> Result<Command<'a>, AllocError>
         .after_help(SHOW_NOTES)
         .arg(needed(alloc, "site", "F", SITE_HELP))?
         .arg(optional(alloc, "data", "DIR", DATA_HELP))?
+        .arg(optional(alloc, "script", "FILE", SCRIPT_HELP))?
         .arg(optional(alloc, "at", "PLACE", AT_HELP))?
         .arg(flag(alloc, "json", JSON_HELP))
 }

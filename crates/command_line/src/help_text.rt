@@ -161,6 +161,12 @@ pub const JOURNAL_DATA_HELP: &str = "The folder of 'central run'";
 pub const DATA_HELP: &str =
     "Read the journal of this folder of 'central run' in place of standard input";
 
+/// What `--script` names.
+pub const SCRIPT_HELP: &str = "Read the script from this file in place of standard input";
+
+/// What is wrong where both are given.
+pub const TWO_SCRIPTS: &str = "the argument '--data <DIR>' cannot be used with '--script <FILE>'";
+
 /// What `journal` prints, and a call of it.
 pub const JOURNAL_NOTES: &str =
     "The script is one for 'central replay': the messages that changed something, in the order in which
@@ -294,8 +300,8 @@ pub const JSON_HELP: &str = "Print it for programs, as JSON";
 
 /// What `explain` reads and prints.
 pub const EXPLAIN_NOTES: &str =
-    "The script is standard input, as of 'central replay', or the journal of --data; its lines are played
-and not printed. Then the limits of the connector are printed, one line for each interval in which the
+    "The script is standard input or the file of --script, as of 'central replay', or the journal of --data;
+its lines are played and not printed. Then the limits of the connector are printed, one line for each interval in which the
 limit and its cause stay the same: from, to, how long, the limit, and what sets it. Below stand the
 profiles of the point that never set it in this time, each with the reason.
 
@@ -317,8 +323,8 @@ pub const TRACE_HELP: &str = "Show what each line of the script is answered";
 
 /// What `check` reads and prints.
 pub const CHECK_NOTES: &str =
-    "The script is standard input, as of 'central replay', or the journal of --data; without one give it
-/dev/null. Each finding is a line: where it is, what was found, and what is wanted.
+    "The script is standard input or the file of --script, as of 'central replay', or the journal of --data;
+without one give it /dev/null. Each finding is a line: where it is, what was found, and what is wanted.
 
 Examples:
   central check --site site.json < script
@@ -332,8 +338,8 @@ pub const SHOW_ABOUT: &str = "Shows what each point of a site has after a script
 
 /// What `show` reads and prints.
 pub const SHOW_NOTES: &str =
-    "The script is standard input, as of 'central replay', or the journal of --data; its lines are played
-and not printed. Then the profiles, transactions, audit, remote starts and waiting calls of each point are
+    "The script is standard input or the file of --script, as of 'central replay', or the journal of --data;
+its lines are played and not printed. Then the profiles, transactions, audit, remote starts and waiting calls of each point are
 printed, and the requests that are held.
 
 Examples:
@@ -346,7 +352,7 @@ The exit statuses are those of 'central --help'.";
 pub const REPLAY_EXAMPLE: &str = "F is a JSON file that describes the site, for example
   {\"unit\":\"A\",\"points\":[{\"id\":\"CP1\",\"ceiling\":63.0,\"connectors\":[32.0,32.0]}]}
 
-The script is standard input, one message a line:
+The script is standard input or the file of --script, one message a line:
   INSTANT operator ID FRAME    an operator's message for the point ID
   INSTANT point ID FRAME       a message of the point ID
   INSTANT hold ID FRAME        an operator's request for a schedule, whose answer is held

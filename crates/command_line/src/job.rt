@@ -40,13 +40,24 @@ pub struct Serving<'a> {
     pub sessions: u64,
 }
 
+/// What is read as a script.
+#[derive(Clone, Copy, Debug)]
+pub enum Source<'a> {
+    /// Standard input.
+    Input,
+    /// This file.
+    File(&'a str),
+    /// The journal of this folder.
+    Journal(&'a str),
+}
+
 /// Which script is to be played, and on which site.
 #[derive(Clone, Copy, Debug)]
 pub struct Replaying<'a> {
     /// The site's file.
     pub site: &'a str,
-    /// The folder whose journal is the script, or else that is standard input.
-    pub folder: Option<&'a str>,
+    /// What the script is.
+    pub source: Source<'a>,
 }
 
 /// How a site is to be run.
@@ -144,8 +155,8 @@ pub struct Explaining<'a> {
     pub start: &'a str,
     /// For this many seconds.
     pub duration: u64,
-    /// The folder whose journal is the script, or else that is standard input.
-    pub folder: Option<&'a str>,
+    /// What the script is.
+    pub source: Source<'a>,
     /// The text of how far the script is played: a number of lines, or an instant. Or all is.
     pub at: Option<&'a str>,
     /// The file of the picture to write.
@@ -161,8 +172,8 @@ pub struct Checking<'a> {
     pub site: &'a str,
     /// The file of those who may come.
     pub keys: Option<&'a str>,
-    /// The folder whose journal is the script, or else that is standard input.
-    pub folder: Option<&'a str>,
+    /// What the script is.
+    pub source: Source<'a>,
     /// Whether to show whose answer each is.
     pub trace: bool,
 }
@@ -172,8 +183,8 @@ pub struct Checking<'a> {
 pub struct Showing<'a> {
     /// The file of the site.
     pub site: &'a str,
-    /// The folder whose journal is the script, or else that is standard input.
-    pub folder: Option<&'a str>,
+    /// What the script is.
+    pub source: Source<'a>,
     /// The text of how far the script is played: a number of lines, or an instant. Or all is.
     pub at: Option<&'a str>,
     /// Whether for programs.

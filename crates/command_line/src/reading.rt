@@ -2,13 +2,15 @@
 
 ghost use Rattle.std.specs.Prelude.{◌≡◌, IfOk, IfSome, IsSomeAnd, codes, map, option_map, string_bytes};
 ghost use Rattle.clap.specs.Words.{FailsBy, all_of, first_of, found_of, rows_of};
-ghost use Rattle.command_line.specs.CommandLine.{IsAsking, IsCalling, IsChecking, IsExplaining, IsFlag, IsJob, IsKeyMaking, IsNumber, IsOptionalNumber, IsPointing, IsReplaying, IsRunning, IsServing, IsShowing, IsStarting, line_faults, subcommand_named};
+ghost use Rattle.command_line.specs.CommandLine.{IsAsking, IsCalling, IsChecking, IsExplaining, IsFlag, IsJob, IsKeyMaking, IsNumber, IsOptionalNumber, IsPointing, IsReplaying, IsRunning, IsServing, IsShowing, IsSource, IsStarting, has_two_scripts, line_faults, subcommand_named};
 
 use crate::commands::central_command;
+use crate::help_text::TWO_SCRIPTS;
 use crate::job::{
     Asking, Calling, Checking, Explaining, Job, KeyMaking, Pointing, Replaying, Running, Serving,
-    Showing, Starting,
+    Showing, Source, Starting,
 };
+use clap::error::ErrorKind;
 use clap::{ArgMatches, Error};
 use std::alloc::{AllocError, Global};
 /// How many connections are served at a time, and how many workers compile, where that isn't said.
@@ -25,11 +27,14 @@ pub fn job_of<'a>(alloc: Global, words: &'a [String]) -> Result<Job<'a>, Error>
         (λ named. IsJob named.0 named.1 job)) }
     ensures faults { FailsBy (line_faults (map string_bytes words.now)) result }
 {
-    let command = central_command(alloc)?;
-    let matches = command.try_get_matches_from(words)?;
+    let mut command = central_command(alloc)?;
+    let matches = command.try_get_matches_from_mut(words)?;
     let Some((name, given)) = matches.subcommand() else {
         return Err(Error::from(AllocError));
     };
+    if has_two_scripts(given) {
+        return Err(command.error(ErrorKind::ArgumentConflict, TWO_SCRIPTS)?);
+    }
     // clap has seen to it that the options are there, and their numbers in range.
     let Some(job) = job_named(name, given) else {
         return Err(Error::from(AllocError));
@@ -124,8 +129,8 @@ fn replaying_of<'a>(given: &ArgMatches<'a>) -> Option<Replaying<'a>>
     ensures { IfSome result (λ replaying. IsReplaying (rows_of (found_of given.now)) replaying) }
 {
     let site = text_of(given, "site")?;
-    let folder = text_of(given, "data");
-    Some(Replaying { site, folder })
+    let source = source_of(given)?;
+    Some(Replaying { site, source })
 }
 
 fn running_of<'a>(given: &ArgMatches<'a>) -> Option<Running<'a>>
@@ -243,7 +248,7 @@ fn explaining_of<'a>(given: &ArgMatches<'a>) -> Option<Explaining<'a>>
     let connector = number_of(given, "connector")?;
     let start = text_of(given, "start")?;
     let duration = number_of(given, "duration")?;
-    let folder = text_of(given, "data");
+    let source = source_of(given)?;
     let at = text_of(given, "at");
     let picture = text_of(given, "picture");
     let json = is_given(given, "json");
@@ -253,7 +258,7 @@ fn explaining_of<'a>(given: &ArgMatches<'a>) -> Option<Explaining<'a>>
         connector,
         start,
         duration,
-        folder,
+        source,
         at,
         picture,
         json,
@@ -265,12 +270,12 @@ fn checking_of<'a>(given: &ArgMatches<'a>) -> Option<Checking<'a>>
 {
     let site = text_of(given, "site")?;
     let keys = text_of(given, "keys");
-    let folder = text_of(given, "data");
+    let source = source_of(given)?;
     let trace = is_given(given, "trace");
     Some(Checking {
         site,
         keys,
-        folder,
+        source,
         trace,
     })
 }
@@ -279,14 +284,33 @@ fn showing_of<'a>(given: &ArgMatches<'a>) -> Option<Showing<'a>>
     ensures { IfSome result (λ showing. IsShowing (rows_of (found_of given.now)) showing) }
 {
     let site = text_of(given, "site")?;
-    let folder = text_of(given, "data");
+    let source = source_of(given)?;
     let json = is_given(given, "json");
     Some(Showing {
         site,
-        folder,
+        source,
         at: text_of(given, "at"),
         json,
     })
+}
+
+/// What is read as a script. None where two options say it.
+fn source_of<'a>(given: &ArgMatches<'a>) -> Option<Source<'a>>
+    ensures { IfSome result (λ source. IsSource (rows_of (found_of given.now)) source) }
+{
+    match (text_of(given, "data"), text_of(given, "script")) {
+        (None, None) => Some(Source::Input),
+        (None, Some(file)) => Some(Source::File(file)),
+        (Some(folder), None) => Some(Source::Journal(folder)),
+        (Some(_), Some(_)) => None,
+    }
+}
+
+/// Whether two options say what is read as a script.
+fn has_two_scripts(given: &ArgMatches<'_>) -> bool
+    ensures { result ≡ has_two_scripts (rows_of (found_of given.now)) }
+{
+    text_of(given, "data").is_some() && text_of(given, "script").is_some()
 }
 
 /// The value of an option.

@@ -9,7 +9,7 @@ use crate::program::pages::print_page;
 use crate::program::program_fault::ProgramFault;
 use crate::program::script_input::read_script_of;
 use crate::program::site_file::read_site_bytes;
-use command_line::Checking;
+use command_line::{Checking, Source};
 use data_folder::read_boots;
 use findings::{
     Finding, RowChange, ScriptCheck, Severity, check_boot, check_change, check_printed, check_site,
@@ -25,7 +25,7 @@ use std::fs::File;
 use std::rt::Files;
 
 /// Says everything that is wrong with the site of a file, with a file of keys, and with the script
-/// of standard input, or with the journal of a folder.
+/// of standard input or of a file, or with the journal of a folder.
 /// Returns the exit status.
 pub fn check_file<R: Files<File = File> + Input + Print + Eprint + AllocGlobal>(
     rt: &R,
@@ -38,9 +38,9 @@ pub fn check_file<R: Files<File = File> + Input + Print + Eprint + AllocGlobal>(
     let page = site_page(alloc, checking.site, findings.as_slice())?;
     print_page(rt, page.as_str())?;
     let mut of_keys = check_keys(rt, checking.keys, bytes.as_slice(), findings.as_slice())?;
-    let script = read_script_of(rt, checking.folder)?;
+    let script = read_script_of(rt, checking.source)?;
     if let Some(site) = site_of(alloc, bytes.as_slice(), findings.as_slice())? {
-        let boots = boots_of(rt, checking.folder, &site)?;
+        let boots = boots_of(rt, checking.source, &site)?;
         let played = Played {
             script: script.as_slice(),
             boots: boots.as_slice(),
@@ -103,12 +103,12 @@ fn site_of(alloc: Global, bytes: &[u8], findings: &[Finding]) -> Result<Option<S
 /// where no folder is named.
 fn boots_of<R: Files<File = File> + Eprint + AllocGlobal>(
     rt: &R,
-    folder: Option<&str>,
+    source: Source<'_>,
     site: &Site,
 ) -> Result<Vec<Option<Boot>>, AllocError> {
-    match folder {
-        Some(folder) => read_boots(rt, folder, site),
-        None => Ok(Vec::new(rt.alloc())),
+    match source {
+        Source::Journal(folder) => read_boots(rt, folder, site),
+        Source::Input | Source::File(_) => Ok(Vec::new(rt.alloc())),
     }
 }
 

@@ -6,9 +6,9 @@ use crate::program::pages::{Screen, note_refused_lines, print_page, write_file};
 use crate::program::picture_name::{PictureForm, picture_form};
 use crate::program::program_fault::ProgramFault;
 use crate::program::script_end::script_end;
-use crate::program::script_input::read_script;
+use crate::program::script_input::read_script_of;
 use crate::program::site_file::read_digested_site;
-use command_line::Explaining;
+use command_line::{Explaining, Source};
 use data_folder::{Following, ScriptEnd, follow_journal};
 use explain_pages::{
     ExplainedAsk, not_counted, write_json, write_page, write_picture, write_table,
@@ -38,14 +38,13 @@ pub fn explain_file<R: Files<File = File> + Input + Print + Eprint + AllocGlobal
     let end = script_end(explaining.at)?;
     let (site, digest) = read_digested_site(rt, explaining.site)?;
     check_connector(&site, explaining.point, ask.connector)?;
-    let (folder, point) = (explaining.folder, explaining.point);
     let presentation = Presentation {
         explaining: &explaining,
         screen,
         unit: site.unit(),
         picture,
     };
-    let Some(folder) = folder else {
+    let Source::Journal(folder) = explaining.source else {
         return explain_script(rt, presentation, end, site, &ask);
     };
     let following = Following {
@@ -53,7 +52,7 @@ pub fn explain_file<R: Files<File = File> + Input + Print + Eprint + AllocGlobal
         digest,
         folder,
         end,
-        point,
+        point: explaining.point,
         counted_from: Some(ask.start),
     };
     let followed = follow_journal(rt, following)?;
@@ -61,15 +60,15 @@ pub fn explain_file<R: Files<File = File> + Input + Print + Eprint + AllocGlobal
     print_explained(rt, presentation, followed.machine(), &ask)
 }
 
-/// Explains what a point has after the script of standard input.
-fn explain_script<R: Files + Input + Print + Eprint + AllocGlobal>(
+/// Explains what a point has after the script of standard input or of a file.
+fn explain_script<R: Files<File = File> + Input + Print + Eprint + AllocGlobal>(
     rt: &R,
     presentation: Presentation<'_>,
     end: ScriptEnd,
     site: Site,
     ask: &Ask,
 ) -> Result<(), ProgramFault> {
-    let script = read_script(rt)?;
+    let script = read_script_of(rt, presentation.explaining.source)?;
     let last_line = end.last_line(script.as_slice());
     let played = play_quietly(rt.alloc(), script.as_slice(), site, last_line)?;
     note_refused_lines(rt, &played);

@@ -39,8 +39,8 @@ pub enum ProgramFault {
     /// A client stopped.
     #[error("central: {0}")]
     Client(ClientFault),
-    /// The file of a payload or a profile can't be read, isn't UTF-8, or is longer than a message
-    /// may be.
+    /// A script's file or a file of keys can't be read. Or that of a payload or a profile can't be, isn't
+    /// UTF-8, or is longer than a message may be.
     #[error("central: device: read")]
     File,
     /// The site has no point of the identity that the command line names.

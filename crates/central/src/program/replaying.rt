@@ -1,9 +1,9 @@
 //! The job of `central replay`.
 
 use crate::program::program_fault::ProgramFault;
+use crate::program::script_input::read_script_of;
 use crate::program::site_file::read_site_file;
-use command_line::Replaying;
-use data_folder::read_journal_script;
+use command_line::{Replaying, Source};
 use replay::{Summary, replay};
 use site_rules::Site;
 use std::alloc::AllocGlobal;
@@ -12,18 +12,18 @@ use std::io;
 use std::io::{BufWriter, Read, Write};
 use std::rt::Files;
 
-/// Plays the journal of a folder or the script of standard input on the site of a file.
+/// Plays the script of standard input or of a file, or the journal of a folder, on the site of a file.
 pub fn replay_file<R: Files<File = File> + Input + Print + Eprint + AllocGlobal>(
     rt: &R,
     replaying: Replaying<'_>,
 ) -> Result<Summary, ProgramFault> {
     let site = read_site_file(rt, replaying.site)?;
-    match replaying.folder {
-        Some(folder) => {
-            let script = read_journal_script(rt, folder)?;
+    match replaying.source {
+        Source::Input => replay_from(rt, &mut rt.reader(), site),
+        source => {
+            let script = read_script_of(rt, source)?;
             replay_from(rt, &mut script.as_slice(), site)
         }
-        None => replay_from(rt, &mut rt.reader(), site),
     }
 }
 

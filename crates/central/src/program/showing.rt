@@ -3,9 +3,9 @@
 use crate::program::pages::{note_refused_lines, print_page};
 use crate::program::program_fault::ProgramFault;
 use crate::program::script_end::script_end;
-use crate::program::script_input::read_script;
+use crate::program::script_input::read_script_of;
 use crate::program::site_file::read_digested_site;
-use command_line::Showing;
+use command_line::{Showing, Source};
 use data_folder::{Following, ScriptEnd, follow_journal};
 use show_pages::{Depth, Standing, standing_json, standing_text, trace_script};
 use site_rules::Site;
@@ -20,7 +20,7 @@ pub fn show_file<R: Files<File = File> + Input + Print + Eprint + AllocGlobal>(
 ) -> Result<(), ProgramFault> {
     let end = script_end(showing.at)?;
     let (site, digest) = read_digested_site(rt, showing.site)?;
-    let Some(folder) = showing.folder else {
+    let Source::Journal(folder) = showing.source else {
         return show_script(rt, showing, end, site);
     };
     let following = Following {
@@ -35,14 +35,14 @@ pub fn show_file<R: Files<File = File> + Input + Print + Eprint + AllocGlobal>(
     print_standing(rt, showing, &followed.standing())
 }
 
-/// Shows what each point has after the script of standard input.
-fn show_script<R: Input + Print + Eprint + AllocGlobal>(
+/// Shows what each point has after the script of standard input or of a file.
+fn show_script<R: Files<File = File> + Input + Print + Eprint + AllocGlobal>(
     rt: &R,
     showing: Showing<'_>,
     end: ScriptEnd,
     site: Site,
 ) -> Result<(), ProgramFault> {
-    let script = read_script(rt)?;
+    let script = read_script_of(rt, showing.source)?;
     let last_line = end.last_line(script.as_slice());
     let trace = trace_script(rt.alloc(), script.as_slice(), site, last_line, Depth::State)?;
     note_refused_lines(rt, trace.playing());

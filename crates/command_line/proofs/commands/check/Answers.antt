@@ -10,4 +10,5 @@ returns c =
     let site = argued _ _ _ _ _ c.in_ok-arg.ensures c.needed.ensures.global plain c.needed.ensures.rule in
     let keys = argued _ _ _ _ _ c.in_ok-arg-2.ensures c.optional.ensures.global site c.optional.ensures.rule in
     let folder = argued _ _ _ _ _ c.in_ok-arg-3.ensures c.optional-2.ensures.global keys c.optional-2.ensures.rule in
-    on_ok _ _ c.arg-4.result (λ x added. argued _ x _ _ _ added c.flag.ensures.global folder c.flag.ensures.rule) c.arg-4.ensures
+    let script = argued _ _ _ _ _ c.in_ok-arg-4.ensures c.optional-3.ensures.global folder c.optional-3.ensures.rule in
+    on_ok _ _ c.arg-5.result (λ x added. argued _ x _ _ _ added c.flag.ensures.global script c.flag.ensures.rule) c.arg-5.ensures

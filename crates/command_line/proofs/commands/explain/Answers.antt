@@ -18,6 +18,7 @@ returns c =
     let duration = argued _ _ _ _ _ c.in_ok-arg-5.ensures (c.numbered-2.ensures.global ∙ c.needed-duration.ensures.global) start
     (c.numbered-2.ensures.rule ∙ ap (numbered 1 max_duration) c.needed-duration.ensures.rule) in
     let folder = argued _ _ _ _ _ c.in_ok-arg-6.ensures c.optional.ensures.global duration c.optional.ensures.rule in
-    let at = argued _ _ _ _ _ c.in_ok-arg-7.ensures c.optional-2.ensures.global folder c.optional-2.ensures.rule in
-    let picture = argued _ _ _ _ _ c.in_ok-arg-8.ensures c.optional-3.ensures.global at c.optional-3.ensures.rule in
-    on_ok _ _ c.arg-9.result (λ x added. argued _ x _ _ _ added c.flag.ensures.global picture c.flag.ensures.rule) c.arg-9.ensures
+    let script = argued _ _ _ _ _ c.in_ok-arg-7.ensures c.optional-2.ensures.global folder c.optional-2.ensures.rule in
+    let at = argued _ _ _ _ _ c.in_ok-arg-8.ensures c.optional-3.ensures.global script c.optional-3.ensures.rule in
+    let picture = argued _ _ _ _ _ c.in_ok-arg-9.ensures c.optional-4.ensures.global at c.optional-4.ensures.rule in
+    on_ok _ _ c.arg-10.result (λ x added. argued _ x _ _ _ added c.flag.ensures.global picture c.flag.ensures.rule) c.arg-10.ensures
