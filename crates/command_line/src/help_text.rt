@@ -301,9 +301,9 @@ pub const JSON_HELP: &str = "Print it for programs, as JSON";
 /// What `explain` reads and prints.
 pub const EXPLAIN_NOTES: &str =
     "The script is standard input or the file of --script, as of 'central replay', or the journal of --data;
-its lines are played and not printed. Then the limits of the connector are printed, one line for each interval in which the
-limit and its cause stay the same: from, to, how long, the limit, and what sets it. Below stand the
-profiles of the point that never set it in this time, each with the reason.
+its lines are played and not printed. Then the limits of the connector are printed, one line for each
+interval in which the limit and its cause stay the same: from, to, how long, the limit, and what sets it.
+Below stand the profiles of the point that never set it in this time, each with the reason.
 
 Example:
   central explain --site site.json --point CP1 --connector 1 --start 2025-01-03T12:00:00Z --duration 86400 < script
@@ -339,8 +339,8 @@ pub const SHOW_ABOUT: &str = "Shows what each point of a site has after a script
 /// What `show` reads and prints.
 pub const SHOW_NOTES: &str =
     "The script is standard input or the file of --script, as of 'central replay', or the journal of --data;
-its lines are played and not printed. Then the profiles, transactions, audit, remote starts and waiting calls of each point are
-printed, and the requests that are held.
+its lines are played and not printed. Then the profiles, transactions, audit, remote starts and waiting
+calls of each point are printed, and the requests that are held.
 
 Examples:
   central show --site site.json < script
