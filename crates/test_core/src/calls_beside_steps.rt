@@ -4,6 +4,7 @@
 ghost use Rattle.std.specs.Prelude.{◌≡◌};
 
 use crate::audits::{judged, judging_both, schedule};
+use crate::copied_steps::copied_step;
 use crate::obeying_point::RandomNumbers;
 use crate::runs::opening;
 use crate::same::{holds, same_outcome};
@@ -231,7 +232,7 @@ fn random_step<C: Ledger, A: Ledger>(
 
 /// A stored event is made as a step.
 fn make_again(rt: &impl Abort, alloc: Global, machine: &mut Machine, event: &StoredEvent) {
-    let step = event.step().copy(alloc).expect(rt, "error");
+    let step = copied_step(rt, alloc, event.step());
     holds(rt, machine.step(step).is_ok(), "a stored event");
 }
 

@@ -11,6 +11,8 @@ mod callers;
 #[cfg(test)]
 mod calls_beside_steps;
 #[cfg(test)]
+mod copied_steps;
+#[cfg(test)]
 mod largest_sizes;
 #[cfg(test)]
 mod obeying_point;
