@@ -2,7 +2,7 @@
 import json
 import time
 
-from raw_client import PING, PONG, TEXT, Frame, RawClient, frame_bytes
+from raw_client import PING, PONG, TEXT, Frame, RawClient, frame_bytes, sent_until_full
 from run_data import SITE, Data, size
 from serving import PATIENCE, Running, expect, until
 from texts import CALL_0, accepted, ask, heartbeat, install, install_call, profile
