@@ -18,6 +18,7 @@ import string
 import subprocess
 import sys
 import tempfile
+import time
 
 from case_folders import Case, all_cases
 from png_colours import shares_of_colours
@@ -555,8 +556,24 @@ def explain_problems(program, folder):
         done = run_on(program, ["explain", "--site", site, *day, *more], folder, False)
         yield f"explain: {name}", list(differences(done, b"", error, 4))
     yield from explain_order_problems(program, folder)
+    yield from present_problems(explain)
     done = explain("--picture", os.path.join(folder, "none", "p.svg"))
     yield "explain: a picture that can't be written", list(differences(done, b"", b"central: device: write\n", 3))
+
+
+def present_problems(explain):
+    """`explain --start now` prints what it prints of the clock's second, as text and for programs."""
+
+    def from_start(start, *more):
+        return explain(*more, day=[*DAY[:4], "--start", start, *DAY[6:]])
+
+    before = int(time.time())
+    told, table = from_start("now", "--json"), from_start("now")
+    after = int(time.time())
+    begins = [time.strftime("%Y-%m-%dT%H:%M:%SZ", time.gmtime(second)) for second in range(before, after + 1)]
+    for name, done, more in (("for programs", told, ["--json"]), ("as a table", table, [])):
+        ok = any(not list(differences(done, from_start(start, *more).stdout, b"", 0)) for start in begins)
+        yield f"explain from now on, {name}", [] if ok and done.stdout else [f"{done}"]
 
 
 def explain_order_problems(program, folder):

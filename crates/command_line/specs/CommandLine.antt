@@ -1,6 +1,6 @@
 -- What a command line says, by clap's definition of how words are read; and one rule more, that
 -- of two scripts.
-use Rattle.std.specs.Prelude.{◌≡◌, ◌<◌, ◌≤◌, ◌^◌, ◌&&◌, Bool, true, false, ℕ, List, [], ◌∷◌, codes, Option, None, Some, IfSome, if◌then◌else◌, is_some, option_map}
+use Rattle.std.specs.Prelude.{◌≡◌, ◌≢◌, ◌<◌, ◌≤◌, ◌^◌, ◌&&◌, Bool, true, false, ℕ, List, [], ◌∷◌, codes, Option, None, Some, IfSome, if◌then◌else◌, is_some, option_map}
 use Rattle.std.specs.Option.{option_map_or}
 use Rattle.std.specs.Str.Parse.{IsNumeral, digits_value, without_leading_plus}
 use Rattle.meaning.specs.Limits.{max_duration}
@@ -23,6 +23,8 @@ use Rattle.command_line.specs.declared.job.Pointing.{Pointing}
 use Rattle.command_line.specs.declared.job.Explaining.{Explaining}
 use Rattle.command_line.specs.declared.job.Checking.{Checking}
 use Rattle.command_line.specs.declared.job.Showing.{Showing}
+use Rattle.command_line.specs.declared.job.Start.{Start}
+use Rattle.command_line.specs.declared.job.Start.TheVariants.{Now, At}
 use Rattle.command_line.specs.declared.job.Source.{Source}
 use Rattle.command_line.specs.declared.job.Source.TheVariants as source
 
@@ -329,12 +331,17 @@ pub record IsPointing (rows : List Row) (pointing : Pointing) : Type 0 where
   pub id : first_of (codes "id") rows ≡ Some pointing.id.now
   pub login : first_of (codes "login") rows ≡ option_map (λ text. text.now) pointing.login
 
+-- from when on: from now on by that word, or else from the instant of a text
+abbrev pub IsStart : Option Text → Start → Type 0
+IsStart given Now = given ≡ Some (codes "now")
+IsStart given (At text) = (given ≡ Some text.now) × (text.now ≢ codes "now")
+
 -- which schedule is to be explained, and how
 pub record IsExplaining (rows : List Row) (explaining : Explaining) : Type 0 where
   pub site : first_of (codes "site") rows ≡ Some explaining.site.now
   pub point : first_of (codes "point") rows ≡ Some explaining.point.now
   pub connector : IsNumber (codes "connector") rows explaining.connector
-  pub start : first_of (codes "start") rows ≡ Some explaining.start.now
+  pub start : IsStart (first_of (codes "start") rows) explaining.start
   pub duration : IsNumber (codes "duration") rows explaining.duration
   pub source : IsSource rows explaining.source
   pub at : first_of (codes "at") rows ≡ option_map (λ text. text.now) explaining.at

@@ -283,7 +283,7 @@ pub const POINT_HELP: &str = "The point's identity, one of the site's";
 pub const CONNECTOR_HELP: &str = "The connector, from 1 on, or 0 for the whole point";
 
 /// What `--start` names.
-pub const START_HELP: &str = "From when on, such as 2025-01-03T12:00:00Z";
+pub const START_HELP: &str = "From when on, such as 2025-01-03T12:00:00Z, or now";
 
 /// What `--duration` counts.
 pub const DURATION_HELP: &str = "For how many seconds, from 1 to 2678400";

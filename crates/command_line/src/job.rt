@@ -142,6 +142,15 @@ pub struct Pointing<'a> {
     pub login: Option<&'a str>,
 }
 
+/// From when on a schedule is explained.
+#[derive(Clone, Copy, Debug)]
+pub enum Start<'a> {
+    /// From the clock's moment on.
+    Now,
+    /// From the instant of this text on.
+    At(&'a str),
+}
+
 /// Which schedule is to be explained, and how.
 #[derive(Clone, Copy, Debug)]
 pub struct Explaining<'a> {
@@ -151,8 +160,8 @@ pub struct Explaining<'a> {
     pub point: &'a str,
     /// The connector, 0 being the whole point.
     pub connector: u64,
-    /// The text of the instant from which on.
-    pub start: &'a str,
+    /// From when on.
+    pub start: Start<'a>,
     /// For this many seconds.
     pub duration: u64,
     /// What the script is.

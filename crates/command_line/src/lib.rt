@@ -9,7 +9,7 @@ mod reading;
 
 pub use job::{
     Asking, Calling, Checking, Explaining, Job, KeyMaking, Pointing, Replaying, Running, Serving,
-    Showing, Source, Starting,
+    Showing, Source, Start, Starting,
 };
 pub use limits::{MAX_SEATS, MAX_SESSIONS, MAX_WORKERS};
 pub use reading::job_of;

@@ -2,13 +2,13 @@
 
 ghost use Rattle.std.specs.Prelude.{◌≡◌, IfOk, IfSome, IsSomeAnd, codes, map, option_map, string_bytes};
 ghost use Rattle.clap.specs.Words.{FailsBy, all_of, first_of, found_of, rows_of};
-ghost use Rattle.command_line.specs.CommandLine.{IsAsking, IsCalling, IsChecking, IsExplaining, IsFlag, IsJob, IsKeyMaking, IsNumber, IsOptionalNumber, IsPointing, IsReplaying, IsRunning, IsServing, IsShowing, IsSource, IsStarting, has_two_scripts, line_faults, subcommand_named};
+ghost use Rattle.command_line.specs.CommandLine.{IsAsking, IsCalling, IsChecking, IsExplaining, IsFlag, IsJob, IsKeyMaking, IsNumber, IsOptionalNumber, IsPointing, IsReplaying, IsRunning, IsServing, IsShowing, IsSource, IsStart, IsStarting, has_two_scripts, line_faults, subcommand_named};
 
 use crate::commands::central_command;
 use crate::help_text::TWO_SCRIPTS;
 use crate::job::{
     Asking, Calling, Checking, Explaining, Job, KeyMaking, Pointing, Replaying, Running, Serving,
-    Showing, Source, Starting,
+    Showing, Source, Start, Starting,
 };
 use clap::error::ErrorKind;
 use clap::{ArgMatches, Error};
@@ -246,7 +246,7 @@ fn explaining_of<'a>(given: &ArgMatches<'a>) -> Option<Explaining<'a>>
     let site = text_of(given, "site")?;
     let point = text_of(given, "point")?;
     let connector = number_of(given, "connector")?;
-    let start = text_of(given, "start")?;
+    let start = start_of(given)?;
     let duration = number_of(given, "duration")?;
     let source = source_of(given)?;
     let at = text_of(given, "at");
@@ -263,6 +263,18 @@ fn explaining_of<'a>(given: &ArgMatches<'a>) -> Option<Explaining<'a>>
         picture,
         json,
     })
+}
+
+/// From when on a schedule is explained.
+fn start_of<'a>(given: &ArgMatches<'a>) -> Option<Start<'a>>
+    ensures { IfSome result
+        (λ start. IsStart (first_of (codes "start") (rows_of (found_of given.now))) start) }
+{
+    let start = text_of(given, "start")?;
+    if start == "now" {
+        return Some(Start::Now);
+    }
+    Some(Start::At(start))
 }
 
 fn checking_of<'a>(given: &ArgMatches<'a>) -> Option<Checking<'a>>

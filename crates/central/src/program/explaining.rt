@@ -8,13 +8,13 @@ use crate::program::program_fault::ProgramFault;
 use crate::program::script_end::script_end;
 use crate::program::script_input::read_script_of;
 use crate::program::site_file::read_digested_site;
-use command_line::{Explaining, Source};
-use data_folder::{Following, ScriptEnd, follow_journal};
+use command_line::{Explaining, Source, Start};
+use data_folder::{Following, ScriptEnd, SystemClock, follow_journal};
 use explain_pages::{
     ExplainedAsk, not_counted, write_json, write_page, write_picture, write_table,
 };
 use meaning::Ask;
-use ocpp_scalars::read_instant;
+use ocpp_scalars::{Instant, Moments, read_instant, write_instant};
 use point_book::PointBook;
 use profile::Unit;
 use replay::play_quietly;
@@ -22,19 +22,20 @@ use site_core::Machine;
 use site_rules::Site;
 use std::alloc::AllocGlobal;
 use std::fs::File;
-use std::rt::Files;
+use std::rt::{Clock, Files};
 use sweep_compiler::{Turns, explain};
 
 /// Says why the limits of a connector are what they are after a script or a journal. Faults of a
 /// picture's name, the instants and the site file, and what isn't in it, are reported before the
 /// script is read.
-pub fn explain_file<R: Files<File = File> + Input + Print + Eprint + AllocGlobal>(
+pub fn explain_file<R: Files<File = File> + Input + Print + Eprint + Clock + AllocGlobal>(
     rt: &R,
     screen: Screen,
     explaining: Explaining<'_>,
 ) -> Result<(), ProgramFault> {
     let picture = picture_of(&explaining)?;
-    let ask = ask_of(&explaining)?;
+    let start = start_of(rt, explaining.start)?;
+    let ask = ask_of(&explaining, start)?;
     let end = script_end(explaining.at)?;
     let (site, digest) = read_digested_site(rt, explaining.site)?;
     check_connector(&site, explaining.point, ask.connector)?;
@@ -56,7 +57,7 @@ pub fn explain_file<R: Files<File = File> + Input + Print + Eprint + AllocGlobal
         counted_from: Some(ask.start),
     };
     let followed = follow_journal(rt, following)?;
-    note_later_changes(rt, presentation.explaining, followed.changes());
+    note_later_changes(rt, explaining.point, start, followed.changes())?;
     print_explained(rt, presentation, followed.machine(), &ask)
 }
 
@@ -77,13 +78,22 @@ fn explain_script<R: Files<File = File> + Input + Print + Eprint + AllocGlobal>(
 
 /// Says where a journal has changes at the point that are later than the first instant: what is
 /// explained isn't what the point had then.
-fn note_later_changes<R: Eprint>(rt: &R, explaining: &Explaining<'_>, later: u64) {
-    if later > 0 {
-        let (point, start) = (explaining.point, explaining.start);
-        let _ = eprintln!(rt;
-            "central: {later} changes at {point} are later than --start: --at {start} is without them"
-        );
+fn note_later_changes<R: Eprint + AllocGlobal>(
+    rt: &R,
+    point: &str,
+    start: Instant,
+    later: u64,
+) -> Result<(), ProgramFault> {
+    if later == 0 {
+        return Ok(());
     }
+    let Ok(start) = write_instant(rt.alloc(), start) else {
+        return Err(ProgramFault::OutOfMemory);
+    };
+    let _ = eprintln!(rt;
+        "central: {later} changes at {point} are later than --start: --at {start} is without them"
+    );
+    Ok(())
 }
 
 /// A picture that is wanted.
@@ -125,11 +135,27 @@ fn check_connector(site: &Site, point: &str, connector: u32) -> Result<(), Progr
     Ok(())
 }
 
-/// What the options ask.
-fn ask_of(explaining: &Explaining<'_>) -> Result<Ask, ProgramFault> {
-    let Ok(start) = read_instant(explaining.start) else {
-        return Err(ProgramFault::NoInstant);
-    };
+/// From which instant on: the present one, or that of a text.
+fn start_of<R: Clock>(rt: &R, start: Start<'_>) -> Result<Instant, ProgramFault> {
+    match start {
+        Start::Now => present(rt),
+        Start::At(text) => match read_instant(text) {
+            Ok(instant) => Ok(instant),
+            Err(_) => Err(ProgramFault::NoInstant),
+        },
+    }
+}
+
+/// The present instant.
+fn present<R: Clock>(rt: &R) -> Result<Instant, ProgramFault> {
+    match (SystemClock { rt }).now() {
+        Some(now) => Ok(now),
+        None => Err(ProgramFault::Clock),
+    }
+}
+
+/// What the options ask, from this instant on.
+fn ask_of(explaining: &Explaining<'_>, start: Instant) -> Result<Ask, ProgramFault> {
     // clap has seen to it that both numbers are in range.
     let (Ok(connector), Ok(duration)) = (
         u32::try_from(explaining.connector),

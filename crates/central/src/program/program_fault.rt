@@ -82,6 +82,9 @@ pub enum ProgramFault {
     /// A key is to be made for a name that none may have.
     #[error("central: command line: --name is empty, or has a blank, a colon or a control character")]
     KeyName,
+    /// The clock tells no moment.
+    #[error("central: device: clock")]
+    Clock,
     /// The system gives no random bytes.
     #[error("central: device: random")]
     Random,
@@ -102,6 +105,7 @@ impl ProgramFault {
             ProgramFault::Replay(_) => 3,
             ProgramFault::SiteFile | ProgramFault::Write | ProgramFault::OutOfMemory => 3,
             ProgramFault::Serve(_) | ProgramFault::File | ProgramFault::Random => 3,
+            ProgramFault::Clock => 3,
             ProgramFault::Keys(_) => 1,
             ProgramFault::Client(ClientFault::Url | ClientFault::NotOperator) => 4,
             ProgramFault::Client(_) => 3,
