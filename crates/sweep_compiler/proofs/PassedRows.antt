@@ -106,3 +106,21 @@ sum_after bounds n row new read first second before after sum some inside small 
       fits = omega (arith, old, now, moved, part, sum_is, less);
       part = omega (arith, old, part, sum_is);
     }
+
+-- the same of a row that was passed where it lies
+pub sum_after_pass : (bounds passed : List RunningBound) (n row : ℕ) (first second : RunningBound) (before after sum : ℕ) → 0 < n → n < length bounds → AreSmall bounds → length bounds ≤ 2 ^ 32 → sum ≡ shared_now bounds
+    → passed ≡ passed_in n row bounds → first ≡ get_or bounds n first → before ≡ bound_now first → second ≡ get_or passed n second → after ≡ bound_now second
+    → IsSumAfter sum before after (shared_now passed)
+sum_after_pass bounds passed n row first second before after sum some inside small few sum_is passed_is first_is before_is second_is after_is =
+    let list : passed ≡ slice_set bounds n (bound_passed row first) = passed_is ∙ sym (written bounds n row (bound_passed row first) first refl first_is) in
+    subst (λ (passed : List RunningBound). IsSumAfter sum before after (shared_now passed)) (sym list)
+    (sum_after bounds n row (bound_passed row first) first first second before after sum some inside small few sum_is refl first_is first_is before_is
+    (second_is ∙ ap (λ (bounds : List RunningBound). get_or bounds n second) list) after_is)
+
+-- the whole point isn't in the sum
+pub sum_without : (bounds passed : List RunningBound) (n row sum : ℕ) → n ≡ 0 → sum ≡ shared_now bounds → passed ≡ passed_in n row bounds → sum ≡ shared_now passed
+sum_without bounds passed n row sum whole sum_is is = sum_is ∙ sym (ap shared_now (is ∙ ap (λ (n : ℕ). passed_in n row bounds) whole) ∙ kept bounds)
+  where
+    kept : (bounds : List RunningBound) → shared_now (passed_in 0 row bounds) ≡ shared_now bounds
+    kept [] = refl
+    kept (point ∷ others) = refl

@@ -201,12 +201,30 @@ fn pass_row(
     ensures next { IfOk result (λ next. next ≡ due_in bounds.new.items bound row) }
     ensures cause { IfErr result (λ refusal. refusal ≡ OutOfMemory) }
 {
-    let before = bounds[bound].limit();
-    bounds[bound].pass(row)?;
-    if bound > 0 {
-        let after = bounds[bound].limit();
-        *sum = *sum - u64::from(before) + u64::from(after);
+    // The sum leaves the whole point out.
+    if bound == 0 {
+        return pass_in(bounds, bound, row);
     }
+    let before = bounds[bound].limit();
+    let next = pass_in(bounds, bound, row)?;
+    let after = bounds[bound].limit();
+    *sum = *sum - u64::from(before) + u64::from(after);
+    Ok(next)
+}
+
+/// Lets a row of a bound pass its next place, and returns the instant at which the row is due again.
+fn pass_in(
+    bounds: &mut Vec<Bounded<'_>>,
+    bound: usize,
+    row: usize,
+) -> Result<Option<Instant>, Refusal>
+    requires has_bound { bound < length bounds.old.items }
+    requires has_row { row < row_count bounds.old.items bound }
+    ensures passed { IfOk result (λ _. bounds.new.items ≡ passed_in bound row bounds.old.items) }
+    ensures next { IfOk result (λ next. next ≡ due_in bounds.new.items bound row) }
+    ensures cause { IfErr result (λ refusal. refusal ≡ OutOfMemory) }
+{
+    bounds[bound].pass(row)?;
     Ok(bounds[bound].due(row))
 }
 
