@@ -36,31 +36,32 @@ greater_above level one (Some best) =
     either_above level (level_of one) (level_of best) _ _ _ refl refl refl
     ∙ ap (nat_lt level) (level_of_one (nat_lt (level_of one) (level_of best)) best one)
 
-no_limit : (a any : Bool) → ((a && true && false) || any) ≡ any
+no_limit : (a any : Bool) → ((a && false && true) || any) ≡ any
 no_limit true any = refl
 no_limit false any = refl
 
-not_passing : (a b any : Bool) → ((a && false && b) || any) ≡ any
-not_passing true b any = refl
+not_passing : (a b any : Bool) → ((a && b && false) || any) ≡ any
+not_passing true true any = refl
+not_passing true false any = refl
 not_passing false b any = refl
 
 -- by the rows that pass a test, with what a function gives of them
 any_is_above : (test : Row → Bool) (give : Row → Option ℕ) (level : ℕ) (rows : List Row)
-    → list_any (λ (row : Row). nat_lt level row.profile.stack_level && test row && is_some (give row)) rows
+    → list_any (λ (row : Row). nat_lt level row.profile.stack_level && is_some (give row) && test row) rows
     ≡ is_above level (greatest level_of (filter_map (λ (row : Row). option_map (with_limit row) (give row)) (filter test rows)))
 any_is_above test give level [] = refl
 any_is_above test give level (row ∷ rows) =
-    ap (λ (any : Bool). (nat_lt level row.profile.stack_level && test row && is_some (give row)) || any) (any_is_above test give level rows) ∙ by_test (test row)
+    ap (λ (any : Bool). (nat_lt level row.profile.stack_level && is_some (give row) && test row) || any) (any_is_above test give level rows) ∙ by_test (test row)
   where
     given : List RowLimit
     given = filter_map (λ (row : Row). option_map (with_limit row) (give row)) (filter test rows)
 
-    by_limit : (limit : Option ℕ) → ((nat_lt level row.profile.stack_level && true && is_some limit) || is_above level (greatest level_of given))
+    by_limit : (limit : Option ℕ) → ((nat_lt level row.profile.stack_level && is_some limit && true) || is_above level (greatest level_of given))
         ≡ is_above level (greatest level_of (cons_option (option_map (with_limit row) limit) given))
     by_limit None = no_limit (nat_lt level row.profile.stack_level) (is_above level (greatest level_of given))
     by_limit (Some limit) = greater_above level (with_limit row limit) (greatest level_of given)
 
-    by_test : (passes : Bool) → ((nat_lt level row.profile.stack_level && passes && is_some (give row)) || is_above level (greatest level_of given))
+    by_test : (passes : Bool) → ((nat_lt level row.profile.stack_level && is_some (give row) && passes) || is_above level (greatest level_of given))
         ≡ is_above level (greatest level_of (filter_map (λ (row : Row). option_map (with_limit row) (give row)) (cond passes (row ∷ filter test rows) (filter test rows))))
     by_test true = by_limit (give row)
     by_test false = not_passing (nat_lt level row.profile.stack_level) (is_some (give row)) (is_above level (greatest level_of given))

@@ -139,11 +139,11 @@ impl View<'_> {
         let started = self.active_since(connector);
         self.rows.iter().any(|row| {
             level < row.profile.stack_level
-                && is_candidate(purpose, self.rows, connector, row)
                 && row
                     .profile
                     .rate(row.base(started, asked), instant)
                     .is_some()
+                && is_candidate(purpose, self.rows, connector, row)
         })
     }
 }
