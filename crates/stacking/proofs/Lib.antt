@@ -1,3 +1,4 @@
 pub mod RowLemmas
 pub mod CandidateLemmas
 pub mod PlaceLemmas
+pub mod LevelLemmas

@@ -1,12 +1,10 @@
 -- The rates that stack levels have at one time, and which of them prevails.
-use Rattle.std.specs.Prelude.{◌≡◌, ℕ, ◌<◌, ◌==◌, List, Option, Some, None, if◌then◌else◌}
-use Rattle.std.specs.Map.{lookup}
-use Rattle.std.specs.Ordering.{nat_cmp}
-use Rattle.std.specs.BTreeMap.{is_at}
+use Rattle.std.specs.Prelude.{◌≡◌, ℕ, ◌<◌, ◌==◌, List, [], ◌∷◌, Option, Some, None, if◌then◌else◌}
 
 -- the rate of a level, among levels each with its rate
 abbrev pub rate_of : List (ℕ × ℕ) → ℕ → Option ℕ
-rate_of rates level = lookup (is_at (nat_cmp level)) rates
+rate_of [] level = None
+rate_of (entry ∷ rates) level = if level == entry.0 then Some entry.1 else rate_of rates level
 
 -- one level has this rate, or none, and each other level what it had
 abbrev pub IsSet : List (ℕ × ℕ) → ℕ → Option ℕ → List (ℕ × ℕ) → Type 0

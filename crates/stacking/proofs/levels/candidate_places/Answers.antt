@@ -1,8 +1,8 @@
 -- That the first rows at one connector or two are the candidates.
-use Rattle.std.proofs.Common.{◌≡◌, ◌∙◌, ℕ, Option, ap, slice_get, slice_index}
+use Rattle.std.proofs.Common.{◌≡◌, ◌∙◌, Option, ap, slice_get, slice_index}
 use Rattle.std.specs.Option.{option_or}
 use Rattle.profile.specs.declared.row.Row.{Row}
-use Rattle.stacking.specs.ByCases.Candidates.{first_at, own_connector, shared_connector}
+use Rattle.stacking.specs.ByCases.Candidates.{first_at, own_connector}
 use Rattle.stacking.proofs.PlaceLemmas.{one_of_two}
 use Rattle.stacking.proofs.levels.candidate_places.Goals as goal
 
