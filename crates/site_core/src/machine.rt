@@ -1,6 +1,6 @@
 //! The machine: the state of the central system, and its one step.
 
-ghost use Rattle.std.specs.Prelude.{◌≡◌, ◌<◌, ◌≤◌, Some, IfOk, IfErr, MatchResult, OnOk, Ok, Err, length, option_map};
+ghost use Rattle.std.specs.Prelude.{◌≡◌, ◌<◌, ◌≤◌, Some, None, IfOk, IfErr, MatchResult, OnOk, Ok, Err, length, option_map};
 ghost use Rattle.ocpp_scalars.specs.declared.refusal.Refusal.TheVariants.{OutOfMemory};
 ghost use Rattle.site_rules.specs.Site.{place_of};
 ghost use Rattle.site_core.specs.State.{AreNumbers, Kept, audit_job, audit_of, book_at, link_of, link_to_send, opening, opening_at, outbox_at, outbox_len, waiting_of};
@@ -193,9 +193,11 @@ impl Machine {
     }
 
     /// What the audit of the point of an identity asked, with what the point had then, if its call
-    /// has this number and it has no verdict yet. Copies nothing.
+    /// has this number and it has no verdict yet. Copies nothing, and only an audit that is there
+    /// may want memory.
     pub fn audit_job(&self, point: &str, call: u64) -> Result<Option<AuditJob>, Refusal>
         ensures job { IfOk result (λ job. job ≡ audit_job self.now point.now call) }
+        ensures certain { audit_job self.now point.now call ≡ None → result ≡ Ok None }
         ensures memory { IfErr result (λ refusal. refusal ≡ OutOfMemory) }
     {
         let Some(place) = self.site.place_of(point) else {

@@ -1,9 +1,9 @@
 -- The limit of the highest rank in force is that of the first of the rows by falling rank.
-use Rattle.std.proofs.Common.{◌≡◌, ℕ, ◌+◌, ◌<◌, ◌==◌, zero, suc, Bool, true, false, List, [], ◌∷◌, ◌++◌, length, take, cond, get_or, Option, Some, None, inl, inr, refl, ap, sym, subst, ◌∙◌, arith}
+use Rattle.std.proofs.Common.{◌≡◌, ℕ, ◌+◌, ◌<◌, ◌==◌, zero, suc, Bool, true, false, List, [], ◌∷◌, length, drop, cond, get_or, Option, Some, None, inl, inr, refl, ap, sym, subst, ◌∙◌, arith}
 use Rattle.std.specs.List.{AllByRecursion, slice_set}
 use Rattle.std.proofs.lemmas.Bool.{eq-eqb}
 use Rattle.std.proofs.lemmas.Bool.Decides.{nat_tests}
-use Rattle.std.proofs.lemmas.List.{take_more, get_or_default}
+use Rattle.std.proofs.lemmas.List.{drop_more, get_or_default}
 use Rattle.stacking.specs.InForce.{rate_of, IsSet, IsTop}
 use Rattle.sweep_compiler.specs.ByCases.Running.{Running, rate_running, rank_running, AreFalling, HasRank, AreInForce, first_rate, passed}
 use Rattle.sweep_compiler.proofs.Running.{rank_passed}
@@ -13,9 +13,6 @@ HaveRates rates runs = AllByRecursion (λ (run : Running). rate_of rates (rank_r
 
 abbrev AreBelow : ℕ → List Running → Type 0
 AreBelow top runs = AllByRecursion (λ (low : Running). rank_running low < top) runs
-
-abbrev AreAbove : ℕ → List Running → Type 0
-AreAbove low runs = AllByRecursion (λ (high : Running). low < rank_running high) runs
 
 -- ---- the highest
 
@@ -60,13 +57,6 @@ below_stay rates new n limit is (run ∷ later) below each =
     let low : rank_running run < n = below.0 in
     let apart : (rank_running run == n) ≡ false = grind (arith, nat_tests, low) in
     (set_apart rates new n (rank_running run) limit is apart ∙ each.0, below_stay rates new n limit is later below.1 each.1)
-
-above_stay : (rates new : List (ℕ × ℕ)) (n : ℕ) (limit : Option ℕ) → IsSet rates n limit new → (runs : List Running) → AreAbove n runs → HaveRates rates runs → HaveRates new runs
-above_stay rates new n limit is [] above each = tt
-above_stay rates new n limit is (run ∷ later) above each =
-    let high : n < rank_running run = above.0 in
-    let apart : (rank_running run == n) ≡ false = grind (arith, nat_tests, high) in
-    (set_apart rates new n (rank_running run) limit is apart ∙ each.0, above_stay rates new n limit is later above.1 each.1)
 
 -- ---- a row that was passed
 
@@ -143,59 +133,32 @@ passed_in_force runs i read written new rates after n limit inside read_is writt
     subst (λ (n : ℕ). IsSet rates n (rate_running new) after) rank (subst (λ (limit : Option ℕ). IsSet rates n limit after) rate is) in
     in_force_set runs i new written rates after inside (ap rank_running new_is ∙ (rank_passed written ∙ ap rank_running written_is)) set are
 
--- ---- a row more
+-- ---- a row before others
 
-above_last : (runs : List Running) (run : Running) → AreFalling (runs ++ run ∷ []) → AreAbove (rank_running run) runs
-above_last [] run falling = tt
-above_last (first ∷ later) run falling = (last later falling.0, above_last later run falling.1)
-  where
-    last : (later : List Running) → AreBelow (rank_running first) (later ++ run ∷ []) → rank_running run < rank_running first
-    last [] all = all.0
-    last (x ∷ later) all = last later all.1
+falling_drop : (i : ℕ) (runs : List Running) → AreFalling runs → AreFalling (drop i runs)
+falling_drop zero runs falling = falling
+falling_drop (suc i) [] falling = tt
+falling_drop (suc i) (run ∷ later) falling = falling_drop i later falling.1
 
-each_more : (runs : List Running) (run : Running) (after : List (ℕ × ℕ)) → HaveRates after runs → rate_of after (rank_running run) ≡ rate_running run → HaveRates after (runs ++ run ∷ [])
-each_more [] run after each here = (here, tt)
-each_more (first ∷ later) run after each here = (each.0, each_more later run after each.1 here)
-
-has_last : (runs : List Running) (run : Running) → HasRank (rank_running run) (runs ++ run ∷ [])
-has_last [] run = inl refl
-has_last (first ∷ later) run = inr (has_last later run)
-
-has_before : (runs : List Running) (n : ℕ) (run : Running) → HasRank n runs → HasRank n (runs ++ run ∷ [])
-has_before [] n run has = absurd has
-has_before (first ∷ later) n run (inl is) = inl is
-has_before (first ∷ later) n run (inr has) = inr (has_before later n run has)
-
-in_force_push : (runs : List Running) (run : Running) (rates after : List (ℕ × ℕ)) → AreFalling (runs ++ run ∷ [])
-    → IsSet rates (rank_running run) (rate_running run) after → AreInForce runs rates → AreInForce (runs ++ run ∷ []) after
-in_force_push runs run rates after falling is are = record {
+in_force_first : (run : Running) (later : List Running) (rates after : List (ℕ × ℕ)) → AreFalling (run ∷ later)
+    → IsSet rates (rank_running run) (rate_running run) after → AreInForce later rates → AreInForce (run ∷ later) after
+in_force_first run later rates after falling is are = record {
   falling = falling;
-  each = each_more runs run after
-      (above_stay rates after (rank_running run) (rate_running run) is runs (above_last runs run falling) are.each)
-      (set_here rates after (rank_running run) (rate_running run) is);
+  each = (
+    set_here rates after (rank_running run) (rate_running run) is,
+    below_stay rates after (rank_running run) (rate_running run) is later falling.0 are.each,
+  );
   no_other = λ n limit has. go n limit (n == rank_running run) refl has;
 }
   where
-    go : (n limit : ℕ) (b : Bool) → (n == rank_running run) ≡ b → rate_of after n ≡ Some limit → HasRank n (runs ++ run ∷ [])
-    go n limit true same has =
-        let at : rank_running run ≡ n = grind (arith, nat_tests, same) in
-        subst (λ (m : ℕ). HasRank m (runs ++ run ∷ [])) at (has_last runs run)
+    go : (n limit : ℕ) (b : Bool) → (n == rank_running run) ≡ b → rate_of after n ≡ Some limit → HasRank n (run ∷ later)
+    go n limit true same has = let at : rank_running run ≡ n = grind (arith, nat_tests, same) in inl at
     go n limit false apart has =
-        has_before runs n run (are.no_other n limit (sym (set_apart rates after (rank_running run) n (rate_running run) is apart) ∙ has))
+        inr (are.no_other n limit (sym (set_apart rates after (rank_running run) n (rate_running run) is apart) ∙ has))
 
-below_take : (k : ℕ) (runs : List Running) (top : ℕ) → AreBelow top runs → AreBelow top (take k runs)
-below_take zero runs top all = tt
-below_take (suc k) [] top all = tt
-below_take (suc k) (run ∷ later) top all = (all.0, below_take k later top all.1)
-
-falling_take : (k : ℕ) (runs : List Running) → AreFalling runs → AreFalling (take k runs)
-falling_take zero runs falling = tt
-falling_take (suc k) [] falling = tt
-falling_take (suc k) (run ∷ later) falling = (below_take k later (rank_running run) falling.0, falling_take k later falling.1)
-
-pub in_force_more : (runs : List Running) (i : ℕ) (run : Running) (rates after : List (ℕ × ℕ)) → i < length runs → run ≡ get_or runs i run → AreFalling runs
-    → IsSet rates (rank_running run) (rate_running run) after → AreInForce (take i runs) rates → AreInForce (take (i + 1) runs) after
-in_force_more runs i run rates after inside is_at falling is are =
-    let more : take (i + 1) runs ≡ take i runs ++ run ∷ [] = take_more runs i run inside ∙ ap (λ (x : Running). take i runs ++ x ∷ []) (sym is_at) in
+pub in_force_from : (runs : List Running) (i : ℕ) (run : Running) (rates after : List (ℕ × ℕ)) → i < length runs → run ≡ get_or runs i run → AreFalling runs
+    → IsSet rates (rank_running run) (rate_running run) after → AreInForce (drop (i + 1) runs) rates → AreInForce (drop i runs) after
+in_force_from runs i run rates after inside is_at falling is are =
+    let more : drop i runs ≡ run ∷ drop (i + 1) runs = drop_more runs i run inside ∙ ap (λ (x : Running). x ∷ drop (i + 1) runs) (sym is_at) in
     subst (λ (xs : List Running). AreInForce xs after) (sym more)
-    (in_force_push (take i runs) run rates after (subst AreFalling more (falling_take (i + 1) runs falling)) is are)
+    (in_force_first run (drop (i + 1) runs) rates after (subst AreFalling more (falling_drop i runs falling)) is are)

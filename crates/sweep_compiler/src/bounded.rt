@@ -175,7 +175,11 @@ fn rates_of(alloc: Global, runs: &[Run<'_>]) -> Result<InForce, Refusal>
     ensures cause { IfErr result (λ refusal. refusal ≡ OutOfMemory) }
 {
     let mut rates = InForce::new(alloc);
-    for run in runs {
+    // From the lowest rank on, so that each one stands behind the others.
+    let mut place = runs.len();
+    while place > 0 {
+        place -= 1;
+        let run = &runs[place];
         rates.set(run.rank(), run.rate())?;
     }
     Ok(rates)

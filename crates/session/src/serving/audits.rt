@@ -1,6 +1,6 @@
 //! A point's reply to its audit: which audit that is, and the verdict on it.
 
-ghost use Rattle.std.specs.Prelude.{◌≡◌, false, IfOk, IsTrue, OnOk};
+ghost use Rattle.std.specs.Prelude.{◌≡◌, false, None, Ok, IfOk, IsTrue, OnOk};
 ghost use Rattle.session.specs.Audit.{BringsVerdict, IsJudgedBy, IsVerdictNoted, MakesOrRefuses, audit_confirmed, audit_to_judge, reply_noted};
 ghost use Rattle.site_core.specs.declared.reply.Reply.{Reply};
 ghost use Rattle.site_core.specs.declared.step.Step.TheVariants as steps;
@@ -46,7 +46,8 @@ pub(crate) fn audit_confirmed<C: Ledger, A: Ledger>(
     book: &Book<C, A>,
     step: &Step,
 ) -> Result<Option<OpenAudit>, AllocError>
-    ensures { IfOk result (λ audit. audit ≡ audit_confirmed book.now.present step.now) }
+    ensures audit { IfOk result (λ audit. audit ≡ audit_confirmed book.now.present step.now) }
+    ensures certain { audit_confirmed book.now.present step.now ≡ None → result ≡ Ok None }
 {
     let Step::Confirm { point, call, .. } = step else {
         return Ok(None);

@@ -1,6 +1,6 @@
 //! The calls of audits of points. They are no changes of what a point has.
 
-ghost use Rattle.std.specs.Prelude.{◌≡◌, IfOk, IfErr};
+ghost use Rattle.std.specs.Prelude.{◌≡◌, None, Ok, IfOk, IfErr};
 ghost use Rattle.ocpp_scalars.specs.declared.refusal.Refusal.{Refusal};
 ghost use Rattle.site_core.specs.declared.step.Step.TheVariants as steps;
 ghost use Rattle.site_core.specs.declared.reply.Reply.{Reply};
@@ -97,11 +97,12 @@ impl<C: Ledger, A: Ledger> Book<C, A> {
     }
 
     /// What the audit of the point of an identity asked, with what the point had then, if its call
-    /// has this number and it has no verdict yet. Copies nothing. With what is always so of the
-    /// audits of a book: each verdict is one for what was asked, the book of then and something
-    /// that the point said, or Unsettled.
+    /// has this number and it has no verdict yet. Copies nothing, and only an audit that is there
+    /// may want memory. With what is always so of the audits of a book: each verdict is one for what
+    /// was asked, the book of then and something that the point said, or Unsettled.
     pub fn audit_job(&self, point: &str, call: u64) -> Result<Option<AuditJob>, Refusal>
         ensures job { IfOk result (λ job. job ≡ audit_job self.now.present point.now call) }
+        ensures certain { audit_job self.now.present point.now call ≡ None → result ≡ Ok None }
         ensures memory { IfErr result (λ refusal. refusal ≡ Refusal.OutOfMemory) }
         ensures right { AreAuditsRight self.now.present }
     {

@@ -1,7 +1,10 @@
--- The rows so far have their limits in force.
-use Rattle.std.proofs.Common.{take}
+-- The rows from the place on have their limits in force.
+use Rattle.std.proofs.Common.{◌≤◌, length, drop}
 use Rattle.sweep_compiler.specs.ByCases.Running.{AreInForce}
 use Rattle.sweep_compiler.proofs.bounded.rates_of.Given as goal
 
-abbrev pub invariant-loop-run : goal.invariant-loop-run
-invariant-loop-run l = AreInForce (take l.run-index l.runs) l.rates
+abbrev pub invariant-loop-place : goal.invariant-loop-place
+invariant-loop-place l = (l.place ≤ length l.runs) × AreInForce (drop l.place l.runs) l.rates
+
+abbrev pub decreases-loop-place : goal.decreases-loop-place
+decreases-loop-place l = l.place
