@@ -40,7 +40,7 @@ pub(crate) struct OpenSession<'a, R> {
     pub(crate) core: SessionCore,
     /// The place of its point in the site.
     pub(crate) place: usize,
-    /// That of a point.
+    /// Its link, if it is a point's.
     pub(crate) link: Option<u64>,
 }
 
