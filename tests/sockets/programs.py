@@ -9,7 +9,7 @@ import subprocess
 import tempfile
 import threading
 
-from serving import ENVIRONMENT, PATIENCE, Serving, expect, free_port, until
+from serving import ENVIRONMENT, PATIENCE, Serving, expect, free_port, state_of, until
 
 TOP = os.path.dirname(os.path.dirname(os.path.dirname(os.path.abspath(__file__))))
 SITE = '{"unit":"A","points":[{"id":"P1","ceiling":63.0,"connectors":[32.0,16.0]}]}'
@@ -240,12 +240,6 @@ def remote_start_in_a_pause(program):
         expect("its end", (status, error), (0, b""))
         expect("its calls", re.findall(rb'sent \[2,"\d+","(\w+)"', out), [b"Heartbeat", b"StartTransaction"])
         expect("the totals", serving.totals(), (1, 0))
-
-
-def state_of(process):
-    """`S` where it waits, `T` where it is stopped."""
-    with open(f"/proc/{process.pid}/stat", encoding="ascii") as file:
-        return file.read().rpartition(")")[2].split()[0]
 
 
 def point_stopped_in_its_pause(program):

@@ -1,11 +1,12 @@
 """How long a site that is run waits for its clients: for messages, for replies, and for those that say nothing."""
 import json
+import signal
 import time
 
-from raw_client import PING, PONG, TEXT, Frame, RawClient, frame_bytes, sent_until_full
+from raw_client import PING, PONG, TEXT, Frame, RawClient, frame_bytes, request_bytes, sent_until_full
 from run_data import SITE, Data, size
-from serving import PATIENCE, Running, expect, until
-from texts import CALL_0, accepted, ask, heartbeat, install, install_call, profile
+from serving import PATIENCE, Running, expect, state_of, until
+from texts import CALL_0, OCPP, accepted, ask, heartbeat, install, install_call, profile
 
 # Seconds, as the program has them.
 LONGEST_MESSAGE, LONGEST_WRITE, SILENCE_BEFORE_PING, LONGEST_SILENCE, SILENCE_BEFORE_CALL = 30, 10, 150, 660, 10
@@ -22,6 +23,22 @@ def seconds_until_it_ends(client, most):
 
 def lies_between(what, least, value, most):
     expect(f"whether {what} lies between {least} and {most}: {value:.1f}", least <= value <= most, True)
+
+
+def a_stop_in_a_handshake(program):
+    """A program that is stopped while a client shakes hands, and goes on, goes on with that."""
+    request = request_bytes("/operator/P1", [f"Sec-WebSocket-Protocol: {OCPP}"])
+    with Data() as data, Running(program, SITE, data.path) as running, RawClient(running) as client:
+        client.send_bytes(request[:20])
+        running.until_idle()
+        running.process.send_signal(signal.SIGSTOP)
+        until("it is stopped", lambda: state_of(running.process) == "T")
+        running.process.send_signal(signal.SIGCONT)
+        running.until_idle()
+        client.send_bytes(request[20:])
+        response = client.read_response()
+        expect("the response", response and response.status, 101)
+        expect("an answer", client.texts_of(ask("a"))[0][:7], '[3,"a",')
 
 
 def a_message_byte_by_byte(program):
@@ -141,6 +158,7 @@ def long_messages(program):
 
 
 def tests():
+    yield "a stop in a handshake", a_stop_in_a_handshake
     yield "a message byte by byte", a_message_byte_by_byte
     yield "pings for long", pings_for_long
     yield "a client that doesn't read", a_client_that_does_not_read

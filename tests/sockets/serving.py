@@ -214,6 +214,12 @@ class Running(Serving):
         return undated(self.kill_and_hear() or b"")
 
 
+def state_of(process):
+    """`S` where it waits, `T` where it is stopped."""
+    with open(f"/proc/{process.pid}/stat", encoding="ascii") as file:
+        return file.read().rpartition(")")[2].split()[0]
+
+
 def undated(said):
     """What is said on standard error, without moments and without what is said of clients."""
     return DATED.sub(rb"central: ", OF_CLIENTS.sub(b"", said))

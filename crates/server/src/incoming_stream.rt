@@ -25,6 +25,9 @@ const LOOK: u64 = 1;
 /// And it is read so often at most in a look.
 const READS_OF_LOOK: u32 = 64;
 
+/// So often at most a read of a handshake begins again since a signal interrupted it.
+const MOST_SIGNALS: u32 = 1_000;
+
 /// A stream that whoever has a share of it may shut.
 pub(crate) type SharedStream = Arc<TcpStream, Global>;
 
@@ -158,6 +161,29 @@ impl<'a, R: Clock + Wait> IncomingStream<'a, R> {
         }
     }
 
+    /// Reads of a handshake by its deadline. A signal that interrupts the read, as where the process is
+    /// stopped and goes on, doesn't end the handshake: it is read again.
+    fn read_of_handshake(&mut self, deadline: Instant, buf: &mut [u8]) -> io::Result<usize> {
+        for _signal in 0..MOST_SIGNALS {
+            self.bound_handshake(deadline)?;
+            match self.read_once(buf) {
+                Err(error) if error.kind() == ErrorKind::Interrupted => {}
+                read => return read,
+            }
+        }
+        Err(io::Error::from(ErrorKind::TimedOut))
+    }
+
+    /// Reads what comes, and notes when it came.
+    fn read_once(&mut self, buf: &mut [u8]) -> io::Result<usize> {
+        let mut stream: &TcpStream = &self.stream;
+        let bytes = stream.read(buf)?;
+        if bytes > 0 {
+            self.hear(bytes)?;
+        }
+        Ok(bytes)
+    }
+
     /// So many bytes came.
     fn hear(&mut self, bytes: usize) -> io::Result<()> {
         let now = Instant::now(self.rt)?;
@@ -226,16 +252,12 @@ impl<R: Clock + Wait> Read for IncomingStream<'_, R> {
     fn read(&mut self, buf: &mut [u8]) -> io::Result<usize> {
         self.count_read()?;
         if let Some(deadline) = self.handshake {
-            self.bound_handshake(deadline)?;
-        } else if let Some(message) = self.unfinished {
+            return self.read_of_handshake(deadline, buf);
+        }
+        if let Some(message) = self.unfinished {
             self.bound_message(message)?;
         }
-        let mut stream: &TcpStream = &self.stream;
-        let bytes = stream.read(buf)?;
-        if bytes > 0 {
-            self.hear(bytes)?;
-        }
-        Ok(bytes)
+        self.read_once(buf)
     }
 }
 

@@ -16,6 +16,7 @@ mod handshake;
 mod incoming_stream;
 mod long_messages;
 mod notices;
+mod opening;
 mod own_host;
 mod path;
 mod present_streams;
