@@ -317,6 +317,26 @@ def device_problems(program, folder):
         yield name, [] if ok else [f"status {done.returncode}, {done.stderr!r}, {done.stdout!r}"]
 
 
+def closed_pipe_problems(program, folder):
+    """A page whose reader has left is no fault. A replay's output is: it is cut there."""
+    site, write = os.path.join(folder, "good"), b"central: device: write\n"
+    explain = ["explain", "--site", site, "--point", "CP1", "--connector", "1", "--start", "now", "--duration", "1h"]
+    for name, arguments, error, status in (
+        ("help", ["--help"], b"", 0),
+        ("show", ["show", "--site", site], b"", 0),
+        ("show --json", ["show", "--site", site, "--json"], b"", 0),
+        ("explain", explain, b"", 0),
+        ("check", ["check", "--site", site, "--trace"], b"", 2),
+        ("replay", ["replay", "--site", site], write, 3),
+    ):
+        reader, writer = os.pipe()
+        os.close(reader)
+        done = run(program, arguments, CLEAR, writer)
+        os.close(writer)
+        ok = (done.returncode, done.stderr) == (status, error)
+        yield f"{name} into a closed pipe", [] if ok else [f"status {done.returncode}, {done.stderr!r}"]
+
+
 # Starts a program without output, and prints the most kilobytes that it had, and its exit status. A process counts what its parent
 # had when it was started, too: so the parent is a small one.
 MEASURE = """import os, sys
@@ -877,6 +897,7 @@ def all_problems(program):
         results.extend(help_example_problems(program, folder))
         results.extend(first_schedule_problems(program, folder))
         results.extend(device_problems(program, folder))
+        results.extend(closed_pipe_problems(program, folder))
         results.extend(explain_problems(program, folder))
         results.extend(order_problems(program, folder))
         results.extend(check_and_show_problems(program, folder))
