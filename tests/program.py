@@ -743,6 +743,7 @@ def check_and_show_problems(program, folder):
         done = run(program, ["check", "--site", site], script)
         ok = done.returncode == status and not done.stderr and all(text in done.stdout for text in wanted)
         yield f"check: {name}", [] if ok else [f"{done}"]
+    yield from shared_remark_problems(program, folder)
     traced = run(program, ["check", "--site", good, "--trace"], heartbeat).stdout
     ok = b"1     CP1    point [2," in traced and b"* CP1 [2," in traced
     yield "check with a trace", [] if ok else [repr(traced)]
@@ -752,6 +753,20 @@ def check_and_show_problems(program, folder):
     yield from refused_line_problems(program, good)
     told = json.loads(run(program, ["show", "--site", good, "--at", "0", "--json"], heartbeat).stdout)
     yield "show for programs", [] if "CP1" in json.dumps(told) else [f"{told}"]
+
+
+def shared_remark_problems(program, folder):
+    """Equal remarks on points of a site are one line; another point has its own."""
+    points = [{"id": f"CP{number}", "ceiling": 63 if number != 20 else 62, "connectors": [32, 32]} for number in range(40)]
+    site = os.path.join(folder, "many-remarks")
+    with open(site, "w", encoding="utf-8") as file:
+        json.dump({"unit": "A", "points": points}, file)
+    remark = "remark: the connectors' ceilings are 64.0 together, more than the point's"
+    ends = "; each connector alone is bounded by the point's\n"
+    shared = f"{site}: points[0] (CP0) to points[39] (CP39), 39 points: {remark} 63.0{ends}"
+    alone = f"{site}: points[20] (CP20): {remark} 62.0{ends}"
+    done = run(program, ["check", "--site", site], b"")
+    yield "check: equal remarks on points", list(differences(done, (shared + alone).encode(), b"", 0))
 
 
 def refused_line_problems(program, site):
