@@ -18,6 +18,7 @@ import string
 import subprocess
 import sys
 import tempfile
+import time
 
 from case_folders import Case, all_cases
 from png_colours import shares_of_colours
@@ -316,6 +317,26 @@ def device_problems(program, folder):
         yield name, [] if ok else [f"status {done.returncode}, {done.stderr!r}, {done.stdout!r}"]
 
 
+def closed_pipe_problems(program, folder):
+    """A page whose reader has left is no fault. A replay's output is: it is cut there."""
+    site, write = os.path.join(folder, "good"), b"central: device: write\n"
+    explain = ["explain", "--site", site, "--point", "CP1", "--connector", "1", "--start", "now", "--duration", "1h"]
+    for name, arguments, error, status in (
+        ("help", ["--help"], b"", 0),
+        ("show", ["show", "--site", site], b"", 0),
+        ("show --json", ["show", "--site", site, "--json"], b"", 0),
+        ("explain", explain, b"", 0),
+        ("check", ["check", "--site", site, "--trace"], b"", 2),
+        ("replay", ["replay", "--site", site], write, 3),
+    ):
+        reader, writer = os.pipe()
+        os.close(reader)
+        done = run(program, arguments, CLEAR, writer)
+        os.close(writer)
+        ok = (done.returncode, done.stderr) == (status, error)
+        yield f"{name} into a closed pipe", [] if ok else [f"status {done.returncode}, {done.stderr!r}"]
+
+
 # Starts a program without output, and prints the most kilobytes that it had, and its exit status. A process counts what its parent
 # had when it was started, too: so the parent is a small one.
 MEASURE = """import os, sys
@@ -548,7 +569,7 @@ def explain_problems(program, folder):
     for name, day, more, error in (
         ("no such point", ["--point", "CP9", *DAY[2:]], [], words + b"no such point in the site file\n"),
         ("no such connector", ["--point", "CP1", "--connector", "3", *DAY[4:]], [], words + b"the point has no such connector\n"),
-        ("no instant", [*DAY[:4], "--start", "noon", *DAY[6:]], [], words + b"--start is no instant, such as 2025-01-01T12:00:00Z\n"),
+        ("no instant", [*DAY[:4], "--start", "noon", *DAY[6:]], [], words + b"--start is no instant, such as 2025-01-01T12:00:00Z, and not now\n"),
         ("past the calendar", [*DAY[:4], "--start", "9999-12-31T23:59:59Z", *DAY[6:]], [], words + b"it would end past the year 9999\n"),
         ("a picture of another kind", DAY, ["--picture", "p.png"], words + b"the name of a picture's file ends in .svg or .html\n"),
     ):
@@ -556,8 +577,56 @@ def explain_problems(program, folder):
         done = run_on(program, ["explain", "--site", site, *day, *more], folder, False)
         yield f"explain: {name}", list(differences(done, b"", error, 4))
     yield from explain_order_problems(program, folder)
+    yield from present_problems(explain)
+    yield from duration_problems(explain)
     done = explain("--picture", os.path.join(folder, "none", "p.svg"))
     yield "explain: a picture that can't be written", list(differences(done, b"", b"central: device: write\n", 3))
+
+
+def present_problems(explain):
+    """`explain --start now` prints what it prints of the clock's second, as a table and for programs."""
+
+    def from_start(start, *more):
+        return explain(*more, day=[*DAY[:4], "--start", start, *DAY[6:]])
+
+    for name, more in (("for programs", ["--json"]), ("as a table", [])):
+        before = int(time.time())
+        done = from_start("now", *more)
+        begins = [time.strftime("%Y-%m-%dT%H:%M:%SZ", time.gmtime(second)) for second in range(before, int(time.time()) + 1)]
+        ok = done.stdout and any(not list(differences(done, from_start(start, *more).stdout, b"", 0)) for start in begins)
+        yield f"explain from now on, {name}", [] if ok else [f"{done}"]
+
+
+# Texts of one duration in each line, of which the first is its seconds.
+DURATIONS = """\
+1 +1 1s 001 PT1S P0DT1S
+5400 90m +90m PT90M PT1H30M PT1H29M60S
+86400 1d 24h 1440m 86400s P1D PT24H P0DT24H PT0H1440M
+216000 60h PT60H P2DT12H P1DT35H59M60S
+2678400 +2678400 31d 744h P31D P30DT24H
+"""
+NO_DURATIONS = (
+    "", "0", "0d", "PT0S", "2678401", "32d", "745h", "P31DT1S", "2678400000000000000000", "-1", "++1", "1.5h", "1 h", "h", "d1", "1w",
+    "1H", "1hh", "1h30m", "90min", "P", "PT", "P1", "P1DT", "PT1", "P1H", "PT1D", "PT1M1H", "PT1S1S", "P1M", "P1Y", "P1W", "PT1.5H",
+    "PT1,5H", "p1d", "PT1h", "-PT1H", "+PT1H", "PT+1H", " 1", "1 ", "now", "\u0661",
+)
+
+
+def duration_problems(explain):
+    """Texts of `--duration` that say the same print the same; others are refused."""
+
+    def lasting(text):
+        return explain("--json", day=[*DAY[:6], f"--duration={text}"])
+
+    for line in DURATIONS.splitlines():
+        seconds, *texts = line.split()
+        wanted = lasting(seconds)
+        ok = json.loads(wanted.stdout)["duration"] == int(seconds)
+        failed = [text for text in texts if list(differences(lasting(text), wanted.stdout, b"", 0))]
+        yield f"explain for {seconds} seconds", [] if ok and not failed else [f"{failed}, {wanted}"]
+    error = b"central: command line: --duration is none from 1 second to 31 days, such as 3600, 90m, 12h, 2d or PT1H30M\n"
+    failed = [text for text in NO_DURATIONS if list(differences(lasting(text), b"", error, 4))]
+    yield "explain for no duration", [f"taken, or refused otherwise: {failed}"] if failed else []
 
 
 def explain_order_problems(program, folder):
@@ -565,11 +634,12 @@ def explain_order_problems(program, folder):
     none, bad, good = (os.path.join(folder, name) for name in ("none", "blank", "good"))
     other, noon = ["--point", "CP9", *DAY[2:]], [*DAY[:4], "--start", "noon", *DAY[6:]]
     picture = b"central: command line: the name of a picture's file ends in .svg or .html\n"
-    instant = b"central: command line: --start is no instant, such as 2025-01-01T12:00:00Z\n"
+    instant = b"central: command line: --start is no instant, such as 2025-01-01T12:00:00Z, and not now\n"
     point = b"central: command line: no such point in the site file\n"
     for name, site, more, error, status in (
         ("a picture of another kind, and no site file", none, [*DAY, "--picture", "p.png"], picture, 4),
         ("no instant, and no site file", none, noon, instant, 4),
+        ("no instant, and no duration", none, [*noon[:6], "--duration", "0"], instant, 4),
         ("no site file, and no such point", none, other, f"central: {none}: it isn't there, is a folder, or may not be read\n".encode() + b"central: device: read\n", 3),
         ("a site file with a fault, and no such point", bad, other, b"central: site: NotAnObject\n", 1),
         ("no such point, and a script that can't be read", good, other, point, 4),
@@ -673,6 +743,7 @@ def check_and_show_problems(program, folder):
         done = run(program, ["check", "--site", site], script)
         ok = done.returncode == status and not done.stderr and all(text in done.stdout for text in wanted)
         yield f"check: {name}", [] if ok else [f"{done}"]
+    yield from shared_remark_problems(program, folder)
     traced = run(program, ["check", "--site", good, "--trace"], heartbeat).stdout
     ok = b"1     CP1    point [2," in traced and b"* CP1 [2," in traced
     yield "check with a trace", [] if ok else [repr(traced)]
@@ -682,6 +753,20 @@ def check_and_show_problems(program, folder):
     yield from refused_line_problems(program, good)
     told = json.loads(run(program, ["show", "--site", good, "--at", "0", "--json"], heartbeat).stdout)
     yield "show for programs", [] if "CP1" in json.dumps(told) else [f"{told}"]
+
+
+def shared_remark_problems(program, folder):
+    """Equal remarks on points of a site are one line; another point has its own."""
+    points = [{"id": f"CP{number}", "ceiling": 63 if number != 20 else 62, "connectors": [32, 32]} for number in range(40)]
+    site = os.path.join(folder, "many-remarks")
+    with open(site, "w", encoding="utf-8") as file:
+        json.dump({"unit": "A", "points": points}, file)
+    remark = "remark: the connectors' ceilings are 64.0 together, more than the point's"
+    ends = "; each connector alone is bounded by the point's\n"
+    shared = f"{site}: points[0] (CP0) to points[39] (CP39), 39 points: {remark} 63.0{ends}"
+    alone = f"{site}: points[20] (CP20): {remark} 62.0{ends}"
+    done = run(program, ["check", "--site", site], b"")
+    yield "check: equal remarks on points", list(differences(done, (shared + alone).encode(), b"", 0))
 
 
 def refused_line_problems(program, site):
@@ -827,6 +912,7 @@ def all_problems(program):
         results.extend(help_example_problems(program, folder))
         results.extend(first_schedule_problems(program, folder))
         results.extend(device_problems(program, folder))
+        results.extend(closed_pipe_problems(program, folder))
         results.extend(explain_problems(program, folder))
         results.extend(order_problems(program, folder))
         results.extend(check_and_show_problems(program, folder))

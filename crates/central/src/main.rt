@@ -12,7 +12,7 @@ use crate::program::checking::check_file;
 use crate::program::explaining::explain_file;
 use crate::program::key_file::make_key;
 use crate::program::last_line::say_fault;
-use crate::program::pages::Screen;
+use crate::program::pages::{Screen, as_printed};
 use crate::program::pointing::run_point;
 use crate::program::program_fault::{ProgramFault, summary_status};
 use crate::program::replaying::replay_file;
@@ -161,8 +161,6 @@ fn refuse<R: Print + Eprint>(rt: &R, error: clap::Error) -> Result<u8, ProgramFa
     if error.use_stderr() {
         return Ok(4);
     }
-    match printed {
-        Ok(()) => Ok(0),
-        Err(_) => Err(ProgramFault::Write),
-    }
+    as_printed(printed)?;
+    Ok(0)
 }

@@ -20,6 +20,7 @@ pub mod script_input;
 pub mod serving;
 pub mod showing;
 pub mod site_file;
+pub mod site_page;
 pub mod status;
 pub mod status_request;
 pub mod status_table;

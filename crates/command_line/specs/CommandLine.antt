@@ -3,7 +3,6 @@
 use Rattle.std.specs.Prelude.{◌≡◌, ◌<◌, ◌≤◌, ◌^◌, ◌&&◌, Bool, true, false, ℕ, List, [], ◌∷◌, codes, Option, None, Some, IfSome, if◌then◌else◌, is_some, option_map}
 use Rattle.std.specs.Option.{option_map_or}
 use Rattle.std.specs.Str.Parse.{IsNumeral, digits_value, without_leading_plus}
-use Rattle.meaning.specs.Limits.{max_duration}
 use Rattle.command_line.specs.Limits.{default_call_timeout, default_seats, default_workers, max_call_timeout, max_connectors, max_seats, max_sessions, max_workers}
 use Rattle.clap.specs.Kinds.{or_else}
 use Rattle.clap.specs.Words.{App, Kinds, Row, Rule, Text, all_of, fault_of, first_of, new_app, new_rule, one_of, subcommand_of, with_rule, with_subcommand}
@@ -146,7 +145,7 @@ explain_command =
     (needed (codes "point")))
     (numbered 0 max_connectors (needed (codes "connector"))))
     (needed (codes "start")))
-    (numbered 1 max_duration (needed (codes "duration"))))
+    (needed (codes "duration")))
     (optional (codes "data")))
     (optional (codes "script")))
     (optional (codes "at")))
@@ -335,7 +334,7 @@ pub record IsExplaining (rows : List Row) (explaining : Explaining) : Type 0 whe
   pub point : first_of (codes "point") rows ≡ Some explaining.point.now
   pub connector : IsNumber (codes "connector") rows explaining.connector
   pub start : first_of (codes "start") rows ≡ Some explaining.start.now
-  pub duration : IsNumber (codes "duration") rows explaining.duration
+  pub duration : first_of (codes "duration") rows ≡ Some explaining.duration.now
   pub source : IsSource rows explaining.source
   pub at : first_of (codes "at") rows ≡ option_map (λ text. text.now) explaining.at
   pub picture : first_of (codes "picture") rows ≡ option_map (λ text. text.now) explaining.picture

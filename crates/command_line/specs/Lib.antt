@@ -1,2 +1,4 @@
 pub mod Limits
+pub mod Start
+pub mod Duration
 pub mod CommandLine

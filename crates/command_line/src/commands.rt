@@ -19,7 +19,6 @@ use crate::help_text::{
 use crate::limits::{MAX_CALL_TIMEOUT, MAX_CONNECTORS, MAX_SEATS, MAX_SESSIONS, MAX_WORKERS};
 use clap::builder::ValueParser;
 use clap::{Arg, ArgAction, Command};
-use meaning::MAX_DURATION;
 use std::alloc::{AllocError, Global};
 
 /// The program's commands, with what the help says of them.
@@ -192,7 +191,6 @@ fn explain<'a>(alloc: Global) -> Result<Command<'a>, AllocError>
     ensures { IfOk result (λ command. app_of command ≡ explain_command) }
 {
     let connector = needed(alloc, "connector", "C", CONNECTOR_HELP);
-    let duration = needed(alloc, "duration", "D", DURATION_HELP);
     Command::new(alloc, "explain")
         .about(EXPLAIN_ABOUT)
         .after_help(EXPLAIN_NOTES)
@@ -200,7 +198,7 @@ fn explain<'a>(alloc: Global) -> Result<Command<'a>, AllocError>
         .arg(needed(alloc, "point", "ID", POINT_HELP))?
         .arg(numbered(connector, 0, MAX_CONNECTORS))?
         .arg(needed(alloc, "start", "INSTANT", START_HELP))?
-        .arg(numbered(duration, 1, MAX_DURATION as u64))?
+        .arg(needed(alloc, "duration", "D", DURATION_HELP))?
         .arg(optional(alloc, "data", "DIR", DATA_HELP))?
         .arg(optional(alloc, "script", "FILE", SCRIPT_HELP))?
         .arg(optional(alloc, "at", "PLACE", AT_HELP))?

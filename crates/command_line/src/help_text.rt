@@ -283,10 +283,11 @@ pub const POINT_HELP: &str = "The point's identity, one of the site's";
 pub const CONNECTOR_HELP: &str = "The connector, from 1 on, or 0 for the whole point";
 
 /// What `--start` names.
-pub const START_HELP: &str = "From when on, such as 2025-01-03T12:00:00Z";
+pub const START_HELP: &str = "From when on, such as 2025-01-03T12:00:00Z, or now";
 
-/// What `--duration` counts.
-pub const DURATION_HELP: &str = "For how many seconds, from 1 to 2678400";
+/// What `--duration` says.
+pub const DURATION_HELP: &str =
+    "For how many seconds, from 1 to 2678400, or such as 5m, 8h, 2d, PT1H";
 
 /// What `--at` counts.
 pub const AT_HELP: &str =
@@ -309,7 +310,7 @@ Example:
   central explain --site site.json --point CP1 --connector 1 --start 2025-01-03T12:00:00Z --duration 86400 < script
 
 The exit statuses are those of 'central --help'; 4 also where the site has no such point, the point no such
-connector, or INSTANT isn't one.";
+connector, or INSTANT or D isn't one.";
 
 /// What `check` does.
 pub const CHECK_ABOUT: &str = "Says everything that is wrong with a site file and a script.";

@@ -151,10 +151,10 @@ pub struct Explaining<'a> {
     pub point: &'a str,
     /// The connector, 0 being the whole point.
     pub connector: u64,
-    /// The text of the instant from which on.
+    /// The text that says from when on, as `Start::of` reads it.
     pub start: &'a str,
-    /// For this many seconds.
-    pub duration: u64,
+    /// The text that says how long, as `read_duration` reads it.
+    pub duration: &'a str,
     /// What the script is.
     pub source: Source<'a>,
     /// The text of how far the script is played: a number of lines, or an instant. Or all is.

@@ -247,7 +247,7 @@ fn explaining_of<'a>(given: &ArgMatches<'a>) -> Option<Explaining<'a>>
     let point = text_of(given, "point")?;
     let connector = number_of(given, "connector")?;
     let start = text_of(given, "start")?;
-    let duration = number_of(given, "duration")?;
+    let duration = text_of(given, "duration")?;
     let source = source_of(given)?;
     let at = text_of(given, "at");
     let picture = text_of(given, "picture");

@@ -9,10 +9,11 @@ use crate::program::pages::print_page;
 use crate::program::program_fault::ProgramFault;
 use crate::program::script_input::read_script_of;
 use crate::program::site_file::read_site_bytes;
+use crate::program::site_page::{push_findings, site_page};
 use command_line::{Checking, Source};
 use data_folder::read_boots;
 use findings::{
-    Finding, RowChange, ScriptCheck, Severity, check_boot, check_change, check_printed, check_site,
+    Finding, RowChange, ScriptCheck, check_boot, check_change, check_printed, check_site,
     check_standing, exit_status, sort_by_line,
 };
 use show_pages::{Depth, Trace, ending_text, trace_text};
@@ -20,7 +21,6 @@ use site_core::Machine;
 use site_rules::{Site, SiteFault, read_site};
 use site_status::{Boot, may_forget_since};
 use std::alloc::{AllocError, AllocGlobal, Global};
-use std::fmt::Write;
 use std::fs::File;
 use std::rt::Files;
 
@@ -74,16 +74,6 @@ fn check_keys<R: Files<File = File> + Print + Eprint + AllocGlobal>(
     push_findings(&mut page, path, findings.as_slice())?;
     print_page(rt, page.as_str())?;
     Ok(findings)
-}
-
-/// What is found in a site file, line by line: faults first, which would be hard to find among the
-/// remarks on many points.
-fn site_page(alloc: Global, name: &str, findings: &[Finding]) -> Result<String, AllocError> {
-    let mut page = String::new(alloc);
-    for severity in [Severity::Fault, Severity::Warning, Severity::Remark] {
-        push_of_severity(&mut page, name, findings, severity)?;
-    }
-    Ok(page)
 }
 
 /// The site of a site file, where one is read from it. Else what is found in the file says why not.
@@ -246,34 +236,4 @@ fn may_forget(
         return Ok(false);
     };
     may_forget_since(alloc, boot, book, outbox, machine.audit_of(point))
-}
-
-/// Appends a line for each finding that matters so much.
-fn push_of_severity(
-    page: &mut String,
-    name: &str,
-    findings: &[Finding],
-    severity: Severity,
-) -> Result<(), AllocError> {
-    for finding in findings {
-        if finding.severity == severity {
-            push_finding(page, name, finding)?;
-        }
-    }
-    Ok(())
-}
-
-/// Appends a line for each finding, behind the name of where it was found.
-fn push_findings(page: &mut String, name: &str, findings: &[Finding]) -> Result<(), AllocError> {
-    for finding in findings {
-        push_finding(page, name, finding)?;
-    }
-    Ok(())
-}
-
-fn push_finding(page: &mut String, name: &str, finding: &Finding) -> Result<(), AllocError> {
-    match writeln!(page, "{name}: {finding}") {
-        Ok(()) => Ok(()),
-        Err(_) => Err(AllocError),
-    }
 }

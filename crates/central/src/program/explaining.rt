@@ -8,33 +8,34 @@ use crate::program::program_fault::ProgramFault;
 use crate::program::script_end::script_end;
 use crate::program::script_input::read_script_of;
 use crate::program::site_file::read_digested_site;
-use command_line::{Explaining, Source};
-use data_folder::{Following, ScriptEnd, follow_journal};
+use command_line::{Explaining, Source, Start, read_duration};
+use data_folder::{Following, ScriptEnd, SystemClock, follow_journal};
 use explain_pages::{
     ExplainedAsk, not_counted, write_json, write_page, write_picture, write_table,
 };
 use meaning::Ask;
-use ocpp_scalars::read_instant;
+use ocpp_scalars::{Instant, Moments, write_instant};
 use point_book::PointBook;
 use profile::Unit;
 use replay::play_quietly;
 use site_core::Machine;
 use site_rules::Site;
-use std::alloc::AllocGlobal;
+use std::alloc::{AllocError, AllocGlobal};
 use std::fs::File;
-use std::rt::Files;
+use std::rt::{Clock, Files};
 use sweep_compiler::{Turns, explain};
 
 /// Says why the limits of a connector are what they are after a script or a journal. Faults of a
 /// picture's name, the instants and the site file, and what isn't in it, are reported before the
 /// script is read.
-pub fn explain_file<R: Files<File = File> + Input + Print + Eprint + AllocGlobal>(
+pub fn explain_file<R: Files<File = File> + Input + Print + Eprint + Clock + AllocGlobal>(
     rt: &R,
     screen: Screen,
     explaining: Explaining<'_>,
 ) -> Result<(), ProgramFault> {
     let picture = picture_of(&explaining)?;
-    let ask = ask_of(&explaining)?;
+    let start = start_of(rt, explaining.start)?;
+    let ask = ask_of(&explaining, start)?;
     let end = script_end(explaining.at)?;
     let (site, digest) = read_digested_site(rt, explaining.site)?;
     check_connector(&site, explaining.point, ask.connector)?;
@@ -56,7 +57,7 @@ pub fn explain_file<R: Files<File = File> + Input + Print + Eprint + AllocGlobal
         counted_from: Some(ask.start),
     };
     let followed = follow_journal(rt, following)?;
-    note_later_changes(rt, presentation.explaining, followed.changes());
+    note_later_changes(rt, explaining.point, start, followed.changes())?;
     print_explained(rt, presentation, followed.machine(), &ask)
 }
 
@@ -77,13 +78,21 @@ fn explain_script<R: Files<File = File> + Input + Print + Eprint + AllocGlobal>(
 
 /// Says where a journal has changes at the point that are later than the first instant: what is
 /// explained isn't what the point had then.
-fn note_later_changes<R: Eprint>(rt: &R, explaining: &Explaining<'_>, later: u64) {
+fn note_later_changes<R: Eprint + AllocGlobal>(
+    rt: &R,
+    point: &str,
+    start: Instant,
+    later: u64,
+) -> Result<(), AllocError> {
     if later > 0 {
-        let (point, start) = (explaining.point, explaining.start);
+        let Ok(start) = write_instant(rt.alloc(), start) else {
+            return Err(AllocError);
+        };
         let _ = eprintln!(rt;
             "central: {later} changes at {point} are later than --start: --at {start} is without them"
         );
     }
+    Ok(())
 }
 
 /// A picture that is wanted.
@@ -125,17 +134,26 @@ fn check_connector(site: &Site, point: &str, connector: u32) -> Result<(), Progr
     Ok(())
 }
 
-/// What the options ask.
-fn ask_of(explaining: &Explaining<'_>) -> Result<Ask, ProgramFault> {
-    let Ok(start) = read_instant(explaining.start) else {
-        return Err(ProgramFault::NoInstant);
+/// The instant from which on is explained.
+fn start_of<R: Clock>(rt: &R, text: &str) -> Result<Instant, ProgramFault> {
+    match Start::of(text) {
+        Ok(Start::At(instant)) => Ok(instant),
+        Ok(Start::Now) => match (SystemClock { rt }).now() {
+            Some(now) => Ok(now),
+            None => Err(ProgramFault::Clock),
+        },
+        Err(_) => Err(ProgramFault::NoInstant),
+    }
+}
+
+/// What the options ask, from this instant on.
+fn ask_of(explaining: &Explaining<'_>, start: Instant) -> Result<Ask, ProgramFault> {
+    let Some(duration) = read_duration(explaining.duration) else {
+        return Err(ProgramFault::NoDuration);
     };
-    // clap has seen to it that both numbers are in range.
-    let (Ok(connector), Ok(duration)) = (
-        u32::try_from(explaining.connector),
-        u32::try_from(explaining.duration),
-    ) else {
-        return Err(ProgramFault::PastCalendar);
+    // clap has seen to it that the number is in range.
+    let Ok(connector) = u32::try_from(explaining.connector) else {
+        return Err(ProgramFault::NoSuchConnector);
     };
     match Ask::try_new(connector, start, duration) {
         Ok(ask) => Ok(ask),

@@ -38,14 +38,21 @@ pub fn note_refused_lines<R: Eprint>(rt: &R, playing: &Playing<'_>) {
     }
 }
 
-/// Prints a page.
+/// Prints a page. One whose reader left, as `head` does, counts as printed.
 pub fn print_page<R: Print>(rt: &R, page: &str) -> Result<(), ProgramFault> {
     let mut writer = io::writer(rt);
-    match writer
-        .write_all(page.as_bytes())
-        .and_then(|()| writer.flush())
-    {
+    as_printed(
+        writer
+            .write_all(page.as_bytes())
+            .and_then(|()| writer.flush()),
+    )
+}
+
+/// What comes of a write to standard output: a pipe that its reader closed is no fault.
+pub fn as_printed(written: io::Result<()>) -> Result<(), ProgramFault> {
+    match written {
         Ok(()) => Ok(()),
+        Err(error) if error.kind() == io::ErrorKind::BrokenPipe => Ok(()),
         Err(_) => Err(ProgramFault::Write),
     }
 }

@@ -50,8 +50,11 @@ pub enum ProgramFault {
     #[error("central: command line: the point has no such connector")]
     NoSuchConnector,
     /// The command line names no instant.
-    #[error("central: command line: --start is no instant, such as 2025-01-01T12:00:00Z")]
+    #[error("central: command line: --start is no instant, such as 2025-01-01T12:00:00Z, and not now")]
     NoInstant,
+    /// The command line names no duration.
+    #[error("central: command line: --duration is none from 1 second to 31 days, such as 3600, 90m, 12h, 2d or PT1H30M")]
+    NoDuration,
     /// The command line names neither a number of lines nor an instant.
     #[error("central: command line: --at is no number of lines, and no instant")]
     NoScriptEnd,
@@ -82,6 +85,9 @@ pub enum ProgramFault {
     /// A key is to be made for a name that none may have.
     #[error("central: command line: --name is empty, or has a blank, a colon or a control character")]
     KeyName,
+    /// The clock tells no moment.
+    #[error("central: device: clock")]
+    Clock,
     /// The system gives no random bytes.
     #[error("central: device: random")]
     Random,
@@ -101,13 +107,14 @@ impl ProgramFault {
             ProgramFault::Replay(ReplayFault::ScriptTooLong) => 2,
             ProgramFault::Replay(_) => 3,
             ProgramFault::SiteFile | ProgramFault::Write | ProgramFault::OutOfMemory => 3,
-            ProgramFault::Serve(_) | ProgramFault::File | ProgramFault::Random => 3,
+            ProgramFault::Serve(_) | ProgramFault::File => 3,
+            ProgramFault::Clock | ProgramFault::Random => 3,
             ProgramFault::Keys(_) => 1,
             ProgramFault::Client(ClientFault::Url | ClientFault::NotOperator) => 4,
             ProgramFault::Client(_) => 3,
             ProgramFault::Words | ProgramFault::NoSuchPoint | ProgramFault::NoSuchConnector => 4,
             ProgramFault::NoInstant | ProgramFault::PastCalendar | ProgramFault::NoPicture => 4,
-            ProgramFault::NoNumber | ProgramFault::NoScriptEnd => 4,
+            ProgramFault::NoDuration | ProgramFault::NoNumber | ProgramFault::NoScriptEnd => 4,
             ProgramFault::NoKeys | ProgramFault::KeyName => 4,
             ProgramFault::StatusOpen | ProgramFault::StatusUrl => 4,
             ProgramFault::NoStatus => 3,

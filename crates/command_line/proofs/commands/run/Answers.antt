@@ -1,10 +1,22 @@
 -- What the help says of a command changes nothing of how words are read.
 use Rattle.std.proofs.Common.{◌≡◌, ◌∙◌, ap, codes}
-use Rattle.clap.specs.Words.{app_of, new_app, with_rule}
+use Rattle.clap.specs.Words.{App, app_of, new_app, with_rule}
 use Rattle.command_line.specs.Limits.{max_call_timeout, max_seats, max_workers}
-use Rattle.command_line.specs.CommandLine.{needed, numbered}
+use Rattle.command_line.specs.CommandLine.{needed, numbered, optional}
 use Rattle.command_line.proofs.CommandLineLemmas.{argued, on_ok}
 use Rattle.command_line.proofs.commands.run.Goals as goal
+
+-- the command with its options up to the last number
+abbrev counted : App
+counted =
+    with_rule (with_rule (with_rule (with_rule (with_rule (with_rule (with_rule (new_app (codes "run"))
+    (needed (codes "site")))
+    (needed (codes "data")))
+    (needed (codes "listen")))
+    (optional (codes "keys")))
+    (numbered 1 max_seats (optional (codes "seats"))))
+    (numbered 1 max_workers (optional (codes "workers"))))
+    (numbered 1 max_call_timeout (optional (codes "call-timeout")))
 
 pub returns : goal.returns
 returns c =
@@ -17,7 +29,7 @@ returns c =
     (c.numbered.ensures.rule ∙ ap (numbered 1 max_seats) c.optional-seats.ensures.rule) in
     let workers = argued _ _ _ _ _ c.in_ok-arg-6.ensures (c.numbered-2.ensures.global ∙ c.optional-workers.ensures.global) seats
     (c.numbered-2.ensures.rule ∙ ap (numbered 1 max_workers) c.optional-workers.ensures.rule) in
-    let timeout = argued _ _ _ _ _ c.in_ok-arg-7.ensures (c.numbered-3.ensures.global ∙ c.optional-call_timeout.ensures.global) workers
+    let timeout : app_of c.in_ok-arg-7.field-0 ≡ counted = argued _ _ _ _ _ c.in_ok-arg-7.ensures (c.numbered-3.ensures.global ∙ c.optional-call_timeout.ensures.global) workers
     (c.numbered-3.ensures.rule ∙ ap (numbered 1 max_call_timeout) c.optional-call_timeout.ensures.rule) in
     let status = argued _ _ _ _ _ c.in_ok-arg-8.ensures c.optional-2.ensures.global timeout c.optional-2.ensures.rule in
     on_ok _ _ c.arg-9.result (λ x added. argued _ x _ _ _ added c.flag.ensures.global status c.flag.ensures.rule) c.arg-9.ensures

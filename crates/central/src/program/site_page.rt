@@ -1,0 +1,100 @@
+//! What is found in a site file, as a page.
+
+use findings::{Finding, Location, Severity};
+use std::alloc::{AllocError, Global};
+use std::fmt::Write;
+
+/// What is found in a site file, line by line: faults first, which would be hard to find among the
+/// remarks on many points. Equal remarks on points are one line.
+pub fn site_page(alloc: Global, name: &str, findings: &[Finding]) -> Result<String, AllocError> {
+    let mut page = String::new(alloc);
+    push_of_severity(&mut page, name, findings, Severity::Fault)?;
+    push_of_severity(&mut page, name, findings, Severity::Warning)?;
+    push_remarks(&mut page, name, findings)?;
+    Ok(page)
+}
+
+/// Appends a line for each finding, behind the name of where it was found.
+pub fn push_findings(
+    page: &mut String,
+    name: &str,
+    findings: &[Finding],
+) -> Result<(), AllocError> {
+    for finding in findings {
+        push_finding(page, name, finding)?;
+    }
+    Ok(())
+}
+
+/// Appends a line for each finding that matters so much.
+fn push_of_severity(
+    page: &mut String,
+    name: &str,
+    findings: &[Finding],
+    severity: Severity,
+) -> Result<(), AllocError> {
+    for finding in findings {
+        if finding.severity == severity {
+            push_finding(page, name, finding)?;
+        }
+    }
+    Ok(())
+}
+
+fn push_finding(page: &mut String, name: &str, finding: &Finding) -> Result<(), AllocError> {
+    match writeln!(page, "{name}: {finding}") {
+        Ok(()) => Ok(()),
+        Err(_) => Err(AllocError),
+    }
+}
+
+/// Appends a line for each remark, with those on later points that say the same.
+fn push_remarks(page: &mut String, name: &str, findings: &[Finding]) -> Result<(), AllocError> {
+    for (number, remark) in findings.iter().enumerate() {
+        if remark.severity != Severity::Remark {
+            continue;
+        }
+        let (earlier, rest) = findings.split_at(number);
+        if !earlier.iter().any(|other| is_same_remark(remark, other)) {
+            push_remark(page, name, remark, rest)?;
+        }
+    }
+    Ok(())
+}
+
+/// Whether both are remarks on points, in the same words.
+fn is_same_remark(remark: &Finding, other: &Finding) -> bool {
+    matches!(remark.place, Location::Point { .. })
+        && matches!(other.place, Location::Point { .. })
+        && other.severity == Severity::Remark
+        && remark.message.as_str() == other.message.as_str()
+}
+
+/// Appends a remark, with the last point of the rest on which it is made too, and the number of all.
+fn push_remark(
+    page: &mut String,
+    name: &str,
+    remark: &Finding,
+    rest: &[Finding],
+) -> Result<(), AllocError> {
+    let mut count = 0usize;
+    let mut last = remark;
+    for other in rest {
+        if is_same_remark(remark, other) {
+            count = count.saturating_add(1);
+            last = other;
+        }
+    }
+    if count < 2 {
+        return push_finding(page, name, remark);
+    }
+    let (from, to) = (&remark.place, &last.place);
+    let message = remark.message.as_str();
+    match writeln!(
+        page,
+        "{name}: {from} to {to}, {count} points: remark: {message}"
+    ) {
+        Ok(()) => Ok(()),
+        Err(_) => Err(AllocError),
+    }
+}

@@ -1,0 +1,9 @@
+-- The number so far, with the digits to come, is that of all.
+use Rattle.std.proofs.Common.{◌≡◌, ◌≤◌, drop}
+use Rattle.meaning.specs.Limits.{max_duration}
+use Rattle.command_line.specs.Duration.{number_after}
+use Rattle.command_line.proofs.duration.split_digits.Given as goal
+
+abbrev pub invariant-loop-count : goal.invariant-loop-count
+invariant-loop-count l =
+    (number_after l.number (drop l.count l.text) ≡ number_after 0 l.text) × (l.number ≤ max_duration)

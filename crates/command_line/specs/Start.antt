@@ -1,0 +1,16 @@
+-- From when on a schedule is explained, by the text of an option.
+use Rattle.std.specs.Prelude.{ℕ, List, codes, if◌then◌else◌, Result, Ok, Err}
+use Rattle.std.specs.Str.{bytes_eq}
+use Rattle.ocpp_scalars.specs.declared.instant_text.InstantFault.{InstantFault}
+use Rattle.ocpp_scalars.specs.ByCases.InstantText.{instant_of}
+use Rattle.command_line.specs.declared.start.Start.{Start}
+use Rattle.command_line.specs.declared.start.Start.TheVariants.{Now, At}
+
+-- from an instant on, or why there is none
+abbrev pub at_instant : Result ℕ InstantFault → Result Start InstantFault
+at_instant (Ok instant) = Ok (At instant)
+at_instant (Err fault) = Err fault
+
+-- from the present moment on by the word `now`, and else from an instant on
+abbrev pub start_of : List ℕ → Result Start InstantFault
+start_of text = if bytes_eq text (codes "now") then Ok Now else at_instant (instant_of text)

@@ -1,0 +1,127 @@
+//! How long the schedule is that is explained, by the text of an option.
+
+ghost use Rattle.std.specs.Prelude.{◌≡◌, ◌≤◌, ◌*◌, IfSome, option_map};
+ghost use Rattle.meaning.specs.Limits.{max_duration};
+ghost use Rattle.command_line.specs.Duration.{counted, duration_of, in_range, number_after, number_at, part_at, period, time_of_day, unit_of};
+
+use meaning::MAX_DURATION;
+
+const MINUTE: u64 = 60;
+
+const HOUR: u64 = 3_600;
+
+const DAY: u64 = 86_400;
+
+/// The seconds of a duration, from 1 to 2,678,400. Its text is a whole number of seconds, such as
+/// `3600`; one with a unit, `90m`, `12h` or `2d`; or one of ISO 8601, `PT1H30M` or `P1DT12H`.
+#[tactic(auto, unfolding(crate::specs::Duration::duration_of))]
+pub fn read_duration(text: &str) -> Option<u32>
+    ensures { result ≡ duration_of text.now }
+{
+    let seconds = match text.as_bytes() {
+        [b'P', rest @ ..] => period(rest)?,
+        [b'+', rest @ ..] => counted(rest)?,
+        rest => counted(rest)?,
+    };
+    in_range(seconds)
+}
+
+fn in_range(seconds: u64) -> Option<u32>
+    ensures { result ≡ in_range seconds }
+{
+    if seconds < 1 || seconds > MAX_DURATION as u64 {
+        return None;
+    }
+    Some(seconds as u32)
+}
+
+/// The seconds of a whole number and its unit.
+fn counted(text: &[u8]) -> Option<u64>
+    ensures { result ≡ counted text.now }
+{
+    let (number, unit) = split_number(text)?;
+    let seconds = unit_of(unit)?;
+    Some(number * seconds)
+}
+
+/// The seconds of a unit: none is one of seconds.
+fn unit_of(unit: &[u8]) -> Option<u64>
+    ensures value { result ≡ unit_of unit.now }
+    ensures bound { IfSome result (λ seconds. seconds ≤ 86_400) }
+{
+    match unit {
+        [] | [b's'] => Some(1),
+        [b'm'] => Some(MINUTE),
+        [b'h'] => Some(HOUR),
+        [b'd'] => Some(DAY),
+        _ => None,
+    }
+}
+
+/// The seconds of what follows the P: days, and a time of day if there is a T.
+fn period(text: &[u8]) -> Option<u64>
+    ensures { result ≡ period text.now }
+{
+    let (days, rest) = split_part(b'D', DAY, text);
+    match rest {
+        [] => Some(days),
+        [b'T', time @ ..] => Some(days + time_of_day(time)?),
+        _ => None,
+    }
+}
+
+/// The seconds of hours, minutes and seconds, of which one at least is there.
+fn time_of_day(text: &[u8]) -> Option<u64>
+    ensures value { result ≡ time_of_day text.now }
+    ensures bound { IfSome result (λ seconds. seconds ≤ 3_661 * max_duration) }
+{
+    let (hours, minutes) = split_part(b'H', HOUR, text);
+    let (minutes, seconds) = split_part(b'M', MINUTE, minutes);
+    let (seconds, rest) = split_part(b'S', 1, seconds);
+    if text.is_empty() || !rest.is_empty() {
+        return None;
+    }
+    Some(hours + minutes + seconds)
+}
+
+/// The seconds of the number that a text begins with, and what follows its unit. Without that unit
+/// they are none, and all of the text follows.
+fn split_part(unit: u8, seconds: u64, text: &[u8]) -> (u64, &[u8])
+    requires { seconds ≤ 86_400 }
+    ensures value { (result.0, result.1.now) ≡ part_at unit seconds text.now }
+    ensures bound { result.0 ≤ seconds * max_duration }
+{
+    match split_number(text) {
+        Some((number, [first, rest @ ..])) if *first == unit => (number * seconds, rest),
+        _ => (0, text),
+    }
+}
+
+/// The number that a text begins with, up to the longest duration, and what follows its digits.
+fn split_number(text: &[u8]) -> Option<(u64, &[u8])>
+    ensures value { option_map (λ x. (x.0, x.1.now)) result ≡ number_at text.now }
+    ensures bound { IfSome result (λ x. x.0 ≤ max_duration) }
+{
+    match text {
+        [b'0'..=b'9', ..] => split_digits(text),
+        _ => None,
+    }
+}
+
+/// The same of a text that begins with a digit.
+fn split_digits(text: &[u8]) -> Option<(u64, &[u8])>
+    ensures value { option_map (λ x. (x.0, x.1.now)) result ≡ number_after 0 text.now }
+    ensures bound { IfSome result (λ x. x.0 ≤ max_duration) }
+{
+    let mut number = 0u64;
+    for (count, byte) in text.iter().enumerate() {
+        if !byte.is_ascii_digit() {
+            return Some((number, text.split_at(count).1));
+        }
+        number = number * 10 + (*byte - b'0') as u64;
+        if number > MAX_DURATION as u64 {
+            return None;
+        }
+    }
+    Some((number, &[]))
+}

@@ -1,0 +1,30 @@
+//! From when on a schedule is explained.
+
+ghost use Rattle.std.specs.Prelude.{◌≡◌};
+ghost use Rattle.command_line.specs.Start.{start_of};
+
+use ocpp_scalars::{Instant, InstantFault, read_instant};
+
+/// From when on a schedule is explained.
+#[derive(Clone, Copy, Debug, PartialEq, Eq)]
+pub enum Start {
+    /// From the present moment on.
+    Now,
+    /// From this instant on.
+    At(Instant),
+}
+
+impl Start {
+    /// What a text says: `now`, or an instant as `read_instant` has it, with its faults.
+    pub fn of(text: &str) -> Result<Start, InstantFault>
+        ensures { result ≡ start_of text.now }
+    {
+        if text == "now" {
+            return Ok(Start::Now);
+        }
+        match read_instant(text) {
+            Ok(instant) => Ok(Start::At(instant)),
+            Err(fault) => Err(fault),
+        }
+    }
+}
