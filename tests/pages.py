@@ -2,10 +2,12 @@
 """pages.py PROGRAM [write]: runs the commands of the pages on the built program, and prints 'N passed, M failed'.
 
 A command is a code block that calls `packaging/out/central`, or `curl` on what it serves. A block of `text` that follows it is
-what it has to print, but for moments, which are those of the clock. `run` and `point`, in the last line of a block, run beside the
-commands behind them, up to the end of the page: `run` has to print what it has and where it listens, in a folder of its own, and
-`point` a line. With `write` the blocks of text are written anew, to be read before they are kept.
+what it has to print, but for moments, which are those of the clock, and the length of a journal. `run` and `point`, in the last
+line of a block, run beside the commands behind them, up to the end of the page: `run` has to print what it has and where it
+listens, in a folder of its own, and `point` what it sends and gets. A `run` at the address of another one takes its place. With
+`write` the blocks of text are written anew, to be read before they are kept. The cookbook needs `jq`.
 """
+import datetime
 import os
 import re
 import select
@@ -15,20 +17,26 @@ import socket
 import subprocess
 import sys
 import tempfile
-import textwrap
 import time
 
 TOP = os.path.dirname(os.path.dirname(os.path.realpath(__file__)))
 PAGES = (
-    "README.md", "examples/README.md", "docs/RUNNING.md", "docs/COMMANDS.md", "docs/PROTOCOL.md",
+    "README.md", "examples/README.md", "examples/cookbook/README.md", "docs/RUNNING.md", "docs/COMMANDS.md", "docs/PROTOCOL.md",
     "packaging/package/README.md",
 )
 PROGRAM = re.compile(r"\bpackaging/out/central (?=\w)")
 COMMAND = re.compile(rf"{PROGRAM.pattern}|^ *curl ")
 BESIDE = re.compile(r"\bpackaging/out/central (run|point) ")
 DATA = re.compile(r"/tmp/central-data\b")
-PORT = re.compile(r"(?<=127\.0\.0\.1):90\d\d\b")
+PORT = re.compile(r"(?<=127\.0\.0\.1):9[01]\d\d\b")
+LISTEN = re.compile(r"--listen (\S+)")
 MOMENTS = re.compile(r'"(scheduleStart|currentTime|timestamp)":"[^"]*"')
+# On standard error. A point that runs beside may have got its next call by then, or not.
+JOURNAL_LENGTH = re.compile(r"^central: journal: \d+ lines, the last one of \S+\n?", re.MULTILINE)
+INSTANT = re.compile(r"\b(\d{4}-\d\d-\d\d)[ T](\d\d:\d\d)(?::\d\d)?Z?")
+# What the clock says in the pages. An instant within a day of it, or of the clock, is the clock's.
+PAGE_CLOCK = datetime.datetime(2026, 11, 30, 18, tzinfo=datetime.timezone.utc)
+NEAR = datetime.timedelta(hours=26)
 FENCE = re.compile(r"^( *)```(\w*)$")
 PATIENCE = 60
 # Those of the program, and that of `curl` where the time is over that it was told.
@@ -58,7 +66,24 @@ def commands_of(lines):
 
 
 def without_moments(text):
-    return MOMENTS.sub(r'"\1":"NOW"', text)
+    """A text without the clock's instants, nor the blanks by which a table follows their length."""
+    clocks = (PAGE_CLOCK, datetime.datetime.now(datetime.timezone.utc))
+
+    def shown(found):
+        instant = datetime.datetime.fromisoformat(f"{found[1]}T{found[2]}+00:00")
+        return "NOW" if any(abs(instant - clock) < NEAR for clock in clocks) else found[0]
+
+    plain = MOMENTS.sub(r'"\1":"NOW"', text)
+    changed = INSTANT.sub(shown, plain)
+    return plain if changed == plain else re.sub("  +", "  ", changed)
+
+
+def text_at(lines, place):
+    """The text that a command has to print, and how far it is indented; None where the page has none."""
+    if place is None:
+        return None, ""
+    indent = FENCE.match(lines[place[0] - 1]).group(1)
+    return "\n".join(line.removeprefix(indent) for line in lines[slice(*place)]), indent
 
 
 def free_port():
@@ -83,9 +108,11 @@ def end(process):
     process.communicate()
 
 
-def began(process, name):
-    """The problems of a command that goes on: what it prints first."""
-    wanted = ("resumed ", "listening ") if name == "run" else ("",)
+def began(process, name, text, data):
+    """The problems of a command that goes on: what it prints first, as the page has it but for the port."""
+    wanted = ("resumed ", "listening ") if name == "run" else ("sent ", "got ")
+    if text is not None:
+        wanted = [re.sub("^(listening ).*", r"\1", line) for line in text.replace("/tmp/central-data", data).split("\n")]
     said, over = b"", time.monotonic() + PATIENCE
     while said.count(b"\n") < len(wanted) and select.select([process.stdout], [], [], max(0, over - time.monotonic()))[0]:
         part = os.read(process.stdout.fileno(), 4_096)
@@ -102,32 +129,36 @@ def run_page(page, program, is_written, data):
     path = os.path.join(TOP, page)
     with open(path, encoding="utf-8") as file:
         lines = file.read().split("\n")
-    ports, beside, changes = {}, [], []
+    ports, beside, changes = {}, {}, []
     try:
         for first, command, place in commands_of(lines):
             name = f"{page}:{first + 1}"
             command = PORT.sub(lambda found: f":{ports.setdefault(found[0], free_port())}", command)
             command = DATA.sub(data, command)
+            wanted, indent = text_at(lines, place)
+            found = BESIDE.search(command.rstrip().rsplit("\n", 1)[-1])
+            listens = LISTEN.search(command) if found else None
+            if listens and listens[1] in beside:
+                end(beside.pop(listens[1]))
             run = start(PROGRAM.sub(lambda _: shlex.quote(program) + " ", command))
-            if found := BESIDE.search(command.rstrip().rsplit("\n", 1)[-1]):
-                beside.append(run)
-                yield name, began(run, found[1])
+            if found:
+                beside[listens[1] if listens else name] = run
+                yield name, began(run, found[1], wanted, data)
                 continue
             try:
-                printed = run.communicate(timeout=PATIENCE)[0].rstrip("\n")
+                printed = JOURNAL_LENGTH.sub("", run.communicate(timeout=PATIENCE)[0]).rstrip("\n")
+                printed = printed.replace(data, "/tmp/central-data")
             except subprocess.TimeoutExpired:
                 end(run)
                 yield name, [f"it doesn't end within {PATIENCE} seconds"]
                 continue
-            wanted = textwrap.dedent("\n".join(lines[slice(*place)])) if place else None
             differs = place is not None and without_moments(printed) != without_moments(wanted)
             if differs and is_written:
-                indent = FENCE.match(lines[place[0] - 1]).group(1)
                 changes.append((place, [(indent + line).rstrip() for line in printed.split("\n")]))
             fault = [f"status {run.returncode}"] if run.returncode not in STATUSES else []
             yield name, [*fault, *([f"it prints\n{printed}"] if differs and not is_written else [])]
     finally:
-        for process in beside:
+        for process in beside.values():
             end(process)
     if changes:
         for (begin, behind), text in reversed(changes):
