@@ -1,0 +1,20 @@
+-- How a run of calls goes on, and what a crash may leave of a first part.
+use Rattle.std.proofs.Common.{◌≡◌, ℕ, Bool, true, false, List, [], ◌∷◌, ◌++◌, take, drop, refl, sym, ap, take-append-drop}
+use Rattle.std.specs.List.{AllByRecursion}
+use Rattle.append_log.specs.Contents.{Contents, MayLeave, IsFirstPart}
+use Rattle.append_log.specs.History.{History, changed, LeavesOnly, AtEachMoment}
+
+-- before the first call
+pub at_start : (P : List ℕ → Type 0) (history : History) → LeavesOnly P history.now → AtEachMoment P history history
+at_start P history here = record { between = []; goes_on = refl; each = (here, tt) }
+
+-- one call more
+pub one_more : (P : List ℕ → Type 0) (old mid : History) (next : Contents) → AtEachMoment P old mid → LeavesOnly P next → AtEachMoment P old (changed mid next)
+one_more P old mid next so_far here = record { between = next ∷ so_far.between; goes_on = ap (λ l. next ∷ l) so_far.goes_on; each = (here, so_far.each) }
+
+each_weaker : (P Q : List ℕ → Type 0) → ((left : List ℕ) → P left → Q left) → (states : List Contents) → AllByRecursion (LeavesOnly P) states → AllByRecursion (LeavesOnly Q) states
+each_weaker P Q weaker [] each = tt
+each_weaker P Q weaker (state ∷ states) each = (λ left may. weaker left (each.0 left may), each_weaker P Q weaker states each.1)
+
+pub weaker : (P Q : List ℕ → Type 0) → ((left : List ℕ) → P left → Q left) → (old new : History) → AtEachMoment P old new → AtEachMoment Q old new
+weaker P Q implies old new run = record { between = run.between; goes_on = run.goes_on; each = each_weaker P Q implies (run.between ++ old.now ∷ []) run.each }

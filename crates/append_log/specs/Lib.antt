@@ -1,0 +1,6 @@
+pub mod Contents
+pub mod History
+pub mod Lines
+pub mod AppendedFile
+pub mod Log
+pub mod Writing

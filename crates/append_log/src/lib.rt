@@ -1,0 +1,13 @@
+//! A log: bytes that are appended to a file and synced before they are acknowledged. What a file
+//! does, and what a crash leaves of it, stands in `specs/`.
+#![tactic(auto)]
+
+mod appended_file;
+mod log;
+mod log_fault;
+mod write_fault;
+
+pub use appended_file::AppendedFile;
+pub use log::Log;
+pub use log_fault::LogFault;
+pub use write_fault::WriteFault;

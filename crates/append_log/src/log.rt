@@ -1,0 +1,153 @@
+//! Bytes that are added, written and synced.
+
+ghost use Rattle.std.specs.Prelude.{◌≡◌, ◌≤◌, true, false, [], length, take, OnOk, OnErr, IsErrOf, ◌↔◌};
+ghost use Rattle.append_log.specs.AppendedFile.{after_sync};
+ghost use Rattle.append_log.specs.Contents.{MayLeave};
+ghost use Rattle.append_log.specs.History.{AtEachMoment};
+ghost use Rattle.append_log.specs.Writing.{with_first, whether_failed};
+
+use crate::{AppendedFile, LogFault, WriteFault};
+use std::alloc::{AllocError, Global};
+
+/// A buffer that grew longer isn't kept for the next bytes.
+const LONGEST_KEPT: usize = 1_048_576;
+
+/// A log in a file: what was acknowledged is on the disk, and what was added since is pending.
+#[derive(Drop)]
+pub struct Log<F: AppendedFile> {
+    file: F,
+    pending: Vec<u8>,
+    /// So many of the pending bytes were appended to the file.
+    in_file: usize,
+    has_failed: bool,
+    ghost within: { in_file ≤ length pending.items },
+    ghost failed: { has_failed ≡ (F.AppendedFile.history file).now.has_failed },
+    ghost in_step: { has_failed ≡ false
+        → (F.AppendedFile.history file).now.appended ≡ take in_file pending.items },
+}
+
+impl<F: AppendedFile> Log<F> {
+    ghost use Rattle.append_log.specs.Log.{contents, history, after_trial, with_added};
+
+    /// A log that goes on behind what the file has, all of which is on the disk.
+    pub fn new(alloc: Global, file: F) -> Log<F>
+        requires synced { (F.AppendedFile.history file).now.appended ≡ [] }
+        requires usable { (F.AppendedFile.history file).now.has_failed ≡ false }
+        ensures contents { contents result ≡ (F.AppendedFile.history file).now }
+        ensures history { history result ≡ F.AppendedFile.history file }
+    {
+        Log {
+            file,
+            pending: Vec::new(alloc),
+            in_file: 0,
+            has_failed: false,
+        }
+    }
+
+    /// The file, which only the log appends to.
+    pub fn file(&self) -> &F
+        ensures { result.now ≡ self.now.file }
+    {
+        &self.file
+    }
+
+    /// Adds bytes to those that are pending.
+    pub fn add(&mut self, bytes: &[u8]) -> Result<(), AllocError>
+        ensures ok { OnOk result (contents self.new ≡ with_added (contents self.old) bytes.now) }
+        ensures err { OnErr result (contents self.new ≡ contents self.old) }
+        ensures history { history self.new ≡ history self.old }
+    {
+        self.pending.extend_from_slice(bytes)
+    }
+
+    /// Writes what is pending, and syncs it: at `Ok` all of it is acknowledged.
+    pub fn write_and_sync(&mut self) -> Result<(), LogFault>
+        ensures acknowledged { contents self.new ≡ after_trial (contents self.old) result }
+        // A crash at any moment of the call leaves what was acknowledged before, and behind it a
+        // first part of what is pending, or any bytes if the call failed.
+        ensures any_moment { AtEachMoment (MayLeave (record (contents self.old) {
+                has_failed = (contents self.new).has_failed }))
+            (history self.old) (history self.new) }
+        ensures failed_before { IsErrOf result LogFault.FailedBefore
+            ↔ ((contents self.old).has_failed ≡ true) }
+        ensures untouched { IsErrOf result LogFault.FailedBefore
+            → history self.new ≡ history self.old }
+    {
+        if self.has_failed {
+            return Err(LogFault::FailedBefore);
+        }
+        let pending = self.pending.as_slice();
+        match write_then_sync(&mut self.file, pending, &mut self.in_file) {
+            Ok(()) => {
+                self.in_file = 0;
+                clear(&mut self.pending);
+                Ok(())
+            }
+            Err(WriteFault::Full(error)) => Err(LogFault::Full(error)),
+            Err(WriteFault::Failed(error)) => {
+                self.has_failed = true;
+                self.file.cut_unsynced();
+                Err(LogFault::Failed(error))
+            }
+        }
+    }
+}
+
+/// Empties a buffer.
+fn clear(bytes: &mut Vec<u8>)
+    ensures { bytes.new.items ≡ [] }
+{
+    if bytes.capacity() > LONGEST_KEPT {
+        *bytes = Vec::new(*bytes.allocator());
+    } else {
+        bytes.clear();
+    }
+}
+
+/// Appends the bytes that the file hasn't, of which it has so many, and syncs it.
+fn write_then_sync<F: AppendedFile>(
+    file: &mut F,
+    bytes: &[u8],
+    in_file: &mut usize,
+) -> Result<(), WriteFault>
+    requires within { in_file.old ≤ length bytes.now }
+    requires begun { (F.AppendedFile.history file.old).now
+        ≡ with_first (F.AppendedFile.history file.old).now bytes.now in_file.old false }
+    ensures within { in_file.new ≤ length bytes.now }
+    ensures ok { OnOk result ((F.AppendedFile.history file.new).now
+        ≡ after_sync (with_first (F.AppendedFile.history file.old).now bytes.now (length bytes.now) false) true) }
+    ensures err { OnErr result ((F.AppendedFile.history file.new).now
+        ≡ with_first (F.AppendedFile.history file.old).now bytes.now in_file.new (whether_failed result)) }
+    ensures any_moment { AtEachMoment
+        (MayLeave (with_first (F.AppendedFile.history file.old).now bytes.now (length bytes.now) (whether_failed result)))
+        (F.AppendedFile.history file.old) (F.AppendedFile.history file.new) }
+{
+    write_rest(file, bytes, in_file)?;
+    match file.sync() {
+        Ok(()) => Ok(()),
+        Err(error) => Err(WriteFault::Failed(error)),
+    }
+}
+
+/// Appends the bytes that the file hasn't, of which it has so many.
+fn write_rest<F: AppendedFile>(
+    file: &mut F,
+    bytes: &[u8],
+    in_file: &mut usize,
+) -> Result<(), WriteFault>
+    requires within { in_file.old ≤ length bytes.now }
+    requires begun { (F.AppendedFile.history file.old).now
+        ≡ with_first (F.AppendedFile.history file.old).now bytes.now in_file.old false }
+    ensures within { in_file.new ≤ length bytes.now }
+    ensures all { OnOk result (in_file.new ≡ length bytes.now) }
+    ensures now { (F.AppendedFile.history file.new).now
+        ≡ with_first (F.AppendedFile.history file.old).now bytes.now in_file.new (whether_failed result) }
+    ensures any_moment { AtEachMoment
+        (MayLeave (with_first (F.AppendedFile.history file.old).now bytes.now (length bytes.now) (whether_failed result)))
+        (F.AppendedFile.history file.old) (F.AppendedFile.history file.new) }
+{
+    while *in_file < bytes.len() {
+        *in_file += file.append(&bytes[*in_file..])?;
+    }
+    Ok(())
+}
