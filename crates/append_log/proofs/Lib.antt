@@ -1,2 +1,4 @@
 mod Moments
 mod Writes
+mod Lines
+mod Cuts

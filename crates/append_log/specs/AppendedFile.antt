@@ -1,6 +1,6 @@
 -- What the calls of an appended file do to what it has.
-use Rattle.std.specs.Prelude.{ℕ, ◌≡◌, ◌<◌, ◌≤◌, Bool, true, false, List, [], ◌++◌, length, take, Result, Ok, Err}
-use Rattle.append_log.specs.Contents.{Contents}
+use Rattle.std.specs.Prelude.{ℕ, ◌≡◌, ◌<◌, ◌≤◌, Bool, true, false, List, [], ◌++◌, length, take, drop, Result, Ok, Err}
+use Rattle.append_log.specs.Contents.{Contents, only_synced}
 use Rattle.append_log.specs.declared.write_fault.WriteFault.{WriteFault}
 use Rattle.append_log.specs.declared.write_fault.WriteFault.TheVariants.{Full, Failed}
 
@@ -20,5 +20,18 @@ TakesSome bytes count = (count ≤ length bytes) × (0 < length bytes → 0 < co
 
 -- a sync, and whether it was made
 abbrev pub after_sync : Contents → Bool → Contents
-after_sync contents true = record { synced = contents.synced ++ contents.appended; appended = []; has_failed = false }
+after_sync contents true = only_synced (contents.synced ++ contents.appended)
 after_sync contents false = failed contents
+
+-- what a read returns, as long as no call failed
+abbrev pub file_of : Contents → List ℕ
+file_of contents = contents.synced ++ contents.appended
+
+-- A cut to a length, before it is synced: what was to be cut off may stand there still, or a part of it.
+abbrev pub being_cut : Contents → ℕ → Contents
+being_cut contents end = record { synced = take end (file_of contents); appended = drop end (file_of contents); has_failed = false }
+
+-- a cut that was synced, and whether it was made
+abbrev pub after_cut : Contents → ℕ → Bool → Contents
+after_cut contents end true = only_synced (take end (file_of contents))
+after_cut contents end false = record { synced = take end contents.synced; appended = []; has_failed = true }

@@ -1,5 +1,5 @@
 -- What a file has that is only appended to, and what a crash leaves of it.
-use Rattle.std.specs.Prelude.{ℕ, ◌≡◌, Bool, false, List, ◌++◌}
+use Rattle.std.specs.Prelude.{ℕ, ◌≡◌, Bool, false, List, [], ◌++◌}
 
 pub record Contents : Type 0 where
   -- what is on the disk
@@ -8,6 +8,10 @@ pub record Contents : Type 0 where
   pub appended : List ℕ
   -- whether a call failed since: then nothing is known but what is on the disk
   pub has_failed : Bool
+
+-- all of it is on the disk
+abbrev pub only_synced : List ℕ → Contents
+only_synced bytes = record { synced = bytes; appended = []; has_failed = false }
 
 -- a first part of these bytes: none of them, some, or all
 abbrev pub IsFirstPart : List ℕ → List ℕ → Type 0

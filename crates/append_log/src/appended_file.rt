@@ -1,7 +1,7 @@
 //! A file that is only appended to, as a log sees it.
 
-ghost use Rattle.std.specs.Prelude.{◌≡◌, true, false, is_ok, IfOk};
-ghost use Rattle.append_log.specs.AppendedFile.{TakesSome, after_append, after_sync};
+ghost use Rattle.std.specs.Prelude.{◌≡◌, ◌≤◌, true, false, length, is_ok, IfOk};
+ghost use Rattle.append_log.specs.AppendedFile.{TakesSome, after_append, after_cut, after_sync, being_cut, file_of};
 ghost use Rattle.append_log.specs.History.{History, changed};
 
 use crate::WriteFault;
@@ -26,6 +26,14 @@ pub trait AppendedFile {
         requires { (history self.old).now.has_failed ≡ false }
         ensures { history self.new
             ≡ changed (history self.old) (after_sync (history self.old).now (is_ok result)) };
+
+    /// Cuts the file to a length, and puts that on the disk.
+    fn cut(&mut self, end: u64) -> io::Result<()>
+        requires usable { (history self.old).now.has_failed ≡ false }
+        requires within { end ≤ length (file_of (history self.old).now) }
+        ensures { history self.new
+            ≡ changed (changed (history self.old) (being_cut (history self.old).now end))
+                (after_cut (history self.old).now end (is_ok result)) };
 
     /// Cuts off what isn't on the disk, if the system does it: a start isn't to read what may stand
     /// in the system's memory alone. A crash leaves what it may have left before.

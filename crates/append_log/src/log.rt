@@ -1,13 +1,15 @@
 //! Bytes that are added, written and synced.
 
-ghost use Rattle.std.specs.Prelude.{◌≡◌, ◌≤◌, true, false, [], length, take, OnOk, OnErr, IsErrOf, ◌↔◌};
-ghost use Rattle.append_log.specs.AppendedFile.{after_sync};
-ghost use Rattle.append_log.specs.Contents.{MayLeave};
+ghost use Rattle.std.specs.Prelude.{◌≡◌, ◌≤◌, true, false, [], length, take, IfOk, IfErr, OnOk, OnErr, IsErrOf, ◌↔◌};
+ghost use Rattle.append_log.specs.AppendedFile.{after_sync, file_of};
+ghost use Rattle.append_log.specs.Contents.{MayLeave, only_synced};
 ghost use Rattle.append_log.specs.History.{AtEachMoment};
+ghost use Rattle.append_log.specs.Lines.{HasLinesBetween, HasLinesOf, whole_lines};
 ghost use Rattle.append_log.specs.Writing.{with_first, whether_failed};
 
 use crate::{AppendedFile, LogFault, WriteFault};
 use std::alloc::{AllocError, Global};
+use std::io;
 
 /// A buffer that grew longer isn't kept for the next bytes.
 const LONGEST_KEPT: usize = 1_048_576;
@@ -29,18 +31,31 @@ pub struct Log<F: AppendedFile> {
 impl<F: AppendedFile> Log<F> {
     ghost use Rattle.append_log.specs.Log.{contents, history, after_trial, with_added};
 
-    /// A log that goes on behind what the file has, all of which is on the disk.
-    pub fn new(alloc: Global, file: F) -> Log<F>
-        requires synced { (F.AppendedFile.history file).now.appended ≡ [] }
+    /// Opens a file whose whole lines have so many bytes: it is cut behind them, and they are on the
+    /// disk. An `Err` hands the file back.
+    pub fn open(alloc: Global, file: F, end: u64) -> Result<Log<F>, (io::Error, F)>
         requires usable { (F.AppendedFile.history file).now.has_failed ≡ false }
-        ensures contents { contents result ≡ (F.AppendedFile.history file).now }
-        ensures history { history result ≡ F.AppendedFile.history file }
+        requires end { end ≡ length (whole_lines (file_of (F.AppendedFile.history file).now)) }
+        ensures acknowledged { IfOk result (λ log. contents log
+            ≡ only_synced (whole_lines (file_of (F.AppendedFile.history file).now))) }
+        // A crash at any moment of the call leaves the lines that were on the disk, and no others
+        // than the file had.
+        ensures any_moment { IfOk result (λ log. AtEachMoment
+            (HasLinesBetween (F.AppendedFile.history file).now.synced (file_of (F.AppendedFile.history file).now))
+            (F.AppendedFile.history file) (history log)) }
+        ensures any_moment_err { IfErr result (λ error. AtEachMoment
+            (HasLinesOf (F.AppendedFile.history file).now.synced)
+            (F.AppendedFile.history file) (F.AppendedFile.history error.1)) }
     {
-        Log {
-            file,
-            pending: Vec::new(alloc),
-            in_file: 0,
-            has_failed: false,
+        let mut file = file;
+        match file.cut(end) {
+            Ok(()) => Ok(Log {
+                file,
+                pending: Vec::new(alloc),
+                in_file: 0,
+                has_failed: false,
+            }),
+            Err(error) => Err((error, file)),
         }
     }
 

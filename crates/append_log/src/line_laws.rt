@@ -1,0 +1,20 @@
+//! What is recovered of lines.
+
+ghost use Rattle.std.specs.Prelude.{ℕ, ◌≡◌, ◌++◌, List, false, take};
+ghost use Rattle.std.specs.List.{AllByRecursion};
+ghost use Rattle.append_log.specs.Contents.{Contents, MayLeave, IsFirstPart};
+ghost use Rattle.append_log.specs.Lines.{HasNoLineFeed, text_of, whole_lines};
+
+/// A crash leaves all lines that were acknowledged, and behind them, as long as no call failed, the
+/// first of those that are pending.
+pub fn lines_are_recovered()
+    ensures acknowledged { (contents : Contents) (lines : List (List ℕ)) (left : List ℕ)
+        → contents.synced ≡ text_of lines → MayLeave contents left
+        → IsFirstPart (text_of lines) (whole_lines left) }
+    ensures pending { (contents : Contents) (lines pending : List (List ℕ)) (left : List ℕ)
+        → contents.synced ≡ text_of lines → contents.appended ≡ text_of pending
+        → contents.has_failed ≡ false → AllByRecursion HasNoLineFeed pending
+        → MayLeave contents left
+        → (count : ℕ) × (whole_lines left ≡ text_of lines ++ text_of (take count pending)) }
+{
+}
