@@ -1,9 +1,9 @@
 -- What a crash leaves while a file is cut behind its whole lines.
 use Rattle.std.proofs.Common.{◌≡◌, ℕ, Bool, true, false, List, [], ◌∷◌, ◌++◌, length, ◌≤◌, take, drop, refl, sym, ◌∙◌, ap, subst, arith, append_assoc, length-append, take-append-drop}
 use Rattle.std.proofs.lemmas.List.{append-nil}
-use Rattle.append_log.specs.Contents.{Contents, MayLeave, IsFirstPart, only_synced}
+use Rattle.append_log.specs.Contents.{Contents, MayLeave, IsFirstPart, file_of, only_synced}
 use Rattle.append_log.specs.History.{History, changed, LeavesOnly, AtEachMoment}
-use Rattle.append_log.specs.AppendedFile.{file_of, being_cut, after_cut}
+use Rattle.append_log.specs.AppendedFile.{being_cut, uncut, after_cut}
 use Rattle.append_log.specs.Lines.{whole_lines, HasLinesBetween, HasLinesOf}
 use Rattle.append_log.proofs.Moments.{at_start, one_more, weaker}
 use Rattle.append_log.proofs.Lines.{part_self, part_of_part, lines_of_part, lines_again, lines_are_part, part_of_cut, take_lines}
@@ -40,7 +40,7 @@ module _ (contents : Contents) (usable : contents.has_failed ≡ false) (end : �
         no_others = lines_of_part left file part;
       }
 
-  leaves_being_cut : LeavesOnly (HasLinesBetween contents.synced file) (being_cut contents end)
+  leaves_being_cut : LeavesOnly (HasLinesBetween contents.synced file) (being_cut end contents)
   leaves_being_cut left may =
       let part = may.first_part refl in
       cut_leaves left may.behind may.is (
@@ -48,7 +48,7 @@ module _ (contents : Contents) (usable : contents.has_failed ≡ false) (end : �
         sym (take-append-drop end file) ∙ ap (λ (l : List ℕ). take end file ++ l) part.1 ∙ sym (append_assoc (take end file) may.behind part.0) ∙ ap (λ (l : List ℕ). l ++ part.0) (sym may.is),
       )
 
-  leaves_cut : LeavesOnly (HasLinesBetween contents.synced file) (after_cut contents end true)
+  leaves_cut : LeavesOnly (HasLinesBetween contents.synced file) (only_synced (take end file))
   leaves_cut left may = leaves_being_cut left (record { behind = may.behind; is = may.is; first_part = λ _. still may.behind (may.first_part refl) })
     where
       still : (behind : List ℕ) → IsFirstPart behind [] → IsFirstPart behind (drop end file)
@@ -56,7 +56,7 @@ module _ (contents : Contents) (usable : contents.has_failed ≡ false) (end : �
       still (byte ∷ behind) none = absurd (cc none.1)
 
   -- what was on the disk of the whole lines is in front of the cut
-  leaves_failed : LeavesOnly (HasLinesOf contents.synced) (after_cut contents end false)
+  leaves_failed : LeavesOnly (HasLinesOf contents.synced) (uncut end contents)
   leaves_failed left may =
       let lines = whole_lines contents.synced in
       let behind = lines_are_part contents.synced in
@@ -67,7 +67,7 @@ module _ (contents : Contents) (usable : contents.has_failed ≡ false) (end : �
 
 -- the two moments of a cut
 pub cuts : (old new : History) (end : ℕ) → old.now.has_failed ≡ false → end ≡ length (whole_lines (file_of old.now))
-    → new ≡ changed (changed old (being_cut old.now end)) (after_cut old.now end true)
+    → new ≡ after_cut old end true
     → AtEachMoment (HasLinesBetween old.now.synced (file_of old.now)) old new
 cuts old new end usable end_is new_is =
     let P = HasLinesBetween old.now.synced (file_of old.now) in
@@ -76,7 +76,7 @@ cuts old new end usable end_is new_is =
     subst (λ (h : History). AtEachMoment P old h) (sym new_is) (one_more P old _ _ during (leaves_cut old.now usable end end_is))
 
 pub cut_fails : (old new : History) (end : ℕ) → old.now.has_failed ≡ false → end ≡ length (whole_lines (file_of old.now))
-    → new ≡ changed (changed old (being_cut old.now end)) (after_cut old.now end false)
+    → new ≡ after_cut old end false
     → AtEachMoment (HasLinesOf old.now.synced) old new
 cut_fails old new end usable end_is new_is =
     let P = HasLinesOf old.now.synced in
@@ -93,6 +93,6 @@ within_file file end is =
 
 -- a file that was cut
 pub cut_contents : (contents : Contents) (end : ℕ) (pending : List ℕ) → end ≡ length (whole_lines (file_of contents)) → pending ≡ []
-    → record (after_cut contents end true) { appended = pending } ≡ only_synced (whole_lines (file_of contents))
+    → record (only_synced (take end (file_of contents))) { appended = pending } ≡ only_synced (whole_lines (file_of contents))
 cut_contents contents end pending end_is none =
     λ i. record { synced = take_lines (file_of contents) end end_is i; appended = none i; has_failed = false }

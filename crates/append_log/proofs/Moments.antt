@@ -2,7 +2,7 @@
 use Rattle.std.proofs.Common.{◌≡◌, ℕ, Bool, true, false, List, [], ◌∷◌, ◌++◌, take, drop, refl, sym, ap, take-append-drop}
 use Rattle.std.specs.List.{AllByRecursion}
 use Rattle.append_log.specs.Contents.{Contents, MayLeave, IsFirstPart}
-use Rattle.append_log.specs.History.{History, changed, LeavesOnly, AtEachMoment}
+use Rattle.append_log.specs.History.{History, changed, refused, LeavesOnly, AtEachMoment}
 
 -- before the first call
 pub at_start : (P : List ℕ → Type 0) (history : History) → LeavesOnly P history.now → AtEachMoment P history history
@@ -11,6 +11,10 @@ at_start P history here = record { between = []; goes_on = refl; each = (here, t
 -- one call more
 pub one_more : (P : List ℕ → Type 0) (old mid : History) (next : Contents) → AtEachMoment P old mid → LeavesOnly P next → AtEachMoment P old (changed mid next)
 one_more P old mid next so_far here = record { between = next ∷ so_far.between; goes_on = ap (λ l. next ∷ l) so_far.goes_on; each = (here, so_far.each) }
+
+-- or one that there was no room for
+pub one_refused : (P : List ℕ → Type 0) (old mid : History) → AtEachMoment P old mid → LeavesOnly P mid.now → AtEachMoment P old (refused mid)
+one_refused P old mid so_far here = record { between = mid.now ∷ so_far.between; goes_on = ap (λ l. mid.now ∷ l) so_far.goes_on; each = (here, so_far.each) }
 
 each_weaker : (P Q : List ℕ → Type 0) → ((left : List ℕ) → P left → Q left) → (states : List Contents) → AllByRecursion (LeavesOnly P) states → AllByRecursion (LeavesOnly Q) states
 each_weaker P Q weaker [] each = tt

@@ -1,5 +1,5 @@
 -- What a file has and had, so that a clause can speak of a crash at any moment.
-use Rattle.std.specs.Prelude.{ℕ, ◌≡◌, List, [], ◌∷◌, ◌++◌}
+use Rattle.std.specs.Prelude.{ℕ, ◌≡◌, ◌+◌, List, [], ◌∷◌, ◌++◌}
 use Rattle.std.specs.List.{AllByRecursion}
 use Rattle.append_log.specs.Contents.{Contents, MayLeave}
 
@@ -7,10 +7,16 @@ pub record History : Type 0 where
   pub now : Contents
   -- what it had before, the newest first
   pub past : List Contents
+  -- how often there was no room
+  pub refusals : ℕ
 
 -- one more change
 abbrev pub changed : History → Contents → History
-changed history next = record { now = next; past = history.now ∷ history.past }
+changed history next = record history { now = next; past = history.now ∷ history.past }
+
+-- one more time that there was no room
+abbrev pub refused : History → History
+refused history = record (changed history history.now) { refusals = history.refusals + 1 }
 
 -- whatever a crash leaves of these contents has P
 abbrev pub LeavesOnly : (List ℕ → Type 0) → Contents → Type 0

@@ -1,7 +1,6 @@
 -- How far a log's writes come.
-use Rattle.std.specs.Prelude.{ℕ, ◌≡◌, Bool, true, false, List, ◌++◌, take, Result, Ok, Err}
+use Rattle.std.specs.Prelude.{ℕ, Bool, true, false, List, take, Result, Ok, Err}
 use Rattle.append_log.specs.Contents.{Contents}
-use Rattle.append_log.specs.AppendedFile.{after_sync}
 use Rattle.append_log.specs.declared.write_fault.WriteFault.{WriteFault}
 use Rattle.append_log.specs.declared.write_fault.WriteFault.TheVariants.{Full, Failed}
 
@@ -13,3 +12,8 @@ abbrev pub whether_failed : {T : Type 0} → Result T WriteFault → Bool
 whether_failed (Ok _) = false
 whether_failed (Err (Full _)) = false
 whether_failed (Err (Failed _)) = true
+
+abbrev pub WasFull : {T : Type 0} → Result T WriteFault → Type 0
+WasFull (Ok _) = ⊥
+WasFull (Err (Full _)) = Unit {0}
+WasFull (Err (Failed _)) = ⊥

@@ -1,8 +1,9 @@
 //! A file that is only appended to, as a log sees it.
 
 ghost use Rattle.std.specs.Prelude.{◌≡◌, ◌≤◌, true, false, length, is_ok, IfOk};
-ghost use Rattle.append_log.specs.AppendedFile.{TakesSome, after_append, after_cut, after_sync, being_cut, file_of};
-ghost use Rattle.append_log.specs.History.{History, changed};
+ghost use Rattle.append_log.specs.AppendedFile.{TakesSome, after_append, after_cut, after_sync};
+ghost use Rattle.append_log.specs.Contents.{file_of};
+ghost use Rattle.append_log.specs.History.{History};
 
 use crate::WriteFault;
 use std::io;
@@ -18,22 +19,18 @@ pub trait AppendedFile {
     fn append(&mut self, bytes: &[u8]) -> Result<usize, WriteFault>
         requires { (history self.old).now.has_failed ≡ false }
         ensures count { IfOk result (TakesSome bytes.now) }
-        ensures history { history self.new
-            ≡ changed (history self.old) (after_append (history self.old).now bytes.now result) };
+        ensures history { history self.new ≡ after_append (history self.old) bytes.now result };
 
     /// Puts all that was appended on the disk.
     fn sync(&mut self) -> io::Result<()>
         requires { (history self.old).now.has_failed ≡ false }
-        ensures { history self.new
-            ≡ changed (history self.old) (after_sync (history self.old).now (is_ok result)) };
+        ensures { history self.new ≡ after_sync (history self.old) (is_ok result) };
 
     /// Cuts the file to a length, and puts that on the disk.
     fn cut(&mut self, end: u64) -> io::Result<()>
         requires usable { (history self.old).now.has_failed ≡ false }
         requires within { end ≤ length (file_of (history self.old).now) }
-        ensures { history self.new
-            ≡ changed (changed (history self.old) (being_cut (history self.old).now end))
-                (after_cut (history self.old).now end (is_ok result)) };
+        ensures { history self.new ≡ after_cut (history self.old) end (is_ok result) };
 
     /// Cuts off what isn't on the disk, if the system does it: a start isn't to read what may stand
     /// in the system's memory alone. A crash leaves what it may have left before.

@@ -1,11 +1,10 @@
 //! Bytes that are added, written and synced.
 
-ghost use Rattle.std.specs.Prelude.{◌≡◌, ◌≤◌, true, false, [], length, take, IfOk, IfErr, OnOk, OnErr, IsErrOf, ◌↔◌};
-ghost use Rattle.append_log.specs.AppendedFile.{after_sync, file_of};
-ghost use Rattle.append_log.specs.Contents.{MayLeave, only_synced};
+ghost use Rattle.std.specs.Prelude.{◌≡◌, ◌<◌, ◌≤◌, true, false, [], length, take, IfOk, IfErr, OnOk, OnErr, IsErrOf, ◌↔◌};
+ghost use Rattle.append_log.specs.Contents.{MayLeave, file_of, only_synced, with_added};
 ghost use Rattle.append_log.specs.History.{AtEachMoment};
 ghost use Rattle.append_log.specs.Lines.{HasLinesBetween, HasLinesOf, whole_lines};
-ghost use Rattle.append_log.specs.Writing.{with_first, whether_failed};
+ghost use Rattle.append_log.specs.Writing.{WasFull, whether_failed, with_first};
 
 use crate::{AppendedFile, LogFault, WriteFault};
 use std::alloc::{AllocError, Global};
@@ -29,7 +28,7 @@ pub struct Log<F: AppendedFile> {
 }
 
 impl<F: AppendedFile> Log<F> {
-    ghost use Rattle.append_log.specs.Log.{contents, history, after_trial, with_added};
+    ghost use Rattle.append_log.specs.Log.{IsFull, after_trial, contents, history};
 
     /// Opens a file whose whole lines have so many bytes: it is cut behind them, and they are on the
     /// disk. An `Err` hands the file back.
@@ -83,6 +82,9 @@ impl<F: AppendedFile> Log<F> {
         ensures any_moment { AtEachMoment (MayLeave (record (contents self.old) {
                 has_failed = (contents self.new).has_failed }))
             (history self.old) (history self.new) }
+        // It says that there was no room only where the file said so.
+        ensures full { IsFull result
+            → (history self.old).refusals < (history self.new).refusals }
         ensures failed_before { IsErrOf result LogFault.FailedBefore
             ↔ ((contents self.old).has_failed ≡ true) }
         ensures untouched { IsErrOf result LogFault.FailedBefore
@@ -130,9 +132,11 @@ fn write_then_sync<F: AppendedFile>(
         ≡ with_first (F.AppendedFile.history file.old).now bytes.now in_file.old false }
     ensures within { in_file.new ≤ length bytes.now }
     ensures ok { OnOk result ((F.AppendedFile.history file.new).now
-        ≡ after_sync (with_first (F.AppendedFile.history file.old).now bytes.now (length bytes.now) false) true) }
+        ≡ only_synced (file_of (with_first (F.AppendedFile.history file.old).now bytes.now (length bytes.now) false))) }
     ensures err { OnErr result ((F.AppendedFile.history file.new).now
         ≡ with_first (F.AppendedFile.history file.old).now bytes.now in_file.new (whether_failed result)) }
+    ensures full { WasFull result → (F.AppendedFile.history file.old).refusals
+        < (F.AppendedFile.history file.new).refusals }
     ensures any_moment { AtEachMoment
         (MayLeave (with_first (F.AppendedFile.history file.old).now bytes.now (length bytes.now) (whether_failed result)))
         (F.AppendedFile.history file.old) (F.AppendedFile.history file.new) }
@@ -155,8 +159,12 @@ fn write_rest<F: AppendedFile>(
         ≡ with_first (F.AppendedFile.history file.old).now bytes.now in_file.old false }
     ensures within { in_file.new ≤ length bytes.now }
     ensures all { OnOk result (in_file.new ≡ length bytes.now) }
+    ensures refusals { OnOk result ((F.AppendedFile.history file.new).refusals
+        ≡ (F.AppendedFile.history file.old).refusals) }
     ensures now { (F.AppendedFile.history file.new).now
         ≡ with_first (F.AppendedFile.history file.old).now bytes.now in_file.new (whether_failed result) }
+    ensures full { WasFull result → (F.AppendedFile.history file.old).refusals
+        < (F.AppendedFile.history file.new).refusals }
     ensures any_moment { AtEachMoment
         (MayLeave (with_first (F.AppendedFile.history file.old).now bytes.now (length bytes.now) (whether_failed result)))
         (F.AppendedFile.history file.old) (F.AppendedFile.history file.new) }

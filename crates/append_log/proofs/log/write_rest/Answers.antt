@@ -7,7 +7,7 @@ use Rattle.append_log.specs.Contents.{Contents, MayLeave}
 use Rattle.append_log.specs.History.{History, AtEachMoment, LeavesOnly, changed}
 use Rattle.append_log.specs.Writing.{with_first, whether_failed}
 use Rattle.append_log.proofs.Moments.{at_start, one_more, weaker}
-use Rattle.append_log.proofs.Writes.{some_of_all, writes_on, fails}
+use Rattle.append_log.proofs.Writes.{some_of_all, wrote, fails}
 use Rattle.append_log.proofs.log.write_rest.Goals as goal
 
 pub loop-in_file-init : goal.loop-in_file-init
@@ -17,6 +17,7 @@ loop-in_file-init g c =
     let P = MayLeave (with_first was.now bytes (length bytes) false) in
     record {
       within = c.requires.within;
+      refusals = refl;
       now = c.requires.begun;
       moments = at_start P was (subst (LeavesOnly P) (sym c.requires.begun) (some_of_all was.now bytes c.args.in_file.now false));
     }
@@ -35,16 +36,17 @@ pub loop-in_file-preserved : goal.loop-in_file-preserved
 loop-in_file-preserved g c =
     let was = g.F.AppendedFile.history c.args.file.now in
     let mid = g.F.AppendedFile.history c.loop-in_file.file in
+    let new = g.F.AppendedFile.history c.append.new.self in
     let bytes = c.args.bytes.now in
     let done = c.loop-in_file.in_file in
-    let count = c.in_ok-in_file.field-0 in
-    let P = MayLeave (with_first was.now bytes (length bytes) false) in
-    let rest_is : slice_range bytes done (length bytes) ≡ drop done bytes = search (rules, places) in
-    let rest_length : length (slice_range bytes done (length bytes)) ≡ length bytes - done = search (rules, places) in
-    let next = writes_on was.now mid.now bytes done count c.loop-in_file.invariant.now (slice_range bytes done (length bytes)) rest_is in
-    let leaves = subst (LeavesOnly P) (sym next) (some_of_all was.now bytes (done + count) false) in
+    let rest = slice_range bytes done (length bytes) in
+    let rest_is : rest ≡ drop done bytes = search (rules, places) in
+    let rest_length : length rest ≡ length bytes - done = search (rules, places) in
+    let so_far = c.loop-in_file.invariant in
+    let next = wrote was mid new bytes rest done c.in_ok-in_file.field-0 so_far.now rest_is so_far.moments c.in_ok-in_file.ensures.history in
     record {
-      within = omega (arith, rest_length, c.in_ok-in_file.ensures.count.0, c.loop-in_file.invariant.within);
-      now = ap (λ (h : History). h.now) c.in_ok-in_file.ensures.history ∙ next;
-      moments = subst (λ (h : History). AtEachMoment P was h) (sym c.in_ok-in_file.ensures.history) (one_more P was mid _ c.loop-in_file.invariant.moments leaves);
+      within = omega (arith, rest_length, c.in_ok-in_file.ensures.count.0, so_far.within);
+      refusals = ap (λ (h : History). h.refusals) c.in_ok-in_file.ensures.history ∙ so_far.refusals;
+      now = next.0;
+      moments = next.1;
     }

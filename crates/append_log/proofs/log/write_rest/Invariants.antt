@@ -11,6 +11,7 @@ invariant-loop-in_file g l =
     let was = (history l.fn.file).now in
     record {
       within : l.in_file ≤ length l.bytes;
+      refusals : (history l.file).refusals ≡ (history l.fn.file).refusals;
       now : (history l.file).now ≡ with_first was l.bytes l.in_file false;
       moments : AtEachMoment (MayLeave (with_first was l.bytes (length l.bytes) false)) (history l.fn.file) (history l.file);
     }

@@ -3,7 +3,7 @@ use Rattle.std.proofs.Common.{◌∙◌, ap}
 use Rattle.append_log.specs.Contents.{Contents}
 use Rattle.append_log.specs.History.{History}
 use Rattle.append_log.proofs.Cuts.{cuts, cut_fails, within_file, cut_contents}
-use Rattle.append_log.specs.AppendedFile.{file_of}
+use Rattle.append_log.specs.Contents.{file_of}
 use Rattle.append_log.proofs.log.Log.open.Goals as goal
 
 pub cut-requires-clause-within : goal.cut-requires-clause-within
