@@ -84,7 +84,6 @@ cut_fails old new end usable end_is new_is =
     let during = one_more P old old _ start (λ left may. (leaves_being_cut old.now usable end end_is left may).no_fewer) in
     subst (λ (h : History). AtEachMoment P old h) (sym new_is) (one_more P old _ _ during (leaves_failed old.now usable end end_is))
 
-
 -- the whole lines are within the file
 pub within_file : (file : List ℕ) (end : ℕ) → end ≡ length (whole_lines file) → end ≤ length file
 within_file file end is =

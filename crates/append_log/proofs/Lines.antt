@@ -121,7 +121,9 @@ first_lines (line ∷ lines) part none (rest, is) =
     elim (splits line (text_of lines) part rest (sym (append_assoc line (line_feed ∷ []) (text_of lines)) ∙ is)) [
       | inl within ↦ (0, no_line line part none.0 within)
       | inr on ↦
-          let further = first_lines lines on.0 none.1 on.2 in
-          (suc further.0, ap whole_lines on.1 ∙ line_in_front line on.0 ∙ ap (λ (l : List ℕ). line ++ line_feed ∷ l) further.1
-            ∙ sym (append_assoc line (line_feed ∷ []) (text_of (take further.0 lines))))
+          let further = first_lines lines on.0 none.1 on.2 in (
+            suc further.0,
+            ap whole_lines on.1 ∙ line_in_front line on.0 ∙ ap (λ (l : List ℕ). line ++ line_feed ∷ l) further.1
+                ∙ sym (append_assoc line (line_feed ∷ []) (text_of (take further.0 lines))),
+          )
     ]

@@ -13,10 +13,10 @@ use Rattle.append_log.proofs.Moments.{one_more, one_refused, weaker}
 -- a first part of a first part
 part_of_all : (bytes : List ℕ) (count : ℕ) (part : List ℕ) → IsFirstPart part (take count bytes) → IsFirstPart part (take (length bytes) bytes)
 part_of_all bytes count part (rest, is) = (
-    rest ++ drop count bytes,
-    take_all (length bytes) bytes (omega arith) ∙ sym (take-append-drop count bytes)
-    ∙ ap (λ (l : List ℕ). l ++ drop count bytes) is ∙ append_assoc part rest (drop count bytes),
-  )
+  rest ++ drop count bytes,
+  take_all (length bytes) bytes (omega arith) ∙ sym (take-append-drop count bytes)
+      ∙ ap (λ (l : List ℕ). l ++ drop count bytes) is ∙ append_assoc part rest (drop count bytes),
+)
 
 -- what a crash leaves while some are written it may leave when all are
 pub some_of_all : (contents : Contents) (bytes : List ℕ) (count : ℕ) (has_failed : Bool)

@@ -4,3 +4,4 @@ pub mod Lines
 pub mod AppendedFile
 pub mod Log
 pub mod Writing
+pub mod Recorded

@@ -6,10 +6,13 @@ mod appended_file;
 mod line_laws;
 mod log;
 mod log_fault;
+mod record;
+mod system_file;
 mod write_fault;
 
 pub use appended_file::AppendedFile;
 pub use line_laws::lines_are_recovered;
 pub use log::Log;
 pub use log_fault::LogFault;
+pub use system_file::SystemFile;
 pub use write_fault::WriteFault;

@@ -16,5 +16,4 @@ pub fn lines_are_recovered()
         → contents.has_failed ≡ false → AllByRecursion HasNoLineFeed pending
         → MayLeave contents left
         → (count : ℕ) × (whole_lines left ≡ text_of lines ++ text_of (take count pending)) }
-{
-}
+{}

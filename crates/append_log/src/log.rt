@@ -80,7 +80,8 @@ impl<F: AppendedFile> Log<F> {
         // A crash at any moment of the call leaves what was acknowledged before, and behind it a
         // first part of what is pending, or any bytes if the call failed.
         ensures any_moment { AtEachMoment (MayLeave (record (contents self.old) {
-                has_failed = (contents self.new).has_failed }))
+          has_failed = (contents self.new).has_failed;
+        }))
             (history self.old) (history self.new) }
         // It says that there was no room only where the file said so.
         ensures full { IsFull result
