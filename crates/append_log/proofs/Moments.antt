@@ -1,5 +1,5 @@
 -- How a run of calls goes on, and what a crash may leave of a first part.
-use Rattle.std.proofs.Common.{◌≡◌, ℕ, Bool, true, false, List, [], ◌∷◌, ◌++◌, take, drop, refl, sym, ap, take-append-drop}
+use Rattle.std.proofs.Common.{◌≡◌, ℕ, Bool, true, false, List, [], ◌∷◌, ◌++◌, take, drop, refl, sym, ◌∙◌, ap, subst, append_assoc}
 use Rattle.std.specs.List.{AllByRecursion}
 use Rattle.append_log.specs.Contents.{Contents, MayLeave, IsFirstPart}
 use Rattle.append_log.specs.History.{History, changed, refused, LeavesOnly, AtEachMoment}
@@ -22,3 +22,21 @@ each_weaker P Q weaker (state ∷ states) each = (λ left may. weaker left (each
 
 pub weaker : (P Q : List ℕ → Type 0) → ((left : List ℕ) → P left → Q left) → (old new : History) → AtEachMoment P old new → AtEachMoment Q old new
 weaker P Q implies old new run = record { between = run.between; goes_on = run.goes_on; each = each_weaker P Q implies (run.between ++ old.now ∷ []) run.each }
+
+all_front : (P : Contents → Type 0) (xs ys : List Contents) → AllByRecursion P (xs ++ ys) → AllByRecursion P xs
+all_front P [] ys all = tt
+all_front P (x ∷ xs) ys all = (all.0, all_front P xs ys all.1)
+
+all_both : (P : Contents → Type 0) (xs ys : List Contents) → AllByRecursion P xs → AllByRecursion P ys → AllByRecursion P (xs ++ ys)
+all_both P [] ys none all = all
+all_both P (x ∷ xs) ys both all = (both.0, all_both P xs ys both.1 all)
+
+-- one run after another
+pub joined : (P : List ℕ → Type 0) (first second third : History) → AtEachMoment P first second → AtEachMoment P second third → AtEachMoment P first third
+joined P first second third earlier later =
+    let all = all_both (LeavesOnly P) later.between (earlier.between ++ first.now ∷ []) (all_front (LeavesOnly P) later.between (second.now ∷ []) later.each) earlier.each in
+    record {
+      between = later.between ++ earlier.between;
+      goes_on = later.goes_on ∙ ap (λ (l : List Contents). later.between ++ l) earlier.goes_on ∙ sym (append_assoc later.between earlier.between (first.now ∷ first.past));
+      each = subst (AllByRecursion (LeavesOnly P)) (sym (append_assoc later.between earlier.between (first.now ∷ []))) all;
+    }

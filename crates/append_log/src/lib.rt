@@ -3,7 +3,7 @@
 #![tactic(auto)]
 
 mod appended_file;
-mod line_laws;
+mod laws;
 mod log;
 mod log_fault;
 mod record;
@@ -11,7 +11,7 @@ mod system_file;
 mod write_fault;
 
 pub use appended_file::AppendedFile;
-pub use line_laws::lines_are_recovered;
+pub use laws::{acknowledged_for_good, lines_are_recovered};
 pub use log::Log;
 pub use log_fault::LogFault;
 pub use system_file::SystemFile;

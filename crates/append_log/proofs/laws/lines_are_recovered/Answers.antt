@@ -3,7 +3,7 @@ use Rattle.std.proofs.Common.{◌≡◌, List, ◌++◌, ℕ, sym, ◌∙◌, ap
 use Rattle.append_log.specs.Contents.{IsFirstPart}
 use Rattle.append_log.specs.Lines.{whole_lines, text_of}
 use Rattle.append_log.proofs.Lines.{lines_in_front, first_lines}
-use Rattle.append_log.proofs.line_laws.lines_are_recovered.Goals as goal
+use Rattle.append_log.proofs.laws.lines_are_recovered.Goals as goal
 
 pub returns-clause-acknowledged : goal.returns-clause-acknowledged
 returns-clause-acknowledged c contents lines left synced may =

@@ -1,9 +1,22 @@
-//! What is recovered of lines.
+//! What a crash leaves of what was acknowledged, and what is recovered of lines.
 
 ghost use Rattle.std.specs.Prelude.{ℕ, ◌≡◌, ◌++◌, List, false, take};
 ghost use Rattle.std.specs.List.{AllByRecursion};
-ghost use Rattle.append_log.specs.Contents.{Contents, MayLeave, IsFirstPart};
+ghost use Rattle.append_log.specs.Contents.{Contents, IsFirstPart, MayLeave};
+ghost use Rattle.append_log.specs.History.{AtEachMoment, History};
 ghost use Rattle.append_log.specs.Lines.{HasNoLineFeed, text_of, whole_lines};
+
+/// What was acknowledged once is left by each crash from then on: during a call that leaves at each
+/// moment what was acknowledged before it, and during such calls one after another.
+pub fn acknowledged_for_good()
+    ensures call { (bytes : List ℕ) (contents : Contents) (old new : History)
+        → IsFirstPart bytes contents.synced → AtEachMoment (MayLeave contents) old new
+        → AtEachMoment (IsFirstPart bytes) old new }
+    ensures calls { (bytes : List ℕ) (first second third : History)
+        → AtEachMoment (IsFirstPart bytes) first second
+        → AtEachMoment (IsFirstPart bytes) second third
+        → AtEachMoment (IsFirstPart bytes) first third }
+{}
 
 /// A crash leaves all lines that were acknowledged, and behind them, as long as no call failed, the
 /// first of those that are pending.
