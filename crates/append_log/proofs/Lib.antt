@@ -1,0 +1,4 @@
+mod Moments
+mod Writes
+mod Lines
+mod Cuts

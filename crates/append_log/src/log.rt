@@ -1,0 +1,180 @@
+//! Bytes that are added, written and synced.
+
+ghost use Rattle.std.specs.Prelude.{◌≡◌, ◌<◌, ◌≤◌, true, false, [], length, take, IfOk, IfErr, OnOk, OnErr, IsErrOf, ◌↔◌};
+ghost use Rattle.append_log.specs.Contents.{MayLeave, file_of, only_synced, with_added};
+ghost use Rattle.append_log.specs.History.{AtEachMoment};
+ghost use Rattle.append_log.specs.Lines.{HasLinesBetween, HasLinesOf, whole_lines};
+ghost use Rattle.append_log.specs.Writing.{WasFull, whether_failed, with_first};
+
+use crate::{AppendedFile, LogFault, WriteFault};
+use std::alloc::{AllocError, Global};
+use std::io;
+
+/// A buffer that grew longer isn't kept for the next bytes.
+const LONGEST_KEPT: usize = 1_048_576;
+
+/// A log in a file: what was acknowledged is on the disk, and what was added since is pending.
+#[derive(Drop)]
+pub struct Log<F: AppendedFile> {
+    file: F,
+    pending: Vec<u8>,
+    /// So many of the pending bytes were appended to the file.
+    in_file: usize,
+    has_failed: bool,
+    ghost within: { in_file ≤ length pending.items },
+    ghost failed: { has_failed ≡ (F.AppendedFile.history file).now.has_failed },
+    ghost in_step: { has_failed ≡ false
+        → (F.AppendedFile.history file).now.appended ≡ take in_file pending.items },
+}
+
+impl<F: AppendedFile> Log<F> {
+    ghost use Rattle.append_log.specs.Log.{IsFull, after_trial, contents, history};
+
+    /// Opens a file whose whole lines have so many bytes: it is cut behind them, and they are on the
+    /// disk. An `Err` hands the file back.
+    pub fn open(alloc: Global, file: F, end: u64) -> Result<Log<F>, (io::Error, F)>
+        requires usable { (F.AppendedFile.history file).now.has_failed ≡ false }
+        requires end { end ≡ length (whole_lines (file_of (F.AppendedFile.history file).now)) }
+        ensures acknowledged { IfOk result (λ log. contents log
+            ≡ only_synced (whole_lines (file_of (F.AppendedFile.history file).now))) }
+        // A crash at any moment of the call leaves the lines that were on the disk, and no others
+        // than the file had.
+        ensures any_moment { IfOk result (λ log. AtEachMoment
+            (HasLinesBetween (F.AppendedFile.history file).now.synced (file_of (F.AppendedFile.history file).now))
+            (F.AppendedFile.history file) (history log)) }
+        ensures any_moment_err { IfErr result (λ error. AtEachMoment
+            (HasLinesOf (F.AppendedFile.history file).now.synced)
+            (F.AppendedFile.history file) (F.AppendedFile.history error.1)) }
+    {
+        let mut file = file;
+        match file.cut(end) {
+            Ok(()) => Ok(Log {
+                file,
+                pending: Vec::new(alloc),
+                in_file: 0,
+                has_failed: false,
+            }),
+            Err(error) => Err((error, file)),
+        }
+    }
+
+    /// The file, which only the log appends to.
+    pub fn file(&self) -> &F
+        ensures { result.now ≡ self.now.file }
+    {
+        &self.file
+    }
+
+    /// Adds bytes to those that are pending.
+    pub fn add(&mut self, bytes: &[u8]) -> Result<(), AllocError>
+        ensures ok { OnOk result (contents self.new ≡ with_added (contents self.old) bytes.now) }
+        ensures err { OnErr result (contents self.new ≡ contents self.old) }
+        ensures history { history self.new ≡ history self.old }
+    {
+        self.pending.extend_from_slice(bytes)
+    }
+
+    /// Writes what is pending, and syncs it: at `Ok` all of it is acknowledged.
+    pub fn write_and_sync(&mut self) -> Result<(), LogFault>
+        ensures acknowledged { contents self.new ≡ after_trial (contents self.old) result }
+        // A crash at any moment of the call leaves what was acknowledged before, and behind it a
+        // first part of what is pending, or any bytes if the call failed.
+        ensures any_moment { AtEachMoment (MayLeave (record (contents self.old) {
+          has_failed = (contents self.new).has_failed;
+        }))
+            (history self.old) (history self.new) }
+        // It says that there was no room only where the file said so.
+        ensures full { IsFull result
+            → (history self.old).refusals < (history self.new).refusals }
+        ensures failed_before { IsErrOf result LogFault.FailedBefore
+            ↔ ((contents self.old).has_failed ≡ true) }
+        ensures untouched { IsErrOf result LogFault.FailedBefore
+            → history self.new ≡ history self.old }
+    {
+        if self.has_failed {
+            return Err(LogFault::FailedBefore);
+        }
+        if self.pending.is_empty() {
+            return Ok(());
+        }
+        let pending = self.pending.as_slice();
+        match write_then_sync(&mut self.file, pending, &mut self.in_file) {
+            Ok(()) => {
+                self.in_file = 0;
+                clear(&mut self.pending);
+                Ok(())
+            }
+            Err(WriteFault::Full(error)) => Err(LogFault::Full(error)),
+            Err(WriteFault::Failed(error)) => {
+                self.has_failed = true;
+                self.file.cut_unsynced();
+                Err(LogFault::Failed(error))
+            }
+        }
+    }
+}
+
+/// Empties a buffer.
+fn clear(bytes: &mut Vec<u8>)
+    ensures { bytes.new.items ≡ [] }
+{
+    if bytes.capacity() > LONGEST_KEPT {
+        *bytes = Vec::new(*bytes.allocator());
+    } else {
+        bytes.clear();
+    }
+}
+
+/// Appends the bytes that the file hasn't, of which it has so many, and syncs it.
+fn write_then_sync<F: AppendedFile>(
+    file: &mut F,
+    bytes: &[u8],
+    in_file: &mut usize,
+) -> Result<(), WriteFault>
+    requires within { in_file.old ≤ length bytes.now }
+    requires begun { (F.AppendedFile.history file.old).now
+        ≡ with_first (F.AppendedFile.history file.old).now bytes.now in_file.old false }
+    ensures within { in_file.new ≤ length bytes.now }
+    ensures ok { OnOk result ((F.AppendedFile.history file.new).now
+        ≡ only_synced (file_of (with_first (F.AppendedFile.history file.old).now bytes.now (length bytes.now) false))) }
+    ensures err { OnErr result ((F.AppendedFile.history file.new).now
+        ≡ with_first (F.AppendedFile.history file.old).now bytes.now in_file.new (whether_failed result)) }
+    ensures full { WasFull result → (F.AppendedFile.history file.old).refusals
+        < (F.AppendedFile.history file.new).refusals }
+    ensures any_moment { AtEachMoment
+        (MayLeave (with_first (F.AppendedFile.history file.old).now bytes.now (length bytes.now) (whether_failed result)))
+        (F.AppendedFile.history file.old) (F.AppendedFile.history file.new) }
+{
+    write_rest(file, bytes, in_file)?;
+    match file.sync() {
+        Ok(()) => Ok(()),
+        Err(error) => Err(WriteFault::Failed(error)),
+    }
+}
+
+/// Appends the bytes that the file hasn't, of which it has so many.
+fn write_rest<F: AppendedFile>(
+    file: &mut F,
+    bytes: &[u8],
+    in_file: &mut usize,
+) -> Result<(), WriteFault>
+    requires within { in_file.old ≤ length bytes.now }
+    requires begun { (F.AppendedFile.history file.old).now
+        ≡ with_first (F.AppendedFile.history file.old).now bytes.now in_file.old false }
+    ensures within { in_file.new ≤ length bytes.now }
+    ensures all { OnOk result (in_file.new ≡ length bytes.now) }
+    ensures refusals { OnOk result ((F.AppendedFile.history file.new).refusals
+        ≡ (F.AppendedFile.history file.old).refusals) }
+    ensures now { (F.AppendedFile.history file.new).now
+        ≡ with_first (F.AppendedFile.history file.old).now bytes.now in_file.new (whether_failed result) }
+    ensures full { WasFull result → (F.AppendedFile.history file.old).refusals
+        < (F.AppendedFile.history file.new).refusals }
+    ensures any_moment { AtEachMoment
+        (MayLeave (with_first (F.AppendedFile.history file.old).now bytes.now (length bytes.now) (whether_failed result)))
+        (F.AppendedFile.history file.old) (F.AppendedFile.history file.new) }
+{
+    while *in_file < bytes.len() {
+        *in_file += file.append(&bytes[*in_file..])?;
+    }
+    Ok(())
+}

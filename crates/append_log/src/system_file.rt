@@ -1,0 +1,141 @@
+//! A file of the operating system. Each method makes its call, and then notes it with its answer.
+
+ghost use Rattle.std.specs.Prelude.{◌≡◌, false, length, IfOk};
+ghost use Rattle.append_log.specs.AppendedFile.{TakesSome};
+ghost use Rattle.append_log.specs.Contents.{file_of};
+ghost use Rattle.append_log.specs.Lines.{whole_lines};
+
+use crate::record::Record;
+use crate::{AppendedFile, WriteFault};
+use std::fs::File;
+use std::io;
+use std::io::{ErrorKind, Write};
+
+// The calls that are noted, by the numbers of `specs/Recorded.antt`.
+const OPENED: u64 = 0;
+
+const APPENDED: u64 = 1;
+
+const REFUSED: u64 = 2;
+
+const FAILED: u64 = 3;
+
+const SYNCED: u64 = 4;
+
+const SYNC_FAILED: u64 = 5;
+
+const CUT: u64 = 6;
+
+const CUT_FAILED: u64 = 7;
+
+/// An open file that is written at its end alone, and by this process alone.
+#[derive(Drop)]
+pub struct SystemFile {
+    file: File,
+    /// How many of its bytes are on the disk, and how many were appended since.
+    synced: u64,
+    appended: u64,
+    calls: Record,
+}
+
+impl SystemFile {
+    /// A file that was read: its whole lines have so many bytes. It was opened to append.
+    pub fn new(file: File, end: u64) -> SystemFile
+        ensures usable { result.calls.history.now.has_failed ≡ false }
+        ensures end { end ≡ length (whole_lines (file_of result.calls.history.now)) }
+    {
+        let mut calls = Record::new();
+        calls.note(&[OPENED, end], &[]);
+        SystemFile {
+            file,
+            synced: 0,
+            appended: 0,
+            calls,
+        }
+    }
+
+    /// How many of its bytes are on the disk, once it was cut.
+    pub fn synced_bytes(&self) -> u64 {
+        self.synced
+    }
+}
+
+impl AppendedFile for SystemFile {
+    ghost history = { λ file. file.calls.history };
+
+    fn append(&mut self, bytes: &[u8]) -> Result<usize, WriteFault> {
+        let answer = write_some(&mut self.file, bytes);
+        match answer {
+            Ok(count) => {
+                self.appended = self.appended.saturating_add(count as u64);
+                self.calls.note(&[APPENDED, count as u64], bytes);
+            }
+            Err(WriteFault::Full(_)) => self.calls.note(&[REFUSED, 0], &[]),
+            Err(WriteFault::Failed(_)) => self.calls.note(&[FAILED, 0], &[]),
+        }
+        answer
+    }
+
+    fn sync(&mut self) -> io::Result<()> {
+        let answer = self.file.sync_data();
+        match answer {
+            Ok(()) => {
+                self.synced = self.synced.saturating_add(self.appended);
+                self.appended = 0;
+                self.calls.note(&[SYNCED, 0], &[]);
+            }
+            Err(_) => self.calls.note(&[SYNC_FAILED, 0], &[]),
+        }
+        answer
+    }
+
+    fn cut(&mut self, end: u64) -> io::Result<()> {
+        let answer = cut_and_sync(&self.file, end);
+        match answer {
+            Ok(()) => {
+                self.synced = end;
+                self.appended = 0;
+                self.calls.note(&[CUT, end], &[]);
+            }
+            Err(_) => self.calls.note(&[CUT_FAILED, end], &[]),
+        }
+        answer
+    }
+
+    fn cut_unsynced(&mut self) {
+        let _ = self.file.set_len(self.synced);
+    }
+}
+
+fn cut_and_sync(file: &File, end: u64) -> io::Result<()> {
+    file.set_len(end)?;
+    file.sync_data()
+}
+
+/// Writes some of the bytes, again after a signal.
+fn write_some(file: &mut File, bytes: &[u8]) -> Result<usize, WriteFault>
+    ensures { IfOk result (TakesSome bytes.now) }
+{
+    if bytes.is_empty() {
+        return Ok(0);
+    }
+    for _write in 0..u64::MAX {
+        match file.write(bytes) {
+            Ok(0) => return Err(WriteFault::Full(io::Error::from(ErrorKind::WriteZero))),
+            Ok(count) => return Ok(count),
+            Err(error) if error.kind() == ErrorKind::Interrupted => {}
+            Err(error) => return Err(fault_of(error)),
+        }
+    }
+    Err(WriteFault::Full(io::Error::from(ErrorKind::Interrupted)))
+}
+
+/// Where there is no room, a write took nothing. What other errors leave isn't known.
+fn fault_of(error: io::Error) -> WriteFault {
+    match error.kind() {
+        ErrorKind::StorageFull | ErrorKind::QuotaExceeded | ErrorKind::FileTooLarge => {
+            WriteFault::Full(error)
+        }
+        _ => WriteFault::Failed(error),
+    }
+}
