@@ -44,10 +44,11 @@ SIZES = {
     "docs/DECISIONS.md": 17,
     "bench/README.md": 12,
     "examples/README.md": 15,
+    "examples/fleet/README.md": 7,
     "tests/README.md": 8,
 }
 OTHER_SIZE = 8
-ALL_SIZE = 244
+ALL_SIZE = 251
 README_LINES = 110
 MEAN_WORDS = 25
 LONGEST_WORDS = 60
