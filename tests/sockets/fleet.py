@@ -21,7 +21,7 @@ from odd_paths import PATHS, PROTOCOL, statuses_with_keys, who_is_let_in
 from proxies import AROUND_NGINX, EncryptedClient, Proxy
 from raw_client import RawClient
 from run_data import Data
-from run_keys import basic
+from run_keys import basic, done
 from serving import ENVIRONMENT, PATIENCE, Running, Unexpected, expect, until
 from stations import CEILING, CONNECTORS, Cut, Pair, Station
 from texts import heartbeat, install, profile, site
@@ -57,12 +57,14 @@ def block(name):
     return found[0]
 
 
-def fixed_port():
-    """A port that stays free while nobody listens: the system gives it to no connection."""
-    while True:
+def fixed_addresses(count):
+    """Addresses with ports that stay free while nobody listens: the system gives them to no connection."""
+    ports = set()
+    while len(ports) < count:
         with socket.socket() as probe, contextlib.suppress(OSError):
             probe.bind(("127.0.0.1", random.randrange(20_000, 32_000)))
-            return probe.getsockname()[1]
+            ports.add(probe.getsockname()[1])
+    return [f"127.0.0.1:{port}" for port in ports]
 
 
 def site_text(names):
@@ -77,7 +79,8 @@ class SiteProcess:
         self.name, self.fleet, self.process = name, fleet, None
         unit = text_of("packaging", "package", "central.service")
         # The template unit, as packaging/deb makes it.
-        for old, new in ast.literal_eval(re.search(r"^FURTHER_SITE = (\(.*?^\))$", text_of("packaging", "deb"), re.MULTILINE | re.DOTALL)[1]):
+        changes = re.search(r"^FURTHER_SITE = (\(.*?^\))$", text_of("packaging", "deb"), re.MULTILINE | re.DOTALL)[1]
+        for old, new in ast.literal_eval(changes):
             unit = unit.replace(old, new)
         with open(fleet.file(f"units/central@{name}.service.d/fleet.conf"), encoding="utf-8") as file:
             unit = unit.replace("%i", name) + file.read()
@@ -92,8 +95,9 @@ class SiteProcess:
     def start(self):
         with open(self.fleet.file(f"{self.name}.log"), "ab") as log:
             self.process = subprocess.Popen(self.words, stdout=subprocess.PIPE, stderr=log, env=ENVIRONMENT, text=True)
-        said = self.process.stdout.readline(), self.process.stdout.readline()
-        expect(f"what {self.name} says", (said[0].split(",")[0], said[1]), (f"resumed {len(self.fleet.names[self.name])} points", f"listening {self.listen}\n"))
+        resumed, listening = self.process.stdout.readline(), self.process.stdout.readline()
+        expect(f"what {self.name} says", resumed.split(",")[0], f"resumed {len(self.fleet.names[self.name])} points")
+        expect(f"where {self.name} listens", listening, f"listening {self.listen}\n")
 
     def kill(self):
         if self.process is not None:
@@ -125,7 +129,8 @@ class Fleet:
         self.write("bin/systemctl", f'#!/bin/sh\necho "$@" >> {self.file("systemctl")}\n', 0o755)
         table = block("fleet")
         expect("the sites of the page", re.findall(r"^\w+", table, re.MULTILINE), list(SITES))
-        self.write("etc/fleet", re.sub(r"(?<=127\.0\.0\.1:)\d+", lambda _: str(fixed_port()), table))
+        addresses = iter(fixed_addresses(2 * len(SITES)))
+        self.write("etc/fleet", re.sub(r"127\.0\.0\.1:\d+", lambda _: next(addresses), table))
         for name, points in SITES.items():
             self.write(f"etc/{name}.json", site_text(points))
         self.write("etc/maps", self.moved(block("maps")), 0o755)
@@ -190,12 +195,16 @@ class Fleet:
         return basic(name, self.key_of[name].encode())
 
 
+# What a front says while a site is down.
+DOWN = {"nginx": 502, "haproxy": 503}
+
+
 class Front(Proxy):
     """nginx or haproxy by the page's file, with a process over it that can be told to reload, as a service has it."""
 
     def __init__(self, name, fleet):
         super().__init__(name, None)
-        self.fleet = fleet
+        self.fleet, self.refusals = fleet, {DOWN[name]}
 
     def __exit__(self, *_):
         self.process.terminate()
@@ -234,10 +243,6 @@ class Front(Proxy):
             return response and response.status
 
 
-# What a front says while a site is down.
-DOWN = {"nginx": 502, "haproxy": 503}
-
-
 class FrontPair(Pair):
     """The connections of a point and its operator through the front, each with its key."""
 
@@ -261,7 +266,7 @@ class FrontPair(Pair):
             yield frame.payload.decode()
 
     def _connected(self, path):
-        """A connection, once its site is there."""
+        """A connection, once its site is there and the front knows it."""
         login = self.front.fleet.login("ann" if path.startswith("/operator/") else self.name)
         end = time.monotonic() + PATIENCE
         while time.monotonic() < end:
@@ -271,7 +276,8 @@ class FrontPair(Pair):
                 self.connections += 1
                 return client
             client.socket.close()
-            expect(f"the handshake of {path}", response and response.status, DOWN[self.front.name])
+            status = response and response.status
+            expect(f"whether {path} may be answered {status}", status in self.front.refusals, True)
             time.sleep(0.05)
         raise Unexpected(f"{path} isn't served again")
 
@@ -337,7 +343,7 @@ def who_comes_where(front, fleet):
             elif seen != 400:
                 expect(f"{front.name}: {other} with the key of {login}", seen, wanted)
     before = [process.refused() for process in fleet.processes.values()]
-    for path in ("/P151", "/operator/P151", "/ocpp/P151?x=/P1", "/P1/P151", "/", "/operator/", "/P1/", "/north", "/P1%20"):
+    for path in ("/P151", "/operator/P151", "/ocpp/P151?x=/P1", "/P1/P151", "/", "/operator/", "/P1/", "/north", "/P1%20", "/%501"):
         expect(f"{front.name}: {path}, which no site has", (front.status_of(path, "ann"), front.status_of(path, "P1")), (404, 404))
     expect("what the sites hear of it", [process.refused() for process in fleet.processes.values()], before)
     expect(f"{front.name}: an identity in other letters", front.status_of("/p1", "P1"), {"nginx": 403, "haproxy": 404}[front.name])
@@ -366,7 +372,7 @@ def another_comes(front, fleet, days):
     """A fourth site in the afternoon: the front is told to reload, and ends no connection by it."""
     fleet.names["east"] = ["E1"]
     fleet.write("etc/east.json", site_text(["E1"]))
-    fleet.write("etc/fleet", fleet.read("etc/fleet") + f"east 127.0.0.1:{fixed_port()} 127.0.0.1:{fixed_port()}\n")
+    fleet.write("etc/fleet", fleet.read("etc/fleet") + " ".join(["east", *fixed_addresses(2)]) + "\n")
     one = "cd /etc/central; (cat operators; central key --name E1 2>> logins) > east.keys"
     expect("how its key is made", fleet.done(fleet.moved(one)), (0, ""))
     fleet.read_keys()
@@ -375,7 +381,7 @@ def another_comes(front, fleet, days):
     expect("how the maps are made", fleet.make_maps(), (0, ""))
     expect("before the front reads them", front.status_of("/E1", "E1"), 404)
     front.reload()
-    until("the front reads them", lambda: front.status_of("/E1", "E1") == 101)
+    front.refusals.add(404)  # until it has read them, and as long as nginx's old process takes connections
     days["east"] = Day(front, "east")
     days["east"].begin()
     for day in days.values():
@@ -458,8 +464,8 @@ def whom_it_calls(program):
         print("  promtool isn't installed, so it looks at no rule", flush=True)
         return
     for words in (["check", "config", "prometheus.yml"], ["check", "rules", "rules.yml"], ["test", "rules", "rules-test.yml"]):
-        done = subprocess.run(["promtool", *words], cwd=PAGE_FOLDER, capture_output=True, text=True, timeout=PATIENCE, check=False)
-        expect(f"promtool {' '.join(words)}", (done.returncode, done.stderr), (0, ""))
+        checked = subprocess.run(["promtool", *words], cwd=PAGE_FOLDER, capture_output=True, text=True, timeout=PATIENCE, check=False)
+        expect(f"promtool {' '.join(words)}", (checked.returncode, checked.stderr), (0, ""))
 
 
 def in_a_cluster(program):
@@ -470,10 +476,9 @@ def in_a_cluster(program):
     with tempfile.TemporaryDirectory() as folder:
         with open(os.path.join(folder, "site.json"), "w", encoding="utf-8") as file:
             file.write(site_text(["P1"]))
-        key = subprocess.run([program, "key", "--name", "P1"], capture_output=True, text=True, timeout=PATIENCE, check=True, env=ENVIRONMENT)
         with open(os.path.join(folder, "site.keys"), "w", encoding="ascii") as file:
-            file.write(key.stdout)
-        listen, status = (f"127.0.0.1:{fixed_port()}" for _ in range(2))
+            file.write(done(program, "key", "--name", "P1")[1])
+        listen, status = fixed_addresses(2)
         places = {
             "/usr/bin/central": program, "/etc/central/site.json": f"{folder}/site.json", "/etc/central/site.keys": f"{folder}/site.keys",
             "/var/lib/central/data": f"{folder}/data", "0.0.0.0:9000": listen, "0.0.0.0:9100": status,
