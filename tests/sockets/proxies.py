@@ -50,9 +50,8 @@ class Proxy:
         self._make_certificate()
         with open(self._file("configuration"), "w", encoding="utf-8") as file:
             file.write(self._configuration())
-        words = ["nginx", "-c"] if self.name == "nginx" else ["haproxy", "-db", "-f"]
         self.process = subprocess.Popen(
-            [*words, self._file("configuration")], stdin=subprocess.DEVNULL, stdout=subprocess.DEVNULL, stderr=subprocess.PIPE,
+            self._words(self._file("configuration")), stdin=subprocess.DEVNULL, stdout=subprocess.DEVNULL, stderr=subprocess.PIPE,
         )
         self._until_it_listens()
         self.trust = ssl.create_default_context(cafile=self._file("site.crt"))
@@ -65,6 +64,10 @@ class Proxy:
 
     def _file(self, name):
         return os.path.join(self.folder.name, name)
+
+    def _words(self, path):
+        """The command that starts it with the file of this path."""
+        return ["nginx", "-c", path] if self.name == "nginx" else ["haproxy", "-db", "-f", path]
 
     def _make_certificate(self):
         words = "openssl req -x509 -newkey rsa:2048 -nodes -days 2 -subj /CN=site -addext subjectAltName=IP:127.0.0.1".split()

@@ -13,6 +13,7 @@ import audits
 import crowds
 import days
 import endings
+import fleet
 import handshakes
 import messages
 import node_clients
@@ -50,6 +51,7 @@ SUBJECTS = {
     "run_keys": run_keys,
     "run_status": run_status,
     "proxies": proxies,
+    "fleet": fleet,
     "audits": audits,
     "refusals": refusals,
 }
