@@ -29,11 +29,15 @@ impl RestoredJournal {
             lines: NamedFile { file, path },
             reserve,
         } = opened;
-        let file = SystemFile::new(file, lines.length());
-        let log = match Log::open(rt.alloc(), file, lines.length()) {
-            Ok(log) => log,
-            Err((error, _)) => or_stop(rt, path.as_str(), Err(error), FolderFault::Write)?,
+        let end = lines.length();
+        let opened = match Log::open(rt.alloc(), SystemFile::new(file, end), end) {
+            Ok(log) => Ok(log),
+            Err((error, file)) => {
+                drop(file);
+                Err(error)
+            }
         };
+        let log = or_stop(rt, path.as_str(), opened, FolderFault::Write)?;
         let torn = lines.torn();
         if torn > 0 {
             let _ = eprintln!(rt;
