@@ -127,3 +127,12 @@ first_lines (line ∷ lines) part none (rest, is) =
                 ∙ sym (append_assoc line (line_feed ∷ []) (text_of (take further.0 lines))),
           )
     ]
+
+-- a last byte that is no line feed
+pub last_torn : (bytes : List ℕ) (byte : ℕ) → byte ≢ 10 → whole_lines (bytes ++ byte ∷ []) ≡ whole_lines bytes
+last_torn [] byte other = let none : before byte [] ≡ [] = grind (arith, nat_tests) in none
+last_torn (first ∷ bytes) byte other = ap (before first) (last_torn bytes byte other)
+
+-- and one that is
+pub last_feed : (bytes : List ℕ) → whole_lines (bytes ++ line_feed ∷ []) ≡ bytes ++ line_feed ∷ []
+last_feed bytes = line_in_front bytes []

@@ -8,7 +8,7 @@ use Rattle.append_log.specs.AppendedFile.{after_append, after_sync}
 use Rattle.append_log.specs.Writing.{with_first, whether_failed}
 use Rattle.append_log.specs.declared.write_fault.WriteFault.{WriteFault}
 use Rattle.append_log.specs.declared.write_fault.WriteFault.TheVariants.{Full, Failed}
-use Rattle.append_log.proofs.Moments.{one_more, one_refused, weaker}
+use Rattle.append_log.proofs.Moments.{at_start, one_more, one_refused, weaker}
 
 -- a first part of a first part
 part_of_all : (bytes : List ℕ) (count : ℕ) (part : List ℕ) → IsFirstPart part (take count bytes) → IsFirstPart part (take (length bytes) bytes)
@@ -98,3 +98,27 @@ sync_fails old mid new bytes is so_far new_is =
     let earlier = weaker (MayLeave (with_first old.now bytes (length bytes) false)) P (sure_or_not old.now bytes true) old mid so_far in
     let leaves = subst (λ (c : Contents). LeavesOnly P (failed c)) (sym is) (some_of_all old.now bytes (length bytes) true) in
     subst (λ (h : History). AtEachMoment P old h) (sym new_is) (one_more P old mid _ earlier leaves)
+
+-- where nothing is pending
+pub nothing_pending : (contents : Contents) (pending : List ℕ) → pending ≡ [] → contents.has_failed ≡ false
+    → record contents { appended = pending } ≡ only_synced (file_of (record contents { appended = pending }))
+nothing_pending contents pending none usable =
+    let same : contents.synced ≡ contents.synced ++ pending = sym (append-nil contents.synced) ∙ ap (λ (l : List ℕ). contents.synced ++ l) (sym none) in
+    λ i. record { synced = same i; appended = none i; has_failed = usable i }
+
+-- and nothing is tried
+pub nothing_tried : (history : History) (pending : List ℕ) (count : ℕ) → history.now.appended ≡ take count pending
+    → AtEachMoment (MayLeave (record history.now { appended = pending })) history history
+nothing_tried history pending count appended_is =
+    at_start (MayLeave (record history.now { appended = pending })) history
+    (λ left may. record {
+      behind = may.behind;
+      is = may.is;
+      first_part = λ is_sure. part_of_pending may.behind (subst (IsFirstPart may.behind) appended_is (may.first_part is_sure));
+    })
+  where
+    part_of_pending : (part : List ℕ) → IsFirstPart part (take count pending) → IsFirstPart part pending
+    part_of_pending part (rest, is) = (
+      rest ++ drop count pending,
+      sym (take-append-drop count pending) ∙ ap (λ (l : List ℕ). l ++ drop count pending) is ∙ append_assoc part rest (drop count pending),
+    )

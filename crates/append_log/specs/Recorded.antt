@@ -2,7 +2,7 @@
 use Rattle.std.specs.Prelude.{ℕ, zero, suc, ◌≡◌, true, false, List, [], ◌∷◌, length, take, slice_index, replicate, refl}
 use Rattle.std.proofs.Common.{sym, ◌∙◌, ap}
 use Rattle.std.proofs.lemmas.List.{length-replicate}
-use Rattle.append_log.specs.Contents.{Contents, failed, file_of, with_added}
+use Rattle.append_log.specs.Contents.{Contents, failed, file_of, only_synced, with_added}
 use Rattle.append_log.specs.History.{History, changed, refused}
 use Rattle.append_log.specs.AppendedFile.{after_cut, after_sync}
 use Rattle.append_log.specs.Lines.{line_feed, before, whole_lines}
@@ -42,9 +42,11 @@ noted_by (suc (suc (suc zero))) count bytes history = changed history (failed hi
 -- 4 and 5: a sync was made, and one failed
 noted_by (suc (suc (suc (suc zero)))) count bytes history = after_sync history true
 noted_by (suc (suc (suc (suc (suc zero))))) count bytes history = after_sync history false
--- 6: it was cut to this length, 7 and above: that failed
+-- 6: it was cut to this length, 7: that failed
 noted_by (suc (suc (suc (suc (suc (suc zero)))))) count bytes history = after_cut history count true
-noted_by (suc (suc (suc (suc (suc (suc (suc more))))))) count bytes history = after_cut history count false
+noted_by (suc (suc (suc (suc (suc (suc (suc zero))))))) count bytes history = after_cut history count false
+-- 8 and above: it is in memory, and has these bytes
+noted_by (suc (suc (suc (suc (suc (suc (suc (suc more)))))))) count bytes history = record { now = only_synced bytes; past = []; refusals = 0 }
 
 abbrev pub noted : List ℕ → List ℕ → History → History
 noted call bytes history = noted_by (slice_index call 0) (slice_index call 1) bytes history

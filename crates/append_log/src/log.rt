@@ -94,6 +94,9 @@ impl<F: AppendedFile> Log<F> {
         if self.has_failed {
             return Err(LogFault::FailedBefore);
         }
+        if self.pending.is_empty() {
+            return Ok(());
+        }
         let pending = self.pending.as_slice();
         match write_then_sync(&mut self.file, pending, &mut self.in_file) {
             Ok(()) => {

@@ -1,0 +1,11 @@
+//! Tests of `append_log` by its public names alone, over a file in memory that fails and crashes.
+#![tactic(auto)]
+
+#[cfg(test)]
+mod crashes;
+#[cfg(test)]
+mod faults;
+#[cfg(test)]
+mod opened;
+#[cfg(test)]
+mod same;

@@ -1,0 +1,16 @@
+//! What tests compare, each by a function of its own: an assertion is long to prove, and a call of
+//! one is not. Each is given the case that it compares.
+
+use std::process::Abort;
+
+pub(crate) fn same(rt: &impl Abort, found: u64, wanted: u64, case: &str) {
+    assert!(rt; found == wanted, "{case}: {found}, wanted {wanted}");
+}
+
+pub(crate) fn same_text(rt: &impl Abort, found: &str, wanted: &str, case: &str) {
+    assert!(rt; found == wanted, "{case}: {found}, wanted {wanted}");
+}
+
+pub(crate) fn holds(rt: &impl Abort, fact: bool, case: &str) {
+    assert!(rt; fact, "{case}");
+}
