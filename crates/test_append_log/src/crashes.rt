@@ -15,7 +15,7 @@ mmpf|2|a/b|a/
 mmppf|1|a/b|a/
 mmppf|2|a/b/|a/b/
 mmpppf|3|a/b/c|a/b/
-mmppppx|4|a/b/c/|a/b/c/
+mmppppx|4|a/|a/
 mmmm|0|a/b/c/|a/b/c/";
 
 #[test]

@@ -19,7 +19,7 @@ mx|x--|
 p|kkk|a/bc/
 pp|kkk|a/bc/
 pf|fkk|a/bc/
-ppf|kfk|a/bc/
+ppf|kkk|a/bc/
 px|x--|
 ppx|x--|
 mmf|kfk|a/bc/
