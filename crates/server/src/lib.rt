@@ -16,7 +16,6 @@ mod handshake;
 mod incoming_stream;
 mod long_messages;
 mod notices;
-mod opening;
 mod own_host;
 mod path;
 mod present_streams;

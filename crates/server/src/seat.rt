@@ -3,30 +3,34 @@
 ghost use Rattle.session.specs.Serving.{KeepsPass};
 
 use crate::attending::attend_session;
-use crate::opening::{OpenSession, open_apart};
+use crate::connection::{Admitted, admit, close_at_once};
+use crate::entry::Entry;
+use crate::handshake::shake_hands;
+use crate::incoming_stream::IncomingStream;
 use crate::seat_context::SeatContext;
 use crate::session_watch::SessionWatch;
+use crate::unadmitted::{note_unknown, note_unshaken};
 use compile_pool::Jobs;
 use crossbeam_channel::Receiver;
 use ocpp_scalars::Moments;
-use session::{Context, Journal, end_session};
-use std::marker::{Send, Sync};
+use session::{Context, Journal, Peer, attach_session, end_session};
+use std::alloc::AllocError;
 use std::net::TcpStream;
 use std::rt::Clock;
 use std::sync::Wait;
 use std::sync::ledger::Ledger;
-use std::thread::Threads;
+use tungstenite::{NoMask, WebSocket, WebSocketConfig};
 use version_store::Pass;
+
+/// A longer message is refused while it comes in.
+const LONGEST_MESSAGE_BYTES: usize = 1_048_576;
+
+/// Each read of a stream asks for so many bytes, for which each connection has room.
+const READ_BYTES: usize = 2_048;
 
 /// Serves one connection after another, each with the seat's pass, until no more are sent. Gives
 /// back the pass, which counts no less than before.
-pub fn keep_seat<
-    C: Ledger + Send + Sync,
-    A: Ledger + Send + Sync,
-    R: Threads + Wait + Clock + Sync,
-    M: Moments + Sync,
-    J: Journal + Sync,
->(
+pub fn keep_seat<C: Ledger, A: Ledger, R: Wait + Clock, M: Moments, J: Journal>(
     seats: &SeatContext<C, A, R, M, J>,
     jobs: Jobs<'_>,
     streams: &Receiver<TcpStream>,
@@ -55,13 +59,7 @@ pub fn keep_seat<
 }
 
 /// Serves a connection from its handshake until it ends. Gives back the pass.
-fn serve_incoming<
-    C: Ledger + Send + Sync,
-    A: Ledger + Send + Sync,
-    R: Threads + Wait + Clock + Sync,
-    M: Moments + Sync,
-    J: Journal + Sync,
->(
+fn serve_incoming<C: Ledger, A: Ledger, R: Wait + Clock, M: Moments, J: Journal>(
     seats: &SeatContext<C, A, R, M, J>,
     context: &Context<'_, C, A, R, M, J>,
     stream: TcpStream,
@@ -69,29 +67,81 @@ fn serve_incoming<
 ) -> Pass<C, A>
     ensures { KeepsPass pass result }
 {
-    let (opened, pass) = open_apart(seats, context, stream, pass);
-    match opened {
-        Some(session) => serve_open(seats, context, session, pass),
-        None => pass,
+    let from = stream.peer_addr().ok();
+    let Some(stream) = IncomingStream::new(context.rt, context.alloc, &seats.long_messages, stream)
+    else {
+        return pass;
+    };
+    let entry = Entry::Guarded {
+        keys: seats.options.keys.as_ref(),
+        address: seats.options.address.as_str(),
+    };
+    let handshake = match stream.share() {
+        Some(share) => seats.handshakes.begin(context.rt, share),
+        None => None,
+    };
+    let shaken = shake_hands(context.alloc, entry, stream);
+    if let Some(handshake) = handshake {
+        seats.handshakes.end(context.rt, handshake);
+    }
+    let (mut socket, asked) = match shaken {
+        Ok(shaken) => shaken,
+        Err(unshaken) => {
+            note_unshaken(seats, unshaken, from);
+            return pass;
+        }
+    };
+    if !socket.get_mut().end_handshake() {
+        return pass;
+    }
+    socket.set_config(limits());
+    match admit(context, &asked) {
+        Ok(Some(admitted)) => serve_admitted(seats, context, socket, admitted, pass),
+        Ok(None) => {
+            note_unknown(seats, &asked, from);
+            close_at_once(socket);
+            pass
+        }
+        Err(AllocError) => pass,
     }
 }
 
-/// Serves a session that has begun until it ends. Gives back the pass.
-fn serve_open<C: Ledger, A: Ledger, R: Wait + Clock, M: Moments, J: Journal>(
+/// What a connection may take up.
+fn limits() -> WebSocketConfig {
+    WebSocketConfig::default()
+        .read_buffer_size(READ_BYTES)
+        .max_message_size(Some(LONGEST_MESSAGE_BYTES))
+        .max_frame_size(Some(LONGEST_MESSAGE_BYTES))
+}
+
+/// Serves a session after its handshake. A point's older connection is shut once this one has its
+/// link, and this one is shut once a later one has. Gives back the pass.
+fn serve_admitted<C: Ledger, A: Ledger, R: Wait + Clock, M: Moments, J: Journal>(
     seats: &SeatContext<C, A, R, M, J>,
     context: &Context<'_, C, A, R, M, J>,
-    session: OpenSession<'_, R>,
+    socket: WebSocket<IncomingStream<'_, R>, NoMask>,
+    admitted: Admitted,
     pass: Pass<C, A>,
 ) -> Pass<C, A>
     ensures { KeepsPass pass result }
 {
-    let OpenSession {
-        mut socket,
-        core,
-        place,
-        link,
-    } = session;
-    let mut pass = pass;
+    let Admitted { mut core, place } = admitted;
+    let (mut socket, mut pass) = (socket, pass);
+    // Before the link: whoever has that has to be found when a later one comes.
+    let Some(share) = socket.get_ref().share() else {
+        return pass;
+    };
+    if attach_session(context, &mut core, &mut pass).is_err() {
+        let _ = socket.close(None);
+        return pass;
+    }
+    let link = match core.peer() {
+        Peer::Point { link } => link,
+        Peer::Operator { .. } => None,
+    };
+    if let Some(link) = link {
+        seats.present.enter(context.rt, place, link, share);
+    }
     let watch = SessionWatch { seats, place, link };
     watch.begin(&core);
     attend_session(context, &watch, &mut socket, &core, &mut pass);
