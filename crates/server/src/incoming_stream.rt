@@ -1,6 +1,9 @@
 //! The stream of a connection that may be shut from another thread, and that waits no longer for its
 //! client than it has to.
 
+ghost use Rattle.std.specs.Counts.{IsPrefixLen};
+ghost use Rattle.std.specs.Prelude.{IfOk};
+
 use crate::deadlines::{LONGEST_HANDSHAKE, LONGEST_MESSAGE, LONGEST_WRITE, TICK};
 use crate::long_messages::{LongMessages, Place};
 use session::Watched;
@@ -163,7 +166,9 @@ impl<'a, R: Clock + Wait> IncomingStream<'a, R> {
 
     /// Reads of a handshake by its deadline. A signal that interrupts the read, as where the process is
     /// stopped and goes on, doesn't end the handshake: it is read again.
-    fn read_of_handshake(&mut self, deadline: Instant, buf: &mut [u8]) -> io::Result<usize> {
+    fn read_of_handshake(&mut self, deadline: Instant, buf: &mut [u8]) -> io::Result<usize>
+        ensures { IfOk result (λ bytes. IsPrefixLen bytes buf.new) }
+    {
         for _signal in 0..MOST_SIGNALS {
             self.bound_handshake(deadline)?;
             match self.read_once(buf) {
@@ -175,7 +180,9 @@ impl<'a, R: Clock + Wait> IncomingStream<'a, R> {
     }
 
     /// Reads what comes, and notes when it came.
-    fn read_once(&mut self, buf: &mut [u8]) -> io::Result<usize> {
+    fn read_once(&mut self, buf: &mut [u8]) -> io::Result<usize>
+        ensures { IfOk result (λ bytes. IsPrefixLen bytes buf.new) }
+    {
         let mut stream: &TcpStream = &self.stream;
         let bytes = stream.read(buf)?;
         if bytes > 0 {

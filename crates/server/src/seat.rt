@@ -69,9 +69,10 @@ fn serve_incoming<
 ) -> Pass<C, A>
     ensures { KeepsPass pass result }
 {
-    match open_apart(seats, context, stream, pass) {
-        (Some(session), pass) => serve_open(seats, context, session, pass),
-        (None, pass) => pass,
+    let (opened, pass) = open_apart(seats, context, stream, pass);
+    match opened {
+        Some(session) => serve_open(seats, context, session, pass),
+        None => pass,
     }
 }
 
