@@ -1,6 +1,7 @@
 //! A server that goes on: it serves N connections at a time, and any number one after another.
 
 ghost use Rattle.std.specs.Prelude.{◌≡◌, ◌≤◌, ◌+◌, IfOk, length};
+ghost use Rattle.std.specs.Thread.{IsSend};
 
 use crate::accepting::accept_connections;
 use crate::seat::keep_seat;
@@ -173,7 +174,9 @@ fn begin_seat<
     let (jobs, queue) = (jobs.share()?, queue.clone()?);
     let seat = thread::Builder::new().stack_size(SEAT_STACK).spawn(
         &context.rt,
-        move || keep_seat(&own, jobs.jobs(), &queue, pass),
+        move || -> Pass<C, A>
+            requires { IsSend C.row × IsSend A.row }
+        { keep_seat(&own, jobs.jobs(), &queue, pass) },
     );
     Ok(seat.is_ok())
 }

@@ -1,6 +1,7 @@
 //! A seat over loopback: it serves one connection after another, on a thread of this process.
 
 ghost use Rattle.std.specs.Prelude.{◌≡◌, ◌+◌};
+ghost use Rattle.std.specs.Thread.{IsSend};
 
 use crate::clients::{
     ACCEPTED, ASK, Client, INSTALL, SCHEDULE, TenPastMidnight, shaken, site, two_starts,
@@ -143,7 +144,11 @@ fn seat_beside_clients<
     entrance: Entrance<R>,
 ) -> Totals {
     thread::scope(thread::scope_env(), rt, |scope| {
-        let seat = scope.spawn(move || keep_seat(context, Jobs::one(jobs), queue, pass));
+        let seat = scope.spawn(
+            move || -> Pass<C, A>
+                requires { IsSend C.row × IsSend A.row }
+            { keep_seat(context, Jobs::one(jobs), queue, pass) },
+        );
         let seat = seat.ok().expect(rt, "no thread");
         clients(&entrance);
         drop(entrance);
