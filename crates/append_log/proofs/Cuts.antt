@@ -1,12 +1,11 @@
 -- What a crash leaves while a file is cut behind its whole lines.
-use Rattle.std.proofs.Common.{◌≡◌, ℕ, Bool, true, false, List, [], ◌∷◌, ◌++◌, length, ◌≤◌, take, drop, refl, sym, ◌∙◌, ap, subst, arith, append_assoc, length-append, take-append-drop}
-use Rattle.std.proofs.lemmas.List.{append-nil}
-use Rattle.append_log.specs.Contents.{Contents, MayLeave, IsFirstPart, file_of, only_synced}
-use Rattle.append_log.specs.History.{History, changed, LeavesOnly, AtEachMoment}
+use Rattle.std.proofs.Common.{◌≡◌, ℕ, true, false, List, [], ◌∷◌, ◌++◌, length, ◌≤◌, take, drop, refl, sym, ◌∙◌, ap, subst, arith, append_assoc, length-append, take-append-drop}
+use Rattle.append_log.specs.Contents.{Contents, IsFirstPart, file_of, only_synced}
+use Rattle.append_log.specs.History.{History, LeavesOnly, AtEachMoment}
 use Rattle.append_log.specs.AppendedFile.{being_cut, uncut, after_cut}
 use Rattle.append_log.specs.Lines.{whole_lines, HasLinesBetween, HasLinesOf}
-use Rattle.append_log.proofs.Moments.{at_start, one_more, weaker}
-use Rattle.append_log.proofs.Lines.{part_self, part_of_part, lines_of_part, lines_again, lines_are_part, part_of_cut, take_lines}
+use Rattle.append_log.proofs.Moments.{at_start, one_more}
+use Rattle.append_log.proofs.Lines.{part_of_part, lines_of_part, lines_again, lines_are_part, part_of_cut, take_lines}
 
 module _ (contents : Contents) (usable : contents.has_failed ≡ false) (end : ℕ) (end_is : end ≡ length (whole_lines (file_of contents))) where
   abbrev file : List ℕ

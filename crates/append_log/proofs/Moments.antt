@@ -1,7 +1,7 @@
 -- How a run of calls goes on, and what a crash may leave of a first part.
-use Rattle.std.proofs.Common.{◌≡◌, ℕ, Bool, true, false, List, [], ◌∷◌, ◌++◌, take, drop, refl, sym, ◌∙◌, ap, subst, append_assoc}
+use Rattle.std.proofs.Common.{ℕ, List, [], ◌∷◌, ◌++◌, refl, sym, ◌∙◌, ap, subst, append_assoc}
 use Rattle.std.specs.List.{AllByRecursion}
-use Rattle.append_log.specs.Contents.{Contents, MayLeave, IsFirstPart}
+use Rattle.append_log.specs.Contents.{Contents}
 use Rattle.append_log.specs.History.{History, changed, refused, LeavesOnly, AtEachMoment}
 
 -- before the first call

@@ -1,9 +1,9 @@
 -- What a crash leaves of a first part, and how writes go on.
-use Rattle.std.proofs.Common.{◌≡◌, ℕ, ◌+◌, ◌-◌, ◌≤◌, Bool, true, false, List, [], ◌++◌, length, take, drop, refl, sym, ◌∙◌, ap, arith, append_assoc, take-append-drop, subst, Result, Ok, Err}
+use Rattle.std.proofs.Common.{◌≡◌, ℕ, ◌+◌, Bool, true, false, List, [], ◌++◌, length, take, drop, refl, sym, ◌∙◌, ap, arith, append_assoc, take-append-drop, subst, Result, Ok, Err}
 use Rattle.std.proofs.lemmas.List.{take_all, append-nil}
 use Rattle.std.proofs.Math.Seq.{take-add}
 use Rattle.append_log.specs.Contents.{Contents, MayLeave, IsFirstPart, failed, file_of, only_synced, with_added}
-use Rattle.append_log.specs.History.{History, changed, LeavesOnly, AtEachMoment}
+use Rattle.append_log.specs.History.{History, LeavesOnly, AtEachMoment}
 use Rattle.append_log.specs.AppendedFile.{after_append, after_sync}
 use Rattle.append_log.specs.Writing.{with_first, whether_failed}
 use Rattle.append_log.specs.declared.write_fault.WriteFault.{WriteFault}

@@ -2,7 +2,7 @@
 use Rattle.std.specs.Prelude.{ℕ, zero, suc, ◌≡◌, true, false, List, [], ◌∷◌, length, take, slice_index, replicate, refl}
 use Rattle.std.proofs.Common.{sym, ◌∙◌, ap}
 use Rattle.std.proofs.lemmas.List.{length-replicate}
-use Rattle.append_log.specs.Contents.{Contents, failed, file_of, only_synced, with_added}
+use Rattle.append_log.specs.Contents.{failed, file_of, only_synced, with_added}
 use Rattle.append_log.specs.History.{History, changed, refused}
 use Rattle.append_log.specs.AppendedFile.{after_cut, after_sync}
 use Rattle.append_log.specs.Lines.{line_feed, before, whole_lines}

@@ -19,6 +19,11 @@ impl Model for Record {
     ghost also_owns = { λ _. ftrue };
 }
 
+// It owns nothing.
+unsafe impl Send for Record {}
+
+unsafe impl Sync for Record {}
+
 impl Record {
     pub(crate) fn new() -> Record
         ensures { result.history ≡ opened 0 }

@@ -1,17 +1,15 @@
 //! The journal of a site that is run: what sessions note, written to a file and synced.
 
-use crate::named_file::NamedFile;
-use crate::opening::OpenJournal;
 use crate::reserve_file::ReserveFile;
+use crate::restored_journal::RestoredJournal;
 use crate::system_clock::SystemClock;
+use append_log::{Log, LogFault, SystemFile};
 use ocpp_scalars::{Instant as Moment, Moments, write_instant};
 use session::{Entry, Journal, JournalFault, Noted};
 use site_journal::Line;
 use site_status::{JournalReport, JournalState};
 use std::alloc::{AllocError, AllocGlobal, Global};
 use std::fmt::Display;
-use std::fs::File;
-use std::io::{ErrorKind, Write};
 use std::rt::Clock;
 use std::sync::{Condvar, Mutex, Wait};
 use std::time::{Duration, Instant};
@@ -20,9 +18,6 @@ use std::{io, mem};
 /// Room for so many entries is kept free: more than all sessions together have prepared and not
 /// noted yet. So a step that was made is always noted.
 const FREE_ENTRIES: usize = 2_048;
-
-/// A text of lines that grew longer isn't kept for the next lines.
-const LONGEST_KEPT_TEXT: usize = 1_048_576;
 
 /// After so many seconds it is tried again to write where the device was full.
 const RETRY_SECONDS: u64 = 1;
@@ -67,19 +62,12 @@ struct NotedEntries {
 /// What was taken to be written, and how far it is.
 #[derive(Drop)]
 struct WrittenLines {
-    file: File,
-    /// How many bytes of the file are on the disk.
-    synced: u64,
-    /// Whether a write or a sync failed, so that it isn't known what stands behind these.
-    is_broken: bool,
+    log: Log<SystemFile>,
     reserve: ReserveFile,
     /// Entries that were taken and have no text yet. Room for entries is kept free.
     taken: Vec<NumberedEntry>,
     /// How many were taken in all.
     taken_count: u64,
-    /// Lines of which the file has the first bytes.
-    lines: String,
-    in_file: usize,
 }
 
 /// What came of an attempt to keep all that was noted.
@@ -96,13 +84,14 @@ enum Kept {
 /// Why lines aren't on the disk.
 #[derive(Drop)]
 enum KeepFault {
-    /// The device is full. The file has what it had, and the first bytes of what was to be written.
-    Full(io::Error),
-    /// It isn't known what stands in the file.
-    Broken(io::Error),
-    /// It wasn't known before, and nothing was tried.
-    BrokenBefore,
+    Log(LogFault),
     OutOfMemory,
+}
+
+impl From<LogFault> for KeepFault {
+    fn from(fault: LogFault) -> KeepFault {
+        KeepFault::Log(fault)
+    }
 }
 
 impl From<AllocError> for KeepFault {
@@ -112,32 +101,33 @@ impl From<AllocError> for KeepFault {
 }
 
 impl<R: Wait + Clock + Eprint + AllocGlobal + Drop> JournalFile<R> {
-    /// The journal in an open file, to which these lines are to be added.
-    pub fn make(rt: R, opened: OpenJournal, lines: String) -> Result<JournalFile<R>, AllocError> {
+    /// The journal that was restored, to which these lines are to be added.
+    pub fn make(
+        rt: R,
+        restored: RestoredJournal,
+        lines: &str,
+    ) -> Result<JournalFile<R>, AllocError> {
         let alloc = rt.alloc();
-        let OpenJournal {
-            lines: NamedFile { file, path },
-            length,
+        let RestoredJournal {
+            mut log,
+            path,
             reserve,
-        } = opened;
+        } = restored;
+        log.add(lines.as_bytes())?;
         let noted = NotedEntries {
             entries: Vec::with_capacity(alloc, FREE_ENTRIES)?,
             noted: 0,
             kept: 0,
             state: JournalState::Open,
-            bytes: length,
+            bytes: log.file().synced_bytes(),
             syncs: 0,
             sync_time: Duration::ZERO,
         };
         let written = WrittenLines {
-            file,
-            synced: length,
-            is_broken: false,
+            log,
             reserve,
             taken: Vec::with_capacity(alloc, FREE_ENTRIES)?,
             taken_count: 0,
-            lines,
-            in_file: 0,
         };
         Ok(JournalFile {
             rt,
@@ -209,12 +199,13 @@ impl<R: Wait + Clock + Eprint + AllocGlobal + Drop> JournalFile<R> {
         written.put_into_words()?;
         self.take_noted(written);
         written.put_into_words()?;
-        let before = (written.synced, Instant::now(&self.rt).ok());
+        let before = (written.synced(), Instant::now(&self.rt).ok());
         let kept = written.write_and_sync()?;
+        let synced = written.synced();
         let mut noted = self.noted.lock(&self.rt);
         noted.kept = written.taken_count;
-        if written.synced != before.0 {
-            noted.count_sync(written.synced, self.time_since(before.1));
+        if synced != before.0 {
+            noted.count_sync(synced, self.time_since(before.1));
         }
         let was_full = noted.state == JournalState::Full;
         drop(noted);
@@ -255,12 +246,12 @@ impl<R: Wait + Clock + Eprint + AllocGlobal + Drop> JournalFile<R> {
                 Ok(())
             }
             Err(KeepFault::OutOfMemory) => Err(JournalFault::OutOfMemory),
-            Err(KeepFault::BrokenBefore) => Err(JournalFault::Unwritable),
-            Err(KeepFault::Full(error)) => {
+            Err(KeepFault::Log(LogFault::FailedBefore)) => Err(JournalFault::Unwritable),
+            Err(KeepFault::Log(LogFault::Full(error))) => {
                 self.say_error(JournalState::Full, &error);
                 Err(JournalFault::Unwritable)
             }
-            Err(KeepFault::Broken(error)) => {
+            Err(KeepFault::Log(LogFault::Failed(error))) => {
                 self.say_error(JournalState::Broken, &error);
                 Err(JournalFault::Unwritable)
             }
@@ -311,96 +302,34 @@ impl NotedEntries {
 }
 
 impl WrittenLines {
+    /// How many bytes of the file are on the disk.
+    fn synced(&self) -> u64 {
+        self.log.file().synced_bytes()
+    }
+
     /// Makes the text of what was taken, behind the lines that aren't on the disk yet. Afterwards
     /// there is room for entries. Where memory runs out the lines are as they were.
     fn put_into_words(&mut self) -> Result<(), AllocError> {
-        let mut lines = String::new(*self.lines.allocator());
+        let mut lines = String::new(*self.taken.allocator());
         for numbered in &self.taken {
             numbered.entry.push(&mut lines, numbered.number)?;
         }
-        self.lines.push_str(lines.as_str())?;
+        self.log.add(lines.as_bytes())?;
         self.taken.clear();
         self.taken.reserve(FREE_ENTRIES)
     }
 
-    /// Writes the lines that aren't in the file, and syncs it. Once that fails, but for want of room,
-    /// it isn't tried again: a second sync would tell nothing. The file is cut to what is on the
-    /// disk then, so that a start doesn't read what may stand in the system's memory alone.
-    fn write_and_sync(&mut self) -> Result<Kept, KeepFault> {
-        if self.is_broken {
-            return Err(KeepFault::BrokenBefore);
-        }
-        if self.lines.is_empty() {
-            return Ok(Kept::All);
-        }
-        let kept = self.write_with_reserve();
-        if let Err(KeepFault::Broken(_)) = &kept {
-            self.is_broken = true;
-            let _ = self.file.set_len(self.synced);
-        }
-        kept
-    }
-
     /// Writes the lines that aren't in the file, and syncs it. Where the device is full the reserve
     /// is given up for them.
-    fn write_with_reserve(&mut self) -> Result<Kept, KeepFault> {
-        match self.write_lines() {
-            Ok(()) => {
-                self.sync()?;
-                Ok(Kept::All)
-            }
-            Err(KeepFault::Full(error)) if self.reserve.give_up() => {
-                self.write_lines()?;
-                self.sync()?;
+    fn write_and_sync(&mut self) -> Result<Kept, KeepFault> {
+        match self.log.write_and_sync() {
+            Ok(()) => Ok(Kept::All),
+            Err(LogFault::Full(error)) if self.reserve.give_up() => {
+                self.log.write_and_sync()?;
                 Ok(Kept::AllButFull(error))
             }
-            Err(fault) => Err(fault),
+            Err(fault) => Err(KeepFault::Log(fault)),
         }
-    }
-
-    /// Writes the lines that aren't in the file yet.
-    fn write_lines(&mut self) -> Result<(), KeepFault> {
-        for _write in 0..u64::MAX {
-            let Some(rest) = self.lines.as_bytes().get(self.in_file..) else {
-                return Ok(());
-            };
-            if rest.is_empty() {
-                return Ok(());
-            }
-            match self.file.write(rest) {
-                Ok(0) => return Err(KeepFault::Full(io::Error::from(ErrorKind::WriteZero))),
-                Ok(count) => self.in_file = self.in_file.saturating_add(count),
-                Err(error) if error.kind() == ErrorKind::Interrupted => {}
-                Err(error) => return Err(fault_of_write(error)),
-            }
-        }
-        Err(KeepFault::Full(io::Error::from(ErrorKind::Interrupted)))
-    }
-
-    /// Syncs the file, which has all lines.
-    fn sync(&mut self) -> Result<(), KeepFault> {
-        match self.file.sync_data() {
-            Ok(()) => {}
-            Err(error) => return Err(KeepFault::Broken(error)),
-        }
-        self.synced = self.synced.saturating_add(self.lines.len() as u64);
-        self.in_file = 0;
-        if self.lines.capacity() > LONGEST_KEPT_TEXT {
-            self.lines = String::new(*self.lines.allocator());
-        } else {
-            self.lines.clear();
-        }
-        Ok(())
-    }
-}
-
-/// Where there is no room, a write took nothing. What other errors leave isn't known.
-fn fault_of_write(error: io::Error) -> KeepFault {
-    match error.kind() {
-        ErrorKind::StorageFull | ErrorKind::QuotaExceeded | ErrorKind::FileTooLarge => {
-            KeepFault::Full(error)
-        }
-        _ => KeepFault::Broken(error),
     }
 }
 

@@ -11,6 +11,7 @@ mod journal_script;
 mod named_file;
 mod opening;
 mod reserve_file;
+mod restored_journal;
 mod restoring;
 mod script_end;
 mod system_clock;

@@ -13,8 +13,6 @@ use std::{fs, io};
 #[derive(Drop)]
 pub struct OpenJournal {
     pub lines: NamedFile,
-    /// How many bytes its whole lines have, once these were read.
-    pub length: u64,
     pub reserve: ReserveFile,
 }
 
@@ -45,7 +43,6 @@ pub fn open_journal<R: Files<File = File> + Eprint + AllocGlobal>(
     let reserve = path_in(rt.alloc(), folder, "reserve")?;
     Ok(OpenJournal {
         lines: NamedFile { file, path },
-        length: 0,
         reserve: ReserveFile::make(rt, reserve.as_str()),
     })
 }

@@ -3,8 +3,9 @@
 use crate::folder_fault::FolderFault;
 use crate::journal_file::JournalFile;
 use crate::journal_lines::{JournalLines, Lines};
-use crate::named_file::{NamedFile, or_stop};
+use crate::named_file::NamedFile;
 use crate::opening::OpenJournal;
+use crate::restored_journal::RestoredJournal;
 use crate::system_clock::SystemClock;
 use ocpp_scalars::{Instant, Moments};
 use site_core::Machine;
@@ -42,15 +43,15 @@ pub fn restore_shared<
     shared: &Shared<C, A>,
     pass: Pass<C, A>,
 ) -> Result<(JournalFile<R>, Resumed), FolderFault> {
-    let (mut opened, mut pass) = (opened, pass);
+    let mut pass = pass;
     let Some(now) = (SystemClock { rt }).now() else {
         return Err(FolderFault::Clock);
     };
     let mut book = shared.lock(rt);
-    let added = restore_book(rt, &mut opened, digest, &mut book, &mut pass, now)?;
+    let (restored, added) = restore_book(rt, opened, digest, &mut book, &mut pass, now)?;
     let resumed = count_resumed(book.present());
     drop(book);
-    let journal = JournalFile::make(*rt, opened, added)?;
+    let journal = JournalFile::make(*rt, restored, added.as_str())?;
     if journal.keep_all().is_err() {
         return Err(FolderFault::Write);
     }
@@ -59,29 +60,29 @@ pub fn restore_shared<
 
 /// Restores a book from its journal, each step with what it drew, and takes the links from all
 /// points. A journal that is new, or was written with another site file, gets a line that names this
-/// one. A last line that is torn is cut: nothing that it says was answered. Returns the lines that
-/// are to be added to the journal.
+/// one. A last line that is torn is cut: nothing that it says was answered. Returns the journal, and
+/// the lines that are to be added to it.
 fn restore_book<C: Ledger, A: Ledger, R: Files<File = File> + AllocGlobal + Eprint>(
     rt: &R,
-    opened: &mut OpenJournal,
+    opened: OpenJournal,
     digest: &[u8; 32],
     book: &mut Book<C, A>,
     pass: &mut Pass<C, A>,
     now: Instant,
-) -> Result<String, FolderFault> {
+) -> Result<(RestoredJournal, String), FolderFault> {
     let alloc = rt.alloc();
+    let mut opened = opened;
     let mut journal = JournalLines::new(alloc);
     let restored = restore_lines(rt, &mut opened.lines, &mut journal, book, pass);
     let is_of_this_site = say_other_site(rt, &opened.lines, &journal, digest);
     restored?;
-    opened.length = journal.length();
-    cut_torn(rt, opened, journal.torn())?;
+    let kept = RestoredJournal::cut_torn(rt, opened, &journal)?;
     let mut added = String::new(alloc);
     if !is_of_this_site {
         push_header(alloc, &mut added, digest)?;
     }
     match lose_links(alloc, book, now, &mut added) {
-        Ok(()) => Ok(added),
+        Ok(()) => Ok((kept, added)),
         // Each point that has a link may lose it, if memory lasts.
         Err(_) => Err(FolderFault::OutOfMemory),
     }
@@ -106,22 +107,6 @@ fn restore_lines<C: Ledger, A: Ledger, R: AllocGlobal + Eprint>(
         }
     }
     Ok(())
-}
-
-/// Cuts a last line that is torn off the file. All that is left is on the disk afterwards: it may
-/// have been written by a process that was killed before it synced it.
-fn cut_torn<R: Eprint>(rt: &R, opened: &OpenJournal, torn: usize) -> Result<(), FolderFault> {
-    let NamedFile { file, path } = &opened.lines;
-    if torn > 0 {
-        or_stop(
-            rt,
-            path.as_str(),
-            file.set_len(opened.length),
-            FolderFault::Write,
-        )?;
-        let _ = eprintln!(rt; "central: {path}: its last line is torn, and was cut: {torn} bytes");
-    }
-    or_stop(rt, path.as_str(), file.sync_data(), FolderFault::Write)
 }
 
 /// Returns whether the lines that were read go on with the site file of this digest. Says so where

@@ -1,5 +1,5 @@
 -- The lines in front stay, whatever stands behind them.
-use Rattle.std.proofs.Common.{◌≡◌, List, ◌++◌, ℕ, sym, ◌∙◌, ap, subst}
+use Rattle.std.proofs.Common.{List, ◌++◌, ℕ, ◌∙◌, ap, subst}
 use Rattle.append_log.specs.Contents.{IsFirstPart}
 use Rattle.append_log.specs.Lines.{whole_lines, text_of}
 use Rattle.append_log.proofs.Lines.{lines_in_front, first_lines}

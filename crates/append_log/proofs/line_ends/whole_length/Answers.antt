@@ -1,5 +1,5 @@
 -- The byte before the end.
-use Rattle.std.proofs.Common.{◌≡◌, ◌≢◌, ◌<◌, ◌≤◌, ◌+◌, ◌-◌, [], ◌∷◌, ◌++◌, length, take, get_or, length-take-le, sym, ◌∙◌, ap, subst, arith}
+use Rattle.std.proofs.Common.{◌≡◌, ◌+◌, ◌-◌, [], ◌∷◌, ◌++◌, length, take, get_or, length-take-le, sym, ◌∙◌, ap, arith}
 use Rattle.std.proofs.lemmas.Grind.{take_at_read}
 use Rattle.append_log.specs.Lines.{whole_lines}
 use Rattle.append_log.proofs.Lines.{last_torn, last_feed}

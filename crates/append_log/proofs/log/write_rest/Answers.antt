@@ -1,12 +1,11 @@
 -- How a write goes on.
-use Rattle.std.proofs.Common.{◌≡◌, ◌+◌, ◌-◌, ◌≤◌, false, List, length, take, drop, refl, sym, ◌∙◌, ap, subst, slice_range, arith, rules, Ok, Err}
+use Rattle.std.proofs.Common.{◌≡◌, ◌-◌, false, length, drop, refl, sym, ◌∙◌, ap, subst, slice_range, arith, rules, Err}
 use Rattle.std.proofs.lemmas.List.{places}
 use Rattle.std.proofs.lemmas.Result.{err_from_is_err_and}
-use Rattle.append_log.specs.AppendedFile.{after_append}
-use Rattle.append_log.specs.Contents.{Contents, MayLeave}
-use Rattle.append_log.specs.History.{History, AtEachMoment, LeavesOnly, changed}
-use Rattle.append_log.specs.Writing.{with_first, whether_failed}
-use Rattle.append_log.proofs.Moments.{at_start, one_more, weaker}
+use Rattle.append_log.specs.Contents.{MayLeave}
+use Rattle.append_log.specs.History.{History, LeavesOnly}
+use Rattle.append_log.specs.Writing.{with_first}
+use Rattle.append_log.proofs.Moments.{at_start}
 use Rattle.append_log.proofs.Writes.{some_of_all, wrote, fails}
 use Rattle.append_log.proofs.log.write_rest.Goals as goal
 

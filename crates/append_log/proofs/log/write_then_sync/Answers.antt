@@ -1,5 +1,5 @@
 -- What a crash leaves up to the sync.
-use Rattle.std.proofs.Common.{◌≡◌, false, length, ◌∙◌, ap}
+use Rattle.std.proofs.Common.{false, ◌∙◌, ap}
 use Rattle.append_log.specs.Writing.{with_first}
 use Rattle.append_log.proofs.Writes.{syncs, sync_fails}
 use Rattle.append_log.proofs.log.write_then_sync.Goals as goal

@@ -1,6 +1,5 @@
 -- The cut, and what a crash leaves meanwhile.
 use Rattle.std.proofs.Common.{◌∙◌, ap}
-use Rattle.append_log.specs.Contents.{Contents}
 use Rattle.append_log.specs.History.{History}
 use Rattle.append_log.proofs.Cuts.{cuts, cut_fails, within_file, cut_contents}
 use Rattle.append_log.specs.Contents.{file_of}

@@ -1,7 +1,6 @@
 -- What stands behind what is on the disk.
-use Rattle.std.proofs.Common.{◌≡◌, ◌≤◌, ◌+◌, ◌-◌, false, List, [], ◌++◌, length, take, drop, min, refl, sym, ◌∙◌, ap, subst, arith, take-append-drop}
+use Rattle.std.proofs.Common.{◌+◌, ◌++◌, take, drop, sym, ◌∙◌, ap, take-append-drop}
 use Rattle.std.proofs.Math.Seq.{take-add}
-use Rattle.append_log.specs.Contents.{MayLeave, IsFirstPart}
 use Rattle.append_log.proofs.memory_file.MemoryFile.crash.Goals as goal
 
 pub returns : goal.returns

@@ -1,5 +1,5 @@
 -- What is known of a file that was opened.
-use Rattle.std.proofs.Common.{◌≡◌, false, length, ◌∙◌, sym, ap}
+use Rattle.std.proofs.Common.{length, ◌∙◌, sym, ap}
 use Rattle.append_log.specs.Contents.{file_of}
 use Rattle.append_log.specs.History.{History}
 use Rattle.append_log.specs.Lines.{whole_lines}
