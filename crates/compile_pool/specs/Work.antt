@@ -45,5 +45,8 @@ work_at state ask row =
 abbrev pub work_of : PointState → Ask → ℕ
 work_of state ask = sum_by (work_at state ask) state.rows
 
+abbrev pub is_at_most : ℕ → RequestedJob → Bool
+is_at_most changes job = nat_le (work_of (state_of job.book) job.ask) changes
+
 abbrev pub is_short : RequestedJob → Bool
-is_short job = nat_le (work_of (state_of job.book) job.ask) most_of_short
+is_short job = is_at_most most_of_short job

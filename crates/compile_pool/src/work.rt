@@ -4,7 +4,7 @@ ghost use Rattle.std.specs.Prelude.{◌≡◌, ◌≤◌, ◌<◌, ◌*◌, ◌^
 ghost use Rattle.meaning.specs.Limits.{max_duration};
 ghost use Rattle.meaning.specs.View.{point_state};
 ghost use Rattle.point_book.specs.Book.{state_of};
-ghost use Rattle.compile_pool.specs.Work.{active_count, changes_of, is_short, looks_at, most_of_short, turns_within, work_at, work_of};
+ghost use Rattle.compile_pool.specs.Work.{active_count, changes_of, is_at_most, is_short, looks_at, turns_within, work_at, work_of};
 
 use meaning::{Ask, View};
 use ocpp_scalars::Instant;
@@ -15,31 +15,38 @@ use version_store::Job;
 /// A job of no more changes of limits than these is short. They take some 3 milliseconds.
 pub const MOST_OF_SHORT: u64 = 10_000;
 
-/// Whether a job is short: the limits of the profiles that it looks at don't change more often than
-/// that, whatever they are. A job that can't be looked into isn't.
+/// Whether a job is short.
 pub(crate) fn is_short(job: &Job) -> bool
     ensures { IsTrue result → IsTrue (is_short job.now) }
 {
+    is_at_most(job, MOST_OF_SHORT)
+}
+
+/// Whether a job takes no more changes of limits than these: those of the profiles that it looks at
+/// don't change more often, whatever they are. False where the job can't be looked into.
+pub fn is_at_most(job: &Job, changes: u64) -> bool
+    ensures { IsTrue result → IsTrue (is_at_most changes job.now) }
+{
     match job.share_book() {
-        Ok(book) => is_short_ask(&book, job.ask()),
+        Ok(book) => is_ask_at_most(&book, job.ask(), changes),
         Err(_) => false,
     }
 }
 
-/// Whether what is asked of a book is no more work than that of a short job.
-fn is_short_ask(book: &PointBook, ask: &Ask) -> bool
-    ensures { result ≡ nat_le (work_of (state_of book.now) ask.now) most_of_short }
+/// Whether what is asked of a book takes no more changes than these.
+fn is_ask_at_most(book: &PointBook, ask: &Ask, changes: u64) -> bool
+    ensures { result ≡ nat_le (work_of (state_of book.now) ask.now) changes }
 {
-    has_short_work(&book.view(), ask)
+    is_work_at_most(&book.view(), ask, changes)
 }
 
 /// The same of what a point has. Each row's work is taken from what is left, so that no sum grows large.
-fn has_short_work(view: &View<'_>, ask: &Ask) -> bool
+fn is_work_at_most(view: &View<'_>, ask: &Ask, changes: u64) -> bool
     requires few { length view.now.starts.now < 2 ^ 32 }
-    ensures { result ≡ nat_le (work_of (point_state view.now) ask.now) most_of_short }
+    ensures { result ≡ nat_le (work_of (point_state view.now) ask.now) changes }
 {
     let active = active_count(view.starts);
-    let mut left = MOST_OF_SHORT;
+    let mut left = changes;
     for index in 0..view.rows.len() {
         let row = &view.rows[index];
         let work = looks_at(active, ask.connector, row.connector) * changes_of(row, ask.duration);

@@ -17,6 +17,10 @@ use std::time::Instant;
 use tungstenite::{Message, NoMask, WebSocket};
 use version_store::Pass;
 
+/// A schedule of no more changes of limits than these is compiled by its session: that takes at most
+/// some 0.3 milliseconds, mostly less than to wake a worker.
+const MOST_OF_OWN: u64 = 1_000;
+
 /// What a seat knows of the client that it serves.
 #[derive(Drop)]
 struct Attention {
@@ -54,7 +58,7 @@ pub(crate) fn attend_session<C: Ledger, A: Ledger, R: Wait + Clock, M: Moments, 
     let Ok(now) = Instant::now(context.rt) else {
         return;
     };
-    let mut socket = WatchedSocket::new(context.rt, socket);
+    let mut socket = WatchedSocket::new(context.rt, socket, Some(MOST_OF_OWN));
     let mut attention = Attention {
         call_timeout: watch.seats.options.call_timeout,
         begun: now,

@@ -109,6 +109,8 @@ struct Desk<'a, C: Ledger, A: Ledger> {
     shared: &'a Shared<C, A>,
     looks: &'a AtomicU64,
     later: Later,
+    /// What takes no more changes of limits than these the session compiles itself.
+    most_of_own: Option<u64>,
 }
 
 /// What became of a session.
@@ -170,7 +172,7 @@ fn serve_messages<C: Ledger, A: Ledger, R: Abort + Wait + Clock>(
         reading: &reading,
     };
     let core = SessionCore::operator(desk.alloc, "CP1", Unit::A).expect(rt, "error");
-    let (mut watched, mut pass) = (WatchedSocket::new(rt, socket), pass);
+    let (mut watched, mut pass) = (WatchedSocket::new(rt, socket, desk.most_of_own), pass);
     for _message in 0..20u32 {
         match serve_next(&context, &mut watched, &core, &mut pass) {
             Ok(Heard::Nothing) => return (None, pass.totals().answers),
@@ -234,6 +236,7 @@ fn meanwhile<
         shared: &shared,
         looks: &looks,
         later: Later::Messages,
+        most_of_own: None,
     };
     let served = serve_beside(rt, &desk, pass);
     // The first pong leaves before the answer, the second behind the message that was kept.
@@ -282,6 +285,7 @@ fn leaves<C: Ledger, A: Ledger, R: Abort + Wait + Clock>(
         shared: &shared,
         looks: &looks,
         later,
+        most_of_own: None,
     };
     let served = serve(rt, &desk, &jobs, pass);
     same(rt, looks.load(Ordering::SeqCst), 1, "looks");
@@ -343,6 +347,7 @@ fn finds_no_room<C: Ledger, A: Ledger, R: Abort + Wait + Clock>(
         shared: &shared,
         looks: &looks,
         later: Later::End,
+        most_of_own: None,
     };
     let served = serve(rt, &desk, &jobs, pass);
     same_text(rt, served.lines.as_str(), NO_ROOM, "what its client reads");
@@ -372,4 +377,62 @@ fn job_of_another<C: Ledger, A: Ledger, R: Abort + Wait>(
 fn a_request_without_room_is_answered_at_once(rt: HostRuntime) {
     let blanks = (Blank::new(2), Blank::new(2));
     finds_no_room::<Brand, Brand, HostRuntime>(&rt, rt.alloc(), blanks);
+}
+
+/// A request that takes no change of a limit, where the session compiles at most so many itself and no
+/// worker takes a job. How many jobs are on their way in the end.
+fn asks_of_nobody<C: Ledger, A: Ledger, R: Abort + Wait + Clock>(
+    rt: &R,
+    alloc: Global,
+    blanks: (Blank, Blank),
+    most_of_own: Option<u64>,
+) -> (Served, usize)
+    requires changes { (blanks.0.name ≡ C.name) × (blanks.0.parts ≡ C.parts)
+        × (blanks.0.parts ≡ 2) }
+    requires answers { (blanks.1.name ≡ A.name) × (blanks.1.parts ≡ A.parts)
+        × (blanks.1.parts ≡ 2) }
+{
+    let (shared, mut passes): (Shared<C, A>, _) = shared_of(rt, alloc, blanks);
+    let pass = passes.pop().expect(rt, "no pass");
+    let (jobs, queue) = bounded(alloc, 1).expect(rt, "error");
+    let looks = AtomicU64::new(0);
+    let desk = Desk {
+        alloc,
+        shared: &shared,
+        looks: &looks,
+        later: Later::End,
+        most_of_own,
+    };
+    let served = serve(rt, &desk, &jobs, pass);
+    (served, queue.len())
+}
+
+#[test]
+fn a_small_request_is_compiled_by_its_session(rt: HostRuntime) {
+    let blanks = (Blank::new(2), Blank::new(2));
+    let (served, sent) = asks_of_nobody::<Brand, Brand, HostRuntime>(
+        &rt,
+        rt.alloc(),
+        blanks,
+        Some(0),
+    );
+    let mut wanted = String::new(rt.alloc());
+    wanted.push_str(SCHEDULE_WITHOUT).expect(&rt, "error");
+    wanted.push_str("\n").expect(&rt, "error");
+    same_text(
+        &rt,
+        served.lines.as_str(),
+        wanted.as_str(),
+        "what its client reads",
+    );
+    same(&rt, served.answers, 1, "answers");
+    same(&rt, sent as u64, 0, "jobs on their way");
+}
+
+#[test]
+fn where_no_request_is_small_it_waits_for_a_worker(rt: HostRuntime) {
+    let blanks = (Blank::new(2), Blank::new(2));
+    let (served, sent) = asks_of_nobody::<Brand, Brand, HostRuntime>(&rt, rt.alloc(), blanks, None);
+    same_text(&rt, served.lines.as_str(), "", "what its client reads");
+    same(&rt, sent as u64, 1, "jobs on their way");
 }

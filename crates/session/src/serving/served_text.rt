@@ -227,7 +227,7 @@ fn is_confirm(step: &Step) -> bool
     matches!(step, Step::Confirm { .. })
 }
 
-/// The answer to a request that is kept: compiled by a worker, or here where none takes it. No lock
+/// The answer to a request that is kept, which a worker compiles, or the session itself. No lock
 /// tells that what is handed out in the end is for the book and the `Ask` of this request, so they
 /// are compared.
 fn answer_of<C: Ledger, A: Ledger, R: Wait, M: Moments, J: Journal, W: Waiting>(
@@ -255,8 +255,8 @@ fn answer_of<C: Ledger, A: Ledger, R: Wait, M: Moments, J: Journal, W: Waiting>(
     }
 }
 
-/// Has a job compiled, by a worker, or here where none takes it. Where too many wait, or the client is
-/// gone before its request has an answer, the request is answered unmade: it isn't begun any more.
+/// Has a job compiled by a worker, or compiles it. Where too many wait, or the client is gone before
+/// its request has an answer, the request is answered unmade: it isn't begun any more.
 fn compile_or_leave<C: Ledger, A: Ledger, R: Wait, M: Moments, J: Journal, W: Waiting>(
     context: &Context<'_, C, A, R, M, J>,
     waiting: &mut W,
@@ -265,7 +265,7 @@ fn compile_or_leave<C: Ledger, A: Ledger, R: Wait, M: Moments, J: Journal, W: Wa
     let (rt, shared) = (context.rt, context.shared);
     let (number, book, ask) = (job.number(), job.share_book(), *job.ask());
     match waiting.send_job(rt, context.jobs, job) {
-        Sending::NoWorker(job) => answer_job(rt, context.alloc, shared, job),
+        Sending::Own(job) => answer_job(rt, context.alloc, shared, job),
         Sending::NoRoom(job) => {
             let (number, book, ask) = job.into_parts();
             answer_unmade(rt, shared, number, book, ask);

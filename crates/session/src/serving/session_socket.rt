@@ -42,7 +42,7 @@ impl<S, K> Waiting for WebSocket<S, K> {
     fn send_job<R: Wait>(&mut self, rt: &R, jobs: Jobs<'_>, job: Job) -> Sending {
         match jobs.send(rt, job) {
             Ok(()) => Sending::Sent,
-            Err(back) => Sending::NoWorker(back),
+            Err(back) => Sending::Own(back),
         }
     }
 

@@ -9,8 +9,8 @@ use version_store::{Job, Shared};
 #[derive(Drop)]
 pub enum Sending {
     Sent,
-    /// Nobody takes it.
-    NoWorker(Job),
+    /// The session compiles it itself: no worker takes it, or it takes less time than to wake one.
+    Own(Job),
     /// Too many wait for their workers.
     NoRoom(Job),
 }

@@ -7,7 +7,7 @@ use crate::serving::heard::Incoming;
 use crate::serving::session_socket::SessionSocket;
 use crate::serving::sockets::read_next;
 use crate::serving::waiting::{Sending, Waiting};
-use compile_pool::{Jobs, Unsent};
+use compile_pool::{Jobs, Unsent, is_at_most};
 use std::io::{Read, Write};
 use std::rt::Clock;
 use std::sync::Wait;
@@ -52,15 +52,25 @@ pub trait Watched {
 pub struct WatchedSocket<'s, S, K, R> {
     rt: &'s R,
     socket: &'s mut WebSocket<S, K>,
+    /// What takes no more changes of limits than these the session compiles itself, if there is such
+    /// a number.
+    most_of_own: Option<u64>,
     /// What came while the session waited: a message, or the end.
     kept: Option<Result<Incoming, Ended>>,
 }
 
 impl<'s, S: Read + Write + Watched + Drop, K: MaskKeys + Drop, R> WatchedSocket<'s, S, K, R> {
-    pub fn new(rt: &'s R, socket: &'s mut WebSocket<S, K>) -> WatchedSocket<'s, S, K, R> {
+    /// The session compiles what takes no more changes of limits than `most_of_own` itself, and
+    /// nothing where that is none.
+    pub fn new(
+        rt: &'s R,
+        socket: &'s mut WebSocket<S, K>,
+        most_of_own: Option<u64>,
+    ) -> WatchedSocket<'s, S, K, R> {
         WatchedSocket {
             rt,
             socket,
+            most_of_own,
             kept: None,
         }
     }
@@ -156,9 +166,12 @@ impl<S: Read + Write + Watched + Drop, K: MaskKeys + Drop, R: Wait + Clock> Sess
 impl<S: Read + Write + Watched + Drop, K: MaskKeys + Drop, R: Wait + Clock> Waiting
     for WatchedSocket<'_, S, K, R> {
     fn send_job<W: Wait>(&mut self, rt: &W, jobs: Jobs<'_>, job: Job) -> Sending {
+        if self.most_of_own.is_some_and(|most| is_at_most(&job, most)) {
+            return Sending::Own(job);
+        }
         match jobs.try_send(rt, job) {
             Ok(()) => Sending::Sent,
-            Err(Unsent::NoWorker(back)) => Sending::NoWorker(back),
+            Err(Unsent::NoWorker(back)) => Sending::Own(back),
             Err(Unsent::NoRoom(back)) => Sending::NoRoom(back),
         }
     }

@@ -4,7 +4,7 @@ use Rattle.std.proofs.lemmas.Nat.{mul-le}
 use Rattle.std.proofs.lemmas.List.Sums.{sum_by_more_le}
 use Rattle.meaning.specs.View.{point_state}
 use Rattle.compile_pool.specs.Work.{work_at}
-use Rattle.compile_pool.proofs.work.has_short_work.Goals as goal
+use Rattle.compile_pool.proofs.work.is_work_at_most.Goals as goal
 
 pub overflow_mul-work : goal.overflow_mul-work
 overflow_mul-work c =
