@@ -2,12 +2,13 @@
 import itertools
 import random
 import re
+import resource
 import socket
 import struct
 import threading
 import time
 
-from raw_client import CONTINUATION, TEXT, RawClient, frame_bytes
+from raw_client import CONTINUATION, TEXT, RawClient, frame_bytes, request_bytes
 from run_data import SITE, Data, size, tell
 from serving import PATIENCE, Running, Unexpected, expect, until
 from texts import CALL_0, OCPP, accepted, call, heartbeat, install, install_call, plain_site, profile
@@ -20,10 +21,10 @@ HOSTILE_MEMORY = size(400 * 1024, 1024 * 1024, 400 * 1024)
 GIVES_BACK = {"MALLOC_TRIM_THRESHOLD_": "131072"}
 
 
-def memory(running):
-    """The kilobytes that the program has in memory now."""
+def memory(running, kind="VmRSS"):
+    """The kilobytes that the program has in memory now, or that it has of addresses (`VmSize`)."""
     with open(f"/proc/{running.process.pid}/status", encoding="ascii") as file:
-        return int(re.search(r"VmRSS:\s*(\d+) kB", file.read()).group(1))
+        return int(re.search(kind + r":\s*(\d+) kB", file.read()).group(1))
 
 
 def milliseconds(times, share):
@@ -162,6 +163,24 @@ def gets_its_call(running, point):
     point.client.socket.close()
 
 
+def threads_of_handshakes(program):
+    """A handshake has a thread that ends with it; where none can be made, its seat's."""
+    request = request_bytes("/P1", [f"Sec-WebSocket-Protocol: {OCPP}"])
+    with Data() as data, Running(program, SITE, data.path) as running:
+        count, addresses = running.threads(), memory(running, "VmSize") * 1024
+        for more, limit in ((0, addresses + size(1 << 20, 4 << 20, 1 << 20)), (1, resource.RLIM_INFINITY)):
+            resource.prlimit(running.process.pid, resource.RLIMIT_AS, (limit, resource.RLIM_INFINITY))
+            with RawClient(running) as client:
+                client.send_bytes(request[:20])
+                running.until_idle()
+                expect("how many threads are for its handshake", running.threads() - count, more)
+                client.send_bytes(request[20:])
+                response = client.read_response()
+                expect("the response", response and response.status, 101)
+                expect("its answer", client.texts_of(heartbeat("h"))[0][:7], '[3,"h",')
+                until("that thread has ended", lambda: running.threads() == count)
+
+
 def many_at_once(program):
     """500 points of a site are connected at once."""
     count, began = 500, time.monotonic()
@@ -257,6 +276,7 @@ def unfinished_messages(program):
 
 def tests():
     yield "points that come back", points_that_come_back
+    yield "threads of handshakes", threads_of_handshakes
     yield "many at once", many_at_once
     yield "idle seats", idle_seats
     yield "unfinished messages", unfinished_messages

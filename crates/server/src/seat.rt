@@ -5,7 +5,7 @@ ghost use Rattle.session.specs.Serving.{KeepsPass};
 use crate::attending::attend_session;
 use crate::connection::{Admitted, admit, close_at_once};
 use crate::entry::Entry;
-use crate::handshake::shake_hands;
+use crate::handshake::{ClientRequest, Unshaken, shake_hands};
 use crate::incoming_stream::IncomingStream;
 use crate::seat_context::SeatContext;
 use crate::session_watch::SessionWatch;
@@ -14,11 +14,14 @@ use compile_pool::Jobs;
 use crossbeam_channel::Receiver;
 use ocpp_scalars::Moments;
 use session::{Context, Journal, Peer, attach_session, end_session};
-use std::alloc::AllocError;
+use std::alloc::{AllocError, Global};
+use std::marker::Sync;
 use std::net::TcpStream;
 use std::rt::Clock;
 use std::sync::Wait;
 use std::sync::ledger::Ledger;
+use std::thread;
+use std::thread::Threads;
 use tungstenite::{NoMask, WebSocket, WebSocketConfig};
 use version_store::Pass;
 
@@ -28,9 +31,18 @@ const LONGEST_MESSAGE_BYTES: usize = 1_048_576;
 /// Each read of a stream asks for so many bytes, for which each connection has room.
 const READ_BYTES: usize = 2_048;
 
+/// The socket of a seat.
+type SeatSocket<'a, R> = WebSocket<IncomingStream<'a, R>, NoMask>;
+
 /// Serves one connection after another, each with the seat's pass, until no more are sent. Gives
 /// back the pass, which counts no less than before.
-pub fn keep_seat<C: Ledger, A: Ledger, R: Wait + Clock, M: Moments, J: Journal>(
+pub fn keep_seat<
+    C: Ledger,
+    A: Ledger,
+    R: Threads + Wait + Clock + Sync,
+    M: Moments,
+    J: Journal,
+>(
     seats: &SeatContext<C, A, R, M, J>,
     jobs: Jobs<'_>,
     streams: &Receiver<TcpStream>,
@@ -59,7 +71,13 @@ pub fn keep_seat<C: Ledger, A: Ledger, R: Wait + Clock, M: Moments, J: Journal>(
 }
 
 /// Serves a connection from its handshake until it ends. Gives back the pass.
-fn serve_incoming<C: Ledger, A: Ledger, R: Wait + Clock, M: Moments, J: Journal>(
+fn serve_incoming<
+    C: Ledger,
+    A: Ledger,
+    R: Threads + Wait + Clock + Sync,
+    M: Moments,
+    J: Journal,
+>(
     seats: &SeatContext<C, A, R, M, J>,
     context: &Context<'_, C, A, R, M, J>,
     stream: TcpStream,
@@ -72,19 +90,7 @@ fn serve_incoming<C: Ledger, A: Ledger, R: Wait + Clock, M: Moments, J: Journal>
     else {
         return pass;
     };
-    let entry = Entry::Guarded {
-        keys: seats.options.keys.as_ref(),
-        address: seats.options.address.as_str(),
-    };
-    let handshake = match stream.share() {
-        Some(share) => seats.handshakes.begin(context.rt, share),
-        None => None,
-    };
-    let shaken = shake_hands(context.alloc, entry, stream);
-    if let Some(handshake) = handshake {
-        seats.handshakes.end(context.rt, handshake);
-    }
-    let (mut socket, asked) = match shaken {
+    let (mut socket, asked) = match shake_in_time(seats, stream) {
         Ok(shaken) => shaken,
         Err(unshaken) => {
             note_unshaken(seats, unshaken, from);
@@ -106,6 +112,39 @@ fn serve_incoming<C: Ledger, A: Ledger, R: Wait + Clock, M: Moments, J: Journal>
     }
 }
 
+/// Shakes hands with a client. While that lasts, it may have to give way.
+fn shake_in_time<'a, C: Ledger, A: Ledger, R: Threads + Wait + Clock + Sync, M, J>(
+    seats: &SeatContext<C, A, R, M, J>,
+    stream: IncomingStream<'a, R>,
+) -> Result<(SeatSocket<'a, R>, ClientRequest), Unshaken> {
+    let entry = Entry::Guarded {
+        keys: seats.options.keys.as_ref(),
+        address: seats.options.address.as_str(),
+    };
+    let handshake = match stream.share() {
+        Some(share) => seats.handshakes.begin(&seats.rt, share),
+        None => None,
+    };
+    let shaken = shake_apart(&seats.rt, seats.alloc, entry, stream);
+    if let Some(handshake) = handshake {
+        seats.handshakes.end(&seats.rt, handshake);
+    }
+    shaken
+}
+
+/// Shakes hands on a thread of its own, or on this one where none can be made. A handshake takes far
+/// more of a stack than a session that waits, and what a thread took of its stack stays in memory
+/// until it ends.
+fn shake_apart<'a, R: Threads + Wait + Clock + Sync>(
+    rt: &R,
+    alloc: Global,
+    entry: Entry<'_>,
+    stream: IncomingStream<'a, R>,
+) -> Result<(SeatSocket<'a, R>, ClientRequest), Unshaken> {
+    let (shaken, ()) = thread::join(rt, move || shake_hands(alloc, entry, stream), || ());
+    shaken
+}
+
 /// What a connection may take up.
 fn limits() -> WebSocketConfig {
     WebSocketConfig::default()
@@ -119,7 +158,7 @@ fn limits() -> WebSocketConfig {
 fn serve_admitted<C: Ledger, A: Ledger, R: Wait + Clock, M: Moments, J: Journal>(
     seats: &SeatContext<C, A, R, M, J>,
     context: &Context<'_, C, A, R, M, J>,
-    socket: WebSocket<IncomingStream<'_, R>, NoMask>,
+    socket: SeatSocket<'_, R>,
     admitted: Admitted,
     pass: Pass<C, A>,
 ) -> Pass<C, A>
