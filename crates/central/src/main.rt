@@ -102,7 +102,10 @@ fn do_job<
             serve_file(rt, serving)?;
             Ok(0)
         }
-        Ok(Job::Call(calling)) => call_site(rt, calling),
+        Ok(Job::Call(calling)) => {
+            let status = call_site(rt, calling);
+            naming(rt, calling.site.unwrap_or(""), status)
+        }
         Ok(Job::Point(pointing)) => {
             let status = run_point(rt, pointing);
             naming(rt, pointing.site, status)

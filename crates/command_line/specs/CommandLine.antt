@@ -122,21 +122,36 @@ optional_values name = record (option name) {
   value_names = 3;
 }
 
--- `call --url U [--login FILE] [--set-profile FILE] [--clear CRITERIA]
--- [--remote-start CONNECTOR TAG [FILE]] [--ask CONNECTOR SECONDS] [--audit CONNECTOR SECONDS]
--- [--status]`
-abbrev pub call_command : App
-call_command =
-    with_rule (with_rule (with_rule (with_rule (with_rule (with_rule (with_rule (with_rule
-    (new_app (codes "call"))
+-- where calls go: `--url U [--login FILE] [--all] [--site F]`
+abbrev pub with_callees : App → App
+with_callees app =
+    with_rule (with_rule (with_rule (with_rule app
     (needed (codes "url")))
     (optional (codes "login")))
+    (flag (codes "all")))
+    (optional (codes "site"))
+
+-- what they are: `[--set-profile FILE] [--clear CRITERIA] [--remote-start CONNECTOR TAG [FILE]]
+-- [--ask CONNECTOR SECONDS] [--audit CONNECTOR SECONDS] [--status]`
+abbrev pub with_calls : App → App
+with_calls app =
+    with_rule (with_rule (with_rule (with_rule (with_rule (with_rule app
     (optional (codes "set-profile")))
     (optional (codes "clear")))
     (optional_values (codes "remote-start")))
     (optional_numbers (codes "ask") 2147483647))
     (optional_numbers (codes "audit") 2147483647))
     (flag (codes "status"))
+
+-- whether they are sent: `[--force] [--dry-run]`
+abbrev pub with_sending : App → App
+with_sending app = with_rule (with_rule app (flag (codes "force"))) (flag (codes "dry-run"))
+
+-- `call --url U [--login FILE] [--all --site F] [--set-profile FILE] [--clear CRITERIA]
+-- [--remote-start CONNECTOR TAG [FILE]] [--ask CONNECTOR SECONDS] [--audit CONNECTOR SECONDS]
+-- [--status] [--force] [--dry-run]`
+abbrev pub call_command : App
+call_command = with_sending (with_calls (with_callees (new_app (codes "call"))))
 
 -- `point --url U --site F --id ID [--login FILE]`
 abbrev pub point_command : App
@@ -331,6 +346,8 @@ IsStarting given (Some starting) =
 pub record IsCalling (rows : List Row) (calling : Calling) : Type 0 where
   pub url : first_of (codes "url") rows ≡ Some calling.url.now
   pub login : first_of (codes "login") rows ≡ option_map (λ text. text.now) calling.login
+  pub all : IsFlag (codes "all") rows calling.all
+  pub site : first_of (codes "site") rows ≡ option_map (λ text. text.now) calling.site
   pub set_profile :
       first_of (codes "set-profile") rows ≡ option_map (λ text. text.now) calling.set_profile
   pub clear : first_of (codes "clear") rows ≡ option_map (λ text. text.now) calling.clear
@@ -338,6 +355,8 @@ pub record IsCalling (rows : List Row) (calling : Calling) : Type 0 where
   pub ask : IsAsking (all_of (codes "ask") rows) calling.ask
   pub audit : IsAsking (all_of (codes "audit") rows) calling.audit
   pub status : IsFlag (codes "status") rows calling.status
+  pub force : IsFlag (codes "force") rows calling.force
+  pub dry_run : IsFlag (codes "dry-run") rows calling.dry_run
 
 -- which point is simulated, and where it connects
 pub record IsPointing (rows : List Row) (pointing : Pointing) : Type 0 where

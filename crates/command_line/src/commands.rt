@@ -2,12 +2,12 @@
 
 ghost use Rattle.std.specs.Prelude.{◌≡◌, false, IfOk};
 ghost use Rattle.clap.specs.Words.{App, app_of, rule_of};
-ghost use Rattle.command_line.specs.CommandLine.{needed, numbered, option, optional, optional_numbers, optional_values, flag, central_app, with_readers, with_served, with_places, with_counts, with_status, with_script, with_request, with_picture, run_command, status_command, journal_command, key_command, replay_command, serve_command, call_command, point_command, explain_command, check_command, show_command};
+ghost use Rattle.command_line.specs.CommandLine.{needed, numbered, option, optional, optional_numbers, optional_values, flag, central_app, with_readers, with_served, with_places, with_counts, with_status, with_script, with_request, with_picture, with_callees, with_calls, with_sending, run_command, status_command, journal_command, key_command, replay_command, serve_command, call_command, point_command, explain_command, check_command, show_command};
 
 use crate::help_text::{
-    ABOUT, ASK_HELP, ASK_VALUES, AT_HELP, AUDIT_HELP, CALL_ABOUT, CALL_NOTES, CALL_TIMEOUT_HELP,
+    ABOUT, ALL_HELP, ALL_SITE_HELP, ASK_HELP, ASK_VALUES, AT_HELP, AUDIT_HELP, CALL_ABOUT, CALL_NOTES, CALL_TIMEOUT_HELP,
     CHECK_ABOUT, CHECK_KEYS_HELP, CHECK_NOTES, CLEAR_HELP, CONNECTOR_HELP, DATA_HELP,
-    DURATION_HELP, EXPLAIN_ABOUT, EXPLAIN_NOTES, ID_HELP, JOURNAL_ABOUT, JOURNAL_DATA_HELP,
+    DRY_RUN_HELP, DURATION_HELP, EXPLAIN_ABOUT, EXPLAIN_NOTES, FORCE_HELP, ID_HELP, JOURNAL_ABOUT, JOURNAL_DATA_HELP,
     JOURNAL_NOTES, JSON_HELP, KEY_ABOUT, KEY_NAME_HELP, KEY_NOTES, KEY_OPERATOR_HELP, KEYS_HELP,
     LISTEN_HELP, LOGIN_HELP, OPERATOR_URL_HELP, PICTURE_HELP, POINT_ABOUT, POINT_HELP, POINT_NOTES,
     POINT_URL_HELP, REMOTE_START_HELP, REPLAY_ABOUT, REPLAY_EXAMPLE, RUN_ABOUT, RUN_DATA_HELP,
@@ -186,23 +186,53 @@ fn serve<'a>(alloc: Global) -> Result<Command<'a>, AllocError>
         ))
 }
 
-/// `call --url U [--login FILE] [--set-profile FILE] [--clear CRITERIA]
+/// `call --url U [--login FILE] [--all --site F] [--set-profile FILE] [--clear CRITERIA]
 /// [--remote-start CONNECTOR TAG [FILE]] [--ask CONNECTOR SECONDS] [--audit CONNECTOR SECONDS]
-/// [--status]`.
+/// [--status] [--force] [--dry-run]`.
 fn call<'a>(alloc: Global) -> Result<Command<'a>, AllocError>
     ensures { IfOk result (λ command. app_of command ≡ call_command) }
 {
-    Command::new(alloc, "call")
+    let command = Command::new(alloc, "call")
         .about(CALL_ABOUT)
-        .after_help(CALL_NOTES)
+        .after_help(CALL_NOTES);
+    let addressed = with_callees(alloc, command)?;
+    let given = with_calls(alloc, addressed)?;
+    with_sending(alloc, given)
+}
+
+/// Adds where calls go: `--url U [--login FILE] [--all] [--site F]`.
+fn with_callees<'a>(alloc: Global, command: Command<'a>) -> Result<Command<'a>, AllocError>
+    ensures { IfOk result (λ added. app_of added ≡ with_callees (app_of command.entry)) }
+{
+    command
         .arg(needed(alloc, "url", "U", OPERATOR_URL_HELP))?
         .arg(optional(alloc, "login", "FILE", LOGIN_HELP))?
+        .arg(flag(alloc, "all", ALL_HELP))?
+        .arg(optional(alloc, "site", "F", ALL_SITE_HELP))
+}
+
+/// Adds what the calls are: `[--set-profile FILE] [--clear CRITERIA]
+/// [--remote-start CONNECTOR TAG [FILE]] [--ask CONNECTOR SECONDS] [--audit CONNECTOR SECONDS]
+/// [--status]`.
+fn with_calls<'a>(alloc: Global, command: Command<'a>) -> Result<Command<'a>, AllocError>
+    ensures { IfOk result (λ added. app_of added ≡ with_calls (app_of command.entry)) }
+{
+    command
         .arg(optional(alloc, "set-profile", "FILE", SET_PROFILE_HELP))?
         .arg(optional(alloc, "clear", "CRITERIA", CLEAR_HELP))?
         .arg(starting(alloc, "remote-start"))?
         .arg(asking(alloc, "ask", ASK_HELP))?
         .arg(asking(alloc, "audit", AUDIT_HELP))?
         .arg(flag(alloc, "status", STATUS_HELP))
+}
+
+/// Adds whether they are sent: `[--force] [--dry-run]`.
+fn with_sending<'a>(alloc: Global, command: Command<'a>) -> Result<Command<'a>, AllocError>
+    ensures { IfOk result (λ added. app_of added ≡ with_sending (app_of command.entry)) }
+{
+    command
+        .arg(flag(alloc, "force", FORCE_HELP))?
+        .arg(flag(alloc, "dry-run", DRY_RUN_HELP))
 }
 
 /// `point --url U --site F --id ID [--login FILE]`.

@@ -8,13 +8,13 @@ use crate::program::program_fault::ProgramFault;
 use crate::program::script_end::script_end;
 use crate::program::script_input::read_script_of;
 use crate::program::site_file::read_digested_site;
-use command_line::{Explaining, Source, read_duration};
+use command_line::{Explaining, Source, Start, read_duration};
 use data_folder::{Following, ScriptEnd, SystemClock, follow_journal};
 use explain_pages::{
     ExplainedAsk, not_counted, write_json, write_page, write_picture, write_table,
 };
 use meaning::Ask;
-use ocpp_scalars::{Instant, Moments, read_instant, write_instant};
+use ocpp_scalars::{Instant, Moments, write_instant};
 use point_book::PointBook;
 use profile::Unit;
 use replay::play_quietly;
@@ -136,12 +136,12 @@ fn check_connector(site: &Site, point: &str, connector: u32) -> Result<(), Progr
 
 /// The instant from which on is explained: the present one, or the one that is named.
 fn start_of<R: Clock>(rt: &R, text: &str) -> Result<Instant, ProgramFault> {
-    if text == "now" {
-        return now(rt);
-    }
-    match read_instant(text) {
-        Ok(instant) => Ok(instant),
-        Err(_) => Err(ProgramFault::NoInstant),
+    let Ok(start) = Start::of(text) else {
+        return Err(ProgramFault::NoInstant);
+    };
+    match start.named() {
+        Some(instant) => Ok(instant),
+        None => now(rt),
     }
 }
 
