@@ -5,7 +5,7 @@ use crate::program::login::logged_in;
 use crate::program::program_fault::ProgramFault;
 use client::{Address, AnswerLines, CallEnd, ClientFault, OperatorClient, connect};
 use findings::{SentCheck, Severity, answer_sentence, check_sent, exit_status, json_break};
-use std::alloc::AllocGlobal;
+use std::alloc::{AllocError, AllocGlobal, Global};
 use std::fmt::Display;
 use std::io;
 use std::net::TcpStream;
@@ -25,7 +25,9 @@ const FAULTY: u8 = 1;
 
 /// How messages are sent.
 #[derive(Drop)]
-pub struct Sending {
+pub struct Sending<'a> {
+    /// The operator's URL; where points are called by their identities, without these.
+    pub url: &'a str,
     /// The name and the key that the client tells, if any.
     pub login: Option<String>,
     /// Whether what has a fault is sent, too.
@@ -38,7 +40,7 @@ pub struct Sending {
 #[derive(Drop)]
 pub struct Caller<'a, R: RandomSource> {
     rt: &'a R,
-    sending: Sending,
+    sending: Sending<'a>,
     status: u8,
 }
 
@@ -55,7 +57,7 @@ impl<
     'a,
     R: Print + Eprint + AllocGlobal + Net<Stream = TcpStream> + RandomSource + Wait + Copy + Drop,
 > Caller<'a, R> {
-    pub fn new(rt: &'a R, sending: Sending) -> Caller<'a, R> {
+    pub fn new(rt: &'a R, sending: Sending<'a>) -> Caller<'a, R> {
         Caller {
             rt,
             sending,
@@ -68,24 +70,41 @@ impl<
         self.status
     }
 
-    /// Connects to an operator's URL, unless nothing is sent. What is printed of it begins with the
-    /// label.
-    pub fn reach(&self, url: &str, label: String) -> Result<Callee<R>, ProgramFault> {
-        let alloc = self.rt.alloc();
-        if self.sending.dry_run {
-            return Ok(Callee {
-                label,
-                client: None,
-            });
+    /// Connects to the operator's URL, or to that of the point of an identity, unless nothing is sent.
+    pub fn reach(&self, point: Option<&str>) -> Result<Callee<R>, ProgramFault> {
+        let label = self.label_of(point)?;
+        let client = if self.sending.dry_run {
+            None
+        } else {
+            Some(self.connected(point)?)
+        };
+        Ok(Callee { label, client })
+    }
+
+    /// What each line about a point begins with, where it is called by its identity.
+    fn label_of(&self, point: Option<&str>) -> Result<String, AllocError> {
+        match point {
+            Some(point) => format!(in self.rt.alloc(); "{point} "),
+            None => Ok(String::new(self.rt.alloc())),
         }
-        let address = Address::of_operator(alloc, url)?;
+    }
+
+    /// A client that is connected.
+    fn connected(
+        &self,
+        point: Option<&str>,
+    ) -> Result<OperatorClient<TcpStream, RandomKeys<R>>, ProgramFault> {
+        let alloc = self.rt.alloc();
+        let address = match point {
+            Some(point) => Address::of_operator(
+                alloc,
+                url_of_point(alloc, self.sending.url, point)?.as_str(),
+            )?,
+            None => Address::of_operator(alloc, self.sending.url)?,
+        };
         let address = logged_in(alloc, address, &self.sending.login)?;
         let socket = connect(self.rt, alloc, address)?;
-        let client = OperatorClient::new(alloc, socket);
-        Ok(Callee {
-            label,
-            client: Some(client),
-        })
+        Ok(OperatorClient::new(alloc, socket))
     }
 
     /// The calls that are to be sent. Says what is wrong with each.
@@ -236,6 +255,12 @@ impl<
             Err(_) => Err(ProgramFault::Client(ClientFault::Write)),
         }
     }
+}
+
+/// The URL of the operator of a point.
+pub fn url_of_point(alloc: Global, base: &str, point: &str) -> Result<String, AllocError> {
+    let base = base.trim_end_matches('/');
+    format!(in alloc; "{base}/{point}")
 }
 
 /// Whether a client stopped by what may be so at one point alone.

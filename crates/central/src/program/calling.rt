@@ -1,6 +1,6 @@
 //! The job of `central call`.
 
-use crate::program::caller::{Caller, Sending};
+use crate::program::caller::{Caller, Sending, url_of_point};
 use crate::program::given_calls::{GivenCall, given_calls};
 use crate::program::login::read_login;
 use crate::program::program_fault::ProgramFault;
@@ -8,8 +8,7 @@ use crate::program::site_file::read_site_file;
 use client::{Address, Lines};
 use command_line::Calling;
 use site_rules::Site;
-use std::alloc::{AllocError, AllocGlobal, Global};
-use std::fs::File;
+use std::alloc::{AllocGlobal, Global};
 use std::net::TcpStream;
 use std::random::RandomSource;
 use std::rt::{Files, Net};
@@ -30,27 +29,22 @@ pub fn call_site<
 >(rt: &R, calling: Calling<'_>) -> Result<u8, ProgramFault> {
     check_url(rt.alloc(), calling)?;
     let sending = Sending {
+        url: calling.url,
         login: read_login(rt, calling.login)?,
         force: calling.force,
         dry_run: calling.dry_run,
     };
-    let calls = given_calls(rt, calling)?;
+    let given = given_calls(rt, calling)?;
+    let site = match calling.site {
+        Some(path) => Some(read_site_file(rt, path)?),
+        None => None,
+    };
     let mut caller = Caller::new(rt, sending);
-    match calling.site {
-        Some(path) => {
-            let site = read_site_file(rt, path)?;
-            call_points(rt, &mut caller, calling.url, &site, calls)?;
-        }
-        None if calling.gives_calls() => {
-            let passed = caller.passed(calls)?;
-            send_calls(
-                &mut caller,
-                calling.url,
-                String::new(rt.alloc()),
-                passed.as_slice(),
-            )?;
-        }
-        None => send_lines(rt, &mut caller, calling.url)?,
+    let calls = caller.passed(given)?;
+    match &site {
+        Some(site) => call_points(&mut caller, site, calls.as_slice())?,
+        None if calling.gives_calls() => send_calls(&mut caller, None, calls.as_slice())?,
+        None => send_lines(rt, &mut caller)?,
     }
     Ok(caller.status())
 }
@@ -72,50 +66,33 @@ fn check_url(alloc: Global, calling: Calling<'_>) -> Result<(), ProgramFault> {
     Ok(())
 }
 
-/// The URL of the operator of a point.
-fn url_of_point(alloc: Global, base: &str, point: &str) -> Result<String, AllocError> {
-    let base = base.trim_end_matches('/');
-    format!(in alloc; "{base}/{point}")
-}
-
 /// Sends calls to each point of a site, one after another. A point whose connection fails is named.
 fn call_points<
     R: Print + Eprint + AllocGlobal + Net<Stream = TcpStream> + RandomSource + Wait + Copy + Drop,
->(
-    rt: &R,
-    caller: &mut Caller<'_, R>,
-    base: &str,
-    site: &Site,
-    calls: Vec<GivenCall>,
-) -> Result<(), ProgramFault> {
-    let alloc = rt.alloc();
-    let passed = caller.passed(calls)?;
+>(caller: &mut Caller<'_, R>, site: &Site, calls: &[GivenCall]) -> Result<(), ProgramFault> {
     for place in 0..site.len() {
         let Some(point) = site.point(place) else {
             break;
         };
-        let url = url_of_point(alloc, base, point.id)?;
-        let label = format!(in alloc; "{} ", point.id)?;
-        if let Err(fault) = send_calls(caller, url.as_str(), label, passed.as_slice()) {
+        if let Err(fault) = send_calls(caller, Some(point.id), calls) {
             caller.note_failed(point.id, fault)?;
         }
     }
     Ok(())
 }
 
-/// Sends calls to an operator's URL. What is printed of it begins with the label.
+/// Sends calls to the operator's URL, or to that of the point of an identity.
 fn send_calls<
     R: Print + Eprint + AllocGlobal + Net<Stream = TcpStream> + RandomSource + Wait + Copy + Drop,
 >(
     caller: &mut Caller<'_, R>,
-    url: &str,
-    label: String,
+    point: Option<&str>,
     calls: &[GivenCall],
 ) -> Result<(), ProgramFault> {
     if calls.is_empty() {
         return Ok(());
     }
-    let mut callee = caller.reach(url, label)?;
+    let mut callee = caller.reach(point)?;
     for call in calls {
         caller.send(&mut callee, call.name, call.frame.as_str())?;
     }
@@ -134,8 +111,8 @@ fn send_lines<
         + Wait
         + Copy
         + Drop,
->(rt: &R, caller: &mut Caller<'_, R>, url: &str) -> Result<(), ProgramFault> {
-    let mut callee = caller.reach(url, String::new(rt.alloc()))?;
+>(rt: &R, caller: &mut Caller<'_, R>) -> Result<(), ProgramFault> {
+    let mut callee = caller.reach(None)?;
     let mut lines = Lines::new(rt.alloc(), rt.reader())?;
     for _line in rt.forever() {
         if !lines.advance()? {
