@@ -111,18 +111,16 @@ fn do_job<
             naming(rt, pointing.site, status)
         }
         Ok(Job::Explain(explaining)) => {
-            let explained = explain_file(rt, screen, explaining);
-            naming(rt, explaining.site, explained)?;
-            Ok(0)
+            let status = explain_file(rt, screen, explaining);
+            naming(rt, explaining.site, status)
         }
         Ok(Job::Check(checking)) => {
             let status = check_file(rt, checking);
             naming(rt, checking.site, status)
         }
         Ok(Job::Show(showing)) => {
-            let shown = show_file(rt, showing);
-            naming(rt, showing.site, shown)?;
-            Ok(0)
+            let status = show_file(rt, showing);
+            naming(rt, showing.site, status)
         }
         Err(error) => refuse(rt, error),
     }

@@ -15,7 +15,8 @@ pub const STATUSES: &str = "Exit statuses:
   1  the site file has a fault: 'central: site: NAME' on standard error; or a line of the journal of
      --data is none, or doesn't fit the site: 'central: journal: line LINE: ..'; or a line of the file
      of --keys is no key: 'central: keys: line LINE: ..'
-  2  the whole script was played, and lines '! LINE NAME' of the output name its faults;
+  2  the whole script was played, and lines '! LINE NAME' of the output name its faults; or, of 'show' and
+     'explain', lines were refused, or the journal ends in a torn one;
      or the script has more than 16,777,216 bytes: 'central: script: ScriptTooLong'
   3  a file or a device can't be read or written: 'central: device: read' or 'central: device: write';
      or the address can't be listened at, or no connection accepted there: 'central: device: socket';

@@ -2,7 +2,7 @@
 
 ghost use Rattle.std.specs.Prelude.{◌≡◌, ◌≤◌, length};
 
-use crate::program::pages::{Screen, note_refused_lines, print_page, write_file};
+use crate::program::pages::{Screen, note_refused_lines, page_status, print_page, write_file};
 use crate::program::picture_name::{PictureForm, picture_form};
 use crate::program::program_fault::ProgramFault;
 use crate::program::script_end::script_end;
@@ -27,12 +27,12 @@ use sweep_compiler::{Turns, explain};
 
 /// Says why the limits of a connector are what they are after a script or a journal. Faults of a
 /// picture's name, the instants and the site file, and what isn't in it, are reported before the
-/// script is read.
+/// script is read. Returns the exit status.
 pub fn explain_file<R: Files<File = File> + Input + Print + Eprint + Clock + AllocGlobal>(
     rt: &R,
     screen: Screen,
     explaining: Explaining<'_>,
-) -> Result<(), ProgramFault> {
+) -> Result<u8, ProgramFault> {
     let picture = picture_of(&explaining)?;
     let start = start_of(rt, explaining.start)?;
     let ask = ask_of(&explaining, start)?;
@@ -58,22 +58,25 @@ pub fn explain_file<R: Files<File = File> + Input + Print + Eprint + Clock + All
     };
     let followed = follow_journal(rt, following)?;
     note_later_changes(rt, explaining.point, start, followed.changes())?;
-    print_explained(rt, presentation, followed.machine(), &ask)
+    print_explained(rt, presentation, followed.machine(), &ask)?;
+    Ok(page_status(!followed.is_torn()))
 }
 
-/// Explains what a point has after the script of standard input or of a file.
+/// Explains what a point has after the script of standard input or of a file. Returns the exit
+/// status.
 fn explain_script<R: Files<File = File> + Input + Print + Eprint + AllocGlobal>(
     rt: &R,
     presentation: Presentation<'_>,
     end: ScriptEnd,
     site: Site,
     ask: &Ask,
-) -> Result<(), ProgramFault> {
+) -> Result<u8, ProgramFault> {
     let script = read_script_of(rt, presentation.explaining.source)?;
     let last_line = end.last_line(script.as_slice());
     let played = play_quietly(rt.alloc(), script.as_slice(), site, last_line)?;
-    note_refused_lines(rt, &played);
-    print_explained(rt, presentation, played.machine(), ask)
+    let is_whole = note_refused_lines(rt, &played);
+    print_explained(rt, presentation, played.machine(), ask)?;
+    Ok(page_status(is_whole))
 }
 
 /// Says where a journal has changes at the point that are later than the first instant: what is
