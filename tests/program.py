@@ -788,7 +788,7 @@ def refused_line_problems(program, site):
         yield f"{name} of an ask whose schedule is too long", [] if ok else [f"{done}"]
         done = run(program, command, install + CLEAR.replace(b"CP1", b"CP9") + too_long + b"x\n")
         note = b"central: 2 of the script's lines have a fault or were refused: central check says which\n"
-        ok = done.returncode == 0 and done.stdout and done.stderr == note
+        ok = done.returncode == 2 and done.stdout and done.stderr == note
         yield f"{name} of lines that were refused", [] if ok else [f"{done}"]
 
 

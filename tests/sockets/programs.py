@@ -23,6 +23,7 @@ PROFILE = '{"connectorId":0,"csChargingProfiles":{"chargingProfileId":1,"stackLe
 TX_PROFILE = '{"chargingProfileId":5,"transactionId":9,"stackLevel":0,"chargingProfilePurpose":"TxProfile","chargingProfileKind":' \
     '"Relative",\n"chargingSchedule":{"chargingRateUnit":"A","chargingSchedulePeriod":[{"startPeriod":0,"limit":6}]}}\n'
 
+NOT_SENT = b": it would be refused, so it isn't sent; --force sends it\n"
 CLEARS_ALL = b"clear: warning: a clear without a criterion clears EVERYTHING that the point has, a fuse limit (ChargePointMaxProfile) too"
 
 
@@ -70,7 +71,7 @@ def options_of_call(program):
 def remote_starts_of_call(program):
     """`--remote-start` sends its call, with the profile of a file; a simulated point starts, and the profile counts from then on."""
     accepted, told = b'[3,"remote-start",{"status":"Accepted"}]\n', b'[3,"status",{"status":"Accepted","version":%d,"outbox":%d,"audit":"None"}]\n'
-    with Serving(program, SITE, 6) as serving, tempfile.NamedTemporaryFile("w", suffix=".json") as profile:
+    with Serving(program, SITE, 5) as serving, tempfile.NamedTemporaryFile("w", suffix=".json") as profile:
         profile.write(TX_PROFILE)
         profile.flush()
         given = operator(serving, "--status", "--ask", "1", "60", "--remote-start", "1", 'T"1', profile.name)
@@ -146,16 +147,75 @@ def lines_of_call(program):
         b'8: TypeConstraintViolation: duration: "60" is a string; a whole number of seconds from 0 on is wanted\n'
         b"8: TypeConstraintViolation: duration: the field is of another kind of JSON than it has to be\n"
     )
-    with Serving(program, SITE, 2) as serving:
-        expect("its end", operator(serving, given=lines), (2, wanted, why))
+    first, *others = wanted.splitlines(True)
+    held = first + b"".join(others[:3]) + b"! 6 HasFault\n" + others[4] + b"! 8 HasFault\n"
+    why_held = b"".join(
+        line.partition(b":")[0] + NOT_SENT if b"isn't known here" in line or b"another kind" in line else line for line in why.splitlines(True)
+    )
+    with Serving(program, SITE, 3) as serving:
+        expect("what has a fault is held back", operator(serving, given=lines), (2, held, why_held))
+        expect("its end", operator(serving, "--force", given=lines), (2, wanted, why))
         expect("without a line", operator(serving), (0, b"", b""))
+        expect("the totals", serving.totals(), (0, 2))
+
+
+def held_back(program):
+    """A call that would be refused isn't sent, but by `--force`; `--dry-run` sends nothing, and needs nobody who listens."""
+    why = b'clear: TypeConstraintViolation: id: "1" is a string; a whole number is wanted\n'
+    asked = b'[2,"ask","GetCompositeSchedule",{"connectorId":1,"duration":60}]\n'
+    with Serving(program, SITE, 2) as serving:
+        given = operator(serving, "--clear", '{"id":"1"}', "--ask", "1", "60")
+        expect("a clear with a fault", given, (2, b"! clear HasFault\n" + SCHEDULE % (b"ask", 1, b"32.0"), why + b"clear" + NOT_SENT))
+        status, out, error = operator(serving, "--clear", '{"id":"1"}', "--force")
+        expect("by force", (status, out, error[: len(why)]), (2, b'[4,"clear","TypeConstraintViolation","id",{}]\n', why))
         expect("the totals", serving.totals(), (0, 1))
+        expect("alone, and nobody listens", operator(serving, "--clear", '{"id":"1"}'), (2, b"! clear HasFault\n", why + b"clear" + NOT_SENT))
+        given = operator(serving, "--dry-run", "--clear", '{"id":"1"}', "--ask", "1", "60")
+        expect("a dry run", given, (2, b"! clear HasFault\n" + asked, why + b"clear" + NOT_SENT))
+        given = operator(serving, "--dry-run", "--force", "--clear", '{"id":"1"}')
+        expect("a dry run by force", given, (0, b'[2,"clear","ClearChargingProfile",{"id":"1"}]\n', why))
+        expect("a dry run of lines", operator(serving, "--dry-run", given=asked + b"[]\n")[:2], (2, asked + b"! 2 NotACall\n"))
+
+
+def each_point(program):
+    """`--all --site F` sends the calls to each point of a site; what one answers keeps them from no other."""
+    two = SITE.replace("}]}", '},{"id":"P2","ceiling":63.0,"connectors":[8.0]}]}')
+    three = two.replace("P2", "P0").replace("}]}", '},{"id":"P2","ceiling":63.0,"connectors":[8.0]}]}')
+    with tempfile.NamedTemporaryFile("w", suffix=".json") as site, Serving(program, two, 7) as serving:
+        def every(content, *options):
+            site.seek(0)
+            site.truncate()
+            site.write(content)
+            site.flush()
+            url = f"ws://127.0.0.1:{serving.port}/operator"
+            return run(program, ["call", "--url", url, "--all", "--site", site.name, *options])
+
+        told = b'%s [3,"clear",{"status":"Unknown"}]\n'
+        expect("all", every(two, "--clear", '{"id":1}'), (0, told % b"P1" + told % b"P2", b""))
+        asked = [b"P1 " + SCHEDULE % (b"ask", 2, b"16.0"), b'P2 [3,"ask",{"status":"Rejected","reason":"UnknownConnector"}]\n']
+        why = b"P2 ask: UnknownConnector: the point has no connector of this number\n"
+        expect("one is refused", every(two, "--ask", "2", "60"), (2, b"".join(asked), why))
+        closed = b"central: P0: url: closed by the central system, which may have no such point\n"
+        expect("one isn't there", every(three, "--clear", '{"id":1}'), (3, told % b"P1" + told % b"P2", closed))
+        frame = b'%s [2,"clear","ClearChargingProfile",{"id":1}]\n'
+        expect("a dry run", every(two, "--dry-run", "--clear", '{"id":1}'), (0, frame % b"P1" + frame % b"P2", b""))
+        expect("a fault", every(two, "--clear", '{"id":"1"}')[:2], (2, b"! clear HasFault\n"))
+        expect("a site file with a fault", every("{}", "--status"), (1, b"", b"central: site: BadUnit\n"))
+        words = b"central: command line: --all sends the calls of options, and there is none\n"
+        expect("no calls", every(two), (4, b"", words))
+        expect("the totals", serving.totals(), (0, 1))
+        expect("nobody listens", every(two, "--status"), (3, b"", b"central: url: no connection\n"))
+    words = b"central: command line: --all and --site F belong together\n"
+    for options in (["--all"], ["--site", "/none"]):
+        expect(f"{options}", run(program, ["call", "--url", "ws://127.0.0.1:9/operator/P1", *options, "--status"]), (4, b"", words))
+    other = run(program, ["call", "--url", "ws://127.0.0.1:9/P1", "--all", "--site", "/none", "--status"])
+    expect("no operators' URL", other, (4, b"", b"central: url: an operator's URL ends in /operator/ID\n"))
 
 
 def faults_of_call(program):
     """What ends `call` before its time, in its words, and with which status."""
     closed = b"central: url: closed by the central system, which may have no such point\n"
-    with Serving(program, SITE, 2) as serving, tempfile.NamedTemporaryFile("wb") as binary:
+    with Serving(program, SITE, 1) as serving, tempfile.NamedTemporaryFile("wb") as binary:
         expect("no such point", operator(serving, "--ask", "1", "60", point="P2"), (3, b"", closed))
         why = b"clear: line 1, column 2: a name in double quotes or `}` is wanted, and `i` stands there\n"
         expect("no JSON", operator(serving, "--clear", "{id:1}"), (2, b"! clear NotACall\n", why))
@@ -197,7 +257,7 @@ def command_lines(program):
     ):
         status, out, error = run(program, line)
         expect(f"the end of {line}", (status, out, error != b""), (4, b"", True))
-    for command, words in (("call", (b"--set-profile", b"NotACall", b"--ask", b"--audit", b"--status", b"--remote-start")), ("point", (b"heartbeat", b"pause SECONDS", b"--id"))):
+    for command, words in (("call", (b"--set-profile", b"NotACall", b"--ask", b"--audit", b"--status", b"--remote-start", b"--dry-run", b"HasFault")), ("point", (b"heartbeat", b"pause SECONDS", b"--id"))):
         status, out, error = run(program, [command, "--help"])
         expect(f"the help of {command}", (status, error, [word for word in words if word not in out]), (0, b"", []))
 
@@ -337,6 +397,8 @@ def tests():
     yield "the remote starts of call", remote_starts_of_call
     yield "mistakes before a call", mistakes_before_a_call
     yield "the lines of call", lines_of_call
+    yield "what call holds back", held_back
+    yield "each point of a site", each_point
     yield "the faults of call", faults_of_call
     yield "command lines", command_lines
     yield "a point's day", day_of_a_point

@@ -476,10 +476,23 @@ def readers_of_a_torn_journal(program):
             status, wanted, _ = read(program, data, *command)
             data.write(torn)
             seen = read(program, data, *command)
-            expect(f"what {command[0]} prints", seen[:2], (status, wanted))
+            ends = 2 if command[0] in ("show", "explain") else status
+            expect(f"what {command[0]} prints", seen[:2], (ends, wanted))
             said = f"central: {data.journal}: its last line is torn, and isn't read: {behind} bytes\n"
             expect(f"whether {command[0]} says it", said in seen[2], True)
             expect("what is kept", data.bytes(), torn)
+
+
+def a_reader_that_left(program):
+    """A journal whose reader has left, as `head` does, counts as printed."""
+    with Data() as data:
+        journal_of_a_day(program, data)
+        reader, writer = os.pipe()
+        os.close(reader)
+        words = [program, "journal", "--data", data.path]
+        done = subprocess.run(words, stdout=writer, stderr=subprocess.PIPE, timeout=PATIENCE, check=False, env=ENVIRONMENT)
+        os.close(writer)
+        expect("how it ends", (done.returncode, done.stderr), (0, b""))
 
 
 def readers_of_a_long_change(program):
@@ -579,4 +592,5 @@ def tests():
     yield "killed on a full device", killed_on_a_full_device
     yield "readers", readers
     yield "readers of a torn journal", readers_of_a_torn_journal
+    yield "a reader that left", a_reader_that_left
     yield "readers of a long change", readers_of_a_long_change

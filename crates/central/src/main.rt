@@ -102,24 +102,25 @@ fn do_job<
             serve_file(rt, serving)?;
             Ok(0)
         }
-        Ok(Job::Call(calling)) => call_site(rt, calling),
+        Ok(Job::Call(calling)) => {
+            let status = call_site(rt, calling);
+            naming(rt, calling.site.unwrap_or(""), status)
+        }
         Ok(Job::Point(pointing)) => {
             let status = run_point(rt, pointing);
             naming(rt, pointing.site, status)
         }
         Ok(Job::Explain(explaining)) => {
-            let explained = explain_file(rt, screen, explaining);
-            naming(rt, explaining.site, explained)?;
-            Ok(0)
+            let status = explain_file(rt, screen, explaining);
+            naming(rt, explaining.site, status)
         }
         Ok(Job::Check(checking)) => {
             let status = check_file(rt, checking);
             naming(rt, checking.site, status)
         }
         Ok(Job::Show(showing)) => {
-            let shown = show_file(rt, showing);
-            naming(rt, showing.site, shown)?;
-            Ok(0)
+            let status = show_file(rt, showing);
+            naming(rt, showing.site, status)
         }
         Err(error) => refuse(rt, error),
     }

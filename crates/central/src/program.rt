@@ -1,8 +1,10 @@
 //! The program: its command line, its jobs, and its exit statuses.
 
+pub mod caller;
 pub mod calling;
 pub mod checking;
 pub mod explaining;
+pub mod given_calls;
 pub mod kept_boots;
 pub mod key_check;
 pub mod key_file;

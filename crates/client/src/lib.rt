@@ -15,7 +15,7 @@ mod terminal_point;
 pub use connecting::{Address, Connection, connect};
 pub use fault::ClientFault;
 pub use lines::Lines;
-pub use operator::{CallEnd, OperatorClient};
+pub use operator::{AnswerLines, CallEnd, OperatorClient};
 pub use operator_texts::{
     ask_call, audit_call, clear_call, remote_start_call, set_profile_call, status_call,
 };

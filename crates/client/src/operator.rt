@@ -22,6 +22,25 @@ pub enum CallEnd {
     NotACall,
 }
 
+/// Where the messages that come are written, each on a line of its own.
+#[derive(Drop)]
+pub struct AnswerLines<'a, W: Write> {
+    pub writer: &'a mut W,
+    /// What each line begins with.
+    pub start: &'a str,
+}
+
+impl<W: Write> AnswerLines<'_, W> {
+    /// Writes a message.
+    fn write(&mut self, text: &str) -> Result<(), ClientFault> {
+        let start = self.start;
+        match writeln!(self.writer, "{start}{text}").and_then(|()| self.writer.flush()) {
+            Ok(()) => Ok(()),
+            Err(_) => Err(ClientFault::Write),
+        }
+    }
+}
+
 /// An operator's client, connected.
 #[derive(Drop)]
 pub struct OperatorClient<S: Read + Write, K: MaskKeys> {
@@ -39,12 +58,11 @@ impl<S: Read + Write + OpenStream + Drop, K: MaskKeys + Drop> OperatorClient<S, 
         }
     }
 
-    /// Sends a CALL and waits for its answer. Each message that comes until then is written on a
-    /// line of its own.
+    /// Sends a CALL and waits for its answer. Each message that comes until then is written.
     pub fn call<R: Wait, W: Write>(
         &mut self,
         rt: &R,
-        writer: &mut W,
+        lines: &mut AnswerLines<'_, W>,
         text: &str,
     ) -> Result<CallEnd, ClientFault> {
         let Some(id) = id_of_call(&mut self.memory, text)? else {
@@ -55,7 +73,7 @@ impl<S: Read + Write + OpenStream + Drop, K: MaskKeys + Drop> OperatorClient<S, 
             let Came::Text(answer) = receive(&mut self.socket)? else {
                 continue;
             };
-            write_line(writer, answer.as_str())?;
+            lines.write(answer.as_str())?;
             match verdict_of(&mut self.memory, answer.as_str(), &id)? {
                 Some(Verdict::Accepted) => return Ok(CallEnd::Accepted),
                 Some(Verdict::Refused) => return Ok(CallEnd::Refused(answer)),
@@ -68,13 +86,6 @@ impl<S: Read + Write + OpenStream + Drop, K: MaskKeys + Drop> OperatorClient<S, 
     /// Closes the connection.
     pub fn end(mut self) {
         close(&mut self.socket);
-    }
-}
-
-fn write_line<W: Write>(writer: &mut W, text: &str) -> Result<(), ClientFault> {
-    match writeln!(writer, "{text}").and_then(|()| writer.flush()) {
-        Ok(()) => Ok(()),
-        Err(_) => Err(ClientFault::Write),
     }
 }
 

@@ -47,21 +47,34 @@ numbered least most rule = record rule { parser = Some (Unsigned least most) }
 abbrev pub flag : Text → Rule
 flag name = record (new_rule name) { long = Some name; action = Some SetTrue }
 
--- `run --site F --data DIR --listen A [--keys FILE] [--seats N] [--workers N]
--- [--call-timeout SECONDS] [--status B] [--status-open]`
-abbrev pub run_command : App
-run_command =
-    with_rule (with_rule (with_rule (with_rule (with_rule (with_rule (with_rule (with_rule (with_rule
-    (new_app (codes "run"))
+-- what a site is run on: `--site F --data DIR --listen A [--keys FILE]`
+abbrev pub with_places : App → App
+with_places app =
+    with_rule (with_rule (with_rule (with_rule app
     (needed (codes "site")))
     (needed (codes "data")))
     (needed (codes "listen")))
-    (optional (codes "keys")))
+    (optional (codes "keys"))
+
+-- how many, and how long: `[--seats N] [--workers N] [--call-timeout SECONDS]`
+abbrev pub with_counts : App → App
+with_counts app =
+    with_rule (with_rule (with_rule app
     (numbered 1 max_seats (optional (codes "seats"))))
     (numbered 1 max_workers (optional (codes "workers"))))
-    (numbered 1 max_call_timeout (optional (codes "call-timeout"))))
+    (numbered 1 max_call_timeout (optional (codes "call-timeout")))
+
+-- the status port: `[--status B] [--status-open]`
+abbrev pub with_status : App → App
+with_status app =
+    with_rule (with_rule app
     (optional (codes "status")))
     (flag (codes "status-open"))
+
+-- `run --site F --data DIR --listen A [--keys FILE] [--seats N] [--workers N]
+-- [--call-timeout SECONDS] [--status B] [--status-open]`
+abbrev pub run_command : App
+run_command = with_status (with_counts (with_places (new_app (codes "run"))))
 
 -- `key --name NAME [--operator]`
 abbrev pub key_command : App
@@ -74,13 +87,16 @@ key_command =
 abbrev pub journal_command : App
 journal_command = with_rule (new_app (codes "journal")) (needed (codes "data"))
 
--- `replay --site F [--data DIR | --script FILE]`
-abbrev pub replay_command : App
-replay_command =
-    with_rule (with_rule (with_rule (new_app (codes "replay"))
-    (needed (codes "site")))
+-- which script is played: `[--data DIR | --script FILE]`
+abbrev pub with_script : App → App
+with_script app =
+    with_rule (with_rule app
     (optional (codes "data")))
     (optional (codes "script"))
+
+-- `replay --site F [--data DIR | --script FILE]`
+abbrev pub replay_command : App
+replay_command = with_script (with_rule (new_app (codes "replay")) (needed (codes "site")))
 
 -- `serve --site F --listen A --workers N --sessions K`
 abbrev pub serve_command : App
@@ -106,21 +122,36 @@ optional_values name = record (option name) {
   value_names = 3;
 }
 
--- `call --url U [--login FILE] [--set-profile FILE] [--clear CRITERIA]
--- [--remote-start CONNECTOR TAG [FILE]] [--ask CONNECTOR SECONDS] [--audit CONNECTOR SECONDS]
--- [--status]`
-abbrev pub call_command : App
-call_command =
-    with_rule (with_rule (with_rule (with_rule (with_rule (with_rule (with_rule (with_rule
-    (new_app (codes "call"))
+-- where calls go: `--url U [--login FILE] [--all] [--site F]`
+abbrev pub with_callees : App → App
+with_callees app =
+    with_rule (with_rule (with_rule (with_rule app
     (needed (codes "url")))
     (optional (codes "login")))
+    (flag (codes "all")))
+    (optional (codes "site"))
+
+-- what they are: `[--set-profile FILE] [--clear CRITERIA] [--remote-start CONNECTOR TAG [FILE]]
+-- [--ask CONNECTOR SECONDS] [--audit CONNECTOR SECONDS] [--status]`
+abbrev pub with_calls : App → App
+with_calls app =
+    with_rule (with_rule (with_rule (with_rule (with_rule (with_rule app
     (optional (codes "set-profile")))
     (optional (codes "clear")))
     (optional_values (codes "remote-start")))
     (optional_numbers (codes "ask") 2147483647))
     (optional_numbers (codes "audit") 2147483647))
     (flag (codes "status"))
+
+-- whether they are sent: `[--force] [--dry-run]`
+abbrev pub with_sending : App → App
+with_sending app = with_rule (with_rule app (flag (codes "force"))) (flag (codes "dry-run"))
+
+-- `call --url U [--login FILE] [--all --site F] [--set-profile FILE] [--clear CRITERIA]
+-- [--remote-start CONNECTOR TAG [FILE]] [--ask CONNECTOR SECONDS] [--audit CONNECTOR SECONDS]
+-- [--status] [--force] [--dry-run]`
+abbrev pub call_command : App
+call_command = with_sending (with_calls (with_callees (new_app (codes "call"))))
 
 -- `point --url U --site F --id ID [--login FILE]`
 abbrev pub point_command : App
@@ -135,40 +166,42 @@ point_command =
 abbrev pub status_command : App
 status_command = with_rule (new_app (codes "status")) (needed (codes "url"))
 
--- `explain --site F --point ID --connector C --start INSTANT --duration D
--- [--data DIR | --script FILE] [--at PLACE] [--picture FILE] [--json]`
-abbrev pub explain_command : App
-explain_command =
-    with_rule (with_rule (with_rule (with_rule (with_rule (with_rule (with_rule (with_rule (with_rule (with_rule
-    (new_app (codes "explain"))
+-- what is explained: `--site F --point ID --connector C --start INSTANT --duration D`
+abbrev pub with_request : App → App
+with_request app =
+    with_rule (with_rule (with_rule (with_rule (with_rule app
     (needed (codes "site")))
     (needed (codes "point")))
     (numbered 0 max_connectors (needed (codes "connector"))))
     (needed (codes "start")))
-    (needed (codes "duration")))
-    (optional (codes "data")))
-    (optional (codes "script")))
+    (needed (codes "duration"))
+
+-- how it is printed: `[--at PLACE] [--picture FILE] [--json]`
+abbrev pub with_picture : App → App
+with_picture app =
+    with_rule (with_rule (with_rule app
     (optional (codes "at")))
     (optional (codes "picture")))
     (flag (codes "json"))
 
+-- `explain --site F --point ID --connector C --start INSTANT --duration D
+-- [--data DIR | --script FILE] [--at PLACE] [--picture FILE] [--json]`
+abbrev pub explain_command : App
+explain_command = with_picture (with_script (with_request (new_app (codes "explain"))))
+
 -- `check --site F [--keys FILE] [--data DIR | --script FILE] [--trace]`
 abbrev pub check_command : App
 check_command =
-    with_rule (with_rule (with_rule (with_rule (with_rule (new_app (codes "check"))
+    with_rule (with_script (with_rule (with_rule (new_app (codes "check"))
     (needed (codes "site")))
-    (optional (codes "keys")))
-    (optional (codes "data")))
-    (optional (codes "script")))
+    (optional (codes "keys"))))
     (flag (codes "trace"))
 
 -- `show --site F [--data DIR | --script FILE] [--at PLACE] [--json]`
 abbrev pub show_command : App
 show_command =
-    with_rule (with_rule (with_rule (with_rule (with_rule (new_app (codes "show"))
-    (needed (codes "site")))
-    (optional (codes "data")))
-    (optional (codes "script")))
+    with_rule (with_rule (with_script (with_rule (new_app (codes "show"))
+    (needed (codes "site"))))
     (optional (codes "at")))
     (flag (codes "json"))
 
@@ -313,6 +346,8 @@ IsStarting given (Some starting) =
 pub record IsCalling (rows : List Row) (calling : Calling) : Type 0 where
   pub url : first_of (codes "url") rows ≡ Some calling.url.now
   pub login : first_of (codes "login") rows ≡ option_map (λ text. text.now) calling.login
+  pub all : IsFlag (codes "all") rows calling.all
+  pub site : first_of (codes "site") rows ≡ option_map (λ text. text.now) calling.site
   pub set_profile :
       first_of (codes "set-profile") rows ≡ option_map (λ text. text.now) calling.set_profile
   pub clear : first_of (codes "clear") rows ≡ option_map (λ text. text.now) calling.clear
@@ -320,6 +355,8 @@ pub record IsCalling (rows : List Row) (calling : Calling) : Type 0 where
   pub ask : IsAsking (all_of (codes "ask") rows) calling.ask
   pub audit : IsAsking (all_of (codes "audit") rows) calling.audit
   pub status : IsFlag (codes "status") rows calling.status
+  pub force : IsFlag (codes "force") rows calling.force
+  pub dry_run : IsFlag (codes "dry-run") rows calling.dry_run
 
 -- which point is simulated, and where it connects
 pub record IsPointing (rows : List Row) (pointing : Pointing) : Type 0 where

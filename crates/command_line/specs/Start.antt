@@ -1,5 +1,5 @@
 -- From when on a schedule is explained, by the text of an option.
-use Rattle.std.specs.Prelude.{ℕ, List, codes, if◌then◌else◌, Result, Ok, Err}
+use Rattle.std.specs.Prelude.{ℕ, List, codes, if◌then◌else◌, Option, None, Some, Result, Ok, Err}
 use Rattle.std.specs.Str.{bytes_eq}
 use Rattle.ocpp_scalars.specs.declared.instant_text.InstantFault.{InstantFault}
 use Rattle.ocpp_scalars.specs.ByCases.InstantText.{instant_of}
@@ -14,3 +14,8 @@ at_instant (Err fault) = Err fault
 -- from the present moment on by the word `now`, and else from an instant on
 abbrev pub start_of : List ℕ → Result Start InstantFault
 start_of text = if bytes_eq text (codes "now") then Ok Now else at_instant (instant_of text)
+
+-- the instant that is named, and none for the present moment
+abbrev pub named_instant : Start → Option ℕ
+named_instant Now = None
+named_instant (At instant) = Some instant

@@ -2,12 +2,12 @@
 
 ghost use Rattle.std.specs.Prelude.{◌≡◌, false, IfOk};
 ghost use Rattle.clap.specs.Words.{App, app_of, rule_of};
-ghost use Rattle.command_line.specs.CommandLine.{needed, numbered, option, optional, optional_numbers, optional_values, flag, central_app, with_readers, with_served, run_command, status_command, journal_command, key_command, replay_command, serve_command, call_command, point_command, explain_command, check_command, show_command};
+ghost use Rattle.command_line.specs.CommandLine.{needed, numbered, option, optional, optional_numbers, optional_values, flag, central_app, with_readers, with_served, with_places, with_counts, with_status, with_script, with_request, with_picture, with_callees, with_calls, with_sending, run_command, status_command, journal_command, key_command, replay_command, serve_command, call_command, point_command, explain_command, check_command, show_command};
 
 use crate::help_text::{
-    ABOUT, ASK_HELP, ASK_VALUES, AT_HELP, AUDIT_HELP, CALL_ABOUT, CALL_NOTES, CALL_TIMEOUT_HELP,
+    ABOUT, ALL_HELP, ALL_SITE_HELP, ASK_HELP, ASK_VALUES, AT_HELP, AUDIT_HELP, CALL_ABOUT, CALL_NOTES, CALL_TIMEOUT_HELP,
     CHECK_ABOUT, CHECK_KEYS_HELP, CHECK_NOTES, CLEAR_HELP, CONNECTOR_HELP, DATA_HELP,
-    DURATION_HELP, EXPLAIN_ABOUT, EXPLAIN_NOTES, ID_HELP, JOURNAL_ABOUT, JOURNAL_DATA_HELP,
+    DRY_RUN_HELP, DURATION_HELP, EXPLAIN_ABOUT, EXPLAIN_NOTES, FORCE_HELP, ID_HELP, JOURNAL_ABOUT, JOURNAL_DATA_HELP,
     JOURNAL_NOTES, JSON_HELP, KEY_ABOUT, KEY_NAME_HELP, KEY_NOTES, KEY_OPERATOR_HELP, KEYS_HELP,
     LISTEN_HELP, LOGIN_HELP, OPERATOR_URL_HELP, PICTURE_HELP, POINT_ABOUT, POINT_HELP, POINT_NOTES,
     POINT_URL_HELP, REMOTE_START_HELP, REPLAY_ABOUT, REPLAY_EXAMPLE, RUN_ABOUT, RUN_DATA_HELP,
@@ -76,19 +76,44 @@ fn with_readers<'a>(alloc: Global, command: Command<'a>) -> Result<Command<'a>, 
 fn run<'a>(alloc: Global) -> Result<Command<'a>, AllocError>
     ensures { IfOk result (λ command. app_of command ≡ run_command) }
 {
-    let seats = optional(alloc, "seats", "N", SEATS_HELP);
-    let workers = optional(alloc, "workers", "N", RUN_WORKERS_HELP);
-    let call_timeout = optional(alloc, "call-timeout", "SECONDS", CALL_TIMEOUT_HELP);
-    Command::new(alloc, "run")
+    let command = Command::new(alloc, "run")
         .about(RUN_ABOUT)
-        .after_help(RUN_NOTES)
+        .after_help(RUN_NOTES);
+    let placed = with_places(alloc, command)?;
+    let counted = with_counts(alloc, placed)?;
+    with_status(alloc, counted)
+}
+
+/// Adds what a site is run on: `--site F --data DIR --listen A [--keys FILE]`.
+fn with_places<'a>(alloc: Global, command: Command<'a>) -> Result<Command<'a>, AllocError>
+    ensures { IfOk result (λ added. app_of added ≡ with_places (app_of command.entry)) }
+{
+    command
         .arg(needed(alloc, "site", "F", SITE_HELP))?
         .arg(needed(alloc, "data", "DIR", RUN_DATA_HELP))?
         .arg(needed(alloc, "listen", "A", LISTEN_HELP))?
-        .arg(optional(alloc, "keys", "FILE", KEYS_HELP))?
+        .arg(optional(alloc, "keys", "FILE", KEYS_HELP))
+}
+
+/// Adds how many it serves, and how long a call waits: `[--seats N] [--workers N]
+/// [--call-timeout SECONDS]`.
+fn with_counts<'a>(alloc: Global, command: Command<'a>) -> Result<Command<'a>, AllocError>
+    ensures { IfOk result (λ added. app_of added ≡ with_counts (app_of command.entry)) }
+{
+    let seats = optional(alloc, "seats", "N", SEATS_HELP);
+    let workers = optional(alloc, "workers", "N", RUN_WORKERS_HELP);
+    let call_timeout = optional(alloc, "call-timeout", "SECONDS", CALL_TIMEOUT_HELP);
+    command
         .arg(numbered(seats, 1, MAX_SEATS))?
         .arg(numbered(workers, 1, MAX_WORKERS))?
-        .arg(numbered(call_timeout, 1, MAX_CALL_TIMEOUT))?
+        .arg(numbered(call_timeout, 1, MAX_CALL_TIMEOUT))
+}
+
+/// Adds the status port: `[--status B] [--status-open]`.
+fn with_status<'a>(alloc: Global, command: Command<'a>) -> Result<Command<'a>, AllocError>
+    ensures { IfOk result (λ added. app_of added ≡ with_status (app_of command.entry)) }
+{
+    command
         .arg(optional(alloc, "status", "B", RUN_STATUS_HELP))?
         .arg(flag(alloc, "status-open", STATUS_OPEN_HELP))
 }
@@ -128,10 +153,18 @@ fn key<'a>(alloc: Global) -> Result<Command<'a>, AllocError>
 fn replay<'a>(alloc: Global) -> Result<Command<'a>, AllocError>
     ensures { IfOk result (λ command. app_of command ≡ replay_command) }
 {
-    Command::new(alloc, "replay")
+    let command = Command::new(alloc, "replay")
         .about(REPLAY_ABOUT)
         .after_help(REPLAY_EXAMPLE)
-        .arg(needed(alloc, "site", "F", SITE_HELP))?
+        .arg(needed(alloc, "site", "F", SITE_HELP))?;
+    with_script(alloc, command)
+}
+
+/// Adds which script is played: `[--data DIR | --script FILE]`.
+fn with_script<'a>(alloc: Global, command: Command<'a>) -> Result<Command<'a>, AllocError>
+    ensures { IfOk result (λ added. app_of added ≡ with_script (app_of command.entry)) }
+{
+    command
         .arg(optional(alloc, "data", "DIR", DATA_HELP))?
         .arg(optional(alloc, "script", "FILE", SCRIPT_HELP))
 }
@@ -153,23 +186,53 @@ fn serve<'a>(alloc: Global) -> Result<Command<'a>, AllocError>
         ))
 }
 
-/// `call --url U [--login FILE] [--set-profile FILE] [--clear CRITERIA]
+/// `call --url U [--login FILE] [--all --site F] [--set-profile FILE] [--clear CRITERIA]
 /// [--remote-start CONNECTOR TAG [FILE]] [--ask CONNECTOR SECONDS] [--audit CONNECTOR SECONDS]
-/// [--status]`.
+/// [--status] [--force] [--dry-run]`.
 fn call<'a>(alloc: Global) -> Result<Command<'a>, AllocError>
     ensures { IfOk result (λ command. app_of command ≡ call_command) }
 {
-    Command::new(alloc, "call")
+    let command = Command::new(alloc, "call")
         .about(CALL_ABOUT)
-        .after_help(CALL_NOTES)
+        .after_help(CALL_NOTES);
+    let addressed = with_callees(alloc, command)?;
+    let given = with_calls(alloc, addressed)?;
+    with_sending(alloc, given)
+}
+
+/// Adds where calls go: `--url U [--login FILE] [--all] [--site F]`.
+fn with_callees<'a>(alloc: Global, command: Command<'a>) -> Result<Command<'a>, AllocError>
+    ensures { IfOk result (λ added. app_of added ≡ with_callees (app_of command.entry)) }
+{
+    command
         .arg(needed(alloc, "url", "U", OPERATOR_URL_HELP))?
         .arg(optional(alloc, "login", "FILE", LOGIN_HELP))?
+        .arg(flag(alloc, "all", ALL_HELP))?
+        .arg(optional(alloc, "site", "F", ALL_SITE_HELP))
+}
+
+/// Adds what the calls are: `[--set-profile FILE] [--clear CRITERIA]
+/// [--remote-start CONNECTOR TAG [FILE]] [--ask CONNECTOR SECONDS] [--audit CONNECTOR SECONDS]
+/// [--status]`.
+fn with_calls<'a>(alloc: Global, command: Command<'a>) -> Result<Command<'a>, AllocError>
+    ensures { IfOk result (λ added. app_of added ≡ with_calls (app_of command.entry)) }
+{
+    command
         .arg(optional(alloc, "set-profile", "FILE", SET_PROFILE_HELP))?
         .arg(optional(alloc, "clear", "CRITERIA", CLEAR_HELP))?
         .arg(starting(alloc, "remote-start"))?
         .arg(asking(alloc, "ask", ASK_HELP))?
         .arg(asking(alloc, "audit", AUDIT_HELP))?
         .arg(flag(alloc, "status", STATUS_HELP))
+}
+
+/// Adds whether they are sent: `[--force] [--dry-run]`.
+fn with_sending<'a>(alloc: Global, command: Command<'a>) -> Result<Command<'a>, AllocError>
+    ensures { IfOk result (λ added. app_of added ≡ with_sending (app_of command.entry)) }
+{
+    command
+        .arg(flag(alloc, "force", FORCE_HELP))?
+        .arg(flag(alloc, "dry-run", DRY_RUN_HELP))
 }
 
 /// `point --url U --site F --id ID [--login FILE]`.
@@ -190,17 +253,32 @@ fn point<'a>(alloc: Global) -> Result<Command<'a>, AllocError>
 fn explain<'a>(alloc: Global) -> Result<Command<'a>, AllocError>
     ensures { IfOk result (λ command. app_of command ≡ explain_command) }
 {
-    let connector = needed(alloc, "connector", "C", CONNECTOR_HELP);
-    Command::new(alloc, "explain")
+    let command = Command::new(alloc, "explain")
         .about(EXPLAIN_ABOUT)
-        .after_help(EXPLAIN_NOTES)
+        .after_help(EXPLAIN_NOTES);
+    let requested = with_request(alloc, command)?;
+    let played = with_script(alloc, requested)?;
+    with_picture(alloc, played)
+}
+
+/// Adds what is explained: `--site F --point ID --connector C --start INSTANT --duration D`.
+fn with_request<'a>(alloc: Global, command: Command<'a>) -> Result<Command<'a>, AllocError>
+    ensures { IfOk result (λ added. app_of added ≡ with_request (app_of command.entry)) }
+{
+    let connector = needed(alloc, "connector", "C", CONNECTOR_HELP);
+    command
         .arg(needed(alloc, "site", "F", SITE_HELP))?
         .arg(needed(alloc, "point", "ID", POINT_HELP))?
         .arg(numbered(connector, 0, MAX_CONNECTORS))?
         .arg(needed(alloc, "start", "INSTANT", START_HELP))?
-        .arg(needed(alloc, "duration", "D", DURATION_HELP))?
-        .arg(optional(alloc, "data", "DIR", DATA_HELP))?
-        .arg(optional(alloc, "script", "FILE", SCRIPT_HELP))?
+        .arg(needed(alloc, "duration", "D", DURATION_HELP))
+}
+
+/// Adds how it is printed: `[--at PLACE] [--picture FILE] [--json]`.
+fn with_picture<'a>(alloc: Global, command: Command<'a>) -> Result<Command<'a>, AllocError>
+    ensures { IfOk result (λ added. app_of added ≡ with_picture (app_of command.entry)) }
+{
+    command
         .arg(optional(alloc, "at", "PLACE", AT_HELP))?
         .arg(optional(alloc, "picture", "FILE", PICTURE_HELP))?
         .arg(flag(alloc, "json", JSON_HELP))
@@ -210,13 +288,12 @@ fn explain<'a>(alloc: Global) -> Result<Command<'a>, AllocError>
 fn check<'a>(alloc: Global) -> Result<Command<'a>, AllocError>
     ensures { IfOk result (λ command. app_of command ≡ check_command) }
 {
-    Command::new(alloc, "check")
+    let command = Command::new(alloc, "check")
         .about(CHECK_ABOUT)
         .after_help(CHECK_NOTES)
         .arg(needed(alloc, "site", "F", SITE_HELP))?
-        .arg(optional(alloc, "keys", "FILE", CHECK_KEYS_HELP))?
-        .arg(optional(alloc, "data", "DIR", DATA_HELP))?
-        .arg(optional(alloc, "script", "FILE", SCRIPT_HELP))?
+        .arg(optional(alloc, "keys", "FILE", CHECK_KEYS_HELP))?;
+    with_script(alloc, command)?
         .arg(flag(alloc, "trace", TRACE_HELP))
 }
 
@@ -224,12 +301,11 @@ fn check<'a>(alloc: Global) -> Result<Command<'a>, AllocError>
 fn show<'a>(alloc: Global) -> Result<Command<'a>, AllocError>
     ensures { IfOk result (λ command. app_of command ≡ show_command) }
 {
-    Command::new(alloc, "show")
+    let command = Command::new(alloc, "show")
         .about(SHOW_ABOUT)
         .after_help(SHOW_NOTES)
-        .arg(needed(alloc, "site", "F", SITE_HELP))?
-        .arg(optional(alloc, "data", "DIR", DATA_HELP))?
-        .arg(optional(alloc, "script", "FILE", SCRIPT_HELP))?
+        .arg(needed(alloc, "site", "F", SITE_HELP))?;
+    with_script(alloc, command)?
         .arg(optional(alloc, "at", "PLACE", AT_HELP))?
         .arg(flag(alloc, "json", JSON_HELP))
 }

@@ -15,7 +15,8 @@ pub const STATUSES: &str = "Exit statuses:
   1  the site file has a fault: 'central: site: NAME' on standard error; or a line of the journal of
      --data is none, or doesn't fit the site: 'central: journal: line LINE: ..'; or a line of the file
      of --keys is no key: 'central: keys: line LINE: ..'
-  2  the whole script was played, and lines '! LINE NAME' of the output name its faults;
+  2  the whole script was played, and lines '! LINE NAME' of the output name its faults; or, of 'show' and
+     'explain', lines were refused, or the journal ends in a torn one;
      or the script has more than 16,777,216 bytes: 'central: script: ScriptTooLong'
   3  a file or a device can't be read or written: 'central: device: read' or 'central: device: write';
      or the address can't be listened at, or no connection accepted there: 'central: device: socket';
@@ -182,7 +183,7 @@ pub const CALL_ABOUT: &str =
     "An operator's client: sends calls to a central system that serves, and prints the answers.";
 
 /// What `--url` of `call` names.
-pub const OPERATOR_URL_HELP: &str = "The operator's URL, ws://HOST:PORT/operator/ID";
+pub const OPERATOR_URL_HELP: &str = "The operator's URL, ws://HOST:PORT/operator/ID; with --all without /ID";
 
 /// What `--login` names.
 pub const LOGIN_HELP: &str =
@@ -214,11 +215,25 @@ pub const AUDIT_HELP: &str = "Sends AuditPoint: the point's own schedule is comp
 /// What `--status` says.
 pub const STATUS_HELP: &str = "Sends PointStatus: what came of the audit";
 
+/// What `--all` says.
+pub const ALL_HELP: &str =
+    "The options' calls go to each point of the site, at U/ID; each line begins with the point";
+
+/// What `--site` of `call` names.
+pub const ALL_SITE_HELP: &str = "The site whose points are called, a JSON file; with --all alone";
+
+/// What `--force` says.
+pub const FORCE_HELP: &str = "Sends calls in which a fault was found, too";
+
+/// What `--dry-run` says.
+pub const DRY_RUN_HELP: &str = "Sends nothing, and prints what would be sent";
+
 /// What `call` reads, and calls of it.
 pub const CALL_NOTES: &str =
     "It sends what the options say, in this order, or without any the lines of standard input, one
 OCPP-J frame a line. After each it waits for the answer, and prints every message that comes until
-then. A line that is no CALL isn't sent: '! LINE NotACall'.
+then. A line that is no CALL isn't sent: '! LINE NotACall'. Nor is a call that would be refused, whatever the
+point has: '! LINE HasFault', or '! OPTION HasFault'; --force sends it. Standard error says why.
 
 Examples:
   central call --url ws://127.0.0.1:9000/operator/CP1 --ask 1 86400
@@ -227,6 +242,7 @@ Examples:
   central call --url ws://127.0.0.1:9000/operator/CP1 --remote-start 1 ANN slow.json
   central call --url ws://127.0.0.1:9000/operator/CP1 --audit 1 86400
   central call --url ws://127.0.0.1:9000/operator/CP1 --status
+  central call --url ws://127.0.0.1:9000/operator --all --site site.json --set-profile night.json
 where night.json is, say,
   {\"connectorId\":0,\"csChargingProfiles\":{\"chargingProfileId\":5,\"stackLevel\":0,
    \"chargingProfilePurpose\":\"TxDefaultProfile\",\"chargingProfileKind\":\"Recurring\",\"recurrencyKind\":\"Daily\",
@@ -236,9 +252,9 @@ and slow.json a profile by itself:
   {\"chargingProfileId\":6,\"stackLevel\":0,\"chargingProfilePurpose\":\"TxProfile\",\"chargingProfileKind\":\"Relative\",
    \"chargingSchedule\":{\"chargingRateUnit\":\"A\",\"chargingSchedulePeriod\":[{\"startPeriod\":0,\"limit\":6}]}}
 
-Exit statuses: 0 all was accepted; 2 an answer was an error or Rejected, or a line is no CALL; 3 nobody
-listens there in OCPP 1.6, the connection failed, a file or a device did, or memory ran out; 4 the
-command line isn't one of these.";
+Exit statuses, of several the highest: 0 all was accepted; 2 an answer was an error or Rejected, or something
+wasn't sent; 3 nobody listens there in OCPP 1.6, the connection failed, a file or a device did, or memory ran
+out; 4 the command line isn't one of these. A fault of the site file is 1.";
 
 /// What `point` does.
 pub const POINT_ABOUT: &str =

@@ -98,6 +98,10 @@ pub struct Calling<'a> {
     pub url: &'a str,
     /// The file of its name and its key.
     pub login: Option<&'a str>,
+    /// Whether the calls go to each point of a site.
+    pub all: bool,
+    /// The file of that site.
+    pub site: Option<&'a str>,
     /// The file of a SetChargingProfile's payload.
     pub set_profile: Option<&'a str>,
     /// A ClearChargingProfile's payload.
@@ -110,6 +114,10 @@ pub struct Calling<'a> {
     pub audit: Option<Asking<'a>>,
     /// Whether a PointStatus is sent.
     pub status: bool,
+    /// Whether what has a fault is sent, too.
+    pub force: bool,
+    /// Whether nothing is sent: what would be is printed.
+    pub dry_run: bool,
 }
 
 /// What is asked for: the texts of a connector and of a duration in seconds.

@@ -173,21 +173,29 @@ fn calling_of<'a>(given: &ArgMatches<'a>) -> Option<Calling<'a>>
 {
     let url = text_of(given, "url")?;
     let login = text_of(given, "login");
+    let all = is_given(given, "all");
+    let site = text_of(given, "site");
     let set_profile = text_of(given, "set-profile");
     let clear = text_of(given, "clear");
     let remote_start = starting_of(given)?;
     let ask = asking_of(given, "ask")?;
     let audit = asking_of(given, "audit")?;
     let status = is_given(given, "status");
+    let force = is_given(given, "force");
+    let dry_run = is_given(given, "dry-run");
     Some(Calling {
         url,
         login,
+        all,
+        site,
         set_profile,
         clear,
         remote_start,
         ask,
         audit,
         status,
+        force,
+        dry_run,
     })
 }
 

@@ -1,7 +1,7 @@
 //! From when on a schedule is explained.
 
 ghost use Rattle.std.specs.Prelude.{◌≡◌};
-ghost use Rattle.command_line.specs.Start.{start_of};
+ghost use Rattle.command_line.specs.Start.{named_instant, start_of};
 
 use ocpp_scalars::{Instant, InstantFault, read_instant};
 
@@ -25,6 +25,15 @@ impl Start {
         match read_instant(text) {
             Ok(instant) => Ok(Start::At(instant)),
             Err(fault) => Err(fault),
+        }
+    }
+    /// The instant that is named, or None for the present moment.
+    pub fn named(self) -> Option<Instant>
+        ensures { result ≡ named_instant self }
+    {
+        match self {
+            Start::Now => None,
+            Start::At(instant) => Some(instant),
         }
     }
 }

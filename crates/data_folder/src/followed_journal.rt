@@ -45,6 +45,8 @@ pub struct FollowedJournal {
     number: u64,
     /// How many changes were counted.
     changes: u64,
+    /// Whether the journal ends in a line that is torn.
+    is_torn: bool,
 }
 
 impl FollowedJournal {
@@ -67,6 +69,11 @@ impl FollowedJournal {
     /// How many changes were counted.
     pub fn changes(&self) -> u64 {
         self.changes
+    }
+
+    /// Whether the journal ends in a line that is torn, and wasn't followed.
+    pub fn is_torn(&self) -> bool {
+        self.is_torn
     }
 }
 
@@ -116,7 +123,7 @@ fn follow_counted<C: Ledger, A: Ledger, R: Files<File = File> + Eprint + AllocGl
     let _ = say_other_site(rt, &file, &journal, &digest);
     say_torn(rt, &file, &journal);
     say_read(rt, journal.count(), follower.last)?;
-    follower.into_followed()
+    follower.into_followed(journal.torn() > 0)
 }
 
 /// How far a journal is followed, and which changes are counted.
@@ -179,7 +186,7 @@ impl<C: Ledger, A: Ledger> Follower<C, A> {
     }
 
     /// What was followed, once all is.
-    fn into_followed(self) -> Result<FollowedJournal, FolderFault> {
+    fn into_followed(self, is_torn: bool) -> Result<FollowedJournal, FolderFault> {
         let machine = self.book.present().copy()?;
         let Follower {
             calls,
@@ -192,6 +199,7 @@ impl<C: Ledger, A: Ledger> Follower<C, A> {
             calls,
             number,
             changes,
+            is_torn,
         })
     }
 

@@ -36,12 +36,11 @@ pub fn print_journal<R: Files<File = File> + Print + Eprint + AllocGlobal>(
             break;
         };
         let bytes = script.as_str().as_bytes();
-        if writer
-            .write_all(bytes)
-            .and_then(|()| writer.flush())
-            .is_err()
-        {
-            return Err(FolderFault::Print);
+        match writer.write_all(bytes).and_then(|()| writer.flush()) {
+            Ok(()) => {}
+            // A reader that left, as `head` does, has what it wanted.
+            Err(error) if error.kind() == io::ErrorKind::BrokenPipe => return Ok(()),
+            Err(_) => return Err(FolderFault::Print),
         }
     }
     say_torn(rt, &file, &reading.journal);

@@ -34,6 +34,8 @@ pub enum Depth {
 pub struct TracedLine {
     /// Its number, from 1.
     pub number: u64,
+    /// The word for its moment, where it says something on the site.
+    pub moment: Option<String>,
     /// The identity of the point that it is for or from, where the line says so.
     pub point: Option<String>,
     /// The line without its instant and its point, cut.
@@ -252,9 +254,11 @@ impl<'a> Trace<'a> {
 
     /// Keeps a line that printed something.
     fn keep_line(&mut self, played: PlayedLine<'a>) -> Result<(), AllocError> {
+        let moment = moment_word(self.alloc, &played)?;
         let (point, text) = self.words_of(&played)?;
         self.lines.push(TracedLine {
             number: played.number,
+            moment,
             point,
             text,
             printed: played.outcome.printed,
@@ -296,6 +300,18 @@ impl<'a> Trace<'a> {
     }
 }
 
+/// The word for the moment of a line, where it says something on the site.
+fn moment_word(alloc: Global, played: &PlayedLine<'_>) -> Result<Option<String>, AllocError> {
+    if !matches!(played.said, Some(Ok(_))) {
+        return Ok(None);
+    }
+    let line = String::from_utf8_lossy(alloc, played.line)?;
+    match line.as_str().split_once(' ') {
+        Some((moment, _rest)) => Ok(Some(text(alloc, moment)?)),
+        None => Ok(None),
+    }
+}
+
 /// The point of a line with a message, and that message.
 fn text_words(
     alloc: Global,
@@ -309,15 +325,12 @@ fn text_words(
 
 /// The lines that printed something, each beside what it printed.
 pub fn trace_text(alloc: Global, trace: &Trace<'_>) -> Result<String, AllocError> {
-    let mut table = Table::new(alloc, &["line", "point", "message", "answer"])?;
+    let mut table = Table::new(alloc, &["line", "moment", "point", "message", "answer"])?;
     for line in trace.lines() {
-        let point = match &line.point {
-            Some(point) => point.as_str(),
-            None => "-",
-        };
         table.push([
             line.number.to_string(alloc)?,
-            text(alloc, point)?,
+            shown(alloc, &line.moment)?,
+            shown(alloc, &line.point)?,
             text(alloc, line.text.as_str())?,
             print_lines(alloc, line.printed.as_slice())?,
         ])?;
@@ -325,4 +338,12 @@ pub fn trace_text(alloc: Global, trace: &Trace<'_>) -> Result<String, AllocError
     let mut out = String::new(alloc);
     table.push_to(&mut out, 0)?;
     Ok(out)
+}
+
+/// What a line says, or `-` where it doesn't.
+fn shown(alloc: Global, said: &Option<String>) -> Result<String, AllocError> {
+    match said {
+        Some(said) => text(alloc, said.as_str()),
+        None => text(alloc, "-"),
+    }
 }

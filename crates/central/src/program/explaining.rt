@@ -2,19 +2,19 @@
 
 ghost use Rattle.std.specs.Prelude.{◌≡◌, ◌≤◌, length};
 
-use crate::program::pages::{Screen, note_refused_lines, print_page, write_file};
+use crate::program::pages::{Screen, note_refused_lines, page_status, print_page, write_file};
 use crate::program::picture_name::{PictureForm, picture_form};
 use crate::program::program_fault::ProgramFault;
 use crate::program::script_end::script_end;
 use crate::program::script_input::read_script_of;
 use crate::program::site_file::read_digested_site;
-use command_line::{Explaining, Source, read_duration};
+use command_line::{Explaining, Source, Start, read_duration};
 use data_folder::{Following, ScriptEnd, SystemClock, follow_journal};
 use explain_pages::{
     ExplainedAsk, not_counted, write_json, write_page, write_picture, write_table,
 };
 use meaning::Ask;
-use ocpp_scalars::{Instant, Moments, read_instant, write_instant};
+use ocpp_scalars::{Instant, Moments, write_instant};
 use point_book::PointBook;
 use profile::Unit;
 use replay::play_quietly;
@@ -27,12 +27,12 @@ use sweep_compiler::{Turns, explain};
 
 /// Says why the limits of a connector are what they are after a script or a journal. Faults of a
 /// picture's name, the instants and the site file, and what isn't in it, are reported before the
-/// script is read.
+/// script is read. Returns the exit status.
 pub fn explain_file<R: Files<File = File> + Input + Print + Eprint + Clock + AllocGlobal>(
     rt: &R,
     screen: Screen,
     explaining: Explaining<'_>,
-) -> Result<(), ProgramFault> {
+) -> Result<u8, ProgramFault> {
     let picture = picture_of(&explaining)?;
     let start = start_of(rt, explaining.start)?;
     let ask = ask_of(&explaining, start)?;
@@ -58,22 +58,25 @@ pub fn explain_file<R: Files<File = File> + Input + Print + Eprint + Clock + All
     };
     let followed = follow_journal(rt, following)?;
     note_later_changes(rt, explaining.point, start, followed.changes())?;
-    print_explained(rt, presentation, followed.machine(), &ask)
+    print_explained(rt, presentation, followed.machine(), &ask)?;
+    Ok(page_status(!followed.is_torn()))
 }
 
-/// Explains what a point has after the script of standard input or of a file.
+/// Explains what a point has after the script of standard input or of a file. Returns the exit
+/// status.
 fn explain_script<R: Files<File = File> + Input + Print + Eprint + AllocGlobal>(
     rt: &R,
     presentation: Presentation<'_>,
     end: ScriptEnd,
     site: Site,
     ask: &Ask,
-) -> Result<(), ProgramFault> {
+) -> Result<u8, ProgramFault> {
     let script = read_script_of(rt, presentation.explaining.source)?;
     let last_line = end.last_line(script.as_slice());
     let played = play_quietly(rt.alloc(), script.as_slice(), site, last_line)?;
-    note_refused_lines(rt, &played);
-    print_explained(rt, presentation, played.machine(), ask)
+    let is_whole = note_refused_lines(rt, &played);
+    print_explained(rt, presentation, played.machine(), ask)?;
+    Ok(page_status(is_whole))
 }
 
 /// Says where a journal has changes at the point that are later than the first instant: what is
@@ -136,12 +139,12 @@ fn check_connector(site: &Site, point: &str, connector: u32) -> Result<(), Progr
 
 /// The instant from which on is explained: the present one, or the one that is named.
 fn start_of<R: Clock>(rt: &R, text: &str) -> Result<Instant, ProgramFault> {
-    if text == "now" {
-        return now(rt);
-    }
-    match read_instant(text) {
-        Ok(instant) => Ok(instant),
-        Err(_) => Err(ProgramFault::NoInstant),
+    let Ok(start) = Start::of(text) else {
+        return Err(ProgramFault::NoInstant);
+    };
+    match start.named() {
+        Some(instant) => Ok(instant),
+        None => now(rt),
     }
 }
 

@@ -27,15 +27,25 @@ impl Screen {
     }
 }
 
+/// The exit status where what is printed is without lines that were refused, or that are torn.
+const NOT_ALL: u8 = 2;
+
+/// The exit status of a page of what a script or a journal leads to.
+pub fn page_status(is_whole: bool) -> u8 {
+    if is_whole { 0 } else { NOT_ALL }
+}
+
 /// Says on standard error how many lines of a script have a fault or were refused, if any: what is
-/// printed of the script is without them. Where that can't be written nothing else is lost.
-pub fn note_refused_lines<R: Eprint>(rt: &R, playing: &Playing<'_>) {
+/// printed of the script is without them. Where that can't be written nothing else is lost. Whether
+/// there are none.
+pub fn note_refused_lines<R: Eprint>(rt: &R, playing: &Playing<'_>) -> bool {
     let count = playing.refused_lines();
     if count > 0 {
         let _ = eprintln!(rt;
             "central: {count} of the script's lines have a fault or were refused: central check says which"
         );
     }
+    count == 0
 }
 
 /// Prints a page. One whose reader left, as `head` does, counts as printed.

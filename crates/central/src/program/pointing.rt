@@ -1,6 +1,6 @@
 //! The job of `central point`.
 
-use crate::program::login::logged_in;
+use crate::program::login::{logged_in, read_login};
 use crate::program::program_fault::ProgramFault;
 use crate::program::site_file::read_site_file;
 use client::{Address, Lines, TerminalPoint, connect};
@@ -33,7 +33,8 @@ pub fn run_point<
     let base = pointing.url.trim_end_matches('/');
     let url = format!(in alloc; "{base}/{}", pointing.id)?;
     let address = Address::of_url(alloc, url.as_str())?;
-    let address = logged_in(rt, address, pointing.login)?;
+    let login = read_login(rt, pointing.login)?;
+    let address = logged_in(alloc, address, &login)?;
     let site = read_site_file(rt, pointing.site)?;
     let point = point_of_site(alloc, &site, pointing.id)?;
     let socket = connect(rt, alloc, address)?;

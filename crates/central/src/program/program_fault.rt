@@ -61,6 +61,12 @@ pub enum ProgramFault {
     /// The connector of a remote start is no number.
     #[error("central: command line: the CONNECTOR of --remote-start is no whole number from 0 on")]
     NoNumber,
+    /// The points of a site are called by `--all` and `--site`, or by neither.
+    #[error("central: command line: --all and --site F belong together")]
+    AllWithoutSite,
+    /// What goes to all points are the calls of options.
+    #[error("central: command line: --all sends the calls of options, and there is none")]
+    AllWithoutCalls,
     /// What the command line asks for ends past the last instant.
     #[error("central: command line: it would end past the year 9999")]
     PastCalendar,
@@ -115,6 +121,7 @@ impl ProgramFault {
             ProgramFault::Words | ProgramFault::NoSuchPoint | ProgramFault::NoSuchConnector => 4,
             ProgramFault::NoInstant | ProgramFault::PastCalendar | ProgramFault::NoPicture => 4,
             ProgramFault::NoDuration | ProgramFault::NoNumber | ProgramFault::NoScriptEnd => 4,
+            ProgramFault::AllWithoutSite | ProgramFault::AllWithoutCalls => 4,
             ProgramFault::NoKeys | ProgramFault::KeyName => 4,
             ProgramFault::StatusOpen | ProgramFault::StatusUrl => 4,
             ProgramFault::NoStatus => 3,

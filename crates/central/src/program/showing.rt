@@ -1,6 +1,6 @@
 //! The job of `central show`.
 
-use crate::program::pages::{note_refused_lines, print_page};
+use crate::program::pages::{note_refused_lines, page_status, print_page};
 use crate::program::program_fault::ProgramFault;
 use crate::program::script_end::script_end;
 use crate::program::script_input::read_script_of;
@@ -13,11 +13,11 @@ use std::alloc::AllocGlobal;
 use std::fs::File;
 use std::rt::Files;
 
-/// Shows what each point of a site has after a script or a journal.
+/// Shows what each point of a site has after a script or a journal. Returns the exit status.
 pub fn show_file<R: Files<File = File> + Input + Print + Eprint + AllocGlobal>(
     rt: &R,
     showing: Showing<'_>,
-) -> Result<(), ProgramFault> {
+) -> Result<u8, ProgramFault> {
     let end = script_end(showing.at)?;
     let (site, digest) = read_digested_site(rt, showing.site)?;
     let Source::Journal(folder) = showing.source else {
@@ -32,21 +32,24 @@ pub fn show_file<R: Files<File = File> + Input + Print + Eprint + AllocGlobal>(
         counted_from: None,
     };
     let followed = follow_journal(rt, following)?;
-    print_standing(rt, showing, &followed.standing())
+    print_standing(rt, showing, &followed.standing())?;
+    Ok(page_status(!followed.is_torn()))
 }
 
-/// Shows what each point has after the script of standard input or of a file.
+/// Shows what each point has after the script of standard input or of a file. Returns the exit
+/// status.
 fn show_script<R: Files<File = File> + Input + Print + Eprint + AllocGlobal>(
     rt: &R,
     showing: Showing<'_>,
     end: ScriptEnd,
     site: Site,
-) -> Result<(), ProgramFault> {
+) -> Result<u8, ProgramFault> {
     let script = read_script_of(rt, showing.source)?;
     let last_line = end.last_line(script.as_slice());
     let trace = trace_script(rt.alloc(), script.as_slice(), site, last_line, Depth::State)?;
-    note_refused_lines(rt, trace.playing());
-    print_standing(rt, showing, &trace.standing())
+    let is_whole = note_refused_lines(rt, trace.playing());
+    print_standing(rt, showing, &trace.standing())?;
+    Ok(page_status(is_whole))
 }
 
 fn print_standing<R: Print + AllocGlobal>(

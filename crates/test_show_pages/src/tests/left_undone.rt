@@ -43,14 +43,14 @@ held requests
 ";
 
 const TRACE: &str =
-    r#"line  point  message                                                                  answer
-1     CP1    operator [2,"n","SetChargingProfile",{"connectorId":1,"csChargingProf..  > [3,"n",{"status":"Accepted"}]
-2     CP1    point [2,"b","Heartbeat",{}]                                             > [3,"b",{"currentTime":"2025-01-01T00:00:01Z"}]
-                                                                                      * CP1 [2,"0","ClearChargingProfile",{}]
-3     CP1    point [3,"0",{"status":"Accepted"}]                                      * CP1 [2,"1","SetChargingProfile",{"connectorId":1,"csChargingProfiles":{"chargingProfileId":1,"stackLevel":2,"chargingProfilePurpose":"TxDefaultProfile","chargingProfileKind":"Recurring","recurrencyKind":"Daily","validTo":"2025-03-01T00:00:00Z","chargingSchedule":{"duration":28800,"startSchedule":"2025-01-01T22:00:00Z","chargingRateUnit":"A","chargingSchedulePeriod":[{"startPeriod":0,"limit":10.5}]}}}]
-5     CP1    hold [2,"h","GetCompositeSchedule",{"connectorId":1,"duration":60..      held 1
-6     CP1    operator [2,"c","ClearChargingProfile",{"id":1}]                         > [3,"c",{"status":"Accepted"}]
-7     -      2025-01-01T00:00:06Z point CP9 []                                        ! 7 UnknownPoint
+    r#"line  moment                point  message                                                                  answer
+1     2025-01-01T00:00:00Z  CP1    operator [2,"n","SetChargingProfile",{"connectorId":1,"csChargingProf..  > [3,"n",{"status":"Accepted"}]
+2     2025-01-01T00:00:01Z  CP1    point [2,"b","Heartbeat",{}]                                             > [3,"b",{"currentTime":"2025-01-01T00:00:01Z"}]
+                                                                                                            * CP1 [2,"0","ClearChargingProfile",{}]
+3     2025-01-01T00:00:02Z  CP1    point [3,"0",{"status":"Accepted"}]                                      * CP1 [2,"1","SetChargingProfile",{"connectorId":1,"csChargingProfiles":{"chargingProfileId":1,"stackLevel":2,"chargingProfilePurpose":"TxDefaultProfile","chargingProfileKind":"Recurring","recurrencyKind":"Daily","validTo":"2025-03-01T00:00:00Z","chargingSchedule":{"duration":28800,"startSchedule":"2025-01-01T22:00:00Z","chargingRateUnit":"A","chargingSchedulePeriod":[{"startPeriod":0,"limit":10.5}]}}}]
+5     2025-01-01T00:00:04Z  CP1    hold [2,"h","GetCompositeSchedule",{"connectorId":1,"duration":60..      held 1
+6     2025-01-01T00:00:05Z  CP1    operator [2,"c","ClearChargingProfile",{"id":1}]                         > [3,"c",{"status":"Accepted"}]
+7     -                     -      2025-01-01T00:00:06Z point CP9 []                                        ! 7 UnknownPoint
 "#;
 
 const ENDING: &str = "CP1: request 1 was held at line 5 and never released

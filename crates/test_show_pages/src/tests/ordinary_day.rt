@@ -81,9 +81,9 @@ street: call 0 (ClearChargingProfile, every profile) went out after line 18 and 
 
 /// What the trace says of the garage's first message.
 const CAR: &str = r#"
-5     garage  point [2,"car-1","StartTransaction",{"connectorId":1,"idTag":"ann"..     > [3,"car-1",{"idTagInfo":{"status":"Accepted"},"transactionId":1}]
-                                                                                       * garage [2,"0","ClearChargingProfile",{}]
-6     garage  operator [2,"own","SetChargingProfile",{"connectorId":1,"csChargingPr..  > [3,"own",{"status":"Accepted"}]
+5     2025-06-02T17:30:00Z  garage  point [2,"car-1","StartTransaction",{"connectorId":1,"idTag":"ann"..     > [3,"car-1",{"idTagInfo":{"status":"Accepted"},"transactionId":1}]
+                                                                                                             * garage [2,"0","ClearChargingProfile",{}]
+6     2025-06-02T17:31:00Z  garage  operator [2,"own","SetChargingProfile",{"connectorId":1,"csChargingPr..  > [3,"own",{"status":"Accepted"}]
 "#;
 
 #[test]
