@@ -5,16 +5,17 @@ ghost use Rattle.clap.specs.Words.{App, app_of, rule_of};
 ghost use Rattle.command_line.specs.CommandLine.{needed, numbered, option, optional, optional_numbers, optional_values, flag, central_app, with_readers, with_served, with_places, with_counts, with_status, with_script, with_request, with_picture, with_callees, with_calls, with_sending, run_command, status_command, journal_command, key_command, replay_command, serve_command, call_command, point_command, explain_command, check_command, show_command};
 
 use crate::help_text::{
-    ABOUT, ALL_HELP, ALL_SITE_HELP, ASK_HELP, ASK_VALUES, AT_HELP, AUDIT_HELP, CALL_ABOUT, CALL_NOTES, CALL_TIMEOUT_HELP,
-    CHECK_ABOUT, CHECK_KEYS_HELP, CHECK_NOTES, CLEAR_HELP, CONNECTOR_HELP, DATA_HELP,
-    DRY_RUN_HELP, DURATION_HELP, EXPLAIN_ABOUT, EXPLAIN_NOTES, FORCE_HELP, ID_HELP, JOURNAL_ABOUT, JOURNAL_DATA_HELP,
-    JOURNAL_NOTES, JSON_HELP, KEY_ABOUT, KEY_NAME_HELP, KEY_NOTES, KEY_OPERATOR_HELP, KEYS_HELP,
-    LISTEN_HELP, LOGIN_HELP, OPERATOR_URL_HELP, PICTURE_HELP, POINT_ABOUT, POINT_HELP, POINT_NOTES,
-    POINT_URL_HELP, REMOTE_START_HELP, REPLAY_ABOUT, REPLAY_EXAMPLE, RUN_ABOUT, RUN_DATA_HELP,
-    RUN_NOTES, RUN_STATUS_HELP, RUN_WORKERS_HELP, SCRIPT_HELP, SEATS_HELP, SERVE_ABOUT,
-    SERVE_NOTES, SESSIONS_HELP, SET_PROFILE_HELP, SHOW_ABOUT, SHOW_NOTES, SITE_HELP, START_HELP,
-    START_VALUES, STATUS_ABOUT, STATUS_HELP, STATUS_NOTES, STATUS_OPEN_HELP, STATUS_URL_HELP,
-    STATUSES, TRACE_HELP, VERSION, WORKERS_HELP,
+    ABOUT, ALL_HELP, ALL_SITE_HELP, ASK_HELP, ASK_VALUES, AT_HELP, AUDIT_HELP, CALL_ABOUT,
+    CALL_NOTES, CALL_TIMEOUT_HELP, CHECK_ABOUT, CHECK_KEYS_HELP, CHECK_NOTES, CLEAR_HELP,
+    CONNECTOR_HELP, DATA_HELP, DRY_RUN_HELP, DURATION_HELP, EXPLAIN_ABOUT, EXPLAIN_NOTES,
+    FORCE_HELP, ID_HELP, JOURNAL_ABOUT, JOURNAL_DATA_HELP, JOURNAL_NOTES, JSON_HELP, KEY_ABOUT,
+    KEY_NAME_HELP, KEY_NOTES, KEY_OPERATOR_HELP, KEYS_HELP, LISTEN_HELP, LOGIN_HELP,
+    OPERATOR_URL_HELP, PICTURE_HELP, POINT_ABOUT, POINT_HELP, POINT_NOTES, POINT_URL_HELP,
+    REMOTE_START_HELP, REPLAY_ABOUT, REPLAY_EXAMPLE, RUN_ABOUT, RUN_DATA_HELP, RUN_NOTES,
+    RUN_STATUS_HELP, RUN_WORKERS_HELP, SCRIPT_HELP, SEATS_HELP, SERVE_ABOUT, SERVE_NOTES,
+    SESSIONS_HELP, SET_PROFILE_HELP, SHOW_ABOUT, SHOW_NOTES, SITE_HELP, START_HELP, START_VALUES,
+    STATUS_ABOUT, STATUS_HELP, STATUS_NOTES, STATUS_OPEN_HELP, STATUS_URL_HELP, STATUSES,
+    TRACE_HELP, VERSION, WORKERS_HELP,
 };
 use crate::limits::{MAX_CALL_TIMEOUT, MAX_CONNECTORS, MAX_SEATS, MAX_SESSIONS, MAX_WORKERS};
 use clap::builder::ValueParser;
@@ -293,8 +294,7 @@ fn check<'a>(alloc: Global) -> Result<Command<'a>, AllocError>
         .after_help(CHECK_NOTES)
         .arg(needed(alloc, "site", "F", SITE_HELP))?
         .arg(optional(alloc, "keys", "FILE", CHECK_KEYS_HELP))?;
-    with_script(alloc, command)?
-        .arg(flag(alloc, "trace", TRACE_HELP))
+    with_script(alloc, command)?.arg(flag(alloc, "trace", TRACE_HELP))
 }
 
 /// `show --site F [--data DIR | --script FILE] [--at PLACE] [--json]`.

@@ -183,7 +183,8 @@ pub const CALL_ABOUT: &str =
     "An operator's client: sends calls to a central system that serves, and prints the answers.";
 
 /// What `--url` of `call` names.
-pub const OPERATOR_URL_HELP: &str = "The operator's URL, ws://HOST:PORT/operator/ID; with --all without /ID";
+pub const OPERATOR_URL_HELP: &str =
+    "The operator's URL, ws://HOST:PORT/operator/ID; with --all without /ID";
 
 /// What `--login` names.
 pub const LOGIN_HELP: &str =

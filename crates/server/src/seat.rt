@@ -36,13 +36,7 @@ type SeatSocket<'a, R> = WebSocket<IncomingStream<'a, R>, NoMask>;
 
 /// Serves one connection after another, each with the seat's pass, until no more are sent. Gives
 /// back the pass, which counts no less than before.
-pub fn keep_seat<
-    C: Ledger,
-    A: Ledger,
-    R: Threads + Wait + Clock + Sync,
-    M: Moments,
-    J: Journal,
->(
+pub fn keep_seat<C: Ledger, A: Ledger, R: Threads + Wait + Clock + Sync, M: Moments, J: Journal>(
     seats: &SeatContext<C, A, R, M, J>,
     jobs: Jobs<'_>,
     streams: &Receiver<TcpStream>,
@@ -71,13 +65,7 @@ pub fn keep_seat<
 }
 
 /// Serves a connection from its handshake until it ends. Gives back the pass.
-fn serve_incoming<
-    C: Ledger,
-    A: Ledger,
-    R: Threads + Wait + Clock + Sync,
-    M: Moments,
-    J: Journal,
->(
+fn serve_incoming<C: Ledger, A: Ledger, R: Threads + Wait + Clock + Sync, M: Moments, J: Journal>(
     seats: &SeatContext<C, A, R, M, J>,
     context: &Context<'_, C, A, R, M, J>,
     stream: TcpStream,
