@@ -161,7 +161,7 @@ def lines_of_call(program):
 
 def held_back(program):
     """A call that would be refused isn't sent, but by `--force`; `--dry-run` sends nothing, and needs nobody who listens."""
-    why = b'clear: TypeConstraintViolation: id: "1" is a string; a whole number is wanted\n'
+    why = b'clear: TypeConstraintViolation: id: "1" is a string; a whole number from -2147483648 to 2147483647 is wanted\n'
     asked = b'[2,"ask","GetCompositeSchedule",{"connectorId":1,"duration":60}]\n'
     with Serving(program, SITE, 2) as serving:
         given = operator(serving, "--clear", '{"id":"1"}', "--ask", "1", "60")
