@@ -175,6 +175,8 @@ def held_back(program):
         given = operator(serving, "--dry-run", "--force", "--clear", '{"id":"1"}')
         expect("a dry run by force", given, (0, b'[2,"clear","ClearChargingProfile",{"id":"1"}]\n', why))
         expect("a dry run of lines", operator(serving, "--dry-run", given=asked + b"[]\n")[:2], (2, asked + b"! 2 NotACall\n"))
+        given = operator(serving, "--dry-run", "--clear", '{\n"id":\r\n1}')
+        expect("a dry run is a line for each frame", given, (0, b'[2,"clear","ClearChargingProfile",{ "id":  1}]\n', b""))
 
 
 def each_point(program):

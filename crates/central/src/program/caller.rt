@@ -165,7 +165,8 @@ impl<
     ) -> Result<(), ProgramFault> {
         let label = callee.label.as_str();
         let Some(client) = &mut callee.client else {
-            return self.print(format!(in self.rt.alloc(); "{label}{text}")?);
+            let line = on_one_line(self.rt.alloc(), text)?;
+            return self.print(format!(in self.rt.alloc(); "{label}{line}")?);
         };
         let mut writer = io::writer(self.rt);
         let mut lines = AnswerLines {
@@ -255,6 +256,19 @@ impl<
             Err(_) => Err(ProgramFault::Client(ClientFault::Write)),
         }
     }
+}
+
+/// A JSON text on one line. A line break stands between two words of it, for no string has one.
+fn on_one_line(alloc: Global, text: &str) -> Result<String, AllocError> {
+    let mut line = String::new(alloc);
+    for character in text.chars() {
+        line.push(if matches!(character, '\n' | '\r') {
+            ' '
+        } else {
+            character
+        })?;
+    }
+    Ok(line)
 }
 
 /// The URL of the operator of a point.
