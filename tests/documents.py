@@ -44,12 +44,12 @@ SIZES = {
     "docs/DECISIONS.md": 17,
     "bench/README.md": 12,
     "examples/README.md": 15,
-    "examples/cookbook/README.md": 9,
+    "examples/cookbook/README.md": 10,
     "examples/fleet/README.md": 7,
     "tests/README.md": 8,
 }
 OTHER_SIZE = 8
-ALL_SIZE = 262
+ALL_SIZE = 263
 README_LINES = 110
 MEAN_WORDS = 25
 LONGEST_WORDS = 60
