@@ -1,0 +1,19 @@
+-- What holds of a chronicle, and what its one step tells.
+use Rattle.std.specs.Prelude.{ℕ, ◌≡◌, ◌==◌, ◌<◌, true, List, [], ◌∷◌, ◌++◌, length, MatchBool}
+use mathlib.Core.List.{IsPrefix}
+use Rattle.logbook.specs.Pages.{Cell, Step, View, Book, Named}
+
+-- The first word is its length. A book has two words, of which this one leaves the second at 0.
+abbrev pub IsKept : {E : Type 0} → List Cell → List E → Type 0
+IsKept cells log = cells ≡ (length log, true) ∷ (0, true) ∷ []
+
+abbrev pub head_of : Book → Named
+head_of b = record { tracked = true; key = 0; book = b }
+
+-- the entry was added to all that had been seen; or the chronicle was longer, and was seen
+abbrev pub Adds : {E : Type 0} → Step E → View E ℕ → ℕ → View E ℕ → Type 0
+Adds s v found w = MatchBool (found == s.old) (w.0 ≡ v.0 ++ s.ask ∷ []) (length w.0 ≡ found)
+
+-- ys begins with xs, and goes on
+abbrev pub IsLonger : {E : Type 0} → List E → List E → Type 0
+IsLonger xs ys = IsPrefix xs ys × (length xs < length ys)
