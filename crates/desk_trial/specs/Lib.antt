@@ -1,1 +1,4 @@
 pub mod Chronicle
+pub mod Machine
+pub mod Marks
+pub mod States

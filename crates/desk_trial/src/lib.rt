@@ -2,7 +2,19 @@
 #![tactic(auto)]
 
 mod chronicle;
+mod desk;
+mod fault;
+// mod lines;
 mod mark;
+// mod receipt;
+// mod site;
+// mod written;
 
 pub use chronicle::{Add, Front, Head, Law, Naming, Nothing, Opened};
+pub use desk::Desk;
+pub use fault::Fault;
+// pub use lines::{Lines, Marking};
 pub use mark::Mark;
+// pub use receipt::{Receipt, send};
+// pub use site::Site;
+// pub use written::Written;
