@@ -1,5 +1,5 @@
 -- The machine: a number, events that add to it, and the lines that they are written as.
-use Rattle.std.specs.Prelude.{ℕ, ◌+◌, ◌==◌, leb, if◌then◌else◌, List, [], ◌∷◌, ◌++◌, map, Option, None, Some}
+use Rattle.std.specs.Prelude.{ℕ, ◌≡◌, ◌+◌, ◌==◌, leb, if◌then◌else◌, List, [], ◌∷◌, ◌++◌, map, Option, None, Some}
 use Rattle.append_log.specs.Lines.{text_of, line_feed}
 
 -- An event adds to the state, as long as that is no more than 1,000. A line feed is no event.
@@ -30,3 +30,6 @@ abbrev pub events_of : List ℕ → List ℕ
 events_of [] = []
 events_of (byte ∷ []) = []
 events_of (byte ∷ next ∷ rest) = if next == line_feed then byte ∷ events_of rest else []
+
+abbrev pub EndsWith : List ℕ → ℕ → Type 0
+EndsWith events event = (before : List ℕ) × (events ≡ before ++ event ∷ [])

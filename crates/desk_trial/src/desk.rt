@@ -1,15 +1,20 @@
 //! The state, and the events that nobody has taken to be written yet: what the book's lock keeps.
 
 ghost use Rattle.std.specs.Prelude.{◌≡◌, ◌≢◌, ◌<◌, ◌^◌, ◌++◌, ◌∷◌, [], length, Some, IfOk, OnErr};
+ghost use mathlib.Core.List.{IsPrefix};
+ghost use Rattle.append_log.specs.Log.{history};
 ghost use Rattle.desk_trial.specs.Machine.{stepped, run};
 
 use crate::chronicle::{Add, Front, Head, Naming};
 use crate::fault::Fault;
+use crate::lines::Lines;
+use append_log::AppendedFile;
 use logbook::Plain;
 use std::alloc::Global;
 use std::marker::Model;
+use std::mem;
 use std::sync::ledger;
-use std::sync::ledger::Ledger;
+use std::sync::ledger::{Ledger, Share};
 
 /// An event is what is added to the chronicle.
 impl Plain<u8, u8, u64> for Add {
@@ -83,6 +88,43 @@ impl<J: Naming, L: Ledger> Desk<J, L> {
         let mine = front.again();
         self.front = front;
         Ok(mine)
+    }
+
+    /// Hands over the events that nobody has taken to be written yet.
+    pub(crate) fn hand_over<F: AppendedFile>(
+        &mut self,
+        lines: &mut Lines<J, F>,
+        share: &mut Share<L>,
+    )
+        requires taken { lines.old.taken.items ≡ [] }
+        requires share { (share.old.parts ≡ L.parts) × (0 < L.parts)
+            × (share.old.amount ≡ length lines.old.front) }
+        ensures desk { (self.new.state ≡ self.old.state) × (self.new.events ≡ self.old.events) }
+        ensures front { lines.new.front ≡ self.old.events }
+        ensures longer { IsPrefix lines.old.front lines.new.front }
+        ensures lines { (history lines.new.log ≡ history lines.old.log)
+            × (lines.new.count ≡ lines.old.count) }
+        ensures share { (share.new.parts ≡ share.old.parts)
+            × (share.new.amount ≡ length lines.new.front) }
+    {
+        self.taken.audit(share);
+        self.front.covers(&lines.front);
+        self.taken.add(share, self.queue.len() as u64);
+        let front = self.front.again();
+        mem::swap(&mut self.queue, &mut lines.taken);
+        lines.front = front;
+    }
+
+    /// Shows that what was handed over are the first of all events.
+    pub(crate) fn compare<F: AppendedFile>(&mut self, lines: &Lines<J, F>, share: &mut Share<L>)
+        requires { (share.old.parts ≡ L.parts) × (share.old.amount ≡ length lines.now.front) }
+        ensures queue { IsPrefix lines.now.front self.new.events }
+        ensures state { run 0 self.new.events ≡ Some self.new.state }
+        ensures same { self.new ≡ self.old }
+        ensures share { (share.new.parts ≡ share.old.parts) × (share.new.amount ≡ share.old.amount) }
+    {
+        self.taken.audit(share);
+        self.front.covers(&lines.front);
     }
 }
 

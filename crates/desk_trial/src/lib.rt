@@ -4,17 +4,17 @@
 mod chronicle;
 mod desk;
 mod fault;
-// mod lines;
+mod lines;
 mod mark;
-// mod receipt;
+mod receipt;
 // mod site;
-// mod written;
+mod written;
 
 pub use chronicle::{Add, Front, Head, Law, Naming, Nothing, Opened};
 pub use desk::Desk;
 pub use fault::Fault;
-// pub use lines::{Lines, Marking};
+pub use lines::{Lines, Marking};
 pub use mark::Mark;
-// pub use receipt::{Receipt, send};
+pub use receipt::{Receipt, send};
 // pub use site::Site;
-// pub use written::Written;
+pub use written::Written;
