@@ -2,3 +2,4 @@ pub mod Chronicle
 pub mod Machine
 pub mod Marks
 pub mod States
+pub mod OneLock

@@ -129,7 +129,7 @@ impl<J: Naming, L: Ledger> Desk<J, L> {
 }
 
 /// The state after an event, if it may be made.
-fn next(state: u64, event: u8) -> Option<u64>
+pub(crate) fn next(state: u64, event: u8) -> Option<u64>
     ensures { result ≡ stepped state event }
 {
     if event == b'\n' || state > 1000 {
