@@ -8,8 +8,8 @@ mod lines;
 mod mark;
 mod one_lock;
 mod receipt;
+mod sessions;
 mod site;
-mod two_sessions;
 mod written;
 
 pub use chronicle::{Add, Front, Head, Law, Naming, Nothing, Opened};
@@ -19,6 +19,6 @@ pub use lines::{Lines, Marking};
 pub use mark::Mark;
 pub use one_lock::{OneDesk, lock};
 pub use receipt::{Receipt, send};
+pub use sessions::{Ended, two_sessions};
 pub use site::Site;
-pub use two_sessions::{Ended, two_sessions};
 pub use written::Written;
