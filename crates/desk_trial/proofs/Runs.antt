@@ -12,9 +12,9 @@ pub more_kept : (front more : List ℕ) (event taken state next : ℕ) (queue qu
     → more ≡ front ++ event ∷ [] → stepped state event ≡ Some next → queue' ≡ queue ++ event ∷ []
     → (run 0 more ≡ Some next) × (queue' ≡ drop taken more) × (taken ≤ length more)
 more_kept front more event taken state next queue queue' ran queued within is made pushed = (
-    ap (run 0) is ∙ run_from_more (Some 0) front event ∙ ap (λ s. stepped_from s event) ran ∙ made,
-    pushed ∙ ap (λ l. l ++ event ∷ []) queued ∙ sym (drop_more front (event ∷ []) taken within) ∙ sym (ap (drop taken) is),
-    omega (arith, ap length is, length-append front (event ∷ []), within),
+  ap (run 0) is ∙ run_from_more (Some 0) front event ∙ ap (λ s. stepped_from s event) ran ∙ made,
+  pushed ∙ ap (λ l. l ++ event ∷ []) queued ∙ sym (drop_more front (event ∷ []) taken within) ∙ sym (ap (drop taken) is),
+  omega (arith, ap length is, length-append front (event ∷ []), within),
 )
   where
     drop_more : (xs ys : List ℕ) (k : ℕ) → k ≤ length xs → drop k (xs ++ ys) ≡ drop k xs ++ ys

@@ -23,6 +23,7 @@ pub struct OneDesk<F: AppendedFile> {
 }
 
 impl<F: AppendedFile> Model for OneDesk<F> {
+    ghost use Rattle.std.specs.Prelude.{◌≡◌, length};
     ghost use Rattle.append_log.specs.Contents.{file_of};
     ghost use Rattle.append_log.specs.Log.{contents, history};
     ghost use Rattle.desk_trial.specs.Machine.{events_of};
@@ -71,10 +72,14 @@ impl<F: AppendedFile> OneDesk<F> {
         }
     }
 
-    /// Shows that the run of what is on the disk, followed by what is pending, is the state.
-    pub fn one(&self)
-        ensures { IsOne self.now }
-    {}
+    /// The state. With what is always so: it is the run of what is on the disk, followed by what is
+    /// pending.
+    pub fn state(&self) -> u64
+        ensures state { result ≡ self.now.state }
+        ensures one { IsOne self.now }
+    {
+        self.state
+    }
 }
 
 /// The desk, once no other thread has it.
@@ -85,6 +90,6 @@ pub fn lock<'a, F: AppendedFile, R: Wait>(
     ensures { IsOne (mutex_guard_value result) }
 {
     let desk = desk.lock(rt);
-    desk.one();
+    desk.state();
     desk
 }

@@ -25,12 +25,7 @@ pub fn two_sessions<
     L: Ledger + Send + Sync,
     F: AppendedFile + Drop + Send,
     R: Threads + Wait + Sync,
->(
-    rt: &R,
-    site: Site<J, K, L, F>,
-    first: u8,
-    second: u8,
-) -> Option<Ended<J, K, L, F>>
+>(rt: &R, site: Site<J, K, L, F>, first: u8, second: u8) -> Option<Ended<J, K, L, F>>
     ensures first { IfSome result (λ r. EndsWith r.0.events first × Stands r.0 r.2) }
     ensures second { IfSome result (λ r. EndsWith r.1.events second × Stands r.1 r.2) }
 {

@@ -96,7 +96,10 @@ impl<J: Naming, K: Naming, L: Ledger, F: AppendedFile> Site<J, K, L, F> {
     pub fn look_at_both<R: Wait>(
         &self,
         rt: &R,
-    ) -> (MutexGuard<'_, Written<J, K, L, F>>, MutexGuard<'_, Desk<J, L>>)
+    ) -> (
+        MutexGuard<'_, Written<J, K, L, F>>,
+        MutexGuard<'_, Desk<J, L>>,
+    )
         ensures { AreOne (mutex_guard_value result.0) (mutex_guard_value result.1) }
     {
         let mut written = self.written.lock(rt);

@@ -41,7 +41,9 @@ impl<J: Naming, K: Naming, L: Ledger, F: AppendedFile> Model for Written<J, K, L
     ghost Value = { WrittenState };
 
     ghost view = { λ w. record {
-      events = w.lines.front; count = w.lines.count; contents = contents w.lines.log;
+      events = w.lines.front;
+      count = w.lines.count;
+      contents = contents w.lines.log;
       file = history w.lines.log;
     } };
 

@@ -16,5 +16,5 @@ returns-in-Err-clause-any_moment g c bytes part =
     let same = c.in_ok-put_into_words.ensures.file in
     let begun : Contents = record (contents middle) { has_failed = (contents c.write_and_sync.new.self).has_failed } in
     subst (λ (h : History). AtEachMoment (IsFirstPart bytes) h (history c.write_and_sync.new.self)) same
-        (c.acknowledged_for_good.ensures.call bytes begun (history middle) (history c.write_and_sync.new.self)
-          (subst (λ (h : History). IsFirstPart bytes h.now.synced) (sym same) part) c.in-Err.ensures.any_moment)
+    (c.acknowledged_for_good.ensures.call bytes begun (history middle) (history c.write_and_sync.new.self)
+    (subst (λ (h : History). IsFirstPart bytes h.now.synced) (sym same) part) c.in-Err.ensures.any_moment)

@@ -16,7 +16,7 @@ returns-then-covers g c =
     let own = c.self.inside in
     let shown = c.receipt.inside in
     let first : IsPrefix shown.events own.lines.front = c.if-covers.ensures in
-    rw (← c.self.view_is, ← c.receipt.view_is) (if_so _ _ _ c.covers-then-covers.result c.covers-then-covers.ensures (λ among. record {
+    rw (← c.self.view_is, ← c.receipt.view_is) (if_so (IsPrefix shown.marks own.marks) _ _ c.covers-then-covers.result c.covers-then-covers.ensures (λ among. record {
       first = first;
       stand = receipt_stands shown.events own.lines.front own.lines.count (history own.lines.log) shown.marks own.marks c.receipt.invariant first among c.self.invariant.3;
     }))
