@@ -182,7 +182,9 @@ impl<
 
     /// Closes the connection, if there is one.
     pub fn leave(&self, callee: Callee<R>) {
-        if let Some(client) = callee.client {
+        let Callee { label, client } = callee;
+        drop(label);
+        if let Some(client) = client {
             client.end();
         }
     }
