@@ -745,7 +745,7 @@ def check_and_show_problems(program, folder):
         yield f"check: {name}", [] if ok else [f"{done}"]
     yield from shared_remark_problems(program, folder)
     traced = run(program, ["check", "--site", good, "--trace"], heartbeat).stdout
-    ok = b"1     CP1    point [2," in traced and b"* CP1 [2," in traced
+    ok = b"1     2025-01-01T00:00:00Z  CP1    point [2," in traced and b"* CP1 [2," in traced
     yield "check with a trace", [] if ok else [repr(traced)]
     shown = run(program, ["show", "--site", good], heartbeat)
     ok = shown.returncode == 0 and b"CP1" in shown.stdout and b"1 in flight" in shown.stdout
