@@ -168,7 +168,9 @@ class History:
         number, point = len(self.told), self.chance.choice(self.points)
         choice = self.chance.random()
         if choice < 0.02:
-            point.connect(self.running)  # what was in flight goes again
+            # What was in flight goes again, behind a text: a script has no links, so a start before would find a remote start's call gone out.
+            point.connect(self.running)
+            self.told.append(point.tell("point", heartbeat(f"h{number}")))
         elif choice < 0.35:
             self.told.append(point.tell("operator", point.by_operator(number)))
         else:
