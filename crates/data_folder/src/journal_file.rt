@@ -34,6 +34,8 @@ pub struct JournalFile<R> {
     path: String,
     noted: Mutex<NotedEntries>,
     written: Mutex<WrittenLines>,
+    /// Whoever waits for another that writes waits here.
+    writer_done: Condvar,
     /// Whoever waits for the journal to be broken waits here.
     broken: Condvar,
 }
@@ -52,6 +54,8 @@ struct NotedEntries {
     /// How many entries were noted in all, and how many of these are on the disk.
     noted: u64,
     kept: u64,
+    /// Whether a session writes and syncs for all that wait.
+    has_writer: bool,
     state: JournalState,
     /// How many bytes of the file are on the disk, and how often and how long it was written and synced.
     bytes: u64,
@@ -118,6 +122,7 @@ impl<R: Wait + Clock + Eprint + AllocGlobal + Drop> JournalFile<R> {
             entries: Vec::with_capacity(alloc, FREE_ENTRIES)?,
             noted: 0,
             kept: 0,
+            has_writer: false,
             state: JournalState::Open,
             bytes: log.file().synced_bytes(),
             syncs: 0,
@@ -135,6 +140,7 @@ impl<R: Wait + Clock + Eprint + AllocGlobal + Drop> JournalFile<R> {
             path,
             noted: Mutex::new(noted),
             written: Mutex::new(written),
+            writer_done: Condvar::new(),
             broken: Condvar::new(),
         })
     }
@@ -148,26 +154,27 @@ impl<R: Wait + Clock + Eprint + AllocGlobal + Drop> JournalFile<R> {
         self.say(kept)
     }
 
-    /// Waits until so many entries are on the disk. Who waits for the file finds most often that
-    /// another has written its entries too.
+    /// Waits until so many entries are on the disk. One session writes and syncs for all that wait:
+    /// when it is done, those whose entries it wrote go on, and one of the others writes.
     fn keep_up_to(&self, wanted: u64) -> Result<(), JournalFault> {
-        let mut written = self.written.lock(&self.rt);
-        let (kept, state) = self.kept();
-        if kept >= wanted {
+        let noted = self.noted.lock(&self.rt);
+        let mut noted = self.writer_done.wait_while(&self.rt, noted, |noted| {
+            noted.has_writer && noted.kept < wanted
+        });
+        if noted.kept >= wanted {
             return Ok(());
         }
-        if state == JournalState::Broken {
+        if noted.state == JournalState::Broken {
             return Err(JournalFault::Unwritable);
         }
+        noted.has_writer = true;
+        drop(noted);
+        let mut written = self.written.lock(&self.rt);
         let kept = self.keep_with(&mut written);
         drop(written);
+        self.noted.lock(&self.rt).has_writer = false;
+        self.writer_done.notify_all();
         self.say(kept)
-    }
-
-    /// How many entries are on the disk, and whether more may be noted.
-    fn kept(&self) -> (u64, JournalState) {
-        let noted = self.noted.lock(&self.rt);
-        (noted.kept, noted.state)
     }
 
     /// Returns once the journal is broken. Until then it is tried again now and then to write where
