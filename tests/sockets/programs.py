@@ -203,11 +203,11 @@ def each_point(program):
         expect("a dry run", every(two, "--dry-run", "--clear", '{"id":1}'), (0, frame % b"P1" + frame % b"P2", b""))
         expect("a fault", every(two, "--clear", '{"id":"1"}')[:2], (2, b"! clear HasFault\n"))
         expect("a site file with a fault", every("{}", "--status"), (1, b"", b"central: site: BadUnit\n"))
-        words = b"central: command line: --all sends the calls of options, and there is none\n"
+        words = b"central: command line: --all and --data DIR are for the calls of options, and there is none\n"
         expect("no calls", every(two), (4, b"", words))
         expect("the totals", serving.totals(), (0, 1))
         expect("nobody listens", every(two, "--status"), (3, b"", b"central: url: no connection\n"))
-    words = b"central: command line: --all and --site F belong together\n"
+    words = b"central: command line: --all and --data DIR need --site F, and that one of them\n"
     for options in (["--all"], ["--site", "/none"]):
         expect(f"{options}", run(program, ["call", "--url", "ws://127.0.0.1:9/operator/P1", *options, "--status"]), (4, b"", words))
     other = run(program, ["call", "--url", "ws://127.0.0.1:9/P1", "--all", "--site", "/none", "--status"])

@@ -148,7 +148,8 @@ def clients_with_keys(program):
         point = "point", "--url", base, "--site", site, "--id", "P1"
         own = keys.file("P1", f"P1:{keys.of['P1']}")
         expect("a point", done(program, *point, "--login", own, given=b"heartbeat\n")[0], 0)
-        expect("a point with an operator's key", done(program, *point, "--login", login), (3, "", wants))
+        wrong = "central: url: HTTP 401: it doesn't accept the NAME:KEY of --login; it wants an operator's key at /operator/ID, else the point's own\n"
+        expect("a point with an operator's key", done(program, *point, "--login", login), (3, "", wrong))
         another = keys.file("P2", f"P2:{keys.of['P2']}")
         is_anothers = 3, "", "central: url: HTTP 403: the --login is another point's\n"
         expect("a point with another's key", done(program, *point, "--login", another), is_anothers)

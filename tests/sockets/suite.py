@@ -23,6 +23,7 @@ import reconnects
 import refusals
 import replays
 import run_asks
+import run_calls
 import run_crowds
 import run_deadlines
 import run_histories
@@ -46,6 +47,7 @@ SUBJECTS = {
     "run_histories": run_histories,
     "run_kills": run_kills,
     "run_asks": run_asks,
+    "run_calls": run_calls,
     "run_crowds": run_crowds,
     "run_deadlines": run_deadlines,
     "run_keys": run_keys,

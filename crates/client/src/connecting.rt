@@ -19,13 +19,18 @@ const DEFAULT_PORT: u16 = 80;
 #[derive(Drop)]
 pub struct Address {
     request: Request<()>,
+    /// Whether the client tells there who it is.
+    has_login: bool,
 }
 
 impl Address {
     /// The address of a URL.
     pub fn of_url(alloc: Global, url: &str) -> Result<Address, ClientFault> {
         let request = request_to(alloc, url)?;
-        Ok(Address { request })
+        Ok(Address {
+            request,
+            has_login: false,
+        })
     }
 
     /// The address of an operator's URL.
@@ -40,7 +45,7 @@ impl Address {
     /// The same address, at which the client tells who it is: by a name, a colon and a password (HTTP
     /// Basic, RFC 7617).
     pub fn with_login(self, alloc: Global, login: &str) -> Result<Address, ClientFault> {
-        let Address { mut request } = self;
+        let Address { mut request, .. } = self;
         let coded = STANDARD.encode(alloc, login.as_bytes())?;
         let credentials = format!(in alloc; "Basic {coded}")?;
         let Ok(value) = HeaderValue::from_str(alloc, credentials.as_str()) else {
@@ -48,7 +53,10 @@ impl Address {
         };
         let name = HeaderName::from_static("authorization");
         match request.headers_mut().insert(name, value) {
-            Ok(_) => Ok(Address { request }),
+            Ok(_) => Ok(Address {
+                request,
+                has_login: true,
+            }),
             Err(_) => Err(ClientFault::OutOfMemory),
         }
     }
@@ -68,7 +76,7 @@ pub fn connect<R: Net<Stream = TcpStream> + RandomSource + Copy + Drop>(
     alloc: Global,
     address: Address,
 ) -> Result<Connection<R>, ClientFault> {
-    let Address { request } = address;
+    let Address { request, has_login } = address;
     let Some(host) = request.uri().host() else {
         return Err(ClientFault::Url);
     };
@@ -80,14 +88,16 @@ pub fn connect<R: Net<Stream = TcpStream> + RandomSource + Copy + Drop>(
     let _ = stream.set_nodelay(true);
     match client(alloc, *rt, request, stream) {
         Ok((socket, _)) => Ok(socket),
-        Err(HandshakeError::Failure(Error::Http(response))) => Err(refusal_of(response.status())),
+        Err(HandshakeError::Failure(Error::Http(response))) => Err(refusal_of(response.status(), has_login)),
         Err(_) => Err(ClientFault::Handshake),
     }
 }
 
-/// Why whoever listens there doesn't let a client in, by the status of its answer.
-fn refusal_of(status: StatusCode) -> ClientFault {
+/// Why whoever listens there doesn't let a client in that told who it is, or didn't, by the status of
+/// its answer.
+fn refusal_of(status: StatusCode, has_login: bool) -> ClientFault {
     match status.as_u16() {
+        401 if has_login => ClientFault::WrongLogin,
         401 => ClientFault::Unauthorized,
         403 => ClientFault::Forbidden,
         _ => ClientFault::Handshake,

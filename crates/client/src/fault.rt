@@ -19,9 +19,12 @@ pub enum ClientFault {
     /// Whoever listens there doesn't speak WebSocket with the subprotocol of OCPP 1.6.
     #[error("url: no OCPP 1.6 there")]
     Handshake,
-    /// It wants another name and key than those that this client told, if it told any: status 401.
+    /// It wants a name and a key, and this client told none: status 401.
     #[error("url: HTTP 401: it wants --login FILE with the NAME:KEY of a key: an operator's at /operator/ID, else the point's own")]
     Unauthorized,
+    /// It wants another name and key than those that this client told: status 401.
+    #[error("url: HTTP 401: it doesn't accept the NAME:KEY of --login; it wants an operator's key at /operator/ID, else the point's own")]
+    WrongLogin,
     /// The name and the key are right, and those of another point: status 403.
     #[error("url: HTTP 403: the --login is another point's")]
     Forbidden,

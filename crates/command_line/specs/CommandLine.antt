@@ -122,14 +122,15 @@ optional_values name = record (option name) {
   value_names = 3;
 }
 
--- where calls go: `--url U [--login FILE] [--all] [--site F]`
+-- where calls go: `--url U [--login FILE] [--all] [--site F] [--data DIR]`
 abbrev pub with_callees : App → App
 with_callees app =
-    with_rule (with_rule (with_rule (with_rule app
+    with_rule (with_rule (with_rule (with_rule (with_rule app
     (needed (codes "url")))
     (optional (codes "login")))
     (flag (codes "all")))
-    (optional (codes "site"))
+    (optional (codes "site")))
+    (optional (codes "data"))
 
 -- what they are: `[--set-profile FILE] [--clear CRITERIA] [--remote-start CONNECTOR TAG [FILE]]
 -- [--ask CONNECTOR SECONDS] [--audit CONNECTOR SECONDS] [--status]`
@@ -147,9 +148,9 @@ with_calls app =
 abbrev pub with_sending : App → App
 with_sending app = with_rule (with_rule app (flag (codes "force"))) (flag (codes "dry-run"))
 
--- `call --url U [--login FILE] [--all --site F] [--set-profile FILE] [--clear CRITERIA]
--- [--remote-start CONNECTOR TAG [FILE]] [--ask CONNECTOR SECONDS] [--audit CONNECTOR SECONDS]
--- [--status] [--force] [--dry-run]`
+-- `call --url U [--login FILE] [--all] [--site F] [--data DIR] [--set-profile FILE]
+-- [--clear CRITERIA] [--remote-start CONNECTOR TAG [FILE]] [--ask CONNECTOR SECONDS]
+-- [--audit CONNECTOR SECONDS] [--status] [--force] [--dry-run]`
 abbrev pub call_command : App
 call_command = with_sending (with_calls (with_callees (new_app (codes "call"))))
 
@@ -348,6 +349,7 @@ pub record IsCalling (rows : List Row) (calling : Calling) : Type 0 where
   pub login : first_of (codes "login") rows ≡ option_map (λ text. text.now) calling.login
   pub all : IsFlag (codes "all") rows calling.all
   pub site : first_of (codes "site") rows ≡ option_map (λ text. text.now) calling.site
+  pub data : first_of (codes "data") rows ≡ option_map (λ text. text.now) calling.data
   pub set_profile :
       first_of (codes "set-profile") rows ≡ option_map (λ text. text.now) calling.set_profile
   pub clear : first_of (codes "clear") rows ≡ option_map (λ text. text.now) calling.clear

@@ -6,7 +6,7 @@ ghost use Rattle.command_line.specs.CommandLine.{needed, numbered, option, optio
 
 use crate::help_text::{
     ABOUT, ALL_HELP, ALL_SITE_HELP, ASK_HELP, ASK_VALUES, AT_HELP, AUDIT_HELP, CALL_ABOUT,
-    CALL_NOTES, CALL_TIMEOUT_HELP, CHECK_ABOUT, CHECK_KEYS_HELP, CHECK_NOTES, CLEAR_HELP,
+    CALL_DATA_HELP, CALL_NOTES, CALL_TIMEOUT_HELP, CHECK_ABOUT, CHECK_KEYS_HELP, CHECK_NOTES, CLEAR_HELP,
     CONNECTOR_HELP, DATA_HELP, DRY_RUN_HELP, DURATION_HELP, EXPLAIN_ABOUT, EXPLAIN_NOTES,
     FORCE_HELP, ID_HELP, JOURNAL_ABOUT, JOURNAL_DATA_HELP, JOURNAL_NOTES, JSON_HELP, KEY_ABOUT,
     KEY_NAME_HELP, KEY_NOTES, KEY_OPERATOR_HELP, KEYS_HELP, LISTEN_HELP, LOGIN_HELP,
@@ -187,9 +187,9 @@ fn serve<'a>(alloc: Global) -> Result<Command<'a>, AllocError>
         ))
 }
 
-/// `call --url U [--login FILE] [--all --site F] [--set-profile FILE] [--clear CRITERIA]
-/// [--remote-start CONNECTOR TAG [FILE]] [--ask CONNECTOR SECONDS] [--audit CONNECTOR SECONDS]
-/// [--status] [--force] [--dry-run]`.
+/// `call --url U [--login FILE] [--all] [--site F] [--data DIR] [--set-profile FILE]
+/// [--clear CRITERIA] [--remote-start CONNECTOR TAG [FILE]] [--ask CONNECTOR SECONDS]
+/// [--audit CONNECTOR SECONDS] [--status] [--force] [--dry-run]`.
 fn call<'a>(alloc: Global) -> Result<Command<'a>, AllocError>
     ensures { IfOk result (λ command. app_of command ≡ call_command) }
 {
@@ -201,7 +201,7 @@ fn call<'a>(alloc: Global) -> Result<Command<'a>, AllocError>
     with_sending(alloc, given)
 }
 
-/// Adds where calls go: `--url U [--login FILE] [--all] [--site F]`.
+/// Adds where calls go: `--url U [--login FILE] [--all] [--site F] [--data DIR]`.
 fn with_callees<'a>(alloc: Global, command: Command<'a>) -> Result<Command<'a>, AllocError>
     ensures { IfOk result (λ added. app_of added ≡ with_callees (app_of command.entry)) }
 {
@@ -209,7 +209,8 @@ fn with_callees<'a>(alloc: Global, command: Command<'a>) -> Result<Command<'a>, 
         .arg(needed(alloc, "url", "U", OPERATOR_URL_HELP))?
         .arg(optional(alloc, "login", "FILE", LOGIN_HELP))?
         .arg(flag(alloc, "all", ALL_HELP))?
-        .arg(optional(alloc, "site", "F", ALL_SITE_HELP))
+        .arg(optional(alloc, "site", "F", ALL_SITE_HELP))?
+        .arg(optional(alloc, "data", "DIR", CALL_DATA_HELP))
 }
 
 /// Adds what the calls are: `[--set-profile FILE] [--clear CRITERIA]

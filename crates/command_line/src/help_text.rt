@@ -221,7 +221,11 @@ pub const ALL_HELP: &str =
     "The options' calls go to each point of the site, at U/ID; each line begins with the point";
 
 /// What `--site` of `call` names.
-pub const ALL_SITE_HELP: &str = "The site whose points are called, a JSON file; with --all alone";
+pub const ALL_SITE_HELP: &str = "The site of --all and of --data, a JSON file";
+
+/// What `--data` of `call` names.
+pub const CALL_DATA_HELP: &str =
+    "The folder of 'central run' on this machine: calls are checked by what the point has";
 
 /// What `--force` says.
 pub const FORCE_HELP: &str = "Sends calls in which a fault was found, too";
@@ -234,7 +238,8 @@ pub const CALL_NOTES: &str =
     "It sends what the options say, in this order, or without any the lines of standard input, one
 OCPP-J frame a line. After each it waits for the answer, and prints every message that comes until
 then. A line that is no CALL isn't sent: '! LINE NotACall'. Nor is a call that would be refused, whatever the
-point has: '! LINE HasFault', or '! OPTION HasFault'; --force sends it. Standard error says why.
+point has: '! LINE HasFault', or '! OPTION HasFault'; --force sends it. Standard error says why. With --data it
+says what 'check' would find in the options' calls behind the journal, and what the point would refuse isn't sent.
 
 Examples:
   central call --url ws://127.0.0.1:9000/operator/CP1 --ask 1 86400

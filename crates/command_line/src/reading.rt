@@ -175,6 +175,7 @@ fn calling_of<'a>(given: &ArgMatches<'a>) -> Option<Calling<'a>>
     let login = text_of(given, "login");
     let all = is_given(given, "all");
     let site = text_of(given, "site");
+    let data = text_of(given, "data");
     let set_profile = text_of(given, "set-profile");
     let clear = text_of(given, "clear");
     let remote_start = starting_of(given)?;
@@ -188,6 +189,7 @@ fn calling_of<'a>(given: &ArgMatches<'a>) -> Option<Calling<'a>>
         login,
         all,
         site,
+        data,
         set_profile,
         clear,
         remote_start,

@@ -27,6 +27,7 @@ impl Start {
             Err(fault) => Err(fault),
         }
     }
+
     /// The instant that is named, or None for the present moment.
     pub fn named(self) -> Option<Instant>
         ensures { result ≡ named_instant self }

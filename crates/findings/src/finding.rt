@@ -162,7 +162,8 @@ pub fn exit_status(findings: &[Finding]) -> u8
     }
 }
 
-fn has_fault(findings: &[Finding]) -> bool
+/// Whether one of these findings is a fault.
+pub fn has_fault(findings: &[Finding]) -> bool
     ensures { result ≡ has_fault findings.now }
 {
     findings

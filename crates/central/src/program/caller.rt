@@ -4,7 +4,9 @@ use crate::program::given_calls::GivenCall;
 use crate::program::login::logged_in;
 use crate::program::program_fault::ProgramFault;
 use client::{Address, AnswerLines, CallEnd, ClientFault, OperatorClient, connect};
-use findings::{SentCheck, Severity, answer_sentence, check_sent, exit_status, json_break};
+use findings::{
+    Finding, SentCheck, Severity, answer_sentence, check_sent, has_fault, json_break,
+};
 use std::alloc::{AllocError, AllocGlobal, Global};
 use std::fmt::Display;
 use std::io;
@@ -19,9 +21,6 @@ const REFUSED: u8 = 2;
 
 /// The exit status where the connection to a point's operator failed.
 const FAILED: u8 = 3;
-
-/// The exit status of a check that found a fault.
-const FAULTY: u8 = 1;
 
 /// How messages are sent.
 #[derive(Drop)]
@@ -147,12 +146,36 @@ impl<
             self.report(name, "NoCriterion")?;
             return Ok(false);
         }
-        if self.sending.force || exit_status(checked.findings.as_slice()) != FAULTY {
+        self.passes_with("", name, checked.findings.as_slice())
+    }
+
+    /// Whether the call of an option is to be sent to the point of an identity, about which these
+    /// findings tell. Says them. The identity is named where the URL lacks it.
+    pub fn passes_at(
+        &mut self,
+        point: Option<&str>,
+        call: &GivenCall,
+        findings: &[Finding],
+    ) -> Result<bool, ProgramFault> {
+        let label = self.label_of(point)?;
+        self.say_findings(label.as_str(), call.name, findings)?;
+        self.passes_with(label.as_str(), call.name, findings)
+    }
+
+    /// Whether a message is to be sent of which this was found.
+    fn passes_with<N: Display + Copy + Drop>(
+        &mut self,
+        label: &str,
+        name: N,
+        findings: &[Finding],
+    ) -> Result<bool, ProgramFault> {
+        if self.sending.force || !has_fault(findings) {
             return Ok(true);
         }
         let why = "it would be refused, so it isn't sent; --force sends it";
-        self.say(format!(in self.rt.alloc(); "{name}: {why}")?);
-        self.report(name, "HasFault")?;
+        self.say(format!(in self.rt.alloc(); "{label}{name}: {why}")?);
+        self.note_refused();
+        self.print(format!(in self.rt.alloc(); "{label}! {name} HasFault")?)?;
         Ok(false)
     }
 
@@ -211,11 +234,22 @@ impl<
         if let Some(why) = &checked.no_call {
             self.say(format!(in self.rt.alloc(); "{name}: {why}")?);
         }
-        for finding in &checked.findings {
+        self.say_findings("", name, checked.findings.as_slice())
+    }
+
+    /// Says what is found, behind the label of a point and the name of its message.
+    fn say_findings<N: Display + Copy + Drop>(
+        &self,
+        label: &str,
+        name: N,
+        findings: &[Finding],
+    ) -> Result<(), ProgramFault> {
+        let alloc = self.rt.alloc();
+        for finding in findings {
             let message = &finding.message;
             let words = match finding.severity {
-                Severity::Fault => format!(in self.rt.alloc(); "{name}: {message}")?,
-                severity => format!(in self.rt.alloc(); "{name}: {severity}: {message}")?,
+                Severity::Fault => format!(in alloc; "{label}{name}: {message}")?,
+                severity => format!(in alloc; "{label}{name}: {severity}: {message}")?,
             };
             self.say(words);
         }
@@ -261,7 +295,7 @@ impl<
 }
 
 /// A JSON text on one line. A line break stands between two words of it, for no string has one.
-fn on_one_line(alloc: Global, text: &str) -> Result<String, AllocError> {
+pub fn on_one_line(alloc: Global, text: &str) -> Result<String, AllocError> {
     let mut line = String::new(alloc);
     for character in text.chars() {
         line.push(if matches!(character, '\n' | '\r') {

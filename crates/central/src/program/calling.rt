@@ -5,18 +5,22 @@ use crate::program::given_calls::{GivenCall, given_calls};
 use crate::program::login::read_login;
 use crate::program::program_fault::ProgramFault;
 use crate::program::site_file::read_site_file;
+use crate::program::state_check::check_visits;
+use crate::program::visit::{Visit, visit_of_url, visits_of_site};
 use client::{Address, Lines};
 use command_line::Calling;
 use site_rules::Site;
-use std::alloc::{AllocGlobal, Global};
+use std::alloc::{AllocError, AllocGlobal, Global};
+use std::fs::File;
 use std::net::TcpStream;
 use std::random::RandomSource;
-use std::rt::{Files, Net};
+use std::rt::{Clock, Files, Net};
 use std::sync::Wait;
 
 /// Sends what the options say, or the lines of standard input. Returns the exit status.
 pub fn call_site<
-    R: Files
+    R: Files<File = File>
+        + Clock
         + Input
         + Print
         + Eprint
@@ -40,61 +44,84 @@ pub fn call_site<
         None => None,
     };
     let mut caller = Caller::new(rt, sending);
-    let calls = caller.passed(given)?;
-    match &site {
-        Some(site) => call_points(&mut caller, site, calls.as_slice())?,
-        None if calling.gives_calls() => send_calls(&mut caller, None, calls.as_slice())?,
-        None => send_lines(rt, &mut caller)?,
+    if !calling.gives_calls() {
+        send_lines(rt, &mut caller)?;
+        return Ok(caller.status());
     }
+    let calls = caller.passed(given)?;
+    let mut visits = visits_of(rt.alloc(), calling, &site, calls.len())?;
+    if let (Some(folder), Some(site)) = (calling.data, site) {
+        check_visits(rt, &mut caller, folder, site, calls.as_slice(), &mut visits)?;
+    }
+    send_calls(&mut caller, calls.as_slice(), visits.as_slice())?;
     Ok(caller.status())
 }
 
-/// Refuses a URL that can't be an operator's, and `--all` without what belongs to it.
+/// Refuses a URL that can't be an operator's, and options without what belongs to them.
 fn check_url(alloc: Global, calling: Calling<'_>) -> Result<(), ProgramFault> {
-    if calling.all != calling.site.is_some() {
+    let wants_site = calling.all || calling.data.is_some();
+    if wants_site != calling.site.is_some() {
         return Err(ProgramFault::AllWithoutSite);
+    }
+    if wants_site && !calling.gives_calls() {
+        return Err(ProgramFault::AllWithoutCalls);
     }
     if !calling.all {
         Address::of_operator(alloc, calling.url)?;
         return Ok(());
-    }
-    if !calling.gives_calls() {
-        return Err(ProgramFault::AllWithoutCalls);
     }
     // Each point has this URL, but for its identity.
     Address::of_operator(alloc, url_of_point(alloc, calling.url, "ID")?.as_str())?;
     Ok(())
 }
 
-/// Sends calls to each point of a site, one after another. A point whose connection fails is named.
-fn call_points<
+/// The points that so many calls go to: each of the site, or that of the URL.
+fn visits_of(
+    alloc: Global,
+    calling: Calling<'_>,
+    site: &Option<Site>,
+    count: usize,
+) -> Result<Vec<Visit>, AllocError> {
+    match site {
+        Some(site) if calling.all => visits_of_site(alloc, site, count),
+        _ => visit_of_url(alloc, calling.url, count),
+    }
+}
+
+/// Sends calls to points, one after another. Of several a point whose connection fails is named.
+fn send_calls<
     R: Print + Eprint + AllocGlobal + Net<Stream = TcpStream> + RandomSource + Wait + Copy + Drop,
->(caller: &mut Caller<'_, R>, site: &Site, calls: &[GivenCall]) -> Result<(), ProgramFault> {
-    for place in 0..site.len() {
-        let Some(point) = site.point(place) else {
-            break;
-        };
-        if let Err(fault) = send_calls(caller, Some(point.id), calls) {
-            caller.note_failed(point.id, fault)?;
+>(
+    caller: &mut Caller<'_, R>,
+    calls: &[GivenCall],
+    visits: &[Visit],
+) -> Result<(), ProgramFault> {
+    for visit in visits {
+        match (send_to(caller, calls, visit), visit.label()) {
+            (Ok(()), _) => {}
+            (Err(fault), Some(point)) => caller.note_failed(point, fault)?,
+            (Err(fault), None) => return Err(fault),
         }
     }
     Ok(())
 }
 
-/// Sends calls to the operator's URL, or to that of the point of an identity.
-fn send_calls<
+/// Sends the calls that go to a point.
+fn send_to<
     R: Print + Eprint + AllocGlobal + Net<Stream = TcpStream> + RandomSource + Wait + Copy + Drop,
 >(
     caller: &mut Caller<'_, R>,
-    point: Option<&str>,
     calls: &[GivenCall],
+    visit: &Visit,
 ) -> Result<(), ProgramFault> {
-    if calls.is_empty() {
+    if visit.calls.is_empty() {
         return Ok(());
     }
-    let mut callee = caller.reach(point)?;
-    for call in calls {
-        caller.send(&mut callee, call.name, call.frame.as_str())?;
+    let mut callee = caller.reach(visit.label())?;
+    for place in &visit.calls {
+        if let Some(call) = calls.get(*place) {
+            caller.send(&mut callee, call.name, call.frame.as_str())?;
+        }
     }
     caller.leave(callee);
     Ok(())

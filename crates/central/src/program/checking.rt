@@ -6,16 +6,14 @@ ghost use Rattle.replay.specs.Limits.{max_script_bytes};
 use crate::program::key_check::find_in_keys;
 use crate::program::key_file::read_key_bytes;
 use crate::program::pages::print_page;
+use crate::program::played_lines::{find_at_point, find_in_changes, find_in_next_line};
 use crate::program::program_fault::ProgramFault;
 use crate::program::script_input::read_script_of;
 use crate::program::site_file::read_site_bytes;
 use crate::program::site_page::{push_findings, site_page};
 use command_line::{Checking, Source};
 use data_folder::read_boots;
-use findings::{
-    Finding, RowChange, ScriptCheck, check_boot, check_change, check_printed, check_site,
-    check_standing, exit_status, sort_by_line,
-};
+use findings::{Finding, ScriptCheck, check_boot, check_site, exit_status, sort_by_line};
 use show_pages::{Depth, Trace, ending_text, trace_text};
 use site_core::Machine;
 use site_rules::{Site, SiteFault, read_site};
@@ -128,7 +126,7 @@ fn push_played(
     };
     let mut trace = Trace::new(alloc, played.script, site, depth)?;
     let mut findings = find_in_lines(alloc, played.script, &mut trace)?;
-    find_in_changes(alloc, &trace, &mut findings)?;
+    find_in_changes(alloc, &trace, 0, &mut findings)?;
     find_at_the_end(alloc, &trace, &mut findings)?;
     find_in_boots(
         alloc,
@@ -156,36 +154,13 @@ fn find_in_lines(
     let mut printed = Vec::new(alloc);
     // Each line has a byte at least.
     for _line in 0..script.len() {
-        let Some(played) = trace.next()? else {
+        if !find_in_next_line(alloc, trace, &mut check, &mut printed)? {
             break;
-        };
-        check.take_in(trace.playing(), &played)?;
-        let lines = played.outcome.printed.as_slice();
-        printed.append(&mut check_printed(alloc, played.number, lines)?)?;
-        trace.take_in(played)?;
+        }
     }
     let mut findings = check.finish(trace.playing().held())?;
     findings.append(&mut printed)?;
     Ok(findings)
-}
-
-/// Adds what is found in what lines changed in the profiles of their points.
-fn find_in_changes(
-    alloc: Global,
-    trace: &Trace<'_>,
-    findings: &mut Vec<Finding>,
-) -> Result<(), AllocError> {
-    for changed in trace.changes() {
-        let change = RowChange {
-            number: changed.number,
-            frame: changed.frame.as_str(),
-            came: changed.came,
-            gone: changed.gone.as_slice(),
-        };
-        let mut more = check_change(alloc, &change)?;
-        findings.append(&mut more)?;
-    }
-    Ok(())
 }
 
 /// Adds what is found in what the points have when the script ends.
@@ -198,10 +173,8 @@ fn find_at_the_end(
     let site = machine.site();
     for place in 0..site.len() {
         if let Some(point) = site.point(place) {
-            if let Some(book) = machine.book_of(point.id) {
-                let mut more = check_standing(alloc, site.unit(), point.id, book)?;
-                findings.append(&mut more)?;
-            }
+            let mut more = find_at_point(alloc, machine, point.id)?;
+            findings.append(&mut more)?;
         }
     }
     Ok(())

@@ -2,6 +2,7 @@
 
 ghost use Rattle.std.specs.Prelude.{◌≡◌, ◌≤◌, length};
 
+use crate::program::moment::now;
 use crate::program::pages::{Screen, note_refused_lines, page_status, print_page, write_file};
 use crate::program::picture_name::{PictureForm, picture_form};
 use crate::program::program_fault::ProgramFault;
@@ -9,12 +10,12 @@ use crate::program::script_end::script_end;
 use crate::program::script_input::read_script_of;
 use crate::program::site_file::read_digested_site;
 use command_line::{Explaining, Source, Start, read_duration};
-use data_folder::{Following, ScriptEnd, SystemClock, follow_journal};
+use data_folder::{Following, ScriptEnd, follow_journal};
 use explain_pages::{
     ExplainedAsk, not_counted, write_json, write_page, write_picture, write_table,
 };
 use meaning::Ask;
-use ocpp_scalars::{Instant, Moments, write_instant};
+use ocpp_scalars::{Instant, write_instant};
 use point_book::PointBook;
 use profile::Unit;
 use replay::play_quietly;
@@ -145,14 +146,6 @@ fn start_of<R: Clock>(rt: &R, text: &str) -> Result<Instant, ProgramFault> {
     match start.named() {
         Some(instant) => Ok(instant),
         None => now(rt),
-    }
-}
-
-/// The present moment.
-fn now<R: Clock>(rt: &R) -> Result<Instant, ProgramFault> {
-    match (SystemClock { rt }).now() {
-        Some(now) => Ok(now),
-        None => Err(ProgramFault::Clock),
     }
 }
 

@@ -61,11 +61,11 @@ pub enum ProgramFault {
     /// The connector of a remote start is no number.
     #[error("central: command line: the CONNECTOR of --remote-start is no whole number from 0 on")]
     NoNumber,
-    /// The points of a site are called by `--all` and `--site`, or by neither.
-    #[error("central: command line: --all and --site F belong together")]
+    /// The points of a site are called, or calls are checked by what they have, or there is no site.
+    #[error("central: command line: --all and --data DIR need --site F, and that one of them")]
     AllWithoutSite,
-    /// What goes to all points are the calls of options.
-    #[error("central: command line: --all sends the calls of options, and there is none")]
+    /// What goes to all points, and is checked by what they have, are the calls of options.
+    #[error("central: command line: --all and --data DIR are for the calls of options, and there is none")]
     AllWithoutCalls,
     /// What the command line asks for ends past the last instant.
     #[error("central: command line: it would end past the year 9999")]

@@ -8,4 +8,5 @@ returns c =
     let url = argued _ _ _ _ _ c.in_ok-arg.ensures c.needed.ensures.global refl c.needed.ensures.rule in
     let login = argued _ _ _ _ _ c.in_ok-arg-2.ensures c.optional.ensures.global url c.optional.ensures.rule in
     let all = argued _ _ _ _ _ c.in_ok-arg-3.ensures c.flag.ensures.global login c.flag.ensures.rule in
-    on_ok _ _ c.arg-4.result (λ x added. argued _ x _ _ _ added c.optional-2.ensures.global all c.optional-2.ensures.rule) c.arg-4.ensures
+    let site = argued _ _ _ _ _ c.in_ok-arg-4.ensures c.optional-2.ensures.global all c.optional-2.ensures.rule in
+    on_ok _ _ c.arg-5.result (λ x added. argued _ x _ _ _ added c.optional-3.ensures.global site c.optional-3.ensures.rule) c.arg-5.ensures

@@ -1,0 +1,62 @@
+//! What is found in the lines of a script as they are played.
+
+use findings::{
+    Finding, RowChange, ScriptCheck, check_change, check_printed, check_standing,
+};
+use show_pages::Trace;
+use site_core::Machine;
+use std::alloc::{AllocError, Global};
+
+/// Plays the next line of a script, if one is left, and checks it. What is found in what it prints
+/// is added to the findings. Returns whether a line was left.
+pub fn find_in_next_line(
+    alloc: Global,
+    trace: &mut Trace<'_>,
+    check: &mut ScriptCheck,
+    printed: &mut Vec<Finding>,
+) -> Result<bool, AllocError> {
+    let Some(played) = trace.next()? else {
+        return Ok(false);
+    };
+    check.take_in(trace.playing(), &played)?;
+    let lines = played.outcome.printed.as_slice();
+    printed.append(&mut check_printed(alloc, played.number, lines)?)?;
+    trace.take_in(played)?;
+    Ok(true)
+}
+
+/// Adds what is found in what lines changed in the profiles of their points, from the line of a number
+/// on.
+pub fn find_in_changes(
+    alloc: Global,
+    trace: &Trace<'_>,
+    first: u64,
+    findings: &mut Vec<Finding>,
+) -> Result<(), AllocError> {
+    for changed in trace.changes() {
+        if changed.number < first {
+            continue;
+        }
+        let change = RowChange {
+            number: changed.number,
+            frame: changed.frame.as_str(),
+            came: changed.came,
+            gone: changed.gone.as_slice(),
+        };
+        let mut more = check_change(alloc, &change)?;
+        findings.append(&mut more)?;
+    }
+    Ok(())
+}
+
+/// What is found in what the point of an identity has.
+pub fn find_at_point(
+    alloc: Global,
+    machine: &Machine,
+    point: &str,
+) -> Result<Vec<Finding>, AllocError> {
+    match machine.book_of(point) {
+        Some(book) => check_standing(alloc, machine.site().unit(), point, book),
+        None => Ok(Vec::new(alloc)),
+    }
+}

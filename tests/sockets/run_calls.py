@@ -1,0 +1,118 @@
+"""`central call --data`: what is said of calls by what their points have, before they are sent."""
+import json
+import tempfile
+
+from programs import run
+from raw_client import RawClient
+from run_data import SITE, Data, SiteFile, transaction_of
+from serving import Running, expect
+from texts import accepted, clear, heartbeat, install, profile, start
+
+NOT_SENT = b": it would be refused, so it isn't sent; --force sends it\n"
+FUSE = {"purpose": "ChargePointMaxProfile"}
+TX = {"purpose": "TxProfile", "kind": "Relative"}
+NAMED = b"ChargePointMaxProfile 3 (stack level 0, at connector 0)"
+
+
+class Site:
+    """A site that is run, and calls to it that are checked by its folder."""
+
+    def __init__(self, program, running, data, site):
+        self.program = program
+        self.base = f"ws://127.0.0.1:{running.port}/operator"
+        self.checked = ["--site", site, "--data", data.path]
+
+    def call(self, *options, at="/P1", checked=True):
+        return run(self.program, ["call", "--url", self.base + at, *(self.checked if checked else []), *options])
+
+    def set(self, fields, *options, connector=0, **more):
+        with tempfile.NamedTemporaryFile("w", suffix=".json") as file:
+            json.dump({"connectorId": connector, "csChargingProfiles": fields}, file, indent=1)
+            file.flush()
+            return self.call("--set-profile", file.name, *options, **more)
+
+
+def of_site(test):
+    """A test that gets a site, on which a fuse limit is installed as profile 3, with its operator and its point."""
+
+    def tested(program):
+        with Data() as data, SiteFile(SITE) as path, Running(program, SITE, data.path) as running:
+            with RawClient.connected(running, "/operator/P1") as operator, RawClient.connected(running, "/P1") as point:
+                point.texts_of(heartbeat("h"))
+                expect("a fuse limit", operator.texts_of(install("f", profile(3, [32], **FUSE))), [accepted("f")])
+                test(Site(program, running, data, path), operator, point)
+
+    return tested
+
+
+def sent(name, said=b""):
+    return 0, b'[3,"%s",{"status":"Accepted"}]\n' % name, said
+
+
+def warnings(site, operator, _point):
+    """What only the point's state tells is said before a call is sent, and holds nothing back; without `--data` it isn't."""
+    taken = b"set-profile: %%s: this takes the place of %s, which has the same chargingProfileId\n" % NAMED
+    high = b"set-profile: warning: each limit of this profile is above the ceiling of the site file there, 63.0 A: it never lowers anything\n"
+    expect("a fuse ten times as high", site.set(profile(3, [320], **FUSE), "--dry-run")[::2], (0, high + taken % b"remark"))
+    expect("an id of another purpose", site.set(profile(3, [8]), "--dry-run")[::2], (0, taken % b"warning"))
+    expect("nothing was sent", site.call("--clear", '{"id":3,"stackLevel":1}')[::2], (
+        0, b"clear: warning: this clears nothing: the point has no profile that matches its criteria\n"))
+    along = b"clear: warning: this clears %s too: name id or chargingProfilePurpose, if that isn't meant\n" % NAMED
+    expect("a clear that takes it along", site.call("--clear", '{"stackLevel":0}'), sent(b"clear", along))
+    expect("without the folder", site.set(profile(3, [320], **FUSE), checked=False), sent(b"set-profile"))
+    expect("and the id", site.set(profile(3, [8]), checked=False), sent(b"set-profile"))
+    expect("what is right", site.set(profile(4, [8], level=1)), sent(b"set-profile"))
+
+
+def together(site, operator, _point):
+    """What the point has only with a call is said with it: its connectors go beyond the fuse limit."""
+    status, _out, said = site.set(profile(3, [8], **FUSE), "--ask", "0", "60", "--dry-run")
+    expect("the status", status, 0)
+    expect("what is said", [line for line in said.splitlines() if b"if all connectors charge" in line][0][:53], b"set-profile: remark: if all connectors charge, their ")
+    expect("the same is not said anew", b"ask: " in said, False)
+
+
+def refusals(site, operator, point):
+    """What the point's state refuses is held back, and sent by `--force`."""
+    slow = profile(5, [6], **TX)
+    held = b"set-profile: NoTransaction: there is no active transaction at the connector\n"
+    status, out, said = site.set(slow, "--ask", "1", "60", "--dry-run", connector=1)
+    expect("held back", (status, out.splitlines()[0], said.splitlines(True)[-1]), (2, b"! set-profile HasFault", b"set-profile" + NOT_SENT))
+    expect("why", b"set-profile: NoTransaction: " in said, True)
+    expect("the other isn't", out.splitlines()[1][:7], b'[2,"ask')
+    status, out, said = site.set(slow, "--force", connector=1)
+    expect("by force", (status, out), (2, b'[3,"set-profile",{"status":"Rejected","reason":"NoTransaction"}]\n'))
+    expect("said before and behind", said.count(b"set-profile: NoTransaction: "), 2)
+    expect("a start", transaction_of(point.texts_of(start("s"))[0]), 1)
+    status, out, _said = site.set(slow, connector=1)
+    expect("with a transaction", (status, out), sent(b"set-profile")[:2])
+    status, out, said = site.set(profile(6, [6], connector=9), "--dry-run", connector=9)
+    expect("no such connector", (status, out), (2, b"! set-profile HasFault\n"))
+
+
+def each_point(site, operator, _point):
+    """With `--all` each point's own state tells, and what is said begins with the point."""
+    status, out, said = site.call("--all", "--clear", '{"id":3}', at="")
+    expect("both", (status, out), (0, b'P1 [3,"clear",{"status":"Accepted"}]\nP2 [3,"clear",{"status":"Unknown"}]\n'))
+    expect("what is said", said, b"P2 clear: warning: this clears nothing: the point has no profile that matches its criteria\n")
+    expect("a fault of both", site.set(profile(5, [6], **TX), "--all", at="", connector=1)[:2], (
+        2, b"P1 ! set-profile HasFault\nP2 ! set-profile HasFault\n"))
+
+
+def command_lines(site, operator, _point):
+    """What `--data` goes with."""
+    belong = b"central: command line: --all and --data DIR need --site F, and that one of them\n"
+    expect("no site", site.call("--status", "--data", "/none", checked=False), (4, b"", belong))
+    none = b"central: command line: --all and --data DIR are for the calls of options, and there is none\n"
+    expect("no call", site.call(), (4, b"", none))
+    expect("no such point", site.call("--status", at="/P9"), (4, b"", b"central: command line: no such point in the site file\n"))
+    status, _out, said = site.call("--site", site.checked[1], "--data", "/none", "--status", checked=False)
+    expect("no such folder", (status, b"/none" in said), (3, True))
+
+
+def tests():
+    named = {
+        "warnings": warnings, "connectors together": together, "refusals": refusals, "each point": each_point,
+        "command lines": command_lines,
+    }
+    return [(name, of_site(test)) for name, test in named.items()]
