@@ -3,7 +3,6 @@ use Rattle.std.proofs.Common.{◌≡◌, ℕ, Bool, true, false, cond, List, [],
 use Rattle.ocpp_scalars.specs.ResultSteps.{◌>>=◌}
 use Rattle.ocpp_scalars.specs.declared.refusal.Refusal.{Refusal}
 use Rattle.meaning.specs.declared.said.Said.{Said}
-use Rattle.messages.specs.declared.side.Side.TheVariants.{Point}
 use Rattle.sweep_compiler.specs.Verdict.{AuditRequest}
 use Rattle.site_rules.specs.Site.{place_of}
 use Rattle.texts.specs.declared.asked.Asked.{Asked}
@@ -16,16 +15,17 @@ use Rattle.site_core.specs.declared.step.Step.TheVariants as steps
 use Rattle.site_core.specs.declared.reply.Reply.{Reply}
 use Rattle.site_core.specs.Requests.{request_of}
 use Rattle.site_core.specs.State.{MachineState, audit_job, audit_job_at}
-use Rattle.site_core.specs.Step.{Made, PointStep, Work, AtPoint, work, worked, Works, Steps, stepped, no_answer, made_there}
+use Rattle.site_core.specs.Step.{Made, PointStep, Work, AtPoint, work, worked, Steps, stepped, no_answer}
 use Rattle.site_core.specs.Theory.Steps.{StepKind, kind_of, names_point, takes_one, compiles_one, answers_one, finishes_all}
 use Rattle.site_journal.specs.declared.restore_fault.RestoreFault.{RestoreFault}
 use Rattle.site_journal.specs.declared.restore_fault.RestoreFault.TheVariants.{OtherStep}
 use Rattle.site_journal.specs.Forgetting.{forget, is_of_request}
-use Rattle.site_journal.specs.Line.{NotedState, LineState, message, reply, verdict, attached, sent, lost, number_written}
-use Rattle.site_journal.specs.NotedRun.{IsNotedRun, begins, notes, passes, NotedRunsAreRestored}
+use Rattle.site_journal.specs.Line.{NotedState, LineState, number_written}
+use Rattle.site_journal.specs.Line as noted_as
+use Rattle.site_journal.specs.NotedRun.{begins, notes, passes, NotedRunsAreRestored}
 use Rattle.site_journal.specs.Restore.{is_change, change_asked, confirm_asked, judge_asked, judged_exactly, reply_on, step_noted, number_drawn, number_fault, unless_fault, made_or_refused, made_with, restored, restored_lines}
 use Rattle.site_journal.proofs.ForgettingLemmas.{there_same, taken_forgotten, compiled_forgotten, answered_forgotten, not_of_request}
-use Rattle.site_journal.proofs.StepLemmas.{Led, led}
+use Rattle.site_journal.proofs.StepLemmas.{led}
 
 abbrev made_so : Reply → MachineState → Made
 made_so reply after = record { reply = reply; after = after }
@@ -75,17 +75,17 @@ judged_at point call said (Some job) step is =
 
 noted_at : (state : MachineState) (line : LineState) (noted : NotedState) (step : Step)
     → step_noted state line noted ≡ Ok step → IsAtPoint step
-noted_at state line (message sender number frame) step is =
+noted_at state line (noted_as.message sender number frame) step is =
     asked_at (asked_of (texts.sent line.moment sender line.point frame)) step is
-noted_at state line (reply link frame) step is =
+noted_at state line (noted_as.reply link frame) step is =
     confirm_at link (asked_of (reply_on line frame)) step is
-noted_at state line (verdict call frame) step is =
+noted_at state line (noted_as.verdict call frame) step is =
     judged_at line.point call (said_of (reply_on line frame)) (audit_job state line.point call) step is
-noted_at state line (attached link) step is =
+noted_at state line (noted_as.attached link) step is =
     same_step (steps.Attach line.point) step (is_at _ _ refl) is
-noted_at state line (sent link call) step is =
+noted_at state line (noted_as.sent link call) step is =
     same_step (steps.Send line.point link) step (is_at _ _ refl) is
-noted_at state line (lost link) step is =
+noted_at state line (noted_as.lost link) step is =
     same_step (steps.Lost line.point link) step (is_at _ _ refl) is
 
 -- ---- and doesn't look at requests
@@ -97,7 +97,7 @@ job_same old (Some place) call = refl
 
 noted_same : (old : MachineState) (line : LineState) (noted : NotedState)
     → step_noted (forget old) line noted ≡ step_noted old line noted
-noted_same old line (verdict call frame) =
+noted_same old line (noted_as.verdict call frame) =
     ap (judge_asked line.point call (said_of (reply_on line frame)))
     (job_same old (place_of old.site line.point) call)
 noted_same old line noted = refl
