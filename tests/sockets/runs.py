@@ -210,6 +210,14 @@ def one_process_at_a_time(program):
             expect("the next one", running.resumed, (2, 0, 0, 2))
 
 
+def who_may_read(program):
+    """What a run makes is for its own user alone: the lines have idTags."""
+    with Data() as data, Running(program, SITE, data.path):
+        paths = ("", "journal", "boots")
+        modes = [os.stat(os.path.join(data.path, path)).st_mode & 0o777 for path in paths]
+        expect("the modes", modes, [0o700, 0o600, 0o600])
+
+
 def begun_at_once(program):
     """Of several processes that begin at the same time on one folder one runs, and the others end."""
     with Data() as data, SiteFile(SITE) as path:
@@ -576,6 +584,7 @@ def tests():
     yield "torn anywhere", torn_anywhere
     yield "faulty journals", faulty_journals
     yield "one process at a time", one_process_at_a_time
+    yield "who may read", who_may_read
     yield "begun at once", begun_at_once
     yield "another site file", another_site_file
     yield "another site file that does not fit", another_site_file_that_does_not_fit

@@ -1,7 +1,7 @@
 //! The file of boots: which points booted and may have forgotten their profiles. What it says is
 //! known by no other file, and nothing else depends on it.
 
-use crate::opening::path_in;
+use crate::opening::{OWN_FILE, path_in};
 use site_journal::split_line;
 use site_rules::Site;
 use site_status::{Boot, BootLine, read_boot_line};
@@ -9,6 +9,7 @@ use std::alloc::{AllocError, AllocGlobal, Global};
 use std::fs::{File, OpenOptions};
 use std::io;
 use std::io::{ErrorKind, Read};
+use std::os::unix::fs::OpenOptionsExt;
 use std::rt::Files;
 
 /// The file's name in its folder.
@@ -25,7 +26,8 @@ pub fn open_boots<R: Files<File = File> + Eprint + AllocGlobal>(
 ) -> Result<Option<File>, AllocError> {
     let path = path_in(rt.alloc(), folder, NAME)?;
     let mut options = OpenOptions::new();
-    match options.write(true).create(true).open(rt, path.as_str()) {
+    let options = options.write(true).create(true).mode(OWN_FILE);
+    match options.open(rt, path.as_str()) {
         Ok(file) => Ok(Some(file)),
         Err(error) => {
             let _ = eprintln!(rt; "central: {path}: {error}");

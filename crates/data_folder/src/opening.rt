@@ -4,10 +4,17 @@ use crate::folder_fault::FolderFault;
 use crate::named_file::{NamedFile, or_stop};
 use crate::reserve_file::ReserveFile;
 use std::alloc::{AllocError, AllocGlobal, Global};
-use std::fs::{File, OpenOptions, TryLockError};
+use std::fs::{DirBuilder, File, OpenOptions, TryLockError};
+use std::io;
 use std::io::ErrorKind;
+use std::os::unix::fs::{DirBuilderExt, OpenOptionsExt};
 use std::rt::Files;
-use std::{fs, io};
+
+/// The mode of a file that is made: it has idTags, so only its owner reads and writes it.
+pub const OWN_FILE: u32 = 0o600;
+
+/// The mode of a folder that is made.
+const OWN_FOLDER: u32 = 0o700;
 
 /// The journal of a folder, open and locked: no other process runs on it.
 #[derive(Drop)]
@@ -28,6 +35,7 @@ pub fn open_journal<R: Files<File = File> + Eprint + AllocGlobal>(
         .read(true)
         .append(true)
         .create(true)
+        .mode(OWN_FILE)
         .open(rt, path.as_str());
     let file = or_stop(rt, path.as_str(), opened, FolderFault::Write)?;
     match file.try_lock() {
@@ -52,7 +60,7 @@ fn make_folder<R: Files<File = File> + Eprint + AllocGlobal>(
     rt: &R,
     folder: &str,
 ) -> Result<(), FolderFault> {
-    match fs::create_dir(rt, folder) {
+    match DirBuilder::new().mode(OWN_FOLDER).create(rt, folder) {
         Ok(()) => {}
         Err(error) if error.kind() == ErrorKind::AlreadyExists => return Ok(()),
         Err(error) => return or_stop(rt, folder, Err(error), FolderFault::Write),

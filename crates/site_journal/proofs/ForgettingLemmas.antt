@@ -147,7 +147,7 @@ done_reply old place reply None = refl
 done_reply old place reply (Some deed) = refl
 
 -- what a step at a point comes to
-there_same : (old : MachineState) (step : Step) (at : PointStep) → work step ≡ AtPoint at
+pub there_same : (old : MachineState) (step : Step) (at : PointStep) → work step ≡ AtPoint at
     → (reply : Reply) (new : MachineState) → made_there old step at ≡ Ok (made_with reply new)
     → made_there (forget old) step at ≡ Ok (made_with reply (forget new))
 there_same old step at is reply new made =
@@ -176,7 +176,7 @@ there_same old step at is reply new made =
 
 -- ---- steps that are about a request
 
-taken_forgotten : (old : MachineState) (take : Take) (made : Made) → takes old take ≡ Ok made
+pub taken_forgotten : (old : MachineState) (take : Take) (made : Made) → takes old take ≡ Ok made
     → forget made.after ≡ forget old
 taken_forgotten old take made is =
     let ask = λ (place : ℕ). ask_at old.site.unit (book_at old place) take in
@@ -191,7 +191,7 @@ same_after old one made forgotten is =
     let same : one ≡ made = cc is in
     ap (λ (m : Made). forget m.after) (sym same) ∙ forgotten
 
-compiled_forgotten : (old : MachineState) (number : ℕ) (answer : ScheduleAnswer)
+pub compiled_forgotten : (old : MachineState) (number : ℕ) (answer : ScheduleAnswer)
     (found : Option Kept) (made : Made) → compiles_kept old number answer found ≡ ok made
     → forget made.after ≡ forget old
 compiled_forgotten old number answer None made is = absurd (cc is)
@@ -206,7 +206,7 @@ compiled_forgotten old number answer (Some kept) made is = go (is_some kept.answ
     go false is = same_after old (made_with Compiled
         (record old { requests = answered number answer old.requests })) made refl is
 
-answered_forgotten : (old : MachineState) (found : Option Kept) (made : Made)
+pub answered_forgotten : (old : MachineState) (found : Option Kept) (made : Made)
     → answers_kept old found ≡ ok made → forget made.after ≡ forget old
 answered_forgotten old None made is = absurd (cc is)
 answered_forgotten old (Some kept) made is = go kept.answer is
@@ -248,7 +248,7 @@ finished_same old reply new is =
 
 -- ---- histories
 
-not_of_request : (step : Step) (at : PointStep) → work step ≡ AtPoint at
+pub not_of_request : (step : Step) (at : PointStep) → work step ≡ AtPoint at
     → is_of_request step ≡ false
 not_of_request (steps.Take take) at is = absurd (cc is)
 not_of_request (steps.Compile number) at is = absurd (cc is)

@@ -8,3 +8,4 @@ pub mod NotedLemmas
 pub mod LostLemmas
 pub mod JournalLemmas
 pub mod ForgettingLemmas
+pub mod NotedRunLemmas

@@ -8,4 +8,5 @@ pub mod NotedStep
 pub mod Journal
 pub mod LostLinks
 pub mod Forgetting
+pub mod NotedRun
 pub mod ByCases
