@@ -6,12 +6,13 @@ from programs import run
 from raw_client import RawClient
 from run_data import SITE, Data, SiteFile, transaction_of
 from serving import Running, expect
-from texts import accepted, clear, heartbeat, install, profile, start
+from texts import accepted, heartbeat, install, profile, start
 
 NOT_SENT = b": it would be refused, so it isn't sent; --force sends it\n"
 FUSE = {"purpose": "ChargePointMaxProfile"}
 TX = {"purpose": "TxProfile", "kind": "Relative"}
 NAMED = b"ChargePointMaxProfile 3 (stack level 0, at connector 0)"
+OTHER_ID = b"set-profile: remark: this takes the place of %s, which has its connector, purpose and stack level\n" % NAMED
 
 
 class Site:
@@ -52,8 +53,9 @@ def sent(name, said=b""):
 def warnings(site, operator, _point):
     """What only the point's state tells is said before a call is sent, and holds nothing back; without `--data` it isn't."""
     taken = b"set-profile: %%s: this takes the place of %s, which has the same chargingProfileId\n" % NAMED
-    high = b"set-profile: warning: each limit of this profile is above the ceiling of the site file there, 63.0 A: it never lowers anything\n"
-    expect("a fuse ten times as high", site.set(profile(3, [320], **FUSE), "--dry-run")[::2], (0, high + taken % b"remark"))
+    high = b"set-profile: warning: each limit of this profile is above the ceiling of the site file there, 63.0: it never lowers anything\n"
+    expect("a fuse ten times as high", site.set(profile(3, [320], **FUSE), "--dry-run")[::2], (0, high))
+    expect("one of another id", site.set(profile(7, [30], **FUSE), "--dry-run")[2].splitlines(True)[0], OTHER_ID)
     expect("an id of another purpose", site.set(profile(3, [8]), "--dry-run")[::2], (0, taken % b"warning"))
     expect("nothing was sent", site.call("--clear", '{"id":3,"stackLevel":1}')[::2], (
         0, b"clear: warning: this clears nothing: the point has no profile that matches its criteria\n"))
@@ -75,7 +77,6 @@ def together(site, operator, _point):
 def refusals(site, operator, point):
     """What the point's state refuses is held back, and sent by `--force`."""
     slow = profile(5, [6], **TX)
-    held = b"set-profile: NoTransaction: there is no active transaction at the connector\n"
     status, out, said = site.set(slow, "--ask", "1", "60", "--dry-run", connector=1)
     expect("held back", (status, out.splitlines()[0], said.splitlines(True)[-1]), (2, b"! set-profile HasFault", b"set-profile" + NOT_SENT))
     expect("why", b"set-profile: NoTransaction: " in said, True)

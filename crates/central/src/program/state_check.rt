@@ -107,8 +107,8 @@ fn find_in_call(
     found.append(&mut printed)?;
     find_in_changes(alloc, trace, number, &mut found)?;
     let after = find_at_point(alloc, trace.playing().machine(), point)?;
-    let by_itself = check_sent(alloc, frame)?.findings;
-    let mut findings = without(alloc, found, by_itself.as_slice())?;
+    let by_itself = check_sent(alloc, frame)?;
+    let mut findings = without(alloc, found, by_itself.findings.as_slice())?;
     findings.append(&mut without(alloc, after, before.as_slice())?)?;
     Ok(findings)
 }
