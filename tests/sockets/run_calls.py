@@ -1,12 +1,12 @@
-"""`central call --data`: what is said of calls by what their points have, before they are sent."""
+"""`central call --data`: what is said of calls by what their points have, before they are sent; and what `--undo` undoes."""
 import json
 import tempfile
 
 from programs import run
 from raw_client import RawClient
-from run_data import SITE, Data, SiteFile, transaction_of
+from run_data import SITE, Data, SiteFile, read, stop, transaction_of
 from serving import Running, expect
-from texts import accepted, heartbeat, install, profile, start
+from texts import accepted, clear, heartbeat, install, install_call, profile, start
 
 NOT_SENT = b": it would be refused, so it isn't sent; --force sends it\n"
 FUSE = {"purpose": "ChargePointMaxProfile"}
@@ -22,6 +22,7 @@ class Site:
         self.program = program
         self.base = f"ws://127.0.0.1:{running.port}/operator"
         self.checked = ["--site", site, "--data", data.path]
+        self.data = data
 
     def call(self, *options, at="/P1", checked=True):
         return run(self.program, ["call", "--url", self.base + at, *(self.checked if checked else []), *options])
@@ -31,6 +32,15 @@ class Site:
             json.dump({"connectorId": connector, "csChargingProfiles": fields}, file, indent=1)
             file.flush()
             return self.call("--set-profile", file.name, *options, **more)
+
+
+    def lines(self):
+        """How many lines the journal has as a script."""
+        return len(read(self.program, self.data, "journal")[1].splitlines())
+
+    def undo(self, *options, line=None, at="/P1"):
+        """Undoes a line of that script, or its last one."""
+        return self.call("--undo", str(line or self.lines()), *options, at=at)
 
 
 def of_site(test):
@@ -56,6 +66,8 @@ def warnings(site, operator, _point):
     high = b"set-profile: warning: each limit of this profile is above the ceiling of the site file there, 63.0: it never lowers anything\n"
     expect("a fuse ten times as high", site.set(profile(3, [320], **FUSE), "--dry-run")[::2], (0, high))
     expect("one of another id", site.set(profile(7, [30], **FUSE), "--dry-run")[2].splitlines(True)[0], OTHER_ID)
+    lifted = b"set-profile: warning: ChargePointMaxProfile 9 allows up to 60.0 A, and 3 only 32.0 A: while 9 has a limit, 3 doesn't count, since"
+    expect("one above it", site.set(profile(9, [60], level=1, **FUSE), "--dry-run")[2][: len(lifted)], lifted)
     expect("an id of another purpose", site.set(profile(3, [8]), "--dry-run")[::2], (0, taken % b"warning"))
     expect("nothing was sent", site.call("--clear", '{"id":3,"stackLevel":1}')[::2], (
         0, b"clear: warning: this clears nothing: the point has no profile that matches its criteria\n"))
@@ -111,9 +123,63 @@ def command_lines(site, operator, _point):
     expect("no such folder", (status, b"/none" in said), (3, True))
 
 
+def undone(site, operator, _point):
+    """An install, a clear and a replaced profile are undone, and what came behind them with them."""
+    fuse, lower = profile(3, [32.0], **FUSE), profile(3, [16.0], **FUSE)
+    nothing = b"undo: P1 has the profiles that it had before line %d, as far as they can be there\n"
+    expect("an install", operator.texts_of(install("a", profile(4, [8], level=1))), [accepted("a")])
+    line = site.lines()
+    expect("what would undo it", site.undo("--dry-run")[:2], (0, b'[2,"clear","ClearChargingProfile",{"id":4}]\n'))
+    expect("undone", site.undo()[:2], sent(b"clear")[:2])
+    expect("once", site.undo(line=line), (0, b"", nothing % line))
+    expect("a clear", operator.texts_of(clear("c", id=3)), [accepted("c")])
+    frame = install_call("set-profile", fuse).encode() + b"\n"
+    expect("what would undo the clear", site.undo("--dry-run")[:2], (0, frame))
+    expect("the clear is undone", site.undo(at="")[:2], (0, b"P1 " + sent(b"set-profile")[1]))
+    expect("a lower fuse limit", operator.texts_of(install("l", lower)), [accepted("l")])
+    line = site.lines()
+    expect("and another profile", operator.texts_of(install("m", profile(5, [8], level=1))), [accepted("m")])
+    status, out, _said = site.undo("--dry-run", line=line)
+    expect("what would undo both", (status, out), (0, b'[2,"clear","ClearChargingProfile",{"id":5}]\n' + frame))
+    status, out, _said = site.undo("--ask", "0", "60", line=line)
+    expect("undone, and asked", (status, out.count(b"Accepted")), (0, 3))
+    expect("none is left", site.undo("--dry-run", line=line), (0, b"", nothing % line))
+
+
+def ended_transactions(site, operator, point):
+    """A TxProfile comes back while its transaction is active, and not behind it."""
+    expect("a start", transaction_of(point.texts_of(start("s"))[0]), 1)
+    expect("a TxProfile", operator.texts_of(install("t", profile(5, [6], **TX), connector=1)), [accepted("t")])
+    expect("a clear", operator.texts_of(clear("c", id=5)), [accepted("c")])
+    line = site.lines()
+    frame = install_call("set-profile", profile(5, [6.0], **TX), connector=1).encode()
+    status, out, said = site.undo("--dry-run", line=line)
+    expect("while it is active", (status, out), (0, frame + b"\n"))
+    expect("what is said of it", said.startswith(b"undo: warning: "), True)
+    point.texts_of(stop("e", 1))
+    status, out, said = site.undo(line=line)
+    expect("behind it", (status, out), (0, b""))
+    expect("what is said behind it", said.splitlines()[0], b"undo: TxProfile 5 at connector 1 can't be set again: its transaction has ended")
+    expect("another start", transaction_of(point.texts_of(start("u"))[0]), 2)
+    expect("at another car", site.undo(line=line)[:2], (0, b""))
+
+
+def lines_of_undo(site, operator, _point):
+    """Which lines can be undone, and where."""
+    fault = b"central: command line: the journal has no message on the line of --undo\n"
+    expect("a line that isn't there", site.undo(line=99), (4, b"", fault))
+    fault = b"central: command line: the line of --undo is of another point than the URL\n"
+    expect("another point's", site.undo(at="/P2")[::2], (4, fault))
+    fault = b"central: command line: --undo LINE needs --data DIR, and goes without --all\n"
+    expect("all points", site.undo("--all", at=""), (4, b"", fault))
+    for number in ("0", "-1", "x", "2147483648"):
+        expect(f"line {number!r}", site.call("--undo", number)[:2], (4, b""))
+
+
 def tests():
     named = {
         "warnings": warnings, "connectors together": together, "refusals": refusals, "each point": each_point,
-        "command lines": command_lines,
+        "command lines": command_lines, "what is undone": undone, "ended transactions": ended_transactions,
+        "lines of --undo": lines_of_undo,
     }
     return [(name, of_site(test)) for name, test in named.items()]

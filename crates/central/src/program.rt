@@ -29,5 +29,6 @@ pub mod state_check;
 pub mod status;
 pub mod status_request;
 pub mod status_table;
+pub mod undo;
 pub mod visit;
 pub mod watched_file;

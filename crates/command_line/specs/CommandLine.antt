@@ -144,13 +144,17 @@ with_calls app =
     (optional_numbers (codes "audit") 2147483647))
     (flag (codes "status"))
 
--- whether they are sent: `[--force] [--dry-run]`
+-- what is undone, and whether calls are sent: `[--undo LINE] [--force] [--dry-run]`
 abbrev pub with_sending : App → App
-with_sending app = with_rule (with_rule app (flag (codes "force"))) (flag (codes "dry-run"))
+with_sending app =
+    with_rule (with_rule (with_rule app
+    (numbered 1 2147483647 (optional (codes "undo"))))
+    (flag (codes "force")))
+    (flag (codes "dry-run"))
 
 -- `call --url U [--login FILE] [--all] [--site F] [--data DIR] [--set-profile FILE]
 -- [--clear CRITERIA] [--remote-start CONNECTOR TAG [FILE]] [--ask CONNECTOR SECONDS]
--- [--audit CONNECTOR SECONDS] [--status] [--force] [--dry-run]`
+-- [--audit CONNECTOR SECONDS] [--status] [--undo LINE] [--force] [--dry-run]`
 abbrev pub call_command : App
 call_command = with_sending (with_calls (with_callees (new_app (codes "call"))))
 
@@ -357,6 +361,7 @@ pub record IsCalling (rows : List Row) (calling : Calling) : Type 0 where
   pub ask : IsAsking (all_of (codes "ask") rows) calling.ask
   pub audit : IsAsking (all_of (codes "audit") rows) calling.audit
   pub status : IsFlag (codes "status") rows calling.status
+  pub undo : IsOptionalNumber (codes "undo") rows calling.undo
   pub force : IsFlag (codes "force") rows calling.force
   pub dry_run : IsFlag (codes "dry-run") rows calling.dry_run
 

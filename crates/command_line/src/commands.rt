@@ -15,7 +15,7 @@ use crate::help_text::{
     RUN_STATUS_HELP, RUN_WORKERS_HELP, SCRIPT_HELP, SEATS_HELP, SERVE_ABOUT, SERVE_NOTES,
     SESSIONS_HELP, SET_PROFILE_HELP, SHOW_ABOUT, SHOW_NOTES, SITE_HELP, START_HELP, START_VALUES,
     STATUS_ABOUT, STATUS_HELP, STATUS_NOTES, STATUS_OPEN_HELP, STATUS_URL_HELP, STATUSES,
-    TRACE_HELP, VERSION, WORKERS_HELP,
+    TRACE_HELP, UNDO_HELP, VERSION, WORKERS_HELP,
 };
 use crate::limits::{MAX_CALL_TIMEOUT, MAX_CONNECTORS, MAX_SEATS, MAX_SESSIONS, MAX_WORKERS};
 use clap::builder::ValueParser;
@@ -189,7 +189,7 @@ fn serve<'a>(alloc: Global) -> Result<Command<'a>, AllocError>
 
 /// `call --url U [--login FILE] [--all] [--site F] [--data DIR] [--set-profile FILE]
 /// [--clear CRITERIA] [--remote-start CONNECTOR TAG [FILE]] [--ask CONNECTOR SECONDS]
-/// [--audit CONNECTOR SECONDS] [--status] [--force] [--dry-run]`.
+/// [--audit CONNECTOR SECONDS] [--status] [--undo LINE] [--force] [--dry-run]`.
 fn call<'a>(alloc: Global) -> Result<Command<'a>, AllocError>
     ensures { IfOk result (λ command. app_of command ≡ call_command) }
 {
@@ -228,11 +228,12 @@ fn with_calls<'a>(alloc: Global, command: Command<'a>) -> Result<Command<'a>, Al
         .arg(flag(alloc, "status", STATUS_HELP))
 }
 
-/// Adds whether they are sent: `[--force] [--dry-run]`.
+/// Adds what is undone, and whether calls are sent: `[--undo LINE] [--force] [--dry-run]`.
 fn with_sending<'a>(alloc: Global, command: Command<'a>) -> Result<Command<'a>, AllocError>
     ensures { IfOk result (λ added. app_of added ≡ with_sending (app_of command.entry)) }
 {
     command
+        .arg(numbered(optional(alloc, "undo", "LINE", UNDO_HELP), 1, 2_147_483_647))?
         .arg(flag(alloc, "force", FORCE_HELP))?
         .arg(flag(alloc, "dry-run", DRY_RUN_HELP))
 }

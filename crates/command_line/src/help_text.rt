@@ -227,6 +227,10 @@ pub const ALL_SITE_HELP: &str = "The site of --all and of --data, a JSON file";
 pub const CALL_DATA_HELP: &str =
     "The folder of 'central run' on this machine: calls are checked by what the point has";
 
+/// What `--undo` says.
+pub const UNDO_HELP: &str =
+    "Sends what brings the point back to the profiles that it had before this line of the journal";
+
 /// What `--force` says.
 pub const FORCE_HELP: &str = "Sends calls in which a fault was found, too";
 

@@ -116,6 +116,8 @@ pub struct Calling<'a> {
     pub audit: Option<Asking<'a>>,
     /// Whether a PointStatus is sent.
     pub status: bool,
+    /// The number of the journal's line that is undone.
+    pub undo: Option<u64>,
     /// Whether what has a fault is sent, too.
     pub force: bool,
     /// Whether nothing is sent: what would be is printed.
@@ -210,5 +212,6 @@ impl Calling<'_> {
             || self.ask.is_some()
             || self.audit.is_some()
             || self.status
+            || self.undo.is_some()
     }
 }

@@ -182,6 +182,7 @@ fn calling_of<'a>(given: &ArgMatches<'a>) -> Option<Calling<'a>>
     let ask = asking_of(given, "ask")?;
     let audit = asking_of(given, "audit")?;
     let status = is_given(given, "status");
+    let undo = optional_number_of(given, "undo");
     let force = is_given(given, "force");
     let dry_run = is_given(given, "dry-run");
     Some(Calling {
@@ -196,6 +197,7 @@ fn calling_of<'a>(given: &ArgMatches<'a>) -> Option<Calling<'a>>
         ask,
         audit,
         status,
+        undo,
         force,
         dry_run,
     })

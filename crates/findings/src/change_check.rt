@@ -45,7 +45,7 @@ pub fn check_change(alloc: Global, change: &RowChange<'_>) -> Result<Vec<Finding
 
 /// Whether a profile took another's place. A TxProfile may also be gone with its transaction, which
 /// a start with a profile of its own ended.
-fn takes_place_of(came: PrevailingProfile, gone: PrevailingProfile) -> bool {
+pub fn takes_place_of(came: PrevailingProfile, gone: PrevailingProfile) -> bool {
     came.id == gone.id
         || (came.purpose == gone.purpose
             && came.connector == gone.connector

@@ -43,7 +43,7 @@ mod words;
 mod zone_check;
 
 pub use boot_check::check_boot;
-pub use change_check::{RowChange, check_change};
+pub use change_check::{RowChange, check_change, takes_place_of};
 pub use finding::{FaultName, Finding, Location, Severity, exit_status, has_fault, sort_by_line};
 pub use never::{NeverRated, never_rated};
 pub use printed_check::check_printed;

@@ -6,12 +6,14 @@ use crate::program::login::read_login;
 use crate::program::program_fault::ProgramFault;
 use crate::program::site_file::read_site_file;
 use crate::program::state_check::check_visits;
-use crate::program::visit::{Visit, visit_of_url, visits_of_site};
+use crate::program::undo::{Undo, undo_of};
+use crate::program::visit::{Visit, is_without_point, visit_of_point, visit_of_url, visits_of_site};
 use client::{Address, Lines};
 use command_line::Calling;
 use site_rules::Site;
 use std::alloc::{AllocError, AllocGlobal, Global};
 use std::fs::File;
+use std::mem;
 use std::net::TcpStream;
 use std::random::RandomSource;
 use std::rt::{Clock, Files, Net};
@@ -38,7 +40,9 @@ pub fn call_site<
         force: calling.force,
         dry_run: calling.dry_run,
     };
-    let given = given_calls(rt, calling)?;
+    let mut undo = undo_in(rt, calling)?;
+    let mut given = undo_calls(rt.alloc(), &mut undo);
+    given.append(&mut given_calls(rt, calling)?)?;
     let site = match calling.site {
         Some(path) => Some(read_site_file(rt, path)?),
         None => None,
@@ -49,7 +53,10 @@ pub fn call_site<
         return Ok(caller.status());
     }
     let calls = caller.passed(given)?;
-    let mut visits = visits_of(rt.alloc(), calling, &site, calls.len())?;
+    let mut visits = match &undo {
+        Some(undo) => visit_of_point(rt.alloc(), calling.url, undo.point.as_str(), calls.len())?,
+        None => visits_of(rt.alloc(), calling, &site, calls.len())?,
+    };
     if let (Some(folder), Some(site)) = (calling.data, site) {
         check_visits(rt, &mut caller, folder, site, calls.as_slice(), &mut visits)?;
     }
@@ -66,13 +73,37 @@ fn check_url(alloc: Global, calling: Calling<'_>) -> Result<(), ProgramFault> {
     if wants_site && !calling.gives_calls() {
         return Err(ProgramFault::AllWithoutCalls);
     }
-    if !calling.all {
+    if calling.undo.is_some() && (calling.all || calling.data.is_none()) {
+        return Err(ProgramFault::UndoWithoutData);
+    }
+    let lacks_point = calling.all || calling.undo.is_some() && is_without_point(calling.url);
+    if !lacks_point {
         Address::of_operator(alloc, calling.url)?;
         return Ok(());
     }
     // Each point has this URL, but for its identity.
     Address::of_operator(alloc, url_of_point(alloc, calling.url, "ID")?.as_str())?;
     Ok(())
+}
+
+/// What undoes the line that is to be undone, if one is.
+fn undo_in<R: Files<File = File> + Eprint + AllocGlobal>(
+    rt: &R,
+    calling: Calling<'_>,
+) -> Result<Option<Undo>, ProgramFault> {
+    let (Some(number), Some(folder), Some(path)) = (calling.undo, calling.data, calling.site) else {
+        return Ok(None);
+    };
+    let site = read_site_file(rt, path)?;
+    Ok(Some(undo_of(rt, folder, site, number)?))
+}
+
+/// Takes the calls out of what undoes a line.
+fn undo_calls(alloc: Global, undo: &mut Option<Undo>) -> Vec<GivenCall> {
+    match undo {
+        Some(undo) => mem::replace(&mut undo.calls, Vec::new(alloc)),
+        None => Vec::new(alloc),
+    }
 }
 
 /// The points that so many calls go to: each of the site, or that of the URL.

@@ -67,6 +67,15 @@ pub enum ProgramFault {
     /// What goes to all points, and is checked by what they have, are the calls of options.
     #[error("central: command line: --all and --data DIR are for the calls of options, and there is none")]
     AllWithoutCalls,
+    /// A line of a journal is undone at its point alone, by what that has now.
+    #[error("central: command line: --undo LINE needs --data DIR, and goes without --all")]
+    UndoWithoutData,
+    /// The journal has no message on the line that is to be undone.
+    #[error("central: command line: the journal has no message on the line of --undo")]
+    NoUndoLine,
+    /// The URL is that of the operator of another point than that of the line.
+    #[error("central: command line: the line of --undo is of another point than the URL")]
+    UndoElsewhere,
     /// What the command line asks for ends past the last instant.
     #[error("central: command line: it would end past the year 9999")]
     PastCalendar,
@@ -122,6 +131,8 @@ impl ProgramFault {
             ProgramFault::NoInstant | ProgramFault::PastCalendar | ProgramFault::NoPicture => 4,
             ProgramFault::NoDuration | ProgramFault::NoNumber | ProgramFault::NoScriptEnd => 4,
             ProgramFault::AllWithoutSite | ProgramFault::AllWithoutCalls => 4,
+            ProgramFault::UndoWithoutData | ProgramFault::NoUndoLine => 4,
+            ProgramFault::UndoElsewhere => 4,
             ProgramFault::NoKeys | ProgramFault::KeyName => 4,
             ProgramFault::StatusOpen | ProgramFault::StatusUrl => 4,
             ProgramFault::NoStatus => 3,

@@ -1,5 +1,6 @@
 //! Which calls go to which points.
 
+use crate::program::program_fault::ProgramFault;
 use site_rules::Site;
 use std::alloc::{AllocError, Global};
 
@@ -50,6 +51,31 @@ pub fn visits_of_site(alloc: Global, site: &Site, count: usize) -> Result<Vec<Vi
         if let Some(point) = site.point(place) {
             visits.push(Visit::new(alloc, point.id, true, count)?)?;
         }
+    }
+    Ok(visits)
+}
+
+/// Whether an operator's URL lacks the point's identity.
+pub fn is_without_point(url: &str) -> bool {
+    url.trim_end_matches('/').ends_with("/operator")
+}
+
+/// The visit to the point of an identity, with so many calls. The operator's URL lacks the identity,
+/// or has the same one.
+pub fn visit_of_point(
+    alloc: Global,
+    url: &str,
+    id: &str,
+    count: usize,
+) -> Result<Vec<Visit>, ProgramFault> {
+    let is_labelled = is_without_point(url);
+    let mut visits = visit_of_url(alloc, url, count)?;
+    for visit in &mut visits {
+        if !is_labelled && visit.id.as_str() != id {
+            return Err(ProgramFault::UndoElsewhere);
+        }
+        visit.id = String::from_str(alloc, id)?;
+        visit.is_labelled = is_labelled;
     }
     Ok(visits)
 }
