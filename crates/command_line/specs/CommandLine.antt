@@ -353,7 +353,7 @@ pub record IsCalling (rows : List Row) (calling : Calling) : Type 0 where
   pub login : first_of (codes "login") rows ≡ option_map (λ text. text.now) calling.login
   pub all : IsFlag (codes "all") rows calling.all
   pub site : first_of (codes "site") rows ≡ option_map (λ text. text.now) calling.site
-  pub data : first_of (codes "data") rows ≡ option_map (λ text. text.now) calling.data
+  pub folder : first_of (codes "data") rows ≡ option_map (λ text. text.now) calling.folder
   pub set_profile :
       first_of (codes "set-profile") rows ≡ option_map (λ text. text.now) calling.set_profile
   pub clear : first_of (codes "clear") rows ≡ option_map (λ text. text.now) calling.clear

@@ -103,7 +103,7 @@ pub struct Calling<'a> {
     /// The file of that site.
     pub site: Option<&'a str>,
     /// The folder of that site, by whose journal calls are checked.
-    pub data: Option<&'a str>,
+    pub folder: Option<&'a str>,
     /// The file of a SetChargingProfile's payload.
     pub set_profile: Option<&'a str>,
     /// A ClearChargingProfile's payload.

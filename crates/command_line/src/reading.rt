@@ -175,7 +175,7 @@ fn calling_of<'a>(given: &ArgMatches<'a>) -> Option<Calling<'a>>
     let login = text_of(given, "login");
     let all = is_given(given, "all");
     let site = text_of(given, "site");
-    let data = text_of(given, "data");
+    let folder = text_of(given, "data");
     let set_profile = text_of(given, "set-profile");
     let clear = text_of(given, "clear");
     let remote_start = starting_of(given)?;
@@ -190,7 +190,7 @@ fn calling_of<'a>(given: &ArgMatches<'a>) -> Option<Calling<'a>>
         login,
         all,
         site,
-        data,
+        folder,
         set_profile,
         clear,
         remote_start,

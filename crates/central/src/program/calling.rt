@@ -57,7 +57,7 @@ pub fn call_site<
         Some(undo) => visit_of_point(rt.alloc(), calling.url, undo.point.as_str(), calls.len())?,
         None => visits_of(rt.alloc(), calling, &site, calls.len())?,
     };
-    if let (Some(folder), Some(site)) = (calling.data, site) {
+    if let (Some(folder), Some(site)) = (calling.folder, site) {
         check_visits(rt, &mut caller, folder, site, calls.as_slice(), &mut visits)?;
     }
     send_calls(&mut caller, calls.as_slice(), visits.as_slice())?;
@@ -66,14 +66,14 @@ pub fn call_site<
 
 /// Refuses a URL that can't be an operator's, and options without what belongs to them.
 fn check_url(alloc: Global, calling: Calling<'_>) -> Result<(), ProgramFault> {
-    let wants_site = calling.all || calling.data.is_some();
+    let wants_site = calling.all || calling.folder.is_some();
     if wants_site != calling.site.is_some() {
         return Err(ProgramFault::AllWithoutSite);
     }
     if wants_site && !calling.gives_calls() {
         return Err(ProgramFault::AllWithoutCalls);
     }
-    if calling.undo.is_some() && (calling.all || calling.data.is_none()) {
+    if calling.undo.is_some() && (calling.all || calling.folder.is_none()) {
         return Err(ProgramFault::UndoWithoutData);
     }
     let lacks_point = calling.all || calling.undo.is_some() && is_without_point(calling.url);
@@ -91,7 +91,7 @@ fn undo_in<R: Files<File = File> + Eprint + AllocGlobal>(
     rt: &R,
     calling: Calling<'_>,
 ) -> Result<Option<Undo>, ProgramFault> {
-    let (Some(number), Some(folder), Some(path)) = (calling.undo, calling.data, calling.site) else {
+    let (Some(number), Some(folder), Some(path)) = (calling.undo, calling.folder, calling.site) else {
         return Ok(None);
     };
     let site = read_site_file(rt, path)?;
