@@ -88,7 +88,10 @@ pub fn connect<R: Net<Stream = TcpStream> + RandomSource + Copy + Drop>(
     let _ = stream.set_nodelay(true);
     match client(alloc, *rt, request, stream) {
         Ok((socket, _)) => Ok(socket),
-        Err(HandshakeError::Failure(Error::Http(response))) => Err(refusal_of(response.status(), has_login)),
+        Err(HandshakeError::Failure(Error::Http(response))) => Err(refusal_of(
+            response.status(),
+            has_login,
+        )),
         Err(_) => Err(ClientFault::Handshake),
     }
 }

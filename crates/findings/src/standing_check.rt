@@ -136,12 +136,7 @@ fn hidden_message(alloc: Global, row: &Row) -> Result<String, AllocError> {
 }
 
 /// That a ChargePointMaxProfile lets a point draw more than another one does.
-fn lifted_message(
-    alloc: Global,
-    unit: Unit,
-    high: &Row,
-    low: &Row,
-) -> Result<String, AllocError> {
+fn lifted_message(alloc: Global, unit: Unit, high: &Row, low: &Row) -> Result<String, AllocError> {
     let unit = unit_name(unit);
     let (above, below) = (high.profile.id, low.profile.id);
     let most = tenths_text(alloc, u64::from(highest_limit(high)))?;

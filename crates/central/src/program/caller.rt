@@ -4,9 +4,7 @@ use crate::program::given_calls::GivenCall;
 use crate::program::login::logged_in;
 use crate::program::program_fault::ProgramFault;
 use client::{Address, AnswerLines, CallEnd, ClientFault, OperatorClient, connect};
-use findings::{
-    Finding, SentCheck, Severity, answer_sentence, check_sent, has_fault, json_break,
-};
+use findings::{Finding, SentCheck, Severity, answer_sentence, check_sent, has_fault, json_break};
 use std::alloc::{AllocError, AllocGlobal, Global};
 use std::fmt::Display;
 use std::io;

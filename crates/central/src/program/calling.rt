@@ -7,7 +7,9 @@ use crate::program::program_fault::ProgramFault;
 use crate::program::site_file::read_site_file;
 use crate::program::state_check::check_visits;
 use crate::program::undo::{Undo, undo_of};
-use crate::program::visit::{Visit, is_without_point, visit_of_point, visit_of_url, visits_of_site};
+use crate::program::visit::{
+    Visit, is_without_point, visit_of_point, visit_of_url, visits_of_site,
+};
 use client::{Address, Lines};
 use command_line::Calling;
 use site_rules::Site;
@@ -91,7 +93,8 @@ fn undo_in<R: Files<File = File> + Eprint + AllocGlobal>(
     rt: &R,
     calling: Calling<'_>,
 ) -> Result<Option<Undo>, ProgramFault> {
-    let (Some(number), Some(folder), Some(path)) = (calling.undo, calling.folder, calling.site) else {
+    let (Some(number), Some(folder), Some(path)) = (calling.undo, calling.folder, calling.site)
+    else {
         return Ok(None);
     };
     let site = read_site_file(rt, path)?;
@@ -122,11 +125,7 @@ fn visits_of(
 /// Sends calls to points, one after another. Of several a point whose connection fails is named.
 fn send_calls<
     R: Print + Eprint + AllocGlobal + Net<Stream = TcpStream> + RandomSource + Wait + Copy + Drop,
->(
-    caller: &mut Caller<'_, R>,
-    calls: &[GivenCall],
-    visits: &[Visit],
-) -> Result<(), ProgramFault> {
+>(caller: &mut Caller<'_, R>, calls: &[GivenCall], visits: &[Visit]) -> Result<(), ProgramFault> {
     for visit in visits {
         match (send_to(caller, calls, visit), visit.label()) {
             (Ok(()), _) => {}
@@ -140,11 +139,7 @@ fn send_calls<
 /// Sends the calls that go to a point.
 fn send_to<
     R: Print + Eprint + AllocGlobal + Net<Stream = TcpStream> + RandomSource + Wait + Copy + Drop,
->(
-    caller: &mut Caller<'_, R>,
-    calls: &[GivenCall],
-    visit: &Visit,
-) -> Result<(), ProgramFault> {
+>(caller: &mut Caller<'_, R>, calls: &[GivenCall], visit: &Visit) -> Result<(), ProgramFault> {
     if visit.calls.is_empty() {
         return Ok(());
     }

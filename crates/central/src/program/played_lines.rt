@@ -1,8 +1,6 @@
 //! What is found in the lines of a script as they are played.
 
-use findings::{
-    Finding, RowChange, ScriptCheck, check_change, check_printed, check_standing,
-};
+use findings::{Finding, RowChange, ScriptCheck, check_change, check_printed, check_standing};
 use show_pages::Trace;
 use site_core::Machine;
 use std::alloc::{AllocError, Global};

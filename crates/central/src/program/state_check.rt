@@ -73,7 +73,12 @@ fn check_visit<
     calls: &[GivenCall],
     visit: &mut Visit,
 ) -> Result<(), ProgramFault> {
-    if trace.playing().machine().book_of(visit.id.as_str()).is_none() {
+    if trace
+        .playing()
+        .machine()
+        .book_of(visit.id.as_str())
+        .is_none()
+    {
         return Err(ProgramFault::NoSuchPoint);
     }
     let mut passed = Vec::new(alloc);
