@@ -1,5 +1,6 @@
 //! Sessions whose clients send faster than they are served.
 
+use std::rt::Clock;
 use std::sync::Wait;
 use std::sync::atomic::{AtomicU64, Ordering};
 use std::thread;
@@ -41,7 +42,7 @@ impl<'a> Pace<'a> {
     }
 
     /// Waits before the next message of a client that is ahead, if others are.
-    pub(crate) fn keep<R: Wait>(&mut self, rt: &R, is_ahead: bool) {
+    pub(crate) fn keep<R: Wait + Clock>(&mut self, rt: &R, is_ahead: bool) {
         self.count(is_ahead);
         if !is_ahead {
             return;
