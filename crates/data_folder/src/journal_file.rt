@@ -11,6 +11,7 @@ use site_status::{JournalReport, JournalState};
 use std::alloc::{AllocError, AllocGlobal, Global};
 use std::fmt::Display;
 use std::rt::Clock;
+use std::sync::atomic::{AtomicBool, Ordering};
 use std::sync::{Condvar, Mutex, Wait};
 use std::time::{Duration, Instant};
 use std::{io, mem};
@@ -33,6 +34,9 @@ pub struct JournalFile<R> {
     /// The file's name, for what is said of it.
     path: String,
     noted: Mutex<NotedEntries>,
+    /// Whether all that was noted is on the disk, and more may be noted. It is set by whoever has
+    /// `noted`, and read without: most messages change nothing.
+    is_kept: AtomicBool,
     written: Mutex<WrittenLines>,
     /// Whoever waits for another that writes waits here.
     writer_done: Condvar,
@@ -139,6 +143,7 @@ impl<R: Wait + Clock + Eprint + AllocGlobal + Drop> JournalFile<R> {
             alloc,
             path,
             noted: Mutex::new(noted),
+            is_kept: AtomicBool::new(true),
             written: Mutex::new(written),
             writer_done: Condvar::new(),
             broken: Condvar::new(),
@@ -211,6 +216,9 @@ impl<R: Wait + Clock + Eprint + AllocGlobal + Drop> JournalFile<R> {
         let synced = written.synced();
         let mut noted = self.noted.lock(&self.rt);
         noted.kept = written.taken_count;
+        if noted.kept == noted.noted && noted.state != JournalState::Broken {
+            self.is_kept.store(true, Ordering::SeqCst);
+        }
         if synced != before.0 {
             noted.count_sync(synced, self.time_since(before.1));
         }
@@ -295,6 +303,9 @@ impl<R: Wait + Clock + Eprint + AllocGlobal + Drop> JournalFile<R> {
         if is_new {
             noted.state = state;
         }
+        if noted.state == JournalState::Broken {
+            self.is_kept.store(false, Ordering::SeqCst);
+        }
         is_new
     }
 }
@@ -363,6 +374,7 @@ impl<R: Wait + Clock + Eprint + AllocGlobal + Drop> Journal for JournalFile<R> {
 
     fn note(&self, entry: Entry, number: u64) {
         let mut noted = self.noted.lock(&self.rt);
+        self.is_kept.store(false, Ordering::SeqCst);
         let numbered = NumberedEntry { entry, number };
         if noted.entries.push(numbered).is_err() {
             noted.state = JournalState::Broken;
@@ -372,6 +384,9 @@ impl<R: Wait + Clock + Eprint + AllocGlobal + Drop> Journal for JournalFile<R> {
     }
 
     fn write_out(&self) -> Result<(), JournalFault> {
+        if self.is_kept.load(Ordering::SeqCst) {
+            return Ok(());
+        }
         let noted = self.noted.lock(&self.rt);
         let (wanted, kept, state) = (noted.noted, noted.kept, noted.state);
         drop(noted);

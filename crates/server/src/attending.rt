@@ -4,6 +4,7 @@ ghost use Rattle.session.specs.Serving.{KeepsPass};
 
 use crate::deadlines::{LONGEST_SILENCE, SILENCE_BEFORE_CALL, SILENCE_BEFORE_PING, TICK};
 use crate::incoming_stream::{IncomingStream, seconds_since};
+use crate::pace::Pace;
 use crate::session_watch::SessionWatch;
 use bytes::Bytes;
 use ocpp_scalars::Moments;
@@ -67,10 +68,14 @@ pub(crate) fn attend_session<C: Ledger, A: Ledger, R: Wait + Clock, M: Moments, 
         is_pinged: false,
         sent: None,
     };
+    let mut pace = Pace::new(&watch.seats.ahead);
     for _message in context.rt.forever() {
         if attend_next(context, watch, &mut socket, core, &mut attention, pass).is_err() {
+            pace.end();
             return;
         }
+        let is_ahead = socket.websocket().get_ref().is_ahead();
+        pace.keep(context.rt, is_ahead);
     }
     unreachable!()
 }

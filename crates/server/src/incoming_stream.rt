@@ -52,6 +52,8 @@ pub(crate) struct IncomingStream<'a, R> {
     untaken: Option<Instant>,
     /// How often it may still be read in this look, while its session looks at it.
     reads_left: Option<u32>,
+    /// Whether the last read took as much as it could: most often there is more.
+    is_ahead: bool,
 }
 
 /// A message that isn't whole.
@@ -87,6 +89,7 @@ impl<'a, R: Clock + Wait> IncomingStream<'a, R> {
             unfinished: None,
             untaken: None,
             reads_left: None,
+            is_ahead: false,
         })
     }
 
@@ -103,6 +106,11 @@ impl<'a, R: Clock + Wait> IncomingStream<'a, R> {
     /// has begun.
     pub(crate) fn is_in_the_way(&self) -> bool {
         self.place == Place::Taken && self.unfinished.is_none() && self.places.are_wanted(self.rt)
+    }
+
+    /// Whether its client sends faster than it is served, as far as the last read told.
+    pub(crate) fn is_ahead(&self) -> bool {
+        self.is_ahead
     }
 
     /// The connection ends: its place is free again.
@@ -185,6 +193,7 @@ impl<'a, R: Clock + Wait> IncomingStream<'a, R> {
     {
         let mut stream: &TcpStream = &self.stream;
         let bytes = stream.read(buf)?;
+        self.is_ahead = bytes == buf.len();
         if bytes > 0 {
             self.hear(bytes)?;
         }

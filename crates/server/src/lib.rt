@@ -17,6 +17,7 @@ mod incoming_stream;
 mod long_messages;
 mod notices;
 mod own_host;
+mod pace;
 mod path;
 mod present_streams;
 mod refused_request;

@@ -3,6 +3,7 @@
 use crate::free_seats::FreeSeats;
 use crate::long_messages::LongMessages;
 use crate::notices::Notices;
+use crate::pace::AheadClients;
 use crate::present_streams::PresentStreams;
 use crate::site_watch::SiteWatch;
 use crate::unfinished_handshakes::UnfinishedHandshakes;
@@ -43,6 +44,7 @@ pub struct SeatContext<C: Ledger, A: Ledger, R, M, J> {
     pub(crate) watch: SiteWatch,
     pub(crate) notices: Notices,
     pub(crate) options: SeatOptions,
+    pub(crate) ahead: AheadClients,
     /// Whoever reads a long message has this.
     pub(crate) reading: Mutex<()>,
 }
@@ -85,6 +87,7 @@ impl<
             watch,
             notices: Notices::new(alloc),
             options,
+            ahead: AheadClients::new(),
             reading: Mutex::new(()),
         })
     }
