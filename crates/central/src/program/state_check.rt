@@ -10,7 +10,7 @@ use crate::program::played_lines::{find_at_point, find_in_changes, find_in_next_
 use crate::program::program_fault::ProgramFault;
 use crate::program::visit::Visit;
 use data_folder::read_journal_script;
-use findings::{Finding, ScriptCheck, check_sent};
+use findings::{Finding, ScriptCheck, Severity, check_sent};
 use ocpp_scalars::{Instant, push_instant};
 use replay::{MAX_SCRIPT_BYTES, ReplayFault};
 use show_pages::{Depth, Trace};
@@ -114,7 +114,10 @@ fn find_in_call(
     let after = find_at_point(alloc, trace.playing().machine(), point)?;
     let by_itself = check_sent(alloc, frame)?;
     let mut findings = without(alloc, found, by_itself.findings.as_slice())?;
-    findings.append(&mut without(alloc, after, before.as_slice())?)?;
+    let mut standing = without(alloc, after, before.as_slice())?;
+    // What its ceilings alone bring about is no news of a call.
+    standing.retain(|finding| finding.severity != Severity::Remark);
+    findings.append(&mut standing)?;
     Ok(findings)
 }
 
