@@ -2,7 +2,7 @@
 
 use std::marker::Brand;
 
-/// A type that names a chronicle. A run picks the name of `Brand` where it calls what is generic in it.
+/// A name of a chronicle. `Brand` stands for the one that its caller's proof picks.
 pub trait ChronicleName {
     ghost use Rattle.std.specs.Prelude.{ℕ};
 

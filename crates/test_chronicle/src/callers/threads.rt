@@ -104,6 +104,9 @@ fn two_bytes<J: ChronicleName + Send + Sync, R: Threads + Wait + Sync>(
 /// The name is picked for the call: see `proofs/`.
 #[test]
 fn two_threads_share_a_chronicle(rt: HostRuntime) -> Result<(), Fail> {
-    assert_eq!(rt; two_bytes::<Brand, HostRuntime>(&rt, Unnamed::new()), Some(2));
+    assert_eq!(rt;
+        two_bytes::<Brand, HostRuntime>(&rt, Unnamed::new()),
+        Some(2)
+    );
     Ok(())
 }
