@@ -1,0 +1,4 @@
+pub mod Codes
+pub mod Lent
+pub mod Steps
+pub mod Tokens

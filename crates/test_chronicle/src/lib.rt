@@ -1,0 +1,5 @@
+//! A caller of `chronicle`: its README links to it.
+#![tactic(auto)]
+
+#[cfg(test)]
+mod callers;
