@@ -2,6 +2,7 @@
 
 use crate::reserve_file::ReserveFile;
 use crate::restored_journal::RestoredJournal;
+use crate::said_lines::SaidLines;
 use crate::system_clock::SystemClock;
 use append_log::{Log, LogFault, SystemFile};
 use ocpp_scalars::{Instant as Moment, Moments, write_instant};
@@ -34,7 +35,7 @@ pub struct JournalFile<R> {
     /// The file's name, for what is said of it.
     path: String,
     noted: Mutex<NotedEntries>,
-    /// Whether all that was noted is on the disk, and more may be noted. It is set by whoever has
+    /// Whether all that was noted is on the disk, and it isn't broken. It is set by whoever has
     /// `noted`, and read without: most messages change nothing.
     is_kept: AtomicBool,
     written: Mutex<WrittenLines>,
@@ -42,6 +43,7 @@ pub struct JournalFile<R> {
     writer_done: Condvar,
     /// Whoever waits for the journal to be broken waits here.
     broken: Condvar,
+    said: SaidLines,
 }
 
 /// An entry, with the number that its step drew.
@@ -96,6 +98,14 @@ enum KeepFault {
     OutOfMemory,
 }
 
+/// An attempt to keep all that was noted.
+#[derive(Drop)]
+struct Attempt {
+    kept: Result<Kept, KeepFault>,
+    /// Whether something else may be noted since, or nothing more.
+    is_news: bool,
+}
+
 impl From<LogFault> for KeepFault {
     fn from(fault: LogFault) -> KeepFault {
         KeepFault::Log(fault)
@@ -147,6 +157,7 @@ impl<R: Wait + Clock + Eprint + AllocGlobal + Drop> JournalFile<R> {
             written: Mutex::new(written),
             writer_done: Condvar::new(),
             broken: Condvar::new(),
+            said: SaidLines::new(alloc),
         })
     }
 
@@ -154,7 +165,6 @@ impl<R: Wait + Clock + Eprint + AllocGlobal + Drop> JournalFile<R> {
     pub fn keep_all(&self) -> Result<(), JournalFault> {
         let mut written = self.written.lock(&self.rt);
         let kept = self.keep_with(&mut written);
-        // Whoever says what came of it may be held up: the sessions that write next aren't.
         drop(written);
         self.say(kept)
     }
@@ -196,7 +206,10 @@ impl<R: Wait + Clock + Eprint + AllocGlobal + Drop> JournalFile<R> {
             let state = noted.state;
             drop(noted);
             match state {
-                JournalState::Broken => return,
+                JournalState::Broken => {
+                    self.said.settle(&self.rt);
+                    return;
+                }
                 JournalState::Full => {
                     let _ = self.keep_all();
                 }
@@ -205,8 +218,19 @@ impl<R: Wait + Clock + Eprint + AllocGlobal + Drop> JournalFile<R> {
         }
     }
 
-    /// Writes and syncs all that was noted by now. Whoever has the file does it for all that wait.
-    fn keep_with(&self, written: &mut WrittenLines) -> Result<Kept, KeepFault> {
+    /// Writes and syncs all that was noted by now, for all that wait. What may be noted since is told
+    /// before somebody else has the file.
+    fn keep_with(&self, written: &mut WrittenLines) -> Attempt {
+        let kept = self.try_to_keep(written);
+        let is_news = match state_after(&kept) {
+            Some(state) => self.turns(state),
+            None => false,
+        };
+        Attempt { kept, is_news }
+    }
+
+    /// Writes and syncs all that was noted by now.
+    fn try_to_keep(&self, written: &mut WrittenLines) -> Result<Kept, KeepFault> {
         // Those that there was no memory for come first.
         written.put_into_words()?;
         self.take_noted(written);
@@ -246,57 +270,62 @@ impl<R: Wait + Clock + Eprint + AllocGlobal + Drop> JournalFile<R> {
         written.taken_count = noted.noted;
     }
 
-    /// Takes note of what came of writing, and says it where it is new.
-    fn say(&self, kept: Result<Kept, KeepFault>) -> Result<(), JournalFault> {
+    /// Says what came of an attempt, where it is news.
+    fn say(&self, attempt: Attempt) -> Result<(), JournalFault> {
+        let Attempt { kept, is_news } = attempt;
         match kept {
             Ok(Kept::All) => Ok(()),
             Ok(Kept::AllAndRoom) => {
-                if self.turns(JournalState::Open) {
-                    self.say_line(&"there is room again");
-                }
+                self.say_news(is_news, &"there is room again");
                 Ok(())
             }
             Ok(Kept::AllButFull(error)) => {
-                self.say_error(JournalState::Full, &error);
+                self.say_news(is_news, &error);
                 Ok(())
             }
             Err(KeepFault::OutOfMemory) => Err(JournalFault::OutOfMemory),
             Err(KeepFault::Log(LogFault::FailedBefore)) => Err(JournalFault::Unwritable),
-            Err(KeepFault::Log(LogFault::Full(error))) => {
-                self.say_error(JournalState::Full, &error);
-                Err(JournalFault::Unwritable)
-            }
-            Err(KeepFault::Log(LogFault::Failed(error))) => {
-                self.say_error(JournalState::Broken, &error);
+            Err(KeepFault::Log(LogFault::Full(error) | LogFault::Failed(error))) => {
+                self.say_news(is_news, &error);
                 Err(JournalFault::Unwritable)
             }
         }
     }
 
-    /// Says why the journal is full or broken, where that is new. Whoever waits for that is told
-    /// before: standard error may be a pipe that nobody reads.
-    fn say_error(&self, state: JournalState, error: &io::Error) {
-        if self.turns(state) {
-            self.broken.notify_all();
-            self.say_line(error);
+    /// Says, with the moment, what became of the file, if that is news.
+    fn say_news<W: Display>(&self, is_news: bool, what: &W) {
+        if !is_news {
+            return;
+        }
+        if let Ok(line) = self.line_of(what) {
+            self.said.add(&self.rt, line);
         }
     }
 
-    /// Says on standard error, with the moment, what became of the file.
-    fn say_line<W: Display>(&self, what: &W) {
-        let moment = match (SystemClock { rt: &self.rt }).now() {
-            Some(now) => write_instant(self.alloc, now).ok(),
-            None => None,
-        };
+    /// A line that says at which moment what became of the file.
+    fn line_of<W: Display>(&self, what: &W) -> Result<String, AllocError> {
         let path = self.path.as_str();
-        let _ = match moment {
-            Some(moment) => eprintln!(self.rt; "central: {moment} {path}: {what}"),
-            None => eprintln!(self.rt; "central: {path}: {what}"),
-        };
+        match (SystemClock { rt: &self.rt }).now() {
+            Some(now) => {
+                let moment = write_instant(self.alloc, now)?;
+                format!(in self.alloc; "central: {moment} {path}: {what}")
+            }
+            None => format!(in self.alloc; "central: {path}: {what}"),
+        }
+    }
+
+    /// Writes what is said of it to standard error for ever. Nobody else waits for whoever reads that.
+    pub fn write_lines(&self) {
+        self.said.write_all(&self.rt);
+    }
+
+    /// Writes what was said of it by now.
+    pub(crate) fn write_said(&self) {
+        self.said.write_waiting(&self.rt);
     }
 
     /// Takes note of whether anything may be noted. Returns whether that is new. What is broken stays
-    /// so.
+    /// so, and whoever waits for that is told.
     fn turns(&self, state: JournalState) -> bool {
         let mut noted = self.noted.lock(&self.rt);
         let is_new = noted.state != state && noted.state != JournalState::Broken;
@@ -305,8 +334,23 @@ impl<R: Wait + Clock + Eprint + AllocGlobal + Drop> JournalFile<R> {
         }
         if noted.state == JournalState::Broken {
             self.is_kept.store(false, Ordering::SeqCst);
+            self.broken.notify_all();
         }
         is_new
+    }
+}
+
+/// What may be noted after an attempt, where that may have changed.
+fn state_after(kept: &Result<Kept, KeepFault>) -> Option<JournalState> {
+    match kept {
+        Ok(Kept::AllAndRoom) => Some(JournalState::Open),
+        Ok(Kept::AllButFull(_)) | Err(KeepFault::Log(LogFault::Full(_))) => {
+            Some(JournalState::Full)
+        }
+        Err(KeepFault::Log(LogFault::Failed(_))) => Some(JournalState::Broken),
+        Ok(Kept::All) | Err(KeepFault::OutOfMemory | KeepFault::Log(LogFault::FailedBefore)) => {
+            None
+        }
     }
 }
 
@@ -326,7 +370,7 @@ impl WrittenLines {
     }
 
     /// Makes the text of what was taken, behind the lines that aren't on the disk yet. Afterwards
-    /// there is room for entries. Where memory runs out the lines are as they were.
+    /// there is room for entries. Where memory runs out no entry is lost, and it may be tried again.
     fn put_into_words(&mut self) -> Result<(), AllocError> {
         let mut lines = String::new(*self.taken.allocator());
         for numbered in &self.taken {

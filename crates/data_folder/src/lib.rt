@@ -13,6 +13,7 @@ mod opening;
 mod reserve_file;
 mod restored_journal;
 mod restoring;
+mod said_lines;
 mod script_end;
 mod system_clock;
 

@@ -52,10 +52,13 @@ pub fn restore_shared<
     let resumed = count_resumed(book.present());
     drop(book);
     let journal = JournalFile::make(*rt, restored, added.as_str())?;
-    if journal.keep_all().is_err() {
-        return Err(FolderFault::Write);
+    let kept = journal.keep_all();
+    // No thread writes its lines yet.
+    journal.write_said();
+    match kept {
+        Ok(()) => Ok((journal, resumed)),
+        Err(_) => Err(FolderFault::Write),
     }
-    Ok((journal, resumed))
 }
 
 /// Restores a book from its journal, each step with what it drew, and takes the links from all

@@ -192,6 +192,7 @@ impl<'a, R: Clock + Wait> IncomingStream<'a, R> {
         ensures { IfOk result (λ bytes. IsPrefixLen bytes buf.new) }
     {
         let mut stream: &TcpStream = &self.stream;
+        self.is_ahead = false;
         let bytes = stream.read(buf)?;
         self.is_ahead = bytes == buf.len();
         if bytes > 0 {

@@ -26,6 +26,7 @@ use std::random::RandomSource;
 use std::rt::{Clock, Files};
 use std::sync::ledger::{Blank, Ledger};
 use std::sync::{Arc, Wait};
+use std::thread;
 use std::thread::Threads;
 use version_store::Shared;
 
@@ -201,10 +202,7 @@ fn run_counted<
         seats,
     } = book;
     // It is told that the site is being restored, too.
-    let address = match status_address {
-        Some(address) => Some(String::from_str(rt.alloc(), address)?),
-        None => None,
-    };
+    let address = owned(rt.alloc(), status_address)?;
     let port = Arc::new(rt.alloc(), StatusPort::new(*rt, rt.alloc(), address))?;
     if let Some(listener) = status {
         if let Err(fault) = begin_status(&port, listener) {
@@ -214,6 +212,7 @@ fn run_counted<
     let (journal, resumed) = restore_shared(rt, opened, &digest, &shared, restoring)?;
     print_resumed(rt, resumed)?;
     let context = context_of(rt, shared, journal, options)?;
+    begin_lines(rt, &context)?;
     keep_boots(&context, boots)?;
     port.watch(&context)?;
     if let Err(fault) = run_seats(&context, listener, seats, workers as usize) {
@@ -224,6 +223,31 @@ fn run_counted<
     }
     context.journal().file.until_broken();
     Err(ProgramFault::Folder(FolderFault::Write))
+}
+
+/// A text of its own, where there is one.
+fn owned(alloc: Global, text: Option<&str>) -> Result<Option<String>, AllocError> {
+    match text {
+        Some(text) => Ok(Some(String::from_str(alloc, text)?)),
+        None => Ok(None),
+    }
+}
+
+/// Begins the thread that writes what is said of the journal.
+fn begin_lines<
+    C: Ledger + Send + Sync + Drop + 'static,
+    A: Ledger + Send + Sync + Drop + 'static,
+    R: Eprint + AllocGlobal + Clock + Threads + Wait + Copy + Send + Sync + Drop + 'static,
+>(
+    rt: &R,
+    context: &Arc<SeatContext<C, A, R, SystemClock<R>, WatchedFile<R>>, Global>,
+) -> Result<(), ProgramFault> {
+    let own = Arc::try_clone(context)?;
+    let writer = thread::Builder::new().spawn(rt, move || own.journal().file.write_lines());
+    match writer {
+        Ok(_) => Ok(()),
+        Err(_) => Err(ProgramFault::OutOfMemory),
+    }
 }
 
 /// Goes on with the boots that the folder keeps, and begins to keep those that come.
