@@ -305,11 +305,12 @@ impl<R: Wait + Clock + Eprint + AllocGlobal + Drop> JournalFile<R> {
     /// A line that says at which moment what became of the file.
     fn line_of<W: Display>(&self, what: &W) -> Result<String, AllocError> {
         let path = self.path.as_str();
-        match (SystemClock { rt: &self.rt }).now() {
-            Some(now) => {
-                let moment = write_instant(self.alloc, now)?;
-                format!(in self.alloc; "central: {moment} {path}: {what}")
-            }
+        let moment = match (SystemClock { rt: &self.rt }).now() {
+            Some(now) => write_instant(self.alloc, now).ok(),
+            None => None,
+        };
+        match moment {
+            Some(moment) => format!(in self.alloc; "central: {moment} {path}: {what}"),
             None => format!(in self.alloc; "central: {path}: {what}"),
         }
     }
