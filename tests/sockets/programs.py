@@ -207,11 +207,13 @@ def each_point(program):
         expect("no calls", every(two), (4, b"", words))
         expect("the totals", serving.totals(), (0, 1))
         expect("nobody listens", every(two, "--status"), (3, b"", b"central: url: no connection\n"))
-    words = b"central: command line: --all and --data DIR need --site F, and that one of them\n"
+    words = b"central: command line: --site F is for --all or --data DIR, and each of them needs it\n"
     for options in (["--all"], ["--site", "/none"]):
         expect(f"{options}", run(program, ["call", "--url", "ws://127.0.0.1:9/operator/P1", *options, "--status"]), (4, b"", words))
     other = run(program, ["call", "--url", "ws://127.0.0.1:9/P1", "--all", "--site", "/none", "--status"])
     expect("no operators' URL", other, (4, b"", b"central: url: an operator's URL ends in /operator/ID\n"))
+    other = run(program, ["call", "--url", "ws://127.0.0.1:9/operator/P1", "--all", "--site", "/none", "--status"])
+    expect("one point's URL", other, (4, b"", b"central: command line: with --all the URL ends in /operator, before the points\n"))
 
 
 def faults_of_call(program):

@@ -1,5 +1,6 @@
 """`central call --data`: what is said of calls by what their points have, before they are sent; and what `--undo` undoes."""
 import json
+import re
 import tempfile
 
 from programs import run
@@ -114,7 +115,7 @@ def each_point(site, operator, _point):
 
 def command_lines(site, operator, _point):
     """What `--data` goes with."""
-    belong = b"central: command line: --all and --data DIR need --site F, and that one of them\n"
+    belong = b"central: command line: --site F is for --all or --data DIR, and each of them needs it\n"
     expect("no site", site.call("--status", "--data", "/none", checked=False), (4, b"", belong))
     none = b"central: command line: --all and --data DIR are for the calls of options, and there is none\n"
     expect("no call", site.call(), (4, b"", none))
@@ -131,7 +132,10 @@ def undone(site, operator, _point):
     line = site.lines()
     expect("what would undo it", site.undo("--dry-run")[:2], (0, b'[2,"clear","ClearChargingProfile",{"id":4}]\n'))
     expect("undone", site.undo()[:2], sent(b"clear")[:2])
-    expect("once", site.undo(line=line), (0, b"", nothing % line))
+    status, out, said = site.undo(line=line)
+    expect("once", (status, out), (0, b""))
+    expect("what is said once", said.endswith(nothing % line), True)
+    expect("which line it was", re.match(rb'undo: line %d is [^ ]+ operator P1 \[2,"a","SetChargingProfile"' % line, said) is None, False)
     expect("a clear", operator.texts_of(clear("c", id=3)), [accepted("c")])
     frame = install_call("set-profile", fuse).encode() + b"\n"
     expect("what would undo the clear", site.undo("--dry-run")[:2], (0, frame))
@@ -143,7 +147,8 @@ def undone(site, operator, _point):
     expect("what would undo both", (status, out), (0, b'[2,"clear","ClearChargingProfile",{"id":5}]\n' + frame))
     status, out, _said = site.undo("--ask", "0", "60", line=line)
     expect("undone, and asked", (status, out.count(b"Accepted")), (0, 3))
-    expect("none is left", site.undo("--dry-run", line=line), (0, b"", nothing % line))
+    status, out, said = site.undo("--dry-run", line=line)
+    expect("none is left", (status, out, said.endswith(nothing % line)), (0, b"", True))
 
 
 def ended_transactions(site, operator, point):
@@ -155,11 +160,11 @@ def ended_transactions(site, operator, point):
     frame = install_call("set-profile", profile(5, [6.0], **TX), connector=1).encode()
     status, out, said = site.undo("--dry-run", line=line)
     expect("while it is active", (status, out), (0, frame + b"\n"))
-    expect("what is said of it", said.startswith(b"undo: warning: "), True)
+    expect("what is said of it", said.splitlines()[1].startswith(b"undo: warning: "), True)
     point.texts_of(stop("e", 1))
     status, out, said = site.undo(line=line)
     expect("behind it", (status, out), (0, b""))
-    expect("what is said behind it", said.splitlines()[0], b"undo: TxProfile 5 at connector 1 can't be set again: its transaction has ended")
+    expect("what is said behind it", said.splitlines()[1], b"undo: TxProfile 5 at connector 1 can't be set again: its transaction has ended")
     expect("another start", transaction_of(point.texts_of(start("u"))[0]), 2)
     expect("at another car", site.undo(line=line)[:2], (0, b""))
 
@@ -169,7 +174,8 @@ def lines_of_undo(site, operator, _point):
     fault = b"central: command line: the journal has no message on the line of --undo\n"
     expect("a line that isn't there", site.undo(line=99), (4, b"", fault))
     fault = b"central: command line: the line of --undo is of another point than the URL\n"
-    expect("another point's", site.undo(at="/P2")[::2], (4, fault))
+    status, _out, said = site.undo(at="/P2")
+    expect("another point's", (status, said.endswith(fault)), (4, True))
     fault = b"central: command line: --undo LINE needs --data DIR, and goes without --all\n"
     expect("all points", site.undo("--all", at=""), (4, b"", fault))
     for number in ("0", "-1", "x", "2147483648"):

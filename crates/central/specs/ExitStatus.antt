@@ -12,7 +12,7 @@ use Rattle.data_folder.specs.declared.folder_fault.FolderFault.TheVariants as fo
 use Rattle.client.specs.declared.fault.ClientFault.{ClientFault}
 use Rattle.client.specs.declared.fault.ClientFault.TheVariants as client_fault
 use Rattle.central.specs.declared.program.program_fault.ProgramFault.{ProgramFault}
-use Rattle.central.specs.declared.program.program_fault.ProgramFault.TheVariants.{Words, Site, SiteFile, Write, Replay, Serve, Folder, Client, File, NoSuchPoint, NoSuchConnector, NoInstant, NoDuration, NoScriptEnd, NoNumber, AllWithoutSite, AllWithoutCalls, UndoWithoutData, NoUndoLine, UndoElsewhere, PastCalendar, NoPicture, NoKeys, StatusOpen, StatusUrl, NoStatus, Keys, KeyName, Clock, Random, OutOfMemory}
+use Rattle.central.specs.declared.program.program_fault.ProgramFault.TheVariants.{Words, Site, SiteFile, Write, Replay, Serve, Folder, Client, File, NoSuchPoint, NoSuchConnector, NoInstant, NoDuration, NoScriptEnd, NoNumber, AllWithoutSite, AllWithoutCalls, AllElsewhere, UndoWithoutData, NoUndoLine, UndoElsewhere, PastCalendar, NoPicture, NoKeys, StatusOpen, StatusUrl, NoStatus, Keys, KeyName, Clock, Random, OutOfMemory}
 
 abbrev pub replay_status : ReplayFault → ℕ
 replay_status replay_fault.Read = 3
@@ -60,6 +60,7 @@ fault_status NoDuration = 4
 fault_status NoScriptEnd = 4
 fault_status NoNumber = 4
 fault_status AllWithoutSite = 4
+fault_status AllElsewhere = 4
 fault_status AllWithoutCalls = 4
 fault_status UndoWithoutData = 4
 fault_status NoUndoLine = 4

@@ -83,6 +83,9 @@ fn check_url(alloc: Global, calling: Calling<'_>) -> Result<(), ProgramFault> {
         Address::of_operator(alloc, calling.url)?;
         return Ok(());
     }
+    if calling.all && Address::of_operator(alloc, calling.url).is_ok() {
+        return Err(ProgramFault::AllElsewhere);
+    }
     // Each point has this URL, but for its identity.
     Address::of_operator(alloc, url_of_point(alloc, calling.url, "ID")?.as_str())?;
     Ok(())

@@ -62,8 +62,11 @@ pub enum ProgramFault {
     #[error("central: command line: the CONNECTOR of --remote-start is no whole number from 0 on")]
     NoNumber,
     /// The points of a site are called, or calls are checked by what they have, or there is no site.
-    #[error("central: command line: --all and --data DIR need --site F, and that one of them")]
+    #[error("central: command line: --site F is for --all or --data DIR, and each of them needs it")]
     AllWithoutSite,
+    /// The URL names one point, and all are called.
+    #[error("central: command line: with --all the URL ends in /operator, before the points")]
+    AllElsewhere,
     /// What goes to all points, and is checked by what they have, are the calls of options.
     #[error("central: command line: --all and --data DIR are for the calls of options, and there is none")]
     AllWithoutCalls,
@@ -130,7 +133,9 @@ impl ProgramFault {
             ProgramFault::Words | ProgramFault::NoSuchPoint | ProgramFault::NoSuchConnector => 4,
             ProgramFault::NoInstant | ProgramFault::PastCalendar | ProgramFault::NoPicture => 4,
             ProgramFault::NoDuration | ProgramFault::NoNumber | ProgramFault::NoScriptEnd => 4,
-            ProgramFault::AllWithoutSite | ProgramFault::AllWithoutCalls => 4,
+            ProgramFault::AllWithoutSite
+            | ProgramFault::AllWithoutCalls
+            | ProgramFault::AllElsewhere => 4,
             ProgramFault::UndoWithoutData | ProgramFault::NoUndoLine => 4,
             ProgramFault::UndoElsewhere => 4,
             ProgramFault::NoKeys | ProgramFault::KeyName => 4,

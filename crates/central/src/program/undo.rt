@@ -15,6 +15,9 @@ use std::alloc::{AllocError, AllocGlobal, Global};
 use std::fs::File;
 use std::rt::Files;
 
+/// So many characters of the line that is undone are shown.
+const LONGEST_SHOWN: usize = 160;
+
 /// What brings a point back.
 #[derive(Drop)]
 pub struct Undo {
@@ -46,9 +49,11 @@ pub fn undo_of<R: Files<File = File> + Eprint + AllocGlobal>(
 ) -> Result<Undo, ProgramFault> {
     let alloc = rt.alloc();
     let script = read_journal_script(rt, folder)?;
-    let Some(point) = point_of_line(alloc, script.as_slice(), &site, number)? else {
+    let line = line_of(script.as_slice(), number);
+    let Some(point) = point_of_line(alloc, line, &site)? else {
         return Err(ProgramFault::NoUndoLine);
     };
+    say_line(rt, number, line)?;
     let mut playing = Playing::new(alloc, script.as_slice(), site)?;
     play_to(&mut playing, script.len(), number)?;
     let mut before = kept_by(alloc, playing.machine(), point.as_str())?;
@@ -69,13 +74,8 @@ pub fn undo_of<R: Files<File = File> + Eprint + AllocGlobal>(
     Ok(Undo { point, calls })
 }
 
-/// The identity of the point that a line of a script is for or from.
-fn point_of_line(
-    alloc: Global,
-    script: &[u8],
-    site: &Site,
-    number: u64,
-) -> Result<Option<String>, AllocError> {
+/// The line of a number, counted from 1, in a script; behind its end nothing.
+fn line_of(script: &[u8], number: u64) -> &[u8] {
     let mut rest = script;
     for _line in 1..number {
         if rest.is_empty() {
@@ -83,13 +83,32 @@ fn point_of_line(
         }
         rest = split_line(rest).1;
     }
-    if rest.is_empty() {
+    split_line(rest).0
+}
+
+/// The identity of the point that a line of a script is for or from.
+fn point_of_line(alloc: Global, line: &[u8], site: &Site) -> Result<Option<String>, AllocError> {
+    if line.is_empty() {
         return Ok(None);
     }
-    match read_line(split_line(rest).0, site) {
+    match read_line(line, site) {
         Ok(ScriptLine::Text(sent)) => Ok(Some(String::from_str(alloc, sent.point())?)),
         _ => Ok(None),
     }
+}
+
+/// Says what is undone: the beginning of its line.
+fn say_line<R: Eprint + AllocGlobal>(rt: &R, number: u64, line: &[u8]) -> Result<(), AllocError> {
+    let mut shown = String::new(rt.alloc());
+    for character in str::from_utf8(line)
+        .unwrap_or("")
+        .chars()
+        .take(LONGEST_SHOWN)
+    {
+        shown.push(character)?;
+    }
+    let _ = eprintln!(rt; "undo: line {number} is {shown}");
+    Ok(())
 }
 
 /// Plays the lines of a script that stand before the line of a number. It has no more lines than
