@@ -32,12 +32,12 @@ HERE = os.path.dirname(os.path.dirname(os.path.abspath(__file__)))
 
 # The most that a page may have, in KB of 1,024 bytes. README is counted in lines.
 SIZES = {
-    "docs/RUNNING.md": 16,
-    "docs/COMMANDS.md": 16,
+    "docs/RUNNING.md": 17,
+    "docs/COMMANDS.md": 17,
     "docs/PROTOCOL.md": 28,
     "docs/DIFFERENCES.md": 21,
     "docs/MEANING.md": 16,
-    "docs/ARCHITECTURE.md": 14,
+    "docs/ARCHITECTURE.md": 15,
     "docs/WORKING.md": 18,
     "docs/REVIEWING.md": 15,
     "docs/PROOFS.md": 16,
@@ -49,7 +49,7 @@ SIZES = {
     "tests/README.md": 8,
 }
 OTHER_SIZE = 8
-ALL_SIZE = 265
+ALL_SIZE = 267
 README_LINES = 110
 MEAN_WORDS = 25
 LONGEST_WORDS = 60
