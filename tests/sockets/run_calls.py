@@ -12,6 +12,7 @@ from texts import accepted, clear, heartbeat, install, install_call, profile, st
 NOT_SENT = b": it would be refused, so it isn't sent; --force sends it\n"
 FUSE = {"purpose": "ChargePointMaxProfile"}
 TX = {"purpose": "TxProfile", "kind": "Relative"}
+GONE = b": warning: this leaves the point without a ChargePointMaxProfile; it had up to 32.0 A\n"
 NAMED = b"ChargePointMaxProfile 3 (stack level 0, at connector 0)"
 OTHER_ID = b"set-profile: remark: this takes the place of %s, which has its connector, purpose and stack level\n" % NAMED
 
@@ -65,15 +66,17 @@ def warnings(site, operator, _point):
     """What only the point's state tells is said before a call is sent, and holds nothing back; without `--data` it isn't."""
     taken = b"set-profile: %%s: this takes the place of %s, which has the same chargingProfileId\n" % NAMED
     high = b"set-profile: warning: each limit of this profile is above the ceiling of the site file there, 63.0: it never lowers anything\n"
-    expect("a fuse ten times as high", site.set(profile(3, [320], **FUSE), "--dry-run")[::2], (0, high))
+    raised = b"set-profile: warning: this raises what the point's ChargePointMaxProfiles allow at most from 32.0 to %s A\n"
+    expect("a fuse ten times as high", site.set(profile(3, [320], **FUSE), "--dry-run")[::2], (0, high + raised % b"320.0"))
+    expect("a higher fuse", raised % b"40.0" in site.set(profile(3, [40], **FUSE), "--dry-run")[2], True)
     expect("one of another id", site.set(profile(7, [30], **FUSE), "--dry-run")[2].splitlines(True)[0], OTHER_ID)
     lifted = b"set-profile: warning: ChargePointMaxProfile 9 allows up to 60.0 A, and 3 only 32.0 A: while 9 has a limit, 3 doesn't count, since"
     expect("one above it", site.set(profile(9, [60], level=1, **FUSE), "--dry-run")[2][: len(lifted)], lifted)
-    expect("an id of another purpose", site.set(profile(3, [8]), "--dry-run")[::2], (0, taken % b"warning"))
+    expect("an id of another purpose", site.set(profile(3, [8]), "--dry-run")[::2], (0, taken % b"warning" + b"set-profile" + GONE))
     expect("nothing was sent", site.call("--clear", '{"id":3,"stackLevel":1}')[::2], (
         0, b"clear: warning: this clears nothing: the point has no profile that matches its criteria\n"))
     along = b"clear: warning: this clears %s too: name id or chargingProfilePurpose, if that isn't meant\n" % NAMED
-    expect("a clear that takes it along", site.call("--clear", '{"stackLevel":0}'), sent(b"clear", along))
+    expect("a clear that takes it along", site.call("--clear", '{"stackLevel":0}'), sent(b"clear", along + b"clear" + GONE))
     expect("without the folder", site.set(profile(3, [320], **FUSE), checked=False), sent(b"set-profile"))
     expect("and the id", site.set(profile(3, [8]), checked=False), sent(b"set-profile"))
     expect("what is right", site.set(profile(4, [8], level=1)), sent(b"set-profile"))
@@ -108,7 +111,8 @@ def each_point(site, operator, _point):
     """With `--all` each point's own state tells, and what is said begins with the point."""
     status, out, said = site.call("--all", "--clear", '{"id":3}', at="")
     expect("both", (status, out), (0, b'P1 [3,"clear",{"status":"Accepted"}]\nP2 [3,"clear",{"status":"Unknown"}]\n'))
-    expect("what is said", said, b"P2 clear: warning: this clears nothing: the point has no profile that matches its criteria\n")
+    nothing = b"P2 clear: warning: this clears nothing: the point has no profile that matches its criteria\n"
+    expect("what is said", said, b"P1 clear" + GONE + nothing)
     expect("a fault of both", site.set(profile(5, [6], **TX), "--all", at="", connector=1)[:2], (
         2, b"P1 ! set-profile HasFault\nP2 ! set-profile HasFault\n"))
 

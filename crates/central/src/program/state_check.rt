@@ -4,6 +4,7 @@ ghost use Rattle.std.specs.Prelude.{◌≤◌, IfOk, vec_len};
 ghost use Rattle.replay.specs.Limits.{max_script_bytes};
 
 use crate::program::caller::{Caller, on_one_line};
+use crate::program::fuse_change::{check_fuse, fuse_of};
 use crate::program::given_calls::GivenCall;
 use crate::program::moment::now;
 use crate::program::played_lines::{find_at_point, find_in_changes, find_in_next_line};
@@ -105,6 +106,7 @@ fn find_in_call(
 ) -> Result<Vec<Finding>, AllocError> {
     let number = trace.playing().next_line();
     let before = find_at_point(alloc, trace.playing().machine(), point)?;
+    let fuse_before = fuse_of(trace.playing().machine(), point);
     let mut check = ScriptCheck::new(alloc);
     let mut printed = Vec::new(alloc);
     find_in_next_line(alloc, trace, &mut check, &mut printed)?;
@@ -114,10 +116,18 @@ fn find_in_call(
     let after = find_at_point(alloc, trace.playing().machine(), point)?;
     let by_itself = check_sent(alloc, frame)?;
     let mut findings = without(alloc, found, by_itself.findings.as_slice())?;
+    let machine = trace.playing().machine();
+    let fuse_after = fuse_of(machine, point);
     let mut standing = without(alloc, after, before.as_slice())?;
-    // What its ceilings alone bring about is no news of a call.
-    standing.retain(|finding| finding.severity != Severity::Remark);
+    // What ceilings bring about beside the same fuse limit is no news.
+    standing.retain(|finding| {
+        finding.severity != Severity::Remark || fuse_after != fuse_before
+    });
     findings.append(&mut standing)?;
+    let unit = machine.site().unit();
+    if let Some(finding) = check_fuse(alloc, unit, point, fuse_before, fuse_after)? {
+        findings.push(finding)?;
+    }
     Ok(findings)
 }
 
