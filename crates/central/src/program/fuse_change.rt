@@ -29,21 +29,13 @@ pub fn check_fuse(
     before: Option<u32>,
     after: Option<u32>,
 ) -> Result<Option<Finding>, AllocError> {
-    let unit = unit_name(unit);
-    let message = match (before, after) {
-        (Some(was), None) => {
-            let was = tenths(alloc, was)?;
-            format!(in alloc;
-                "this leaves the point without a ChargePointMaxProfile; it had up to {was} {unit}"
-            )?
-        }
-        (Some(was), Some(now)) if was < now => {
-            let (was, now) = (tenths(alloc, was)?, tenths(alloc, now)?);
-            format!(in alloc;
-                "this raises what the point's ChargePointMaxProfiles allow at most from {was} to {now} {unit}"
-            )?
-        }
-        _ => return Ok(None),
+    let Some(was) = before else {
+        return Ok(None);
+    };
+    let message = match after {
+        None => gone_message(alloc, unit, was)?,
+        Some(now) if now > was => raised_message(alloc, unit, was, now)?,
+        Some(_) => return Ok(None),
     };
     Ok(Some(Finding {
         severity: Severity::Warning,
@@ -51,6 +43,24 @@ pub fn check_fuse(
         name: None,
         message,
     }))
+}
+
+/// That a point has no fuse limit any more.
+fn gone_message(alloc: Global, unit: Unit, was: u32) -> Result<String, AllocError> {
+    let was = tenths(alloc, was)?;
+    let unit = unit_name(unit);
+    format!(in alloc;
+        "this leaves the point without a ChargePointMaxProfile; it had up to {was} {unit}"
+    )
+}
+
+/// That a point's fuse limit is higher.
+fn raised_message(alloc: Global, unit: Unit, was: u32, now: u32) -> Result<String, AllocError> {
+    let (was, now) = (tenths(alloc, was)?, tenths(alloc, now)?);
+    let unit = unit_name(unit);
+    format!(in alloc;
+        "this raises what the point's ChargePointMaxProfiles allow at most from {was} to {now} {unit}"
+    )
 }
 
 /// A limit in tenths, as `64.0`.

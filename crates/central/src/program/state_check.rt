@@ -59,27 +59,24 @@ pub fn check_visits<
         }
     }
     for visit in visits {
-        check_visit(alloc, caller, &mut trace, calls, visit)?;
+        let passed = passed_calls(alloc, caller, &mut trace, calls, &*visit)?;
+        visit.calls = passed;
     }
     Ok(())
 }
 
-/// Leaves to a visit the calls that its point would take. They are the next lines of the script.
-fn check_visit<
+/// The calls of a visit that its point would take. They are the next lines of the script.
+fn passed_calls<
     R: Print + Eprint + AllocGlobal + Net<Stream = TcpStream> + RandomSource + Wait + Copy + Drop,
 >(
     alloc: Global,
     caller: &mut Caller<'_, R>,
     trace: &mut Trace<'_>,
     calls: &[GivenCall],
-    visit: &mut Visit,
-) -> Result<(), ProgramFault> {
-    if trace
-        .playing()
-        .machine()
-        .book_of(visit.id.as_str())
-        .is_none()
-    {
+    visit: &Visit,
+) -> Result<Vec<usize>, ProgramFault> {
+    let id = visit.id.as_str();
+    if trace.playing().machine().book_of(id).is_none() {
         return Err(ProgramFault::NoSuchPoint);
     }
     let mut passed = Vec::new(alloc);
@@ -87,13 +84,12 @@ fn check_visit<
         let Some(call) = calls.get(*place) else {
             continue;
         };
-        let findings = find_in_call(alloc, trace, visit.id.as_str(), call.frame.as_str())?;
+        let findings = find_in_call(alloc, trace, id, call.frame.as_str())?;
         if caller.passes_at(visit.label(), call, findings.as_slice())? {
             passed.push(*place)?;
         }
     }
-    visit.calls = passed;
-    Ok(())
+    Ok(passed)
 }
 
 /// Plays the next line of a script, which is a call to a point. Returns what is found in it besides

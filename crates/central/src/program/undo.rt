@@ -79,9 +79,12 @@ fn line_of(script: &[u8], number: u64) -> &[u8] {
     let mut rest = script;
     for _line in 1..number {
         if rest.is_empty() {
-            break;
+            return rest;
         }
         rest = split_line(rest).1;
+    }
+    if rest.is_empty() {
+        return rest;
     }
     split_line(rest).0
 }
