@@ -1,4 +1,5 @@
--- What a chronicle and its fronts own. The entries are kept as their codes, in an algebra that names no type.
+-- What a chronicle and its fronts own. The entries are kept as their codes, in an algebra that
+-- names no type.
 use Rattle.std.specs.Prelude.{ℕ, List, [], map}
 use base.Fraction.{full_share}
 use base.Stored.{Gv, Coded}

@@ -9,7 +9,8 @@ ghost use Rattle.chronicle.specs.Owned.{known};
 use crate::name::ChronicleName;
 use std::marker::{Model, PhantomData};
 
-/// A beginning of the chronicle J, as it once was. It stays one, whatever is added. It has no bytes.
+/// A beginning of the chronicle J, as it once was. It stays one, whatever is added, and has no
+/// bytes.
 pub struct Front<E, J: ChronicleName> {
     pub(crate) marker: PhantomData<(E, J)>,
     pub ghost entries: { List E } by { coded_list E.code },

@@ -1,4 +1,5 @@
-//! A list that only grows and exists in proofs alone: one owner adds to it, threads know beginnings of it.
+//! A list that only grows and exists in proofs alone: one owner adds to it, and threads know
+//! beginnings of it.
 #![tactic(auto)]
 
 mod chronicle;
