@@ -4,7 +4,6 @@ pub mod caller;
 pub mod calling;
 pub mod checking;
 pub mod explaining;
-pub mod fuse_change;
 pub mod given_calls;
 pub mod kept_boots;
 pub mod key_check;

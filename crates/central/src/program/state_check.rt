@@ -4,17 +4,17 @@ ghost use Rattle.std.specs.Prelude.{◌≤◌, IfOk, vec_len};
 ghost use Rattle.replay.specs.Limits.{max_script_bytes};
 
 use crate::program::caller::{Caller, on_one_line};
-use crate::program::fuse_change::{check_fuse, fuse_of};
 use crate::program::given_calls::GivenCall;
 use crate::program::moment::now;
 use crate::program::played_lines::{find_at_point, find_in_changes, find_in_next_line};
 use crate::program::program_fault::ProgramFault;
 use crate::program::visit::Visit;
 use data_folder::read_journal_script;
-use findings::{Finding, ScriptCheck, Severity, check_sent};
+use findings::{Finding, ScriptCheck, Severity, check_fuse, check_sent, fuse_limit};
 use ocpp_scalars::{Instant, push_instant};
 use replay::{MAX_SCRIPT_BYTES, ReplayFault};
 use show_pages::{Depth, Trace};
+use site_core::Machine;
 use site_rules::Site;
 use std::alloc::{AllocError, AllocGlobal, Global};
 use std::fs::File;
@@ -102,7 +102,7 @@ fn find_in_call(
 ) -> Result<Vec<Finding>, AllocError> {
     let number = trace.playing().next_line();
     let before = find_at_point(alloc, trace.playing().machine(), point)?;
-    let fuse_before = fuse_of(trace.playing().machine(), point);
+    let fuse_before = fuse_at(trace.playing().machine(), point);
     let mut check = ScriptCheck::new(alloc);
     let mut printed = Vec::new(alloc);
     find_in_next_line(alloc, trace, &mut check, &mut printed)?;
@@ -113,7 +113,7 @@ fn find_in_call(
     let by_itself = check_sent(alloc, frame)?;
     let mut findings = without(alloc, found, by_itself.findings.as_slice())?;
     let machine = trace.playing().machine();
-    let fuse_after = fuse_of(machine, point);
+    let fuse_after = fuse_at(machine, point);
     let mut standing = without(alloc, after, before.as_slice())?;
     // What ceilings bring about beside the same fuse limit is no news.
     standing.retain(|finding| {
@@ -125,6 +125,11 @@ fn find_in_call(
         findings.push(finding)?;
     }
     Ok(findings)
+}
+
+/// The most that the ChargePointMaxProfiles of the point of an identity allow, where it has any.
+fn fuse_at(machine: &Machine, point: &str) -> Option<u32> {
+    fuse_limit(machine.book_of(point)?)
 }
 
 /// The findings whose message none of the others has.
