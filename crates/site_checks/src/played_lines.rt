@@ -7,7 +7,7 @@ use std::alloc::{AllocError, Global};
 
 /// Plays the next line of a script, if one is left, and checks it. What is found in what it prints
 /// is added to the findings. Returns whether a line was left.
-pub fn find_in_next_line(
+pub(crate) fn find_in_next_line(
     alloc: Global,
     trace: &mut Trace<'_>,
     check: &mut ScriptCheck,
@@ -25,7 +25,7 @@ pub fn find_in_next_line(
 
 /// Adds what is found in what lines changed in the profiles of their points, from the line of a number
 /// on.
-pub fn find_in_changes(
+pub(crate) fn find_in_changes(
     alloc: Global,
     trace: &Trace<'_>,
     first: u64,
@@ -48,7 +48,7 @@ pub fn find_in_changes(
 }
 
 /// What is found in what the point of an identity has.
-pub fn find_at_point(
+pub(crate) fn find_at_point(
     alloc: Global,
     machine: &Machine,
     point: &str,

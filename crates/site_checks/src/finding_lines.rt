@@ -1,4 +1,4 @@
-//! What is found in a site file, as a page.
+//! What is found, line by line.
 
 use findings::{Finding, Location, Severity};
 use std::alloc::{AllocError, Global};
