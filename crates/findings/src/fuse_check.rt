@@ -40,6 +40,34 @@ pub fn check_fuse(
     Ok(Some(Finding::warning(place, message)))
 }
 
+/// A remark on the line of a number where it raises the fuse limit of its point.
+pub fn check_raise(
+    alloc: Global,
+    unit: Unit,
+    line: u64,
+    before: Option<u32>,
+    after: Option<u32>,
+) -> Result<Option<Finding>, AllocError> {
+    let (Some(was), Some(now)) = (before, after) else {
+        return Ok(None);
+    };
+    if now <= was {
+        return Ok(None);
+    }
+    let message = raised_message(alloc, unit, was, now)?;
+    Ok(Some(Finding::remark(Location::Line(line), message)))
+}
+
+/// A remark on the point of an identity that has no fuse limit, though most points of its site do.
+pub fn check_unlimited(alloc: Global, point: &str) -> Result<Finding, AllocError> {
+    let place = Location::End(String::from_str(alloc, point)?);
+    let message = String::from_str(
+        alloc,
+        "it has no ChargePointMaxProfile, though most points of the site do",
+    )?;
+    Ok(Finding::remark(place, message))
+}
+
 /// That a point has no fuse limit any more.
 fn gone_message(alloc: Global, unit: Unit, was: u32) -> Result<String, AllocError> {
     let was = tenths_text(alloc, u64::from(was))?;

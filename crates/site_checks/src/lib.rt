@@ -7,6 +7,7 @@ mod key_check;
 mod played_calls;
 mod played_lines;
 mod played_script;
+mod point_fuses;
 
 pub use finding_lines::{push_findings, site_page};
 pub use key_check::find_in_keys;

@@ -3,10 +3,10 @@
 ghost use Rattle.std.specs.Prelude.{◌≤◌, length};
 ghost use Rattle.replay.specs.Limits.{max_script_bytes};
 
-use crate::played_lines::{find_at_point, find_in_changes, find_in_next_line};
-use findings::{Finding, ScriptCheck, Severity, check_fuse, check_sent, fuse_limit};
+use crate::played_lines::{find_at_point, find_in_changes, find_in_played};
+use crate::point_fuses::fuse_at;
+use findings::{Finding, ScriptCheck, Severity, check_fuse, check_sent};
 use show_pages::{Depth, Trace};
-use site_core::Machine;
 use site_rules::Site;
 use std::alloc::{AllocError, Global};
 
@@ -76,16 +76,13 @@ fn find_in_line(
 ) -> Result<Vec<Finding>, AllocError> {
     let mut check = ScriptCheck::new(alloc);
     let mut printed = Vec::new(alloc);
-    find_in_next_line(alloc, trace, &mut check, &mut printed)?;
+    if let Some(played) = trace.next()? {
+        find_in_played(alloc, trace, &mut check, &mut printed, played)?;
+    }
     let mut found = check.finish(&[])?;
     found.append(&mut printed)?;
     find_in_changes(alloc, trace, number, &mut found)?;
     Ok(found)
-}
-
-/// The most that the ChargePointMaxProfiles of the point of an identity allow, where it has any.
-fn fuse_at(machine: &Machine, point: &str) -> Option<u32> {
-    fuse_limit(machine.book_of(point)?)
 }
 
 /// The findings whose message none of the others has.

@@ -3,8 +3,9 @@
 ghost use Rattle.std.specs.Prelude.{◌≤◌, length};
 ghost use Rattle.replay.specs.Limits.{max_script_bytes};
 
-use crate::finding_lines::push_findings;
-use crate::played_lines::{find_at_point, find_in_changes, find_in_next_line};
+use crate::finding_lines::push_script_findings;
+use crate::played_lines::{find_at_point, find_in_changes, find_in_played};
+use crate::point_fuses::PointFuses;
 use findings::{Finding, ScriptCheck, check_boot, sort_by_line};
 use show_pages::{Depth, Trace, ending_text, trace_text};
 use site_core::Machine;
@@ -47,7 +48,7 @@ pub fn push_played(
         &mut findings,
     )?;
     sort_by_line(&mut findings)?;
-    push_findings(page, "script", findings.as_slice())?;
+    push_script_findings(page, findings.as_slice())?;
     if played.with_trace {
         page.push_str(trace_text(alloc, &trace)?.as_str())?;
     }
@@ -64,14 +65,20 @@ fn find_in_lines(
 ) -> Result<Vec<Finding>, AllocError> {
     let mut check = ScriptCheck::new(alloc);
     let mut printed = Vec::new(alloc);
+    let mut fuses = PointFuses::new(alloc, trace.playing().machine())?;
     // Each line has a byte at least.
     for _line in 0..script.len() {
-        if !find_in_next_line(alloc, trace, &mut check, &mut printed)? {
+        let Some(played) = trace.next()? else {
             break;
+        };
+        if let Some(raise) = fuses.follow(alloc, trace.playing().machine(), &played)? {
+            printed.push(raise)?;
         }
+        find_in_played(alloc, trace, &mut check, &mut printed, played)?;
     }
     let mut findings = check.finish(trace.playing().held())?;
     findings.append(&mut printed)?;
+    fuses.find_unlimited(alloc, trace.playing().machine(), &mut findings)?;
     Ok(findings)
 }
 

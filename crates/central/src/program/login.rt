@@ -5,13 +5,18 @@ use crate::program::program_fault::ProgramFault;
 use std::alloc::AllocGlobal;
 use std::rt::Files;
 
-/// Reads the name and the key of a file, if one is given.
+/// Reads the name and the key of a file, if one is given. They have a colon between them.
 pub fn read_login<R: Files + Eprint + AllocGlobal>(
     rt: &R,
     path: Option<&str>,
 ) -> Result<Option<String>, ProgramFault> {
-    match path {
-        Some(path) => Ok(Some(read_payload_file(rt, path)?)),
-        None => Ok(None),
+    let Some(path) = path else {
+        return Ok(None);
+    };
+    let login = read_payload_file(rt, path)?;
+    if login.as_str().contains(':') {
+        Ok(Some(login))
+    } else {
+        Err(ProgramFault::Login)
     }
 }
