@@ -16,5 +16,5 @@ pub use caller::{Caller, Sending};
 pub use given_call::GivenCall;
 pub use operator_url::{is_without_point, url_of_point};
 pub use undo::{LostProfile, Undo, undo_to};
-pub use undone_line::{line_of, point_of_line};
+pub use undone_line::{line_at, point_of_line};
 pub use visit::{Visit, visits_of_site};

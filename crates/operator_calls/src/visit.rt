@@ -1,5 +1,8 @@
 //! Which calls go to which points.
 
+ghost use Rattle.std.specs.Prelude.{◌≡◌, ◌×◌, true, false, map, IfOk, IfSome, string_bytes};
+ghost use Rattle.operator_calls.specs.Visits.{visited, all_points};
+
 use crate::operator_url::{is_without_point, last_segment};
 use site_rules::Site;
 use std::alloc::{AllocError, Global};
@@ -17,7 +20,9 @@ pub struct Visit {
 
 impl Visit {
     /// A visit with so many calls.
-    fn new(alloc: Global, id: &str, is_labelled: bool, count: usize) -> Result<Visit, AllocError> {
+    fn new(alloc: Global, id: &str, is_labelled: bool, count: usize) -> Result<Visit, AllocError>
+        ensures { IfOk result (λ visit. visited visit ≡ (id.now, is_labelled)) }
+    {
         let mut calls = Vec::new(alloc);
         for place in 0..count {
             calls.push(place)?;
@@ -30,7 +35,9 @@ impl Visit {
     }
 
     /// The visit to the point of an operator's URL, with so many calls.
-    pub fn of_url(alloc: Global, url: &str, count: usize) -> Result<Visit, AllocError> {
+    pub fn of_url(alloc: Global, url: &str, count: usize) -> Result<Visit, AllocError>
+        ensures { IfOk result (λ visit. visit.is_labelled ≡ false) }
+    {
         Visit::new(alloc, last_segment(url), false, count)
     }
 
@@ -41,7 +48,9 @@ impl Visit {
         url: &str,
         id: &str,
         count: usize,
-    ) -> Result<Option<Visit>, AllocError> {
+    ) -> Result<Option<Visit>, AllocError>
+        ensures { IfOk result (λ made. IfSome made (λ visit. string_bytes visit.id ≡ id.now)) }
+    {
         let is_labelled = is_without_point(url);
         if !is_labelled && last_segment(url) != id {
             return Ok(None);
@@ -60,7 +69,9 @@ impl Visit {
 }
 
 /// The visits to each point of a site, each with so many calls.
-pub fn visits_of_site(alloc: Global, site: &Site, count: usize) -> Result<Vec<Visit>, AllocError> {
+pub fn visits_of_site(alloc: Global, site: &Site, count: usize) -> Result<Vec<Visit>, AllocError>
+    ensures { IfOk result (λ visits. map visited visits.items ≡ all_points site.now) }
+{
     let mut visits = Vec::new(alloc);
     for place in 0..site.len() {
         if let Some(point) = site.point(place) {

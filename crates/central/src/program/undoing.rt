@@ -1,11 +1,8 @@
 //! What undoes the line of a journal, read and said.
 
-ghost use Rattle.std.specs.Prelude.{◌≤◌, length};
-ghost use Rattle.replay.specs.Limits.{max_script_bytes};
-
 use crate::program::program_fault::ProgramFault;
 use data_folder::read_journal_script;
-use operator_calls::{LostProfile, Undo, line_of, point_of_line, undo_to};
+use operator_calls::{LostProfile, Undo, line_at, point_of_line, undo_to};
 use site_rules::Site;
 use std::alloc::{AllocError, AllocGlobal};
 use std::fs::File;
@@ -32,7 +29,7 @@ pub fn undo_of<R: Files<File = File> + Eprint + AllocGlobal>(
 ) -> Result<Undoing, ProgramFault> {
     let alloc = rt.alloc();
     let script = read_journal_script(rt, folder)?;
-    let line = line_of(script.as_slice(), number);
+    let line = line_at(script.as_slice(), number);
     let Some(point) = point_of_line(alloc, line, &site)? else {
         return Err(ProgramFault::NoUndoLine);
     };
