@@ -30,11 +30,7 @@ impl<
     R: Print + Eprint + AllocGlobal + Net<Stream = TcpStream> + RandomSource + Wait + Copy + Drop,
 > Caller<'a, R> {
     /// Sends calls to points, one after another. Of several a point whose connection fails is named.
-    pub fn send_calls(
-        &mut self,
-        calls: &[GivenCall],
-        visits: &[Visit],
-    ) -> Result<(), ClientFault> {
+    pub fn send_calls(&mut self, calls: &[GivenCall], visits: &[Visit]) -> Result<(), ClientFault> {
         for visit in visits {
             match (self.send_to(calls, visit), visit.label()) {
                 (Ok(()), _) => {}

@@ -163,18 +163,12 @@ fn calls_between(
         if !is_among(added, before) && !is_replaced(added, before) {
             let id = added.name.id;
             let criteria = format!(in alloc; "{{\"id\":{id}}}")?;
-            calls.push(GivenCall::plain(
-                "undo",
-                clear_call(alloc, criteria.as_str())?,
-            ))?;
+            calls.push(GivenCall::plain("undo", clear_call(alloc, criteria.as_str())?))?;
         }
     }
     for kept in before {
         if kept.comes_back {
-            calls.push(GivenCall::plain(
-                "undo",
-                set_profile_call(alloc, kept.payload.as_str())?,
-            ))?;
+            calls.push(GivenCall::plain("undo", set_profile_call(alloc, kept.payload.as_str())?))?;
         }
     }
     Ok(calls)

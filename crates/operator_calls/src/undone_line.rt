@@ -34,11 +34,7 @@ fn rest_behind(script: &[u8], lines: u64) -> &[u8]
 }
 
 /// The identity of the point that a line of a script is for or from.
-pub fn point_of_line(
-    alloc: Global,
-    line: &[u8],
-    site: &Site,
-) -> Result<Option<String>, AllocError>
+pub fn point_of_line(alloc: Global, line: &[u8], site: &Site) -> Result<Option<String>, AllocError>
     ensures { IfOk result (λ point.
         option_map string_bytes point ≡ point_said (line_of site.now line.now)) }
 {

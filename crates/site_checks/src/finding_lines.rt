@@ -36,7 +36,10 @@ pub(crate) fn push_script_findings(
     findings: &[Finding],
 ) -> Result<(), AllocError> {
     let is_at_end = |finding: &Finding| matches!(finding.place, Location::End(_));
-    let first = findings.iter().position(is_at_end).unwrap_or(findings.len());
+    let first = findings
+        .iter()
+        .position(is_at_end)
+        .unwrap_or(findings.len());
     let (in_lines, at_end) = findings.split_at(first);
     push_findings(page, SCRIPT, in_lines)?;
     for (number, finding) in at_end.iter().enumerate() {

@@ -23,7 +23,10 @@ pub fn check_visits<R: Files<File = File> + Clock + Print + Eprint + AllocGlobal
 ) -> Result<(), ProgramFault> {
     let alloc = rt.alloc();
     let journal = read_journal_script(rt, folder)?;
-    if visits.iter().any(|visit| site.place_of(visit.id.as_str()).is_none()) {
+    if visits
+        .iter()
+        .any(|visit| site.place_of(visit.id.as_str()).is_none())
+    {
         return Err(ProgramFault::NoSuchPoint);
     }
     let Some(made) = script_of_calls(journal, now(rt)?, calls, visits.as_slice())? else {
