@@ -1,5 +1,6 @@
 //! What is found, line by line.
 
+use crate::line_points::LinePoints;
 use findings::{Finding, Location, Severity};
 use std::alloc::{AllocError, Global};
 use std::fmt::Write;
@@ -29,10 +30,11 @@ pub fn push_findings(
     Ok(())
 }
 
-/// Appends a line for each finding in a script, in the order of its lines. Equal remarks on what
-/// points have at the end, which stands last, are one line.
+/// Appends a line for each finding in a script, in the order of its lines, with the points of these.
+/// Equal remarks on what points have at the end, which stands last, are one line.
 pub(crate) fn push_script_findings(
     page: &mut String,
+    lines: &mut LinePoints<'_>,
     findings: &[Finding],
 ) -> Result<(), AllocError> {
     let is_at_end = |finding: &Finding| matches!(finding.place, Location::End(_));
@@ -41,7 +43,9 @@ pub(crate) fn push_script_findings(
         .position(is_at_end)
         .unwrap_or(findings.len());
     let (in_lines, at_end) = findings.split_at(first);
-    push_findings(page, SCRIPT, in_lines)?;
+    for finding in in_lines {
+        push_in_line(page, lines, finding)?;
+    }
     for (number, finding) in at_end.iter().enumerate() {
         if finding.severity == Severity::Remark {
             push_once(page, SCRIPT, at_end, number)?;
@@ -50,6 +54,32 @@ pub(crate) fn push_script_findings(
         }
     }
     Ok(())
+}
+
+/// Appends a finding in a line of a script, with the point of that line.
+fn push_in_line(
+    page: &mut String,
+    lines: &mut LinePoints<'_>,
+    finding: &Finding,
+) -> Result<(), AllocError> {
+    let Location::Line(number) = finding.place else {
+        return push_finding(page, SCRIPT, finding);
+    };
+    let Some(point) = lines.point_at(*page.allocator(), number)? else {
+        return push_finding(page, SCRIPT, finding);
+    };
+    let message = finding.message.as_str();
+    let written = match finding.severity {
+        Severity::Fault => writeln!(page, "{SCRIPT}: line {number} ({point}): {message}"),
+        severity => writeln!(
+            page,
+            "{SCRIPT}: line {number} ({point}): {severity}: {message}"
+        ),
+    };
+    match written {
+        Ok(()) => Ok(()),
+        Err(_) => Err(AllocError),
+    }
 }
 
 /// Appends a line for each finding that matters so much.

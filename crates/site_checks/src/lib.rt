@@ -4,6 +4,7 @@
 
 mod finding_lines;
 mod key_check;
+mod line_points;
 mod played_calls;
 mod played_lines;
 mod played_script;

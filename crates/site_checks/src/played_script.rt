@@ -4,6 +4,7 @@ ghost use Rattle.std.specs.Prelude.{◌≤◌, length};
 ghost use Rattle.replay.specs.Limits.{max_script_bytes};
 
 use crate::finding_lines::push_script_findings;
+use crate::line_points::LinePoints;
 use crate::played_lines::{find_at_point, find_in_changes, find_in_played};
 use crate::point_fuses::PointFuses;
 use findings::{Finding, ScriptCheck, check_boot, sort_by_line};
@@ -48,7 +49,8 @@ pub fn push_played(
         &mut findings,
     )?;
     sort_by_line(&mut findings)?;
-    push_script_findings(page, findings.as_slice())?;
+    let mut lines = LinePoints::new(played.script, trace.playing().machine().site());
+    push_script_findings(page, &mut lines, findings.as_slice())?;
     if played.with_trace {
         page.push_str(trace_text(alloc, &trace)?.as_str())?;
     }
