@@ -31,7 +31,7 @@ pub struct Sending<'a> {
 /// Who sends messages, and what came of them so far.
 #[derive(Drop)]
 pub struct Caller<'a, R> {
-    pub rt: &'a R,
+    pub(crate) rt: &'a R,
     pub sending: Sending<'a>,
     status: u8,
 }
