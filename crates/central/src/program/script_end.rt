@@ -17,3 +17,12 @@ pub fn script_end(at: Option<&str>) -> Result<ScriptEnd, ProgramFault> {
         Err(_) => Err(ProgramFault::NoScriptEnd),
     }
 }
+
+/// Says whose lines `--at` counts, where it counts those of a folder's journal.
+pub fn note_journal_lines<R: Eprint>(rt: &R, folder: &str, end: ScriptEnd) {
+    if let ScriptEnd::Lines(_) = end {
+        let _ = eprintln!(rt;
+            "central: --at counts the lines of {folder}/journal; check and call --undo count those that central journal prints"
+        );
+    }
+}
