@@ -1,5 +1,5 @@
 -- One visit more is one point more.
-use Rattle.std.proofs.Common.{◌≡◌, ◌∙◌, ◌+◌, ℕ, Bool, List, [], ◌∷◌, ◌++◌, Some, map, take, slice_get, ap, sym}
+use Rattle.std.proofs.Common.{◌≡◌, ◌∙◌, ◌+◌, ℕ, Bool, List, [], ◌∷◌, ◌++◌, Option, None, Some, IsSome, map, take, slice_get, ap, sym}
 use Rattle.std.proofs.lemmas.List.{map-append, take_more}
 use Rattle.std.proofs.lemmas.Option.{slice_get_within, get_or_from_slice_get}
 use Rattle.operator_calls.specs.declared.visit.Visit.{Visit}
@@ -13,3 +13,7 @@ visited-more visits visit points place point before here same =
     ∙ ap (λ front. front ++ visited visit ∷ []) before
     ∙ ap (λ last. take place points ++ last ∷ []) (same ∙ sym read)
     ∙ sym (take_more points place point within)
+
+pub none-some : {A : Type 0} (found : Option A) → found ≡ None → IsSome found → ⊥
+none-some None none some = absurd (cc some)
+none-some (Some x) none some = absurd (cc none)

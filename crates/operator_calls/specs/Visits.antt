@@ -7,6 +7,10 @@ use Rattle.operator_calls.specs.declared.visit.Visit.{Visit}
 abbrev pub visited : Visit → List ℕ × Bool
 visited visit = (string_bytes visit.id, visit.is_labelled)
 
--- all points of a site, in its order, each of which is named
+-- a point about which each line begins with its identity
+abbrev pub named : PointEntry → List ℕ × Bool
+named point = (point.id, true)
+
+-- all points of a site, in its order
 abbrev pub all_points : SiteState → List (List ℕ × Bool)
-all_points site = map (λ (point : PointEntry). (point.id, true)) site.points
+all_points site = map named site.points

@@ -1,6 +1,6 @@
 //! Which calls go to which points.
 
-ghost use Rattle.std.specs.Prelude.{◌≡◌, ◌×◌, true, false, map, IfOk, IfSome, string_bytes};
+ghost use Rattle.std.specs.Prelude.{◌≡◌, true, false, map, IfOk, IfSome, string_bytes};
 ghost use Rattle.operator_calls.specs.Visits.{visited, all_points};
 
 use crate::operator_url::{is_without_point, last_segment};

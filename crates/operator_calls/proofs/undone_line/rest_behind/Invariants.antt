@@ -5,4 +5,4 @@ use Rattle.operator_calls.proofs.undone_line.rest_behind.Given as goal
 
 abbrev pub invariant-loop-line : goal.invariant-loop-line
 invariant-loop-line l =
-    (k : ℕ) → line_behind l.rest k ≡ line_behind l.script (l.line + k)
+    (k : ℕ) → line_behind l.rest k ≡ line_behind l.script (l._line + k)
