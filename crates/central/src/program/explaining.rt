@@ -38,6 +38,7 @@ pub fn explain_file<R: Files<File = File> + Input + Print + Eprint + Clock + All
     let start = start_of(rt, explaining.start)?;
     let ask = ask_of(&explaining, start)?;
     let end = script_end(explaining.at)?;
+    note_journal_lines(rt, explaining.source, end);
     let (site, digest) = read_digested_site(rt, explaining.site)?;
     check_connector(&site, explaining.point, ask.connector)?;
     let presentation = Presentation {
@@ -49,7 +50,6 @@ pub fn explain_file<R: Files<File = File> + Input + Print + Eprint + Clock + All
     let Source::Journal(folder) = explaining.source else {
         return explain_script(rt, presentation, end, site, &ask);
     };
-    note_journal_lines(rt, folder, end);
     let following = Following {
         site,
         digest,

@@ -19,11 +19,11 @@ pub fn show_file<R: Files<File = File> + Input + Print + Eprint + AllocGlobal>(
     showing: Showing<'_>,
 ) -> Result<u8, ProgramFault> {
     let end = script_end(showing.at)?;
+    note_journal_lines(rt, showing.source, end);
     let (site, digest) = read_digested_site(rt, showing.site)?;
     let Source::Journal(folder) = showing.source else {
         return show_script(rt, showing, end, site);
     };
-    note_journal_lines(rt, folder, end);
     let following = Following {
         site,
         digest,
