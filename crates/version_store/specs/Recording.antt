@@ -1,5 +1,5 @@
 -- What is recorded of a book's states: requests for schedules change none of it.
-use Rattle.std.specs.Prelude.{ℕ, ◌≡◌, Bool, true, false, List, Ok}
+use Rattle.std.specs.Prelude.{◌≡◌, Bool, true, false, Ok}
 use Rattle.site_core.specs.declared.step.Step.{Step}
 use Rattle.site_core.specs.declared.step.Step.TheVariants as steps
 use Rattle.site_core.specs.declared.reply.Reply.{Reply}
