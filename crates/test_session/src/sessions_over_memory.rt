@@ -1,6 +1,7 @@
 //! Sessions over sockets whose bytes stand in memory, on a shared book without workers.
 
 ghost use Rattle.std.specs.Prelude.{◌≡◌};
+ghost use Rattle.site_journal.specs.MadeStep.{IsOfMadeStep};
 
 use crate::same::{holds, same, same_text};
 use crate::served_texts::{
@@ -13,7 +14,8 @@ use crossbeam_channel::{Sender, bounded};
 use ocpp_scalars::{Instant, Moments};
 use profile::Unit;
 use session::{
-    Ended, Entry, Journal, JournalFault, Noted, SessionCore, serve_noted_socket, serve_socket,
+    Ended, Entry, Journal, JournalFault, MadeStep, Noted, SessionCore, serve_noted_socket,
+    serve_socket,
 };
 use site_journal::Line;
 use site_rules::read_site;
@@ -24,7 +26,7 @@ use std::sync::ledger::{Blank, Ledger};
 use std::sync::{Mutex, Wait};
 use test_books::instant_at;
 use tungstenite::Message;
-use version_store::{Job, Pass, Shared};
+use version_store::{Job, NoRecorder, Pass, Shared};
 
 /// A clock that tells one moment, or none.
 #[derive(Clone, Copy, Debug)]
@@ -675,6 +677,8 @@ impl<'a, R: Abort + Wait> Lines<'a, R> {
 }
 
 impl<R: Abort + Wait> Journal for Lines<'_, R> {
+    type States = NoRecorder;
+
     fn prepare(
         &self,
         moment: Instant,
@@ -692,8 +696,11 @@ impl<R: Abort + Wait> Journal for Lines<'_, R> {
         Ok(Some(Entry::new(self.alloc, &line)?))
     }
 
-    fn note(&self, entry: Entry, number: u64) {
+    fn note(&self, step: MadeStep<NoRecorder>)
+        requires { IsOfMadeStep step.entry step.number (λ _. Unit {0}) (λ _. Unit {0}) }
+    {
         let mut noted = self.noted.lock(self.rt);
+        let MadeStep { entry, number, .. } = step;
         entry.push(&mut noted, number).expect(self.rt, "error");
     }
 
