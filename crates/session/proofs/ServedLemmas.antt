@@ -2,6 +2,7 @@
 use Rattle.std.proofs.Common.{◌≡◌, ℕ, List, Option, None, Result, Ok, Err, IfOk, option_map, string_bytes, inl, inr, subst, sym, ap, ◌∙◌}
 use Rattle.meaning.specs.declared.ask.Ask.{Ask}
 use Rattle.site_core.specs.Right.{IsRight}
+use Rattle.site_core.specs.State.{MachineState}
 use Rattle.version_store.specs.Answers.{RequestedJob, HandedAnswer}
 use Rattle.version_store.specs.Passes.{PassState}
 use Rattle.texts.specs.SentText.{Sent, sent}
@@ -31,12 +32,12 @@ answered job handed number book ask right =
 
 -- ---- a step that can't be noted
 
-has_no_outcome : (was : PassState) (text : Sent) (owes : Owed) (todo : TodoState)
-    → IsUnnoted owes todo → HasOutcome was text todo.step None
-has_no_outcome was text owed.Nothing todo is = absurd is
-has_no_outcome was text (owed.Response id response) todo is = absurd is
-has_no_outcome was text (owed.Outcome id kind) todo is =
-    subst (λ (t : TodoState). HasOutcome was text t.step None) (sym is) tt
+has_no_outcome : (was : PassState) (seen : MachineState → Type 0) (text : Sent) (owes : Owed) (todo : TodoState)
+    → IsUnnoted owes todo → HasOutcome was seen text todo.step None
+has_no_outcome was seen text owed.Nothing todo is = absurd is
+has_no_outcome was seen text (owed.Response id response) todo is = absurd is
+has_no_outcome was seen text (owed.Outcome id kind) todo is =
+    subst (λ (t : TodoState). HasOutcome was seen text t.step None) (sym is) tt
 
 is_unnoted : (session : SessionState) (moment : ℕ) (frame : List ℕ) (first todo : TodoState)
     → IsTodo session moment frame first → IsUnnoted first.owed todo
@@ -47,18 +48,19 @@ is_unnoted session moment frame first todo (inr short) unnoted =
     absurd (subst (λ (t : TodoState). IsUnnoted t.owed todo) short.todo_is unnoted)
 
 -- the answer to a message whose step can't be noted
-pub unmade_served : (session : SessionState) (was : PassState) (moment : ℕ) (frame : List ℕ)
+pub unmade_served : (session : SessionState) (was : PassState)
+    (seen : MachineState → Type 0) (moment : ℕ) (frame : List ℕ)
     (first left : TodoState) (answer : Option (List ℕ))
     → IsTodo session moment frame first → left ≡ record first { step = None }
     → IsUnmade session left.owed answer
-    → IsServed session was (sent_by session moment frame) answer
-unmade_served session was moment frame first left answer asked left_is it =
+    → IsServed session was seen (sent_by session moment frame) answer
+unmade_served session was seen moment frame first left answer asked left_is it =
     let unnoted = subst (λ (t : TodoState). IsUnnoted t.owed it.todo) left_is it.unnoted in
     record {
       todo = it.todo;
       outcome = None;
       asked = inr (is_unnoted session moment frame first it.todo asked unnoted);
-      made = has_no_outcome was (sent_by session moment frame) left.owed it.todo it.unnoted;
+      made = has_no_outcome was seen (sent_by session moment frame) left.owed it.todo it.unnoted;
       answer_is = it.answer_is;
     }
 
@@ -66,10 +68,10 @@ pub unmade_if : (session : SessionState) (was : PassState) (moment : ℕ) (frame
     (first left : TodoState) (result : Result Served Ended)
     → IsTodo session moment frame first → left ≡ record first { step = None }
     → IfOk result (λ (served : Served). IsUnmade session left.owed (option_map string_bytes served.answer))
-    → IfOk result (λ (served : Served). IsServed session was (sent_by session moment frame)
+    → IfOk result (λ (served : Served). IsServed session was seen (sent_by session moment frame)
     (option_map string_bytes served.answer))
 unmade_if session was moment frame first left (Ok served) asked left_is it =
-    unmade_served session was moment frame first left (option_map string_bytes served.answer)
+    unmade_served session was seen moment frame first left (option_map string_bytes served.answer)
     asked left_is it
 unmade_if session was moment frame first left (Err ended) asked left_is it = tt
 
@@ -83,22 +85,23 @@ same_sent session moment sender point frame text text_is sender_is point_is =
     ∙ ap (λ p. sent moment (side_of session.peer) p frame) point_is)
 
 -- the answer to a message whose step has its outcome
-pub text_served : (session : SessionState) (was : PassState) (moment : ℕ) (sender : Side)
+pub text_served : (session : SessionState) (was : PassState)
+    (seen : MachineState → Type 0) (moment : ℕ) (sender : Side)
     (point frame : List ℕ) (text : Sent) (first left : TodoState) (step : Option Step)
     (outcome : Option Outcome) (answer : Option (List ℕ))
     → IsTodo session moment frame first → left ≡ record first { step = None }
     → step ≡ first.step → text ≡ sent moment sender point frame → sender ≡ side_of session.peer
-    → point ≡ session.point → HasOutcome was text step outcome
+    → point ≡ session.point → HasOutcome was seen text step outcome
     → answer ≡ answer_text session left outcome
-    → IsServed session was (sent_by session moment frame) answer
-text_served session was moment sender point frame text first left step outcome answer asked left_is
+    → IsServed session was seen (sent_by session moment frame) answer
+text_served session was seen moment sender point frame text first left step outcome answer asked left_is
     step_is text_is sender_is point_is made answer_is =
     let same = same_sent session moment sender point frame text text_is sender_is point_is in
     record {
       todo = first;
       outcome = outcome;
       asked = inl asked;
-      made = subst (λ (o : Option Step). HasOutcome was (sent_by session moment frame) o outcome) step_is
-          (subst (λ (t : Sent). HasOutcome was t step outcome) same made);
+      made = subst (λ (o : Option Step). HasOutcome was seen (sent_by session moment frame) o outcome) step_is
+          (subst (λ (t : Sent). HasOutcome was seen t step outcome) same made);
       answer_is = subst (λ (t : TodoState). answer ≡ answer_text session t outcome) left_is answer_is;
     }

@@ -1,6 +1,7 @@
 //! Where sessions note what their steps change.
 
-ghost use Rattle.std.specs.Prelude.{◌≡◌, Bool, true, IfOk, IfSome, OnOk};
+ghost use Rattle.std.specs.Prelude.{IfOk, IfSome};
+ghost use Rattle.site_core.specs.State.{MachineState};
 ghost use Rattle.site_journal.specs.Entry.{IsEntryOf};
 ghost use Rattle.site_journal.specs.Line.{noted_state};
 ghost use Rattle.site_journal.specs.MadeStep.{IsOfMadeStep};
@@ -18,8 +19,11 @@ pub trait Journal {
     /// Who records the states of the book whose steps are noted.
     type States: Recorder + Send + Sync + Drop;
 
-    /// What only a journal that has kept all tells: no message leaves without it.
-    ghost lets_leave: { Self → Bool } = { λ journal. true };
+    /// What shows that something is kept.
+    type Receipt: Drop + Send + Sync;
+
+    /// Whether a receipt shows that all is kept that led to a state which is this.
+    ghost covers: { Self.Receipt → (MachineState → Type 0) → Type 0 };
 
     /// Makes the entry of a step that is about to be made, or none where nothing is noted. The
     /// number that the step draws, if it draws one, is 0. Nobody has the book: a long message takes
@@ -39,10 +43,17 @@ pub trait Journal {
         requires { IsOfMadeStep step.entry step.number
             (Self.States.was_at step.before) (Self.States.was_at step.after) };
 
-    /// Waits until all that is noted by now is kept, whoever noted it. The session doesn't have the
-    /// book. On an error no message may leave that depends on any of it.
-    fn write_out(&self) -> Result<(), JournalFault>
-        ensures { OnOk result (lets_leave self.now ≡ true) };
+    /// Waits until all is kept that led to what was recorded by some moment, whoever noted it. The
+    /// session doesn't have the book. On an error no message may leave that depends on any of it.
+    fn receipt(
+        &self,
+        recorded: &<Self::States as Recorder>::Front,
+    ) -> Result<Self::Receipt, JournalFault>
+        ensures { IfOk result
+            (λ receipt. covers receipt (Self.States.was_at recorded.now)) };
+
+    /// Waits until all that is noted by now is kept, whoever noted it.
+    fn write_out(&self) -> Result<(), JournalFault>;
 }
 
 /// Why a step can't be noted, or what is noted can't be kept.
@@ -67,6 +78,10 @@ pub struct NoJournal;
 impl Journal for NoJournal {
     type States = NoRecorder;
 
+    type Receipt = ();
+
+    ghost covers = { λ _ _. Unit {0} };
+
     fn prepare(
         &self,
         _moment: Instant,
@@ -79,6 +94,10 @@ impl Journal for NoJournal {
     fn note(&self, _step: MadeStep<NoRecorder>)
         requires { IsOfMadeStep _step.entry _step.number (λ _. Unit {0}) (λ _. Unit {0}) }
     {}
+
+    fn receipt(&self, _recorded: &()) -> Result<(), JournalFault> {
+        Ok(())
+    }
 
     fn write_out(&self) -> Result<(), JournalFault> {
         Ok(())

@@ -21,7 +21,7 @@ use std::io::{Read, Write};
 use std::sync::Wait;
 use std::sync::ledger::Ledger;
 use tungstenite::{MaskKeys, WebSocket};
-use version_store::Pass;
+use version_store::{Pass, Recorder};
 
 /// Gives a point's session its link, before its first message, and notes it. Without one it ends.
 pub fn attach_session<C: Ledger, A: Ledger, R: Wait, M: Moments, J: Journal>(
@@ -87,13 +87,14 @@ pub fn send_call<
     if link_to_send != Some(link) {
         return Ok(None);
     }
-    let Some(call) = next_call(context, core.point_id(), link, moment)? else {
+    let Some((call, seen)) = next_call(context, core.point_id(), link, moment)? else {
         return Ok(None);
     };
     let Ok(text) = text_of_call(context.alloc, &call) else {
         return Err(Ended::OutOfMemory);
     };
-    let cleared = clear_to_leave(context.journal, text.as_str())?;
+    let seen = Some(seen);
+    let cleared = clear_to_leave(context.journal, text.as_str(), &seen)?;
     send_text(context.alloc, socket, cleared)?;
     Ok(Some(SentCall {
         number: call.number,
@@ -113,14 +114,14 @@ fn action_of(body: &CallBody) -> ActionKind
     }
 }
 
-/// The first call that waits for a point, which is in flight from then on, and noted so. None where
-/// the point has a later link by now.
+/// The first call that waits for a point, which is in flight from then on, and noted so, and what was
+/// recorded of the book by that. None where the point has a later link by now.
 fn next_call<C: Ledger, A: Ledger, R: Wait, M: Moments, J: Journal>(
     context: &Context<'_, C, A, R, M, J>,
     point: &PointId,
     link: u64,
     moment: Instant,
-) -> Result<Option<Call>, Ended> {
+) -> Result<Option<(Call, <J::States as Recorder>::Front)>, Ended> {
     let noted = Noted::Sent { link, call: 0 };
     let entry = match context.journal.prepare(moment, point.as_str(), noted) {
         Ok(entry) => entry,
@@ -137,9 +138,11 @@ fn next_call<C: Ledger, A: Ledger, R: Wait, M: Moments, J: Journal>(
     if let (Ok(Some(call)), Some(entry)) = (&call, entry) {
         note_made(context.journal, &book, before, entry, call.number);
     }
+    let seen = book.recorded();
     drop(book);
     match call {
-        Ok(call) => Ok(call),
+        Ok(Some(call)) => Ok(Some((call, seen))),
+        Ok(None) => Ok(None),
         Err(Refusal::OutOfMemory) => Err(Ended::OutOfMemory),
         Err(_) => Ok(None),
     }

@@ -3,7 +3,7 @@
 ghost use Rattle.std.specs.Prelude.{◌≡◌, ◌↔◌, IsTrue, IfOk, IfSome, option_map, string_bytes};
 ghost use Rattle.session.specs.Noting.{IsEntryFor, IsEntryToNote, is_confirm};
 ghost use Rattle.session.specs.Perform.{IsOfText};
-ghost use Rattle.session.specs.Served.{HasOutcome, IsOutcomeOf, IsOutcomeOfJob, IsPerformed, IsServed, IsUnmade};
+ghost use Rattle.session.specs.Served.{HasOutcome, IsOutcomeOf, IsOutcomeOfJob, IsPerformed, IsServed, IsUnmade, seen_at};
 ghost use Rattle.session.specs.Serving.{KeepsPass};
 ghost use Rattle.session.specs.Session.{sent_by};
 
@@ -17,7 +17,7 @@ use crate::serving::heard::{Heard, Incoming, Told};
 use crate::serving::noting::{note_performed, prepare_message};
 use crate::serving::reading::read_message;
 use crate::serving::session_socket::SessionSocket;
-use crate::serving::sockets::{clear_to_leave, send_text};
+use crate::serving::sockets::{Seen, clear_to_leave, send_text};
 use crate::serving::telling::{subject_of, told_by};
 use crate::serving::waiting::{Sending, Waiting};
 use crate::session_core::SessionCore;
@@ -33,7 +33,7 @@ use std::sync::Wait;
 use std::sync::ledger::Ledger;
 use texts::SentText;
 use tungstenite::MaskKeys;
-use version_store::{Job, Pass};
+use version_store::{Job, Pass, Recorder};
 
 /// Waits for the next WebSocket message, and serves it if it is a text message. Where nothing comes
 /// for as long as the stream lets a read wait, says so. An error ends the session. The client of a
@@ -68,10 +68,10 @@ pub fn serve_next<
         return Err(Ended::Broken);
     };
     let frame = text.as_str();
-    let Served { answer, told } = serve_sent_text(context, socket, core, pass, now, frame)?;
+    let Served { answer, told, seen } = serve_sent_text(context, socket, core, pass, now, frame)?;
     socket.still_there()?;
     if let Some(answer) = &answer {
-        let cleared = clear_to_leave(context.journal, answer.as_str())?;
+        let cleared = clear_to_leave(context.journal, answer.as_str(), &seen)?;
         send_text(context.alloc, socket.websocket(), cleared)?;
     }
     let sent = send_call(context, socket.websocket(), core, now)?;
@@ -80,11 +80,13 @@ pub fn serve_next<
 
 /// What came of a message.
 #[derive(Drop)]
-pub struct Served {
+pub struct Served<N: Recorder> {
     /// The message that answers it, if one does.
     pub answer: Option<String>,
     /// What it told.
     pub told: Told,
+    /// What was recorded of the book by its step, if it has one.
+    pub seen: Option<N::Front>,
 }
 
 /// Makes the step of a message of this session that comes at this moment, if it has one, and gives
@@ -100,9 +102,10 @@ pub fn serve_sent_text<C: Ledger, A: Ledger, R: Wait, M: Moments, J: Journal, W:
     pass: &mut Pass<C, A>,
     moment: Instant,
     frame: &str,
-) -> Result<Served, Ended>
+) -> Result<Served<J::States>, Ended>
     ensures pass { KeepsPass pass.old pass.new }
     ensures served { IfOk result (λ served. IsServed core.now pass.old
+        (seen_at J.States.was_at served.seen)
         (sent_by core.now moment frame.now) (option_map string_bytes served.answer)) }
 {
     let Ok(mut todo) = read_message(context, core, moment, frame) else {
@@ -115,7 +118,7 @@ pub fn serve_sent_text<C: Ledger, A: Ledger, R: Wait, M: Moments, J: Journal, W:
         Ok(entry) => entry,
         Err(fault) => return served_unmade(core, todo, fault),
     };
-    let outcome = outcome_of(context, waiting, pass, &sent, step, entry)?;
+    let (outcome, seen) = outcome_of(context, waiting, pass, &sent, step, entry)?;
     let told = told_by(context.alloc, frame, subject, &outcome);
     let is_short = matches!(outcome, Some(Outcome::Refused(Refusal::OutOfMemory)));
     let Ok(answer) = core.answer(todo, outcome) else {
@@ -124,13 +127,17 @@ pub fn serve_sent_text<C: Ledger, A: Ledger, R: Wait, M: Moments, J: Journal, W:
     if is_short && answer.is_none() {
         return Err(Ended::OutOfMemory);
     }
-    Ok(Served { answer, told })
+    Ok(Served { answer, told, seen })
 }
 
 /// The answer to a message whose step isn't made, since it couldn't be noted: that of a CALL that
 /// memory ran out for. A reply has none, and the session ends: its call goes out again over the
 /// point's next link.
-fn served_unmade(core: &SessionCore, todo: Todo, fault: JournalFault) -> Result<Served, Ended>
+fn served_unmade<N: Recorder>(
+    core: &SessionCore,
+    todo: Todo,
+    fault: JournalFault,
+) -> Result<Served<N>, Ended>
     ensures { IfOk result
         (λ served. IsUnmade core.now todo.owed (option_map string_bytes served.answer)) }
 {
@@ -141,12 +148,13 @@ fn served_unmade(core: &SessionCore, todo: Todo, fault: JournalFault) -> Result<
         Ok(answer) => Ok(Served {
             answer,
             told: Told::Other,
+            seen: None,
         }),
         Err(_) => Err(Ended::OutOfMemory),
     }
 }
 
-/// The outcome of the step of a message, if it has one.
+/// The outcome of the step of a message, if it has one, and what was recorded of the book by it.
 fn outcome_of<C: Ledger, A: Ledger, R: Wait, M: Moments, J: Journal, W: Waiting>(
     context: &Context<'_, C, A, R, M, J>,
     waiting: &mut W,
@@ -154,18 +162,19 @@ fn outcome_of<C: Ledger, A: Ledger, R: Wait, M: Moments, J: Journal, W: Waiting>
     sent: &SentText<'_>,
     step: Option<Step>,
     entry: Option<Entry>,
-) -> Result<Option<Outcome>, Ended>
+) -> Result<(Option<Outcome>, Seen<J>), Ended>
     requires of_text { IfSome step IsOfText }
     requires entry { IsEntryFor step entry }
     ensures pass { KeepsPass pass.old pass.new }
-    ensures outcome { IfOk result (HasOutcome pass.old sent.now step) }
+    ensures outcome { IfOk result (λ made. HasOutcome pass.old (seen_at J.States.was_at made.1)
+        sent.now step made.0) }
 {
     match step {
         Some(step) => {
-            let outcome = outcome_of_step(context, waiting, pass, sent, step, entry)?;
-            Ok(Some(outcome))
+            let (outcome, seen) = outcome_of_step(context, waiting, pass, sent, step, entry)?;
+            Ok((Some(outcome), Some(seen)))
         }
-        None => Ok(None),
+        None => Ok((None, None)),
     }
 }
 
@@ -178,19 +187,23 @@ fn outcome_of_step<C: Ledger, A: Ledger, R: Wait, M: Moments, J: Journal, W: Wai
     sent: &SentText<'_>,
     step: Step,
     entry: Option<Entry>,
-) -> Result<Outcome, Ended>
+) -> Result<(Outcome, <J::States as Recorder>::Front), Ended>
     requires of_text { IsOfText step }
     requires entry { IfSome entry (IsEntryToNote step) }
     ensures pass { KeepsPass pass.old pass.new }
-    ensures outcome { IfOk result (IsOutcomeOf pass.old sent.now step) }
+    ensures outcome { IfOk result (λ made.
+        IsOutcomeOf pass.old (J.States.was_at made.1) sent.now step made.0) }
 {
-    let (performed, audit) = perform_noted(context, pass, step, entry)?;
+    let (performed, audit, seen) = perform_noted(context, pass, step, entry)?;
     if let Some(audit) = audit_to_judge(&performed, audit) {
         judge_reply(context, sent, audit)?;
     }
     match performed {
-        Performed::Job(job) => answer_of(context, waiting, pass, job),
-        Performed::Outcome(outcome) => Ok(outcome),
+        Performed::Job(job) => {
+            let outcome = answer_of(context, waiting, pass, job)?;
+            Ok((outcome, seen))
+        }
+        Performed::Outcome(outcome) => Ok((outcome, seen)),
     }
 }
 
@@ -203,12 +216,12 @@ fn perform_noted<C: Ledger, A: Ledger, R: Wait, M: Moments, J: Journal>(
     pass: &mut Pass<C, A>,
     step: Step,
     entry: Option<Entry>,
-) -> Result<(Performed, Option<OpenAudit>), Ended>
+) -> Result<(Performed, Option<OpenAudit>, <J::States as Recorder>::Front), Ended>
     requires of_text { IsOfText step }
     requires entry { IfSome entry (IsEntryToNote step) }
     ensures pass { KeepsPass pass.old pass.new }
-    ensures performed { IfOk result
-        (λ performed. IsPerformed pass.old step performed.0 performed.1) }
+    ensures performed { IfOk result (λ performed. IsPerformed pass.old
+        (J.States.was_at performed.2) step performed.0 performed.1) }
 {
     let confirms = is_confirm(&step);
     let mut book = context.shared.lock(context.rt);
@@ -218,8 +231,9 @@ fn perform_noted<C: Ledger, A: Ledger, R: Wait, M: Moments, J: Journal>(
     let before = book.recorded();
     let performed = perform(&mut book, pass, step);
     note_performed(context.journal, &book, before, entry, confirms, &performed);
+    let seen = book.recorded();
     drop(book);
-    Ok((performed, audit))
+    Ok((performed, audit, seen))
 }
 
 fn is_confirm(step: &Step) -> bool

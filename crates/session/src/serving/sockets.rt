@@ -1,6 +1,6 @@
 //! Messages from a socket and to it.
 
-ghost use Rattle.std.specs.Prelude.{◌≡◌, true};
+ghost use Rattle.session.specs.Leaving.{IsCovered};
 
 use crate::journal::Journal;
 use crate::serving::ended::{Ended, ended_by, ended_unsaved};
@@ -8,6 +8,7 @@ use crate::serving::heard::Incoming;
 use std::alloc::{AllocError, Global};
 use std::io::{ErrorKind, Read, Write};
 use tungstenite::{Error, MaskKeys, Message, WebSocket};
+use version_store::Recorder;
 
 /// The next message.
 pub(crate) fn read_next<S: Read + Write + Drop, K: MaskKeys + Drop>(
@@ -40,22 +41,41 @@ fn is_of_waiting(kind: ErrorKind) -> bool {
     matches!(kind, ErrorKind::WouldBlock | ErrorKind::Interrupted)
 }
 
-/// A message that may leave: since it was written, its journal has said that all is kept.
+/// What was recorded of the book by the step of a message, if it has one.
+pub(crate) type Seen<J> = Option<<<J as Journal>::States as Recorder>::Front>;
+
+/// A message that may leave: all is kept that its step depends on, as the receipt shows.
 #[derive(Drop)]
 pub(crate) struct Cleared<'a, J: Journal> {
     text: &'a str,
-    journal: &'a J,
-    ghost kept: { J.lets_leave journal.now ≡ true },
+    seen: &'a Seen<J>,
+    receipt: Option<J::Receipt>,
+    ghost covered: { IsCovered (λ r f. J.covers r (J.States.was_at f)) receipt seen.now },
 }
 
-/// Waits until all is kept that a message may depend on: what this session noted, and what others
-/// did. Nobody has the book meanwhile. Where it isn't kept, the session ends without the message.
+/// Waits until all is kept that a message depends on: its own step, and what others did before.
+/// Nobody has the book meanwhile. Where it isn't kept, the session ends without the message.
 pub(crate) fn clear_to_leave<'a, J: Journal>(
-    journal: &'a J,
+    journal: &J,
     text: &'a str,
+    seen: &'a Seen<J>,
 ) -> Result<Cleared<'a, J>, Ended> {
-    match journal.write_out() {
-        Ok(()) => Ok(Cleared { text, journal }),
+    let Some(recorded) = seen else {
+        return match journal.write_out() {
+            Ok(()) => Ok(Cleared {
+                text,
+                seen,
+                receipt: None,
+            }),
+            Err(fault) => Err(ended_unsaved(fault)),
+        };
+    };
+    match journal.receipt(recorded) {
+        Ok(receipt) => Ok(Cleared {
+            text,
+            seen,
+            receipt: Some(receipt),
+        }),
         Err(fault) => Err(ended_unsaved(fault)),
     }
 }
