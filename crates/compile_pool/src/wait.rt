@@ -8,13 +8,13 @@ ghost use Rattle.compile_pool.specs.Wait.{CountsOneAnswer};
 use ocpp_scalars::Refusal;
 use std::sync::Wait;
 use std::sync::ledger::Ledger;
-use version_store::{Answer, Pass, Shared};
+use version_store::{Answer, Pass, Recorder, Shared};
 
 /// Waits until the request of a number has its answer, and collects it (chapter 5.7). The refusal
 /// is `UnknownRequest`, where the request isn't kept, or another session has collected it.
-pub fn wait_answer<C: Ledger, A: Ledger, R: Wait>(
+pub fn wait_answer<C: Ledger, A: Ledger, R: Wait, N: Recorder>(
     rt: &R,
-    shared: &Shared<C, A>,
+    shared: &Shared<C, A, N>,
     pass: &mut Pass<C, A>,
     number: u64,
 ) -> Result<Answer, Refusal>

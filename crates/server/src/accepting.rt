@@ -4,6 +4,7 @@ use crate::seat_context::SeatContext;
 use crate::seldom::Seldom;
 use crossbeam_channel::Sender;
 use ocpp_scalars::Moments;
+use session::Journal;
 use std::io::{Read, Write};
 use std::net::{Shutdown, TcpListener, TcpStream};
 use std::rt::Clock;
@@ -31,7 +32,7 @@ const NO_SEAT: &[u8] =
 
 /// Accepts connections for ever, and sends each to a free seat. Where none is free, it is answered
 /// so and closed.
-pub(crate) fn accept_connections<C: Ledger, A: Ledger, R: Wait + Clock, M: Moments, J>(
+pub(crate) fn accept_connections<C: Ledger, A: Ledger, R: Wait + Clock, M: Moments, J: Journal>(
     seats: &SeatContext<C, A, R, M, J>,
     listener: &TcpListener,
     streams: &Sender<TcpStream>,
@@ -57,7 +58,7 @@ pub(crate) fn accept_connections<C: Ledger, A: Ledger, R: Wait + Clock, M: Momen
 
 /// Takes a seat for a connection. Where none is free, the handshake that lasts longest gives way, once
 /// it has had its time.
-fn take_seat<C: Ledger, A: Ledger, R: Wait + Clock, M, J>(
+fn take_seat<C: Ledger, A: Ledger, R: Wait + Clock, M, J: Journal>(
     seats: &SeatContext<C, A, R, M, J>,
 ) -> bool {
     let rt = &seats.rt;
@@ -79,7 +80,7 @@ fn take_seat<C: Ledger, A: Ledger, R: Wait + Clock, M, J>(
 
 /// The next connection. None where it couldn't be accepted, after a pause: a file descriptor may be
 /// free then.
-fn accept_next<C: Ledger, A: Ledger, R: Wait + Clock, M: Moments, J>(
+fn accept_next<C: Ledger, A: Ledger, R: Wait + Clock, M: Moments, J: Journal>(
     seats: &SeatContext<C, A, R, M, J>,
     listener: &TcpListener,
     failed: &mut Seldom,
@@ -100,7 +101,7 @@ fn accept_next<C: Ledger, A: Ledger, R: Wait + Clock, M: Moments, J>(
 }
 
 /// Says that all seats are taken.
-fn say_full<C: Ledger, A: Ledger, R: Wait + Clock, M: Moments, J>(
+fn say_full<C: Ledger, A: Ledger, R: Wait + Clock, M: Moments, J: Journal>(
     seats: &SeatContext<C, A, R, M, J>,
     full: &mut Seldom,
 ) {

@@ -65,7 +65,7 @@ fn keep_boots<C: Ledger, A: Ledger, R: Wait + Clock, M: Moments, J: Journal, K: 
 
 /// Keeps the boots of points as they are now. The book is locked to be copied, and nothing is locked
 /// while the lines are made and kept.
-fn keep_now<C: Ledger, A: Ledger, R: Wait, M, J, K: BootKeeper>(
+fn keep_now<C: Ledger, A: Ledger, R: Wait, M, J: Journal, K: BootKeeper>(
     seats: &SeatContext<C, A, R, M, J>,
     keeper: &K,
 ) -> io::Result<()> {
@@ -94,7 +94,7 @@ fn boot_lines(alloc: Global, site: &Site, boots: &[Option<Boot>]) -> Result<Stri
 }
 
 /// Says that the boots can't be kept.
-fn say_unkept<C: Ledger, A: Ledger, R: Wait, M: Moments, J>(
+fn say_unkept<C: Ledger, A: Ledger, R: Wait, M: Moments, J: Journal>(
     seats: &SeatContext<C, A, R, M, J>,
     error: &io::Error,
 ) {

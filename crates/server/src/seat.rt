@@ -101,7 +101,7 @@ fn serve_incoming<C: Ledger, A: Ledger, R: Threads + Wait + Clock + Sync, M: Mom
 }
 
 /// Shakes hands with a client. While that lasts, it may have to give way.
-fn shake_in_time<'a, C: Ledger, A: Ledger, R: Threads + Wait + Clock + Sync, M, J>(
+fn shake_in_time<'a, C: Ledger, A: Ledger, R: Threads + Wait + Clock + Sync, M, J: Journal>(
     seats: &SeatContext<C, A, R, M, J>,
     stream: IncomingStream<'a, R>,
 ) -> Result<(SeatSocket<'a, R>, ClientRequest), Unshaken> {

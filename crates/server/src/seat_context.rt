@@ -31,10 +31,10 @@ pub struct SeatOptions {
 
 /// What all threads share that serve a site.
 #[derive(Drop)]
-pub struct SeatContext<C: Ledger, A: Ledger, R, M, J> {
+pub struct SeatContext<C: Ledger, A: Ledger, R, M, J: Journal> {
     pub(crate) rt: R,
     pub(crate) alloc: Global,
-    pub(crate) shared: Arc<Shared<C, A>, Global>,
+    pub(crate) shared: Arc<Shared<C, A, J::States>, Global>,
     pub(crate) clock: M,
     pub(crate) journal: J,
     pub(crate) present: PresentStreams,
@@ -60,7 +60,7 @@ impl<
     pub fn make(
         rt: R,
         alloc: Global,
-        shared: Shared<C, A>,
+        shared: Shared<C, A, J::States>,
         clock: M,
         journal: J,
         options: SeatOptions,

@@ -1,6 +1,7 @@
 //! A server that goes on: it serves N connections at a time, and any number one after another.
 
 ghost use Rattle.std.specs.Prelude.{◌≡◌, ◌≤◌, ◌+◌, IfOk, length};
+ghost use Rattle.site_core.specs.State.{opening};
 
 use crate::accepting::accept_connections;
 use crate::seat::keep_seat;
@@ -19,7 +20,7 @@ use std::sync::ledger::{Blank, Ledger};
 use std::sync::{Arc, Wait};
 use std::thread;
 use std::thread::Threads;
-use version_store::{Pass, Shared};
+use version_store::{Pass, Recorder, Shared};
 
 /// The most connections at a time.
 pub const MAX_SEATS: u64 = 1_000;
@@ -29,27 +30,29 @@ const SEAT_STACK: usize = 2 * 1_048_576;
 
 /// The book of a site that is to be served by seats, and its passes.
 #[derive(Drop)]
-pub struct SeatedBook<C: Ledger, A: Ledger> {
-    pub shared: Shared<C, A>,
+pub struct SeatedBook<C: Ledger, A: Ledger, N: Recorder> {
+    pub shared: Shared<C, A, N>,
     /// The pass of whoever restores the book before it is served.
     pub restoring: Pass<C, A>,
     /// A pass for each seat.
     pub seats: Vec<Pass<C, A>>,
 }
 
-impl<C: Ledger, A: Ledger> SeatedBook<C, A> {
+impl<C: Ledger, A: Ledger, N: Recorder + Drop> SeatedBook<C, A, N> {
     /// The book of a site where nothing was done yet, with so many seats. The two ledgers are to
-    /// count its changes and its answers.
+    /// count its changes and its answers, and the recorder has the state that it begins with.
     pub fn make(
         alloc: Global,
         blanks: (Blank, Blank),
         site: Site,
         seats: u64,
-    ) -> Result<SeatedBook<C, A>, AllocError>
+        recorder: N,
+    ) -> Result<SeatedBook<C, A, N>, AllocError>
         requires changes { (blanks.0.name ≡ C.name) × (blanks.0.parts ≡ C.parts)
             × (blanks.0.parts ≡ seats + 1) }
         requires answers { (blanks.1.name ≡ A.name) × (blanks.1.parts ≡ A.parts)
             × (blanks.1.parts ≡ seats + 1) }
+        requires recorded { N.is_at recorder (opening site) }
         ensures { IfOk result (λ book. length book.seats.items ≡ seats) }
     {
         let (changes, answers) = blanks;
@@ -57,7 +60,7 @@ impl<C: Ledger, A: Ledger> SeatedBook<C, A> {
         let Some(count) = seats.checked_add(1) else {
             return Err(AllocError);
         };
-        let (shared, passes) = Shared::make(alloc, changes, answers, site, count)?;
+        let (shared, passes) = Shared::make_with(alloc, changes, answers, site, count, recorder)?;
         let mut passes = passes;
         let Some(restoring) = passes.pop() else {
             unreachable!()
@@ -120,7 +123,7 @@ fn begin_writer<
     A: Ledger + Send + Sync + Drop + 'static,
     R: Wait + Threads + Eprint + Send + Sync + Drop + 'static,
     M: Send + Sync + Drop + 'static,
-    J: Send + Sync + Drop + 'static,
+    J: Journal + Send + Sync + Drop + 'static,
 >(context: &Arc<SeatContext<C, A, R, M, J>, Global>) -> Result<(), ServeFault> {
     let own = Arc::try_clone(context)?;
     let writer = thread::Builder::new().spawn(&context.rt, move || own.notices.write_all(&own.rt));

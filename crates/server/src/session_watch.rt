@@ -13,7 +13,7 @@ use std::sync::ledger::Ledger;
 
 /// Whoever watches a session of a point or of an operator.
 #[derive(Drop)]
-pub(crate) struct SessionWatch<'a, C: Ledger, A: Ledger, R, M, J> {
+pub(crate) struct SessionWatch<'a, C: Ledger, A: Ledger, R, M, J: Journal> {
     pub(crate) seats: &'a SeatContext<C, A, R, M, J>,
     /// The place of its point in the site.
     pub(crate) place: usize,
@@ -27,7 +27,7 @@ impl<C: Ledger, A: Ledger, R: Wait + Clock, M: Moments, J: Journal> SessionWatch
     A,
     R,
     M,
-    J,
+    J: Journal,
 > {
     /// It has begun.
     pub(crate) fn begin(&self, core: &SessionCore) {

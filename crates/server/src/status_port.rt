@@ -8,6 +8,7 @@ use crate::status_stream::StatusStream;
 use crate::watched_journal::WatchedJournal;
 use http_server::{Config, Connection, serve};
 use ocpp_scalars::Moments;
+use session::Journal;
 use std::alloc::{AllocError, Global};
 use std::hash::RandomState;
 use std::marker::{Send, Sync};
@@ -34,7 +35,7 @@ const LONGEST_BODY: usize = 0;
 
 /// What the threads of a status port share.
 #[derive(Drop)]
-pub struct StatusPort<C: Ledger, A: Ledger, R, M, J> {
+pub struct StatusPort<C: Ledger, A: Ledger, R, M, J: Journal> {
     pub(crate) rt: R,
     pub(crate) alloc: Global,
     /// The address that is listened at, as it was given, where only requests for this machine are
@@ -47,7 +48,7 @@ pub struct StatusPort<C: Ledger, A: Ledger, R, M, J> {
 /// What the seats of a site share.
 pub(crate) type SharedSeats<C, A, R, M, J> = Arc<SeatContext<C, A, R, M, J>, Global>;
 
-impl<C: Ledger, A: Ledger, R: Wait + Drop, M: Drop, J: Drop> StatusPort<C, A, R, M, J> {
+impl<C: Ledger, A: Ledger, R: Wait + Drop, M: Drop, J: Journal + Drop> StatusPort<C, A, R, M, J> {
     /// The port of a site that is being restored, at this address if it answers only requests for this
     /// machine.
     pub fn new(rt: R, alloc: Global, address: Option<String>) -> StatusPort<C, A, R, M, J> {
@@ -82,7 +83,7 @@ pub fn begin_status<
     A: Ledger + Send + Sync + Drop + 'static,
     R: Threads + Wait + Clock + RandomSource + Copy + Send + Sync + Drop + 'static,
     M: Moments + Send + Sync + Drop + 'static,
-    J: WatchedJournal + Send + Sync + Drop + 'static,
+    J: Journal + WatchedJournal + Send + Sync + Drop + 'static,
 >(port: &Arc<StatusPort<C, A, R, M, J>, Global>, listener: TcpListener) -> Result<(), ServeFault> {
     let Ok(listener) = Arc::new(port.alloc, listener) else {
         return Err(ServeFault::OutOfMemory);
@@ -105,7 +106,7 @@ fn answer_all<
     A: Ledger,
     R: Wait + Clock + RandomSource + Drop,
     M: Moments + Drop,
-    J: WatchedJournal + Drop,
+    J: Journal + WatchedJournal + Drop,
 >(port: &StatusPort<C, A, R, M, J>, listener: &TcpListener) {
     for _connection in port.rt.forever() {
         match listener.accept() {
@@ -124,7 +125,7 @@ fn answer_connection<
     A: Ledger,
     R: Wait + Clock + RandomSource + Drop,
     M: Moments + Drop,
-    J: WatchedJournal + Drop,
+    J: Journal + WatchedJournal + Drop,
 >(port: &StatusPort<C, A, R, M, J>, stream: &TcpStream) -> io::Result<()> {
     let now = Instant::now(&port.rt)?;
     let Some(deadline) = now.checked_add(Duration::from_secs(LONGEST_STATUS)) else {

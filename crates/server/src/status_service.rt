@@ -9,6 +9,7 @@ use bytes::Bytes;
 use http::{HeaderName, HeaderValue, Method, Request, StatusCode};
 use http_server::{Response, Service};
 use ocpp_scalars::Moments;
+use session::Journal;
 use site_status::{
     Health, JournalReport, SiteCounts, SiteReport, StatusAnswer, StatusPath, answer_of,
     health_answer, nothing_there, status_path,
@@ -19,11 +20,11 @@ use std::sync::ledger::Ledger;
 
 /// Answers the requests of a status port.
 #[derive(Drop)]
-pub(crate) struct StatusService<'a, C: Ledger, A: Ledger, R, M, J> {
+pub(crate) struct StatusService<'a, C: Ledger, A: Ledger, R, M, J: Journal> {
     pub(crate) port: &'a StatusPort<C, A, R, M, J>,
 }
 
-impl<C: Ledger, A: Ledger, R: Wait + Drop, M: Moments + Drop, J: WatchedJournal + Drop> Service
+impl<C: Ledger, A: Ledger, R: Wait + Drop, M: Moments + Drop, J: Journal + WatchedJournal + Drop> Service
     for StatusService<'_, C, A, R, M, J> {
     ghost answers = { λ _ _ _ _. Unit {0} };
 
@@ -66,7 +67,7 @@ impl<
     A: Ledger,
     R: Wait + Drop,
     M: Moments + Drop,
-    J: WatchedJournal + Drop,
+    J: Journal + WatchedJournal + Drop,
 > StatusService<'_, C, A, R, M, J> {
     /// Whether a request is for this machine, where that is wanted.
     fn is_for_us(&self, request: &Request<Bytes>) -> bool {
@@ -95,7 +96,7 @@ impl<
 }
 
 /// What is answered at a path that wants to know what the site has.
-fn answer_by<C: Ledger, A: Ledger, R: Wait, M: Moments, J>(
+fn answer_by<C: Ledger, A: Ledger, R: Wait, M: Moments, J: Journal>(
     seats: &SeatContext<C, A, R, M, J>,
     journal: JournalReport,
     path: StatusPath<'_>,

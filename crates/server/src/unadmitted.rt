@@ -4,6 +4,7 @@ use crate::handshake::{ClientRequest, Unshaken};
 use crate::refused_request::push_path;
 use crate::seat_context::SeatContext;
 use ocpp_scalars::Moments;
+use session::Journal;
 use std::alloc::{AllocError, Global};
 use std::net::SocketAddr;
 use std::rt::Clock;
@@ -12,7 +13,7 @@ use std::sync::ledger::Ledger;
 
 /// Says that a connection wasn't let in. One that failed by itself, as a probe of the port does, is
 /// none of these.
-pub(crate) fn note_unshaken<C: Ledger, A: Ledger, R: Wait + Clock, M: Moments, J>(
+pub(crate) fn note_unshaken<C: Ledger, A: Ledger, R: Wait + Clock, M: Moments, J: Journal>(
     seats: &SeatContext<C, A, R, M, J>,
     unshaken: Unshaken,
     from: Option<SocketAddr>,
@@ -24,7 +25,7 @@ pub(crate) fn note_unshaken<C: Ledger, A: Ledger, R: Wait + Clock, M: Moments, J
 
 /// Says that a connection was closed since the site has no point of its path, or since its client
 /// didn't offer OCPP 1.6.
-pub(crate) fn note_unknown<C: Ledger, A: Ledger, R: Wait + Clock, M: Moments, J>(
+pub(crate) fn note_unknown<C: Ledger, A: Ledger, R: Wait + Clock, M: Moments, J: Journal>(
     seats: &SeatContext<C, A, R, M, J>,
     asked: &ClientRequest,
     from: Option<SocketAddr>,
@@ -43,7 +44,7 @@ fn push_unknown(what: &mut String, asked: &ClientRequest) -> Result<(), AllocErr
     push_path(what, asked.path.as_str())
 }
 
-fn note_refused<C: Ledger, A: Ledger, R: Wait + Clock, M: Moments, J>(
+fn note_refused<C: Ledger, A: Ledger, R: Wait + Clock, M: Moments, J: Journal>(
     seats: &SeatContext<C, A, R, M, J>,
     from: Option<SocketAddr>,
     what: Result<String, AllocError>,

@@ -6,6 +6,7 @@ use crate::seat_context::SeatContext;
 use crate::serving::ServeFault;
 use compile_pool::{Jobs, MAX_JOBS, Open, run_pool};
 use crossbeam_channel::{Sender, bounded};
+use session::Journal;
 use std::alloc::{AllocError, Global};
 use std::marker::{Send, Sync};
 use std::sync::ledger::Ledger;
@@ -48,7 +49,7 @@ pub(crate) fn begin_workers<
     A: Ledger + Send + Sync + Drop + 'static,
     R: Threads + Wait + Copy + Send + Sync + Drop + 'static,
     M: Send + Sync + Drop + 'static,
-    J: Send + Sync + Drop + 'static,
+    J: Journal + Send + Sync + Drop + 'static,
 >(
     context: &Arc<SeatContext<C, A, R, M, J>, Global>,
     workers: usize,
@@ -69,7 +70,7 @@ fn begin_pool<
     A: Ledger + Send + Sync + Drop + 'static,
     R: Threads + Wait + Copy + Send + Sync + Drop + 'static,
     M: Send + Sync + Drop + 'static,
-    J: Send + Sync + Drop + 'static,
+    J: Journal + Send + Sync + Drop + 'static,
 >(
     context: &Arc<SeatContext<C, A, R, M, J>, Global>,
     workers: usize,

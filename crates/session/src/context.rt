@@ -14,7 +14,7 @@ pub struct Context<'a, C: Ledger, A: Ledger, R: Wait, M: Moments, J: Journal> {
     pub rt: &'a R,
     pub alloc: Global,
     /// The book that they share.
-    pub shared: &'a Shared<C, A>,
+    pub shared: &'a Shared<C, A, J::States>,
     /// The ways to those who compile.
     pub jobs: Jobs<'a>,
     pub clock: &'a M,

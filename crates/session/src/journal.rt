@@ -9,10 +9,26 @@ ghost use Rattle.session.specs.Noting.{IsOfMadeStep};
 use ocpp_scalars::Instant;
 use site_journal::{Entry, Noted};
 use std::alloc::AllocError;
+use std::marker::{Send, Sync};
+use version_store::{NoRecorder, Recorder};
+
+/// A step that was made and changed something.
+#[derive(Drop)]
+pub struct MadeStep<N: Recorder> {
+    /// Its entry, and the number that it drew.
+    pub entry: Entry,
+    pub number: u64,
+    /// What was recorded of the book before it, and with it.
+    pub before: N::Front,
+    pub after: N::Front,
+}
 
 /// Takes down the steps that change something, in the order in which they are made, and sees to it
 /// that they are kept before any message leaves that depends on them.
 pub trait Journal {
+    /// Who records the states of the book whose steps are noted.
+    type States: Recorder + Send + Sync + Drop;
+
     /// What only a journal that has kept all tells: no message leaves without it.
     ghost lets_leave: { Self → Bool } = { λ journal. true };
 
@@ -28,10 +44,11 @@ pub trait Journal {
         ensures { IfOk result (λ entry. IfSome entry
             (λ e. IsEntryOf e (line_at moment point.now (noted_state noted.entry)))) };
 
-    /// Notes a step that was made and changed something, with the number that it drew. Whoever
-    /// notes it has had the book since before the step, so this waits for nothing that takes long.
-    fn note(&self, entry: Entry, number: u64)
-        requires { IsOfMadeStep entry number };
+    /// Notes a step. Whoever notes it has had the book since before the step, so this waits for
+    /// nothing that takes long.
+    fn note(&self, step: MadeStep<Self::States>)
+        requires { IsOfMadeStep step.entry step.number
+            (Self.States.was_at step.before) (Self.States.was_at step.after) };
 
     /// Waits until all that is noted by now is kept, whoever noted it. The session doesn't have the
     /// book. On an error no message may leave that depends on any of it.
@@ -59,6 +76,8 @@ impl From<AllocError> for JournalFault {
 pub struct NoJournal;
 
 impl Journal for NoJournal {
+    type States = NoRecorder;
+
     fn prepare(
         &self,
         _moment: Instant,
@@ -68,7 +87,7 @@ impl Journal for NoJournal {
         Ok(None)
     }
 
-    fn note(&self, _entry: Entry, _number: u64) {}
+    fn note(&self, _step: MadeStep<NoRecorder>) {}
 
     fn write_out(&self) -> Result<(), JournalFault> {
         Ok(())

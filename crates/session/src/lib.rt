@@ -12,7 +12,7 @@ mod step;
 mod todo;
 
 pub use context::Context;
-pub use journal::{Journal, JournalFault, NoJournal};
+pub use journal::{Journal, JournalFault, MadeStep, NoJournal};
 pub use outcome::{Outcome, Performed};
 pub use serving::{
     Ended, Heard, MAX_REJECTION_BYTES, SentCall, Served, Told, Watched, WatchedSocket,

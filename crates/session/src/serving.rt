@@ -77,7 +77,7 @@ pub fn serve_noted_socket<
     rt: &R,
     alloc: Global,
     socket: WebSocket<S, K>,
-    shared: &Shared<C, A>,
+    shared: &Shared<C, A, J::States>,
     jobs: &Sender<Job>,
     core: SessionCore,
     pass: Pass<C, A>,

@@ -11,12 +11,12 @@ use crate::outcome::{Outcome, Performed};
 use ocpp_scalars::Refusal;
 use site_core::{Reply, Step, Take};
 use std::sync::ledger::Ledger;
-use version_store::{Book, Pass};
+use version_store::{Book, Pass, Recorder};
 
 /// Makes the one call on the book that a step of a message stands for. A request for a schedule has
 /// seen what its session has, whatever the step names.
-pub fn perform<C: Ledger, A: Ledger>(
-    book: &mut Book<C, A>,
+pub fn perform<C: Ledger, A: Ledger, N: Recorder>(
+    book: &mut Book<C, A, N>,
     pass: &mut Pass<C, A>,
     step: Step,
 ) -> Performed
@@ -43,8 +43,8 @@ pub fn perform<C: Ledger, A: Ledger>(
 }
 
 /// Keeps a request for a schedule, which has seen what its session has.
-fn perform_take<C: Ledger, A: Ledger>(
-    book: &mut Book<C, A>,
+fn perform_take<C: Ledger, A: Ledger, N: Recorder>(
+    book: &mut Book<C, A, N>,
     pass: &mut Pass<C, A>,
     take: Take,
 ) -> Performed

@@ -23,7 +23,8 @@ use Rattle.site_core.specs.Step.{Made, PointStep, at_point, over_link, of_audit,
 use Rattle.site_core.specs.History.{Event, Legal}
 use Rattle.site_core.specs.Theory.Steps.{StepKind, kind_of, names_point, takes_one, compiles_one, answers_one, finishes_all}
 use Rattle.site_journal.proofs.StepLemmas.{led}
-use Rattle.site_journal.specs.Forgetting.{forget, is_of_request, without_requests, ForgettingKeepsChanges}
+use Rattle.version_store.specs.Recording.{is_of_request}
+use Rattle.site_journal.specs.Forgetting.{forget, without_requests, ForgettingKeepsChanges}
 
 abbrev no_request : Numbers → Numbers
 no_request numbers = record numbers { request = 0 }

@@ -9,3 +9,4 @@ pub mod LostLemmas
 pub mod JournalLemmas
 pub mod ForgettingLemmas
 pub mod NotedRunLemmas
+pub mod RecordedLemmas

@@ -19,7 +19,8 @@ use Rattle.site_core.specs.Step.{Made, PointStep, Work, AtPoint, work, worked, S
 use Rattle.site_core.specs.Theory.Steps.{StepKind, kind_of, names_point, takes_one, compiles_one, answers_one, finishes_all}
 use Rattle.site_journal.specs.declared.restore_fault.RestoreFault.{RestoreFault}
 use Rattle.site_journal.specs.declared.restore_fault.RestoreFault.TheVariants.{OtherStep}
-use Rattle.site_journal.specs.Forgetting.{forget, is_of_request}
+use Rattle.version_store.specs.Recording.{is_of_request}
+use Rattle.site_journal.specs.Forgetting.{forget}
 use Rattle.site_journal.specs.Line.{NotedState, LineState, number_written}
 use Rattle.site_journal.specs.Line as noted_as
 use Rattle.site_journal.specs.NotedRun.{begins, notes, passes, NotedRunsAreRestored}

@@ -13,7 +13,7 @@ use ocppj_frame::ReadingMemory;
 use std::alloc::Global;
 use std::sync::ledger::Ledger;
 use thiserror::Error;
-use version_store::{Book, Pass};
+use version_store::{Book, Pass, Recorder};
 
 /// The number of the first line after the header.
 const FIRST_LINE: u64 = 2;
@@ -36,9 +36,9 @@ pub struct Unrestored {
 
 /// Restores a book from the lines of a journal after its header. What stands behind the last line
 /// feed is torn, and isn't read. After an error the book is good for nothing.
-pub fn restore<C: Ledger, A: Ledger>(
+pub fn restore<C: Ledger, A: Ledger, N: Recorder>(
     alloc: Global,
-    book: &mut Book<C, A>,
+    book: &mut Book<C, A, N>,
     pass: &mut Pass<C, A>,
     text: &[u8],
 ) -> Result<Restored, Unrestored>
@@ -67,10 +67,10 @@ pub fn restore<C: Ledger, A: Ledger>(
 }
 
 /// Restores a line, without its line feed, that may be no text.
-fn restore_bytes<C: Ledger, A: Ledger>(
+fn restore_bytes<C: Ledger, A: Ledger, N: Recorder>(
     alloc: Global,
     memory: &mut ReadingMemory,
-    book: &mut Book<C, A>,
+    book: &mut Book<C, A, N>,
     pass: &mut Pass<C, A>,
     bytes: &[u8],
 ) -> Result<(), RestoreFault>

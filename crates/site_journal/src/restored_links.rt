@@ -10,12 +10,12 @@ use crate::restore_fault::RestoreFault;
 use site_core::PointId;
 use std::alloc::Global;
 use std::sync::ledger::Ledger;
-use version_store::{Book, Pass};
+use version_store::{Book, Pass, Recorder};
 
 /// The point gets a new link, which has to have this number.
-pub(crate) fn attach<C: Ledger, A: Ledger>(
+pub(crate) fn attach<C: Ledger, A: Ledger, N: Recorder>(
     alloc: Global,
-    book: &mut Book<C, A>,
+    book: &mut Book<C, A, N>,
     pass: &mut Pass<C, A>,
     point: &str,
     link: u64,
@@ -32,9 +32,9 @@ pub(crate) fn attach<C: Ledger, A: Ledger>(
 }
 
 /// Over this link goes a call, which has to have this number.
-pub(crate) fn send<C: Ledger, A: Ledger>(
+pub(crate) fn send<C: Ledger, A: Ledger, N: Recorder>(
     alloc: Global,
-    book: &mut Book<C, A>,
+    book: &mut Book<C, A, N>,
     point: &str,
     link: u64,
     call: u64,
@@ -51,9 +51,9 @@ pub(crate) fn send<C: Ledger, A: Ledger>(
 }
 
 /// This link is lost.
-pub(crate) fn lose<C: Ledger, A: Ledger>(
+pub(crate) fn lose<C: Ledger, A: Ledger, N: Recorder>(
     alloc: Global,
-    book: &mut Book<C, A>,
+    book: &mut Book<C, A, N>,
     point: &str,
     link: u64,
 ) -> Result<(), RestoreFault>

@@ -16,17 +16,17 @@ use std::alloc::{AllocError, Global};
 use std::sync::ledger::Ledger;
 use sweep_compiler::{AuditJob, Judged, verdicts_are_computed};
 use texts::{Asked, SentText, asked_of, said_of};
-use version_store::Book;
+use version_store::{Book, Recorder};
 
 /// A reply that stands on a `verdict` line in place of one that was judged short of memory: read
 /// again, that might come to another verdict, and this one comes to Unsettled as it did.
 pub const UNREAD_REPLY: &str = r#"[3,"",{"status":"Accepted"}]"#;
 
 /// Confirms the call that a point's reply names, over this link.
-pub(crate) fn confirm_call<C: Ledger, A: Ledger>(
+pub(crate) fn confirm_call<C: Ledger, A: Ledger, N: Recorder>(
     alloc: Global,
     memory: &mut ReadingMemory,
-    book: &mut Book<C, A>,
+    book: &mut Book<C, A, N>,
     text: &SentText<'_>,
     link: u64,
 ) -> Result<(), RestoreFault>
@@ -48,8 +48,8 @@ pub(crate) fn confirm_call<C: Ledger, A: Ledger>(
     }
 }
 
-fn confirm<C: Ledger, A: Ledger>(
-    book: &mut Book<C, A>,
+fn confirm<C: Ledger, A: Ledger, N: Recorder>(
+    book: &mut Book<C, A, N>,
     point: PointId,
     link: u64,
     call: u64,
@@ -65,10 +65,10 @@ fn confirm<C: Ledger, A: Ledger>(
 }
 
 /// Judges the point's audit whose call has this number by what the point replied.
-pub(crate) fn judge_audit<C: Ledger, A: Ledger>(
+pub(crate) fn judge_audit<C: Ledger, A: Ledger, N: Recorder>(
     alloc: Global,
     memory: &mut ReadingMemory,
-    book: &mut Book<C, A>,
+    book: &mut Book<C, A, N>,
     text: &SentText<'_>,
     call: u64,
 ) -> Result<(), RestoreFault>
@@ -83,10 +83,10 @@ pub(crate) fn judge_audit<C: Ledger, A: Ledger>(
     }
 }
 
-fn judge<C: Ledger, A: Ledger>(
+fn judge<C: Ledger, A: Ledger, N: Recorder>(
     alloc: Global,
     memory: &mut ReadingMemory,
-    book: &mut Book<C, A>,
+    book: &mut Book<C, A, N>,
     text: &SentText<'_>,
     call: u64,
     job: AuditJob,

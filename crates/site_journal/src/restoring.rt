@@ -17,15 +17,15 @@ use site_core::Step;
 use std::alloc::Global;
 use std::sync::ledger::Ledger;
 use texts::{Asked, SentText, asked_of};
-use version_store::{Book, Pass};
+use version_store::{Book, Pass, Recorder};
 
 /// Makes the step of a line, where it is made and draws the number that is written. Only after
 /// `OtherNumber` it was made all the same.
 #[tactic(auto, unfolding(crate::specs::Restore::restored))]
-pub(crate) fn restore_line<C: Ledger, A: Ledger>(
+pub(crate) fn restore_line<C: Ledger, A: Ledger, N: Recorder>(
     alloc: Global,
     memory: &mut ReadingMemory,
-    book: &mut Book<C, A>,
+    book: &mut Book<C, A, N>,
     pass: &mut Pass<C, A>,
     line: &Line<'_>,
 ) -> Result<(), RestoreFault>
@@ -59,10 +59,10 @@ pub(crate) fn restore_line<C: Ledger, A: Ledger>(
 // ---- messages
 
 /// Makes the change that a message asks for, which has to draw this number.
-fn change<C: Ledger, A: Ledger>(
+fn change<C: Ledger, A: Ledger, N: Recorder>(
     alloc: Global,
     memory: &mut ReadingMemory,
-    book: &mut Book<C, A>,
+    book: &mut Book<C, A, N>,
     pass: &mut Pass<C, A>,
     text: &SentText<'_>,
     number: u64,
@@ -126,8 +126,8 @@ pub(crate) fn is_change(step: &Step) -> bool
     }
 }
 
-fn make_change<C: Ledger, A: Ledger>(
-    book: &mut Book<C, A>,
+fn make_change<C: Ledger, A: Ledger, N: Recorder>(
+    book: &mut Book<C, A, N>,
     pass: &mut Pass<C, A>,
     step: Step,
     number: u64,

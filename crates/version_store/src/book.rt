@@ -2,7 +2,7 @@
 
 ghost use Rattle.std.specs.Prelude.{◌≡◌, ◌<◌, ◌≤◌, true, IfOk, IfErr, All, length};
 ghost use Rattle.site_core.specs.declared.step.Step.{Step};
-ghost use Rattle.site_core.specs.State.{IsMachine, link_of, link_to_send, outbox_len};
+ghost use Rattle.site_core.specs.State.{IsMachine, opening, link_of, link_to_send, outbox_len};
 ghost use Rattle.site_core.specs.Step.{HasAskedConnector, is_reply_to};
 ghost use Rattle.version_store.specs.Passes.{unused_pass, totals_together};
 ghost use Rattle.version_store.specs.Store.{IsStore, opening_store, may_fold};
@@ -18,6 +18,7 @@ use crate::folded::{EventRoom, Folded};
 use crate::history::History;
 use crate::ledgers::Ledgers;
 use crate::pass::{Pass, passes_of};
+use crate::recorder::{NoRecorder, Recorder, make_recorded};
 use crate::stored_event::StoredEvent;
 use crate::totals::Totals;
 use site_core::{Machine, Refused, Reply, Step};
@@ -30,12 +31,14 @@ use std::sync::ledger::{Blank, Ledger};
 /// adds one event, and none is ever refused because the history is full. A pass fits only the book
 /// that it was made with, and the two ledgers see to that.
 #[derive(Drop)]
-pub struct Book<C: Ledger, A: Ledger> {
+pub struct Book<C: Ledger, A: Ledger, N: Recorder = NoRecorder> {
     history: History,
     ledgers: Ledgers<C, A>,
+    /// Who records its changes.
+    recorder: N,
 }
 
-impl<C: Ledger, A: Ledger> Model for Book<C, A> {
+impl<C: Ledger, A: Ledger, N: Recorder> Model for Book<C, A, N> {
     ghost use Rattle.std.specs.Prelude.{◌≡◌};
     ghost use Rattle.version_store.specs.Store.{StoreState};
 
@@ -43,7 +46,8 @@ impl<C: Ledger, A: Ledger> Model for Book<C, A> {
 
     ghost view = { λ book. book.history };
 
-    ghost invariant = { λ book. book.ledgers ≡ book.history.made };
+    ghost invariant = { λ book. (book.ledgers ≡ book.history.made)
+        × N.is_at book.recorder book.history.present };
 }
 
 impl<C: Ledger, A: Ledger> Book<C, A> {
@@ -64,10 +68,60 @@ impl<C: Ledger, A: Ledger> Book<C, A> {
         ensures passes { IfOk result (λ made. length made.1.items ≡ sessions) }
         ensures unused { IfOk result (λ made. All (λ pass. pass ≡ unused_pass) made.1.items) }
     {
+        Book::make_with(alloc, changes, answers, site, sessions, NoRecorder)
+    }
+}
+
+impl<C: Ledger, A: Ledger, N: Recorder + Drop> Book<C, A, N> {
+    /// The same, with who records its changes, and has the state that it begins with.
+    pub fn make_with(
+        alloc: Global,
+        changes: Blank,
+        answers: Blank,
+        site: Site,
+        sessions: u64,
+        recorder: N,
+    ) -> Result<(Book<C, A, N>, Vec<Pass<C, A>>), AllocError>
+        requires changes { (changes.name ≡ C.name) × (changes.parts ≡ C.parts)
+            × (changes.parts ≡ sessions) }
+        requires answers { (answers.name ≡ A.name) × (answers.parts ≡ A.parts)
+            × (answers.parts ≡ sessions) }
+        requires recorded { N.is_at recorder (opening site) }
+        ensures book { IfOk result (λ made. made.0 ≡ opening_store site) }
+        ensures passes { IfOk result (λ made. length made.1.items ≡ sessions) }
+        ensures unused { IfOk result (λ made. All (λ pass. pass ≡ unused_pass) made.1.items) }
+    {
         let history = History::new(alloc, site)?;
         let (ledgers, changed, answered) = Ledgers::open(changes, answers);
         let passes = passes_of(alloc, changed, answered, sessions)?;
-        Ok((Book { history, ledgers }, passes))
+        let book = Book {
+            history,
+            ledgers,
+            recorder,
+        };
+        Ok((book, passes))
+    }
+
+    /// Ends the book. With the passes of all its sessions, the numbers of changes that were made
+    /// and of answers that were handed out are what those passes count together.
+    pub fn settle(self, passes: Vec<Pass<C, A>>) -> Totals
+        requires changes { C.parts ≤ length passes.items }
+        requires answers { A.parts ≤ length passes.items }
+        ensures own { result ≡ self.made }
+        ensures together { result ≡ totals_together passes.items }
+    {
+        let totals = self.totals();
+        self.ledgers.settle(passes);
+        totals
+    }
+}
+
+impl<C: Ledger, A: Ledger, N: Recorder> Book<C, A, N> {
+    /// What is recorded of its states by now.
+    pub fn recorded(&self) -> N::Front
+        ensures { N.was_at result self.now.present }
+    {
+        self.recorder.front()
     }
 
     /// Makes a step of a session: what each of its calls stands for. On a refusal the step comes
@@ -82,24 +136,11 @@ impl<C: Ledger, A: Ledger> Book<C, A> {
         ensures kept { IfErr result (λ refused. (self.new ≡ self.old) × (pass.new ≡ pass.old)) }
         ensures back { IfErr result (λ refused. refused.step ≡ step) }
     {
-        let reply = self.history.make(step)?;
+        let reply = make_recorded(&mut self.history, &mut self.recorder, step)?;
         let version = self.history.present().version();
         self.ledgers
             .count(pass, &reply, self.history.made(), version);
         Ok(reply)
-    }
-
-    /// Ends the book. With the passes of all its sessions, the numbers of changes that were made
-    /// and of answers that were handed out are what those passes count together.
-    pub fn settle(self, passes: Vec<Pass<C, A>>) -> Totals
-        requires changes { C.parts ≤ length passes.items }
-        requires answers { A.parts ≤ length passes.items }
-        ensures own { result ≡ self.made }
-        ensures together { result ≡ totals_together passes.items }
-    {
-        let totals = self.totals();
-        self.ledgers.settle(passes);
-        totals
     }
 
     /// How many events are stored. With what is always so of a book. Its present state is the

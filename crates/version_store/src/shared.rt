@@ -2,6 +2,7 @@
 
 ghost use Rattle.std.specs.Prelude.{◌≡◌, ◌<◌, ◌≤◌, false, IfOk, IfErr, IfSome, All, length};
 ghost use Rattle.std.specs.Sync.Mutex.{mutex_guard_value};
+ghost use Rattle.site_core.specs.State.{opening};
 ghost use Rattle.version_store.specs.Answers.{awaits};
 ghost use Rattle.version_store.specs.Store.{IsStore};
 ghost use Rattle.version_store.specs.Passes.{unused_pass, totals_together};
@@ -9,6 +10,7 @@ ghost use Rattle.version_store.specs.Passes.{unused_pass, totals_together};
 use crate::book::Book;
 use crate::missing::Missing;
 use crate::pass::Pass;
+use crate::recorder::{NoRecorder, Recorder};
 use crate::totals::Totals;
 use site_rules::Site;
 use std::alloc::{AllocError, Global};
@@ -21,8 +23,8 @@ use std::time::Duration;
 /// The book of the central system, which one thread at a time has. Each of its calls is made by
 /// whoever has it, so all that is said of a book holds between any calls of any threads.
 #[derive(Drop)]
-pub struct Shared<C: Ledger, A: Ledger> {
-    book: Mutex<Book<C, A>>,
+pub struct Shared<C: Ledger, A: Ledger, N: Recorder = NoRecorder> {
+    book: Mutex<Book<C, A, N>>,
     /// Those wait here who wait for an answer, each where the number of its request says.
     places: Vec<Condvar>,
     sessions: u64,
@@ -31,7 +33,7 @@ pub struct Shared<C: Ledger, A: Ledger> {
 /// So many places there are to wait at: as many as requests may be kept, so that few share one.
 const PLACES: u64 = 64;
 
-impl<C: Ledger, A: Ledger> Model for Shared<C, A> {
+impl<C: Ledger, A: Ledger, N: Recorder> Model for Shared<C, A, N> {
     ghost use Rattle.std.specs.Prelude.{ℕ, ◌≡◌, length};
 
     ghost Value = { ℕ };
@@ -61,7 +63,31 @@ impl<C: Ledger, A: Ledger> Shared<C, A> {
         ensures passes { IfOk result (λ made. length made.1.items ≡ sessions) }
         ensures unused { IfOk result (λ made. All (λ pass. pass ≡ unused_pass) made.1.items) }
     {
-        let (book, passes) = Book::make(alloc, changes, answers, site, sessions)?;
+        Shared::make_with(alloc, changes, answers, site, sessions, NoRecorder)
+    }
+}
+
+impl<C: Ledger, A: Ledger, N: Recorder + Drop> Shared<C, A, N> {
+    /// The same, with who records the changes, and has the state that the book begins with.
+    pub fn make_with(
+        alloc: Global,
+        changes: Blank,
+        answers: Blank,
+        site: Site,
+        sessions: u64,
+        recorder: N,
+    ) -> Result<(Shared<C, A, N>, Vec<Pass<C, A>>), AllocError>
+        requires changes { (changes.name ≡ C.name) × (changes.parts ≡ C.parts)
+            × (changes.parts ≡ sessions) }
+        requires answers { (answers.name ≡ A.name) × (answers.parts ≡ A.parts)
+            × (answers.parts ≡ sessions) }
+        requires some { 0 < sessions }
+        requires recorded { N.is_at recorder (opening site) }
+        ensures sessions { IfOk result (λ made. made.0 ≡ sessions) }
+        ensures passes { IfOk result (λ made. length made.1.items ≡ sessions) }
+        ensures unused { IfOk result (λ made. All (λ pass. pass ≡ unused_pass) made.1.items) }
+    {
+        let (book, passes) = Book::make_with(alloc, changes, answers, site, sessions, recorder)?;
         let shared = Shared {
             book: Mutex::new(book),
             places: new_places(alloc)?,
@@ -70,6 +96,28 @@ impl<C: Ledger, A: Ledger> Shared<C, A> {
         Ok((shared, passes))
     }
 
+    /// Ends the book. With all passes that were made, the numbers of changes that were made and of
+    /// answers that were handed out, which are what their passes count together.
+    pub fn settle(self, passes: Vec<Pass<C, A>>) -> Result<Totals, Missing>
+        ensures together { IfOk result (λ totals. totals ≡ totals_together passes.items) }
+        ensures whole { IfOk result (λ totals. self ≤ length passes.items) }
+        ensures missing { IfErr result (λ missing.
+            (missing.given ≡ length passes.items) × (missing.made ≡ self)
+            × (missing.given < missing.made)) }
+    {
+        let given = passes.len();
+        if (given as u64) < self.sessions {
+            return Err(Missing {
+                given,
+                made: self.sessions,
+            });
+        }
+        let book = self.book.into_inner();
+        Ok(book.settle(passes))
+    }
+}
+
+impl<C: Ledger, A: Ledger, N: Recorder> Shared<C, A, N> {
     /// How many sessions have a pass.
     pub fn sessions(&self) -> u64
         ensures { result ≡ self.now }
@@ -79,7 +127,7 @@ impl<C: Ledger, A: Ledger> Shared<C, A> {
 
     /// The book, once no other thread has it. Whatever was done to it meanwhile, all that is always
     /// so of a book is so of this one.
-    pub fn lock<R: Wait>(&self, rt: &R) -> MutexGuard<'_, Book<C, A>>
+    pub fn lock<R: Wait>(&self, rt: &R) -> MutexGuard<'_, Book<C, A, N>>
         ensures { IsStore (mutex_guard_value result) }
     {
         let book = self.lock_unfolded(rt);
@@ -89,7 +137,7 @@ impl<C: Ledger, A: Ledger> Shared<C, A> {
 
     /// The book. What a fold left behind is dropped while it is unlocked, so that nobody waits for
     /// that.
-    fn lock_unfolded<R: Wait>(&self, rt: &R) -> MutexGuard<'_, Book<C, A>> {
+    fn lock_unfolded<R: Wait>(&self, rt: &R) -> MutexGuard<'_, Book<C, A, N>> {
         let mut book = self.book.lock(rt);
         let Some(folded) = book.take_folded() else {
             return book;
@@ -120,7 +168,7 @@ impl<C: Ledger, A: Ledger> Shared<C, A> {
     }
 
     /// The book, once the request of a number has its answer, or isn't kept.
-    pub fn until_answered<R: Wait>(&self, rt: &R, number: u64) -> MutexGuard<'_, Book<C, A>>
+    pub fn until_answered<R: Wait>(&self, rt: &R, number: u64) -> MutexGuard<'_, Book<C, A, N>>
         ensures store { IsStore (mutex_guard_value result) }
         ensures answered { awaits (mutex_guard_value result).present number ≡ false }
     {
@@ -137,7 +185,7 @@ impl<C: Ledger, A: Ledger> Shared<C, A> {
         rt: &R,
         number: u64,
         time: Duration,
-    ) -> Option<MutexGuard<'_, Book<C, A>>>
+    ) -> Option<MutexGuard<'_, Book<C, A, N>>>
         ensures store { IfSome result (λ book. IsStore (mutex_guard_value book)) }
         ensures answered { IfSome result
             (λ book. awaits (mutex_guard_value book).present number ≡ false) }
@@ -150,26 +198,6 @@ impl<C: Ledger, A: Ledger> Shared<C, A> {
         }
         book.stored();
         Some(book)
-    }
-
-    /// Ends the book. With all passes that were made, the numbers of changes that were made and of
-    /// answers that were handed out, which are what their passes count together.
-    pub fn settle(self, passes: Vec<Pass<C, A>>) -> Result<Totals, Missing>
-        ensures together { IfOk result (λ totals. totals ≡ totals_together passes.items) }
-        ensures whole { IfOk result (λ totals. self ≤ length passes.items) }
-        ensures missing { IfErr result (λ missing.
-            (missing.given ≡ length passes.items) × (missing.made ≡ self)
-            × (missing.given < missing.made)) }
-    {
-        let given = passes.len();
-        if (given as u64) < self.sessions {
-            return Err(Missing {
-                given,
-                made: self.sessions,
-            });
-        }
-        let book = self.book.into_inner();
-        Ok(book.settle(passes))
     }
 }
 

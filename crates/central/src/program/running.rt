@@ -8,6 +8,7 @@ use crate::program::program_fault::ProgramFault;
 use crate::program::site_file::read_digested_site;
 use crate::program::watched_file::WatchedFile;
 use command_line::{MAX_SEATS, MAX_WORKERS, Running};
+use chronicle::{ChronicleName, Unnamed};
 use data_folder::{
     FolderFault, JournalFile, OpenJournal, Resumed, SystemClock, open_journal, or_stop,
     restore_shared,
@@ -16,6 +17,7 @@ use server::{
     SeatContext, SeatOptions, SeatedBook, ServeFault, StatusPort, begin_boots, begin_status,
     run_seats,
 };
+use site_journal::StateRecorder;
 use site_keys::Keys;
 use site_rules::Site;
 use std::alloc::{AllocError, AllocGlobal, Global};
@@ -107,7 +109,7 @@ pub fn run_file<
         return Err(ProgramFault::OutOfMemory);
     };
     let blanks = (Blank::new(passes), Blank::new(passes));
-    run_counted::<Brand, Brand, R>(rt, plan, blanks)
+    run_counted::<Brand, Brand, Brand, R>(rt, plan, blanks, Unnamed::new())
 }
 
 /// The keys of a file, if one is given.
@@ -157,10 +159,12 @@ fn listen<R: Eprint + Net<Listener = TcpListener, Stream = TcpStream>>(
     }
 }
 
-/// Runs a site, whose changes and answers these two ledgers count.
+/// Runs a site, whose changes and answers these two ledgers count, and whose states are recorded in
+/// this chronicle.
 fn run_counted<
     C: Ledger + Send + Sync + Drop + 'static,
     A: Ledger + Send + Sync + Drop + 'static,
+    J: ChronicleName + Send + Sync + Drop + 'static,
     R: Files<File = File>
         + Print
         + Eprint
@@ -175,12 +179,18 @@ fn run_counted<
         + Sync
         + Drop
         + 'static,
->(rt: &R, plan: Plan<'_>, blanks: (Blank, Blank)) -> Result<(), ProgramFault>
+>(
+    rt: &R,
+    plan: Plan<'_>,
+    blanks: (Blank, Blank),
+    unnamed: Unnamed,
+) -> Result<(), ProgramFault>
     requires workers { 1 ≤ plan.workers }
     requires changes { (blanks.0.name ≡ C.name) × (blanks.0.parts ≡ C.parts)
         × (blanks.0.parts ≡ plan.seats + 1) }
     requires answers { (blanks.1.name ≡ A.name) × (blanks.1.parts ≡ A.parts)
         × (blanks.1.parts ≡ plan.seats + 1) }
+    requires states { unnamed.name ≡ J.name }
 {
     let Plan {
         site,
@@ -195,7 +205,14 @@ fn run_counted<
         status,
         status_address,
     } = plan;
-    let book: SeatedBook<C, A> = SeatedBook::make(rt.alloc(), blanks, site, seats)?;
+    let recorder = StateRecorder::<J>::new(unnamed, &site);
+    let book: SeatedBook<C, A, StateRecorder<J>> = SeatedBook::make(
+        rt.alloc(),
+        blanks,
+        site,
+        seats,
+        recorder,
+    )?;
     let SeatedBook {
         shared,
         restoring,
@@ -237,10 +254,11 @@ fn owned(alloc: Global, text: Option<&str>) -> Result<Option<String>, AllocError
 fn begin_lines<
     C: Ledger + Send + Sync + Drop + 'static,
     A: Ledger + Send + Sync + Drop + 'static,
+    J: ChronicleName + Send + Sync + Drop + 'static,
     R: Eprint + AllocGlobal + Clock + Threads + Wait + Copy + Send + Sync + Drop + 'static,
 >(
     rt: &R,
-    context: &Arc<SeatContext<C, A, R, SystemClock<R>, WatchedFile<R>>, Global>,
+    context: &Arc<SeatContext<C, A, R, SystemClock<R>, WatchedFile<R, J>>, Global>,
 ) -> Result<(), ProgramFault> {
     let own = Arc::try_clone(context)?;
     let writer = thread::Builder::new().spawn(rt, move || own.journal().file.write_lines());
@@ -254,9 +272,10 @@ fn begin_lines<
 fn keep_boots<
     C: Ledger + Send + Sync + Drop + 'static,
     A: Ledger + Send + Sync + Drop + 'static,
+    J: ChronicleName + Send + Sync + Drop + 'static,
     R: Eprint + AllocGlobal + Clock + Threads + Wait + Copy + Send + Sync + Drop + 'static,
 >(
-    context: &Arc<SeatContext<C, A, R, SystemClock<R>, WatchedFile<R>>, Global>,
+    context: &Arc<SeatContext<C, A, R, SystemClock<R>, WatchedFile<R, J>>, Global>,
     kept: KeptBoots,
 ) -> Result<(), ProgramFault> {
     let KeptBoots { boots, file } = kept;
@@ -271,12 +290,17 @@ fn keep_boots<
 }
 
 /// What the threads share that serve this book.
-fn context_of<C: Ledger, A: Ledger, R: Clock + Wait + Eprint + AllocGlobal + Copy + Drop>(
+fn context_of<
+    C: Ledger,
+    A: Ledger,
+    J: ChronicleName,
+    R: Clock + Wait + Eprint + AllocGlobal + Copy + Drop,
+>(
     rt: &R,
-    shared: Shared<C, A>,
-    journal: JournalFile<R>,
+    shared: Shared<C, A, StateRecorder<J>>,
+    journal: JournalFile<R, J>,
     options: SeatOptions,
-) -> Result<Arc<SeatContext<C, A, R, SystemClock<R>, WatchedFile<R>>, Global>, AllocError> {
+) -> Result<Arc<SeatContext<C, A, R, SystemClock<R>, WatchedFile<R, J>>, Global>, AllocError> {
     let alloc = rt.alloc();
     let clock = SystemClock { rt: *rt };
     let journal = WatchedFile { file: journal };

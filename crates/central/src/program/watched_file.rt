@@ -1,9 +1,11 @@
 //! The journal of a site that is run, of which the server tells how it is.
 
+use chronicle::ChronicleName;
 use data_folder::JournalFile;
 use ocpp_scalars::Instant;
 use server::WatchedJournal;
-use session::{Entry, Journal, JournalFault, Noted};
+use session::{Entry, Journal, JournalFault, MadeStep, Noted};
+use site_journal::StateRecorder;
 use site_status::JournalReport;
 use std::alloc::AllocGlobal;
 use std::rt::Clock;
@@ -11,11 +13,13 @@ use std::sync::Wait;
 
 /// A journal's file. It is one type with the server's trait, so that the file needs no server.
 #[derive(Drop)]
-pub struct WatchedFile<R> {
-    pub file: JournalFile<R>,
+pub struct WatchedFile<R, J: ChronicleName> {
+    pub file: JournalFile<R, J>,
 }
 
-impl<R: Wait + Clock + Eprint + AllocGlobal + Drop> Journal for WatchedFile<R> {
+impl<R: Wait + Clock + Eprint + AllocGlobal + Drop, J: ChronicleName> Journal for WatchedFile<R, J> {
+    type States = StateRecorder<J>;
+
     fn prepare(
         &self,
         moment: Instant,
@@ -25,8 +29,8 @@ impl<R: Wait + Clock + Eprint + AllocGlobal + Drop> Journal for WatchedFile<R> {
         self.file.prepare(moment, point, noted)
     }
 
-    fn note(&self, entry: Entry, number: u64) {
-        self.file.note(entry, number)
+    fn note(&self, step: MadeStep<StateRecorder<J>>) {
+        self.file.note(step)
     }
 
     fn write_out(&self) -> Result<(), JournalFault> {
@@ -34,7 +38,7 @@ impl<R: Wait + Clock + Eprint + AllocGlobal + Drop> Journal for WatchedFile<R> {
     }
 }
 
-impl<R: Wait> WatchedJournal for WatchedFile<R> {
+impl<R: Wait, J: ChronicleName> WatchedJournal for WatchedFile<R, J> {
     fn report(&self) -> JournalReport {
         self.file.report()
     }

@@ -10,6 +10,7 @@ use crate::context::Context;
 use crate::journal::Journal;
 use crate::outcome::{Outcome, Performed};
 use crate::serving::ended::{Ended, ended_unsaved};
+use crate::serving::noting::note_made;
 use crate::serving::reading::read_reply;
 use meaning::Said;
 use ocpp_scalars::Moments;
@@ -21,7 +22,7 @@ use std::sync::Wait;
 use std::sync::ledger::Ledger;
 use sweep_compiler::{AuditJob, Judged, verdicts_are_computed};
 use texts::SentText;
-use version_store::Book;
+use version_store::{Book, Recorder};
 
 /// An audit that has no verdict yet.
 #[derive(Drop)]
@@ -41,9 +42,9 @@ impl Model for OpenAudit {
 }
 
 /// The audit that a step replies to, if it does: the step confirms its call. Nothing is changed.
-pub(crate) fn audit_confirmed<C: Ledger, A: Ledger>(
+pub(crate) fn audit_confirmed<C: Ledger, A: Ledger, N: Recorder>(
     alloc: Global,
-    book: &Book<C, A>,
+    book: &Book<C, A, N>,
     step: &Step,
 ) -> Result<Option<OpenAudit>, AllocError>
     ensures audit { IfOk result (λ audit. audit ≡ audit_confirmed book.now.present step.now) }
@@ -110,9 +111,10 @@ pub(crate) fn judge_reply<C: Ledger, A: Ledger, R: Wait, M: Moments, J: Journal>
         Err(fault) => return Err(ended_unsaved(fault)),
     };
     let mut book = context.shared.lock(context.rt);
+    let before = book.recorded();
     let is_kept = bring_verdict(&mut book, point, call, judged);
     if let (true, Some(entry)) = (is_kept, entry) {
-        context.journal.note(entry, call);
+        note_made(context.journal, &book, before, entry, call);
     }
     Ok(())
 }
@@ -126,8 +128,8 @@ fn reply_to_note<'s>(sent: &'s SentText<'_>, is_short: bool) -> &'s str
 
 /// Keeps a verdict on the audit of a point whose call has this number. What is refused is dropped.
 /// Returns whether it is kept.
-fn bring_verdict<C: Ledger, A: Ledger>(
-    book: &mut Book<C, A>,
+fn bring_verdict<C: Ledger, A: Ledger, N: Recorder>(
+    book: &mut Book<C, A, N>,
     point: PointId,
     call: u64,
     judged: Judged,

@@ -9,7 +9,7 @@ use crate::context::Context;
 use crate::journal::Journal;
 use crate::serving::ended::{Ended, ended_unsaved};
 use crate::serving::heard::SentCall;
-use crate::serving::noting::prepare_link;
+use crate::serving::noting::{note_made, prepare_link};
 use crate::serving::sockets::{clear_to_leave, send_text};
 use crate::session_core::{Peer, SessionCore};
 use messages::{ActionKind, Call, CallBody, push_call};
@@ -45,9 +45,10 @@ pub fn attach_session<C: Ledger, A: Ledger, R: Wait, M: Moments, J: Journal>(
     // A law: nothing runs.
     noted_steps_are_restored();
     let mut book = context.shared.lock(context.rt);
+    let before = book.recorded();
     let attached = book.attach(pass, point);
     if let (Ok(link), Some(entry)) = (&attached, entry) {
-        context.journal.note(entry, *link);
+        note_made(context.journal, &book, before, entry, *link);
     }
     drop(book);
     match attached {
@@ -131,9 +132,10 @@ fn next_call<C: Ledger, A: Ledger, R: Wait, M: Moments, J: Journal>(
     // A law: nothing runs.
     noted_steps_are_restored();
     let mut book = context.shared.lock(context.rt);
+    let before = book.recorded();
     let call = book.send(point, link);
     if let (Ok(Some(call)), Some(entry)) = (&call, entry) {
-        context.journal.note(entry, call.number);
+        note_made(context.journal, &book, before, entry, call.number);
     }
     drop(book);
     match call {
@@ -169,8 +171,9 @@ pub(crate) fn lose<C: Ledger, A: Ledger, R: Wait, M: Moments, J: Journal>(
     // A law: nothing runs.
     noted_steps_are_restored();
     let mut book = context.shared.lock(context.rt);
+    let before = book.recorded();
     let lost = book.lost(core.into_point_id(), link);
     if let (Ok(()), Some(entry)) = (lost, entry) {
-        context.journal.note(entry, 0);
+        note_made(context.journal, &book, before, entry, 0);
     }
 }

@@ -4,10 +4,10 @@ ghost use Rattle.std.specs.Prelude.{◌≡◌, IfOk, IfSome};
 ghost use Rattle.site_journal.specs.Line.{noted_state};
 ghost use Rattle.session.specs.declared.outcome.Outcome.{Outcome};
 ghost use Rattle.session.specs.declared.outcome.Performed.{Performed};
-ghost use Rattle.session.specs.Noting.{AsksFor, IsEntryAt, IsEntryFor, IsNotable};
+ghost use Rattle.session.specs.Noting.{AsksFor, IsEntryAt, IsEntryFor, IsNotable, IsOfMadeStep, IsPresent};
 
 use crate::context::Context;
-use crate::journal::{Journal, JournalFault};
+use crate::journal::{Journal, JournalFault, MadeStep};
 use crate::outcome::{Outcome, Performed};
 use ocpp_scalars::{Instant, Moments};
 use site_core::{Reply, Step};
@@ -15,7 +15,7 @@ use site_journal::{Entry, Noted, noted_by, noted_steps_are_restored, number_draw
 use std::sync::Wait;
 use std::sync::ledger::Ledger;
 use texts::SentText;
-use version_store::Book;
+use version_store::{Book, Recorder};
 
 /// Makes the entry of a message whose step may change something, or none. A request for a schedule
 /// or for a status changes nothing.
@@ -55,12 +55,14 @@ pub(crate) fn prepare_link<C: Ledger, A: Ledger, R: Wait, M: Moments, J: Journal
 /// since before it.
 pub(crate) fn note_performed<C: Ledger, A: Ledger, J: Journal>(
     journal: &J,
-    book: &Book<C, A>,
+    book: &Book<C, A, J::States>,
+    before: <J::States as Recorder>::Front,
     entry: Option<Entry>,
     confirms: bool,
     performed: &Performed,
 )
-    requires { IfSome entry (λ e. IsNotable e confirms performed.now book.now) }
+    requires { IfSome entry
+        (λ e. IsNotable e confirms performed.now (J.States.was_at before) book.now) }
 {
     // A law: nothing runs.
     noted_steps_are_restored();
@@ -68,10 +70,28 @@ pub(crate) fn note_performed<C: Ledger, A: Ledger, J: Journal>(
         return;
     };
     if confirms {
-        journal.note(entry, 0);
+        note_made(journal, book, before, entry, 0);
     } else if let Some(number) = number_drawn(reply, book.version()) {
-        journal.note(entry, number);
+        note_made(journal, book, before, entry, number);
     }
+}
+
+/// Notes a step that led from a state, before which this was recorded, to the present one.
+pub(crate) fn note_made<C: Ledger, A: Ledger, J: Journal>(
+    journal: &J,
+    book: &Book<C, A, J::States>,
+    before: <J::States as Recorder>::Front,
+    entry: Entry,
+    number: u64,
+)
+    requires { IsOfMadeStep entry number (J.States.was_at before) (IsPresent book.now) }
+{
+    journal.note(MadeStep {
+        entry,
+        number,
+        before,
+        after: book.recorded(),
+    });
 }
 
 /// The reply of a step that was made.

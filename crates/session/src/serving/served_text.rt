@@ -215,8 +215,16 @@ fn perform_noted<C: Ledger, A: Ledger, R: Wait, M: Moments, J: Journal>(
     let Ok(audit) = audit_confirmed(context.alloc, &book, &step) else {
         return Err(Ended::OutOfMemory);
     };
+    let before = book.recorded();
     let performed = perform(&mut book, pass, step);
-    note_performed(context.journal, &book, entry, confirms, &performed);
+    note_performed(
+        context.journal,
+        &book,
+        before,
+        entry,
+        confirms,
+        &performed,
+    );
     drop(book);
     Ok((performed, audit))
 }

@@ -9,7 +9,7 @@ use std::io::{Read, Write};
 use std::sync::Wait;
 use std::sync::ledger::Ledger;
 use tungstenite::{MaskKeys, WebSocket};
-use version_store::{Job, Shared};
+use version_store::{Job, Recorder, Shared};
 
 /// The socket of a session, over a stream of this type and with these masking keys.
 pub trait SessionSocket<S, K>: Waiting {
@@ -46,7 +46,7 @@ impl<S, K> Waiting for WebSocket<S, K> {
         }
     }
 
-    fn wait<C: Ledger, A: Ledger>(&mut self, _shared: &Shared<C, A>, _number: u64) -> bool {
+    fn wait<C: Ledger, A: Ledger, N: Recorder>(&mut self, _shared: &Shared<C, A, N>, _number: u64) -> bool {
         true
     }
 }

@@ -3,7 +3,7 @@
 use compile_pool::Jobs;
 use std::sync::Wait;
 use std::sync::ledger::Ledger;
-use version_store::{Job, Shared};
+use version_store::{Job, Recorder, Shared};
 
 /// What became of a job that was to be sent to the workers.
 #[derive(Drop)]
@@ -22,5 +22,5 @@ pub trait Waiting {
 
     /// Waits until the request of a number has its answer, or leaves that to whoever collects it.
     /// False where the client is gone before.
-    fn wait<C: Ledger, A: Ledger>(&mut self, shared: &Shared<C, A>, number: u64) -> bool;
+    fn wait<C: Ledger, A: Ledger, N: Recorder>(&mut self, shared: &Shared<C, A, N>, number: u64) -> bool;
 }

@@ -14,7 +14,7 @@ use std::sync::Wait;
 use std::sync::ledger::Ledger;
 use std::time::Duration;
 use tungstenite::{MaskKeys, WebSocket};
-use version_store::{Job, Shared};
+use version_store::{Job, Recorder, Shared};
 
 /// After so many milliseconds the socket is looked at for the first time: most answers are there by
 /// then.
@@ -176,7 +176,7 @@ impl<S: Read + Write + Watched + Drop, K: MaskKeys + Drop, R: Wait + Clock> Wait
         }
     }
 
-    fn wait<C: Ledger, A: Ledger>(&mut self, shared: &Shared<C, A>, number: u64) -> bool {
+    fn wait<C: Ledger, A: Ledger, N: Recorder>(&mut self, shared: &Shared<C, A, N>, number: u64) -> bool {
         let mut wait = FIRST_WAIT;
         for _turn in self.rt.forever() {
             if is_answered(self.rt, shared, number, wait) {
@@ -192,9 +192,9 @@ impl<S: Read + Write + Watched + Drop, K: MaskKeys + Drop, R: Wait + Clock> Wait
 }
 
 /// Whether the request of a number has its answer within so many milliseconds.
-fn is_answered<C: Ledger, A: Ledger, R: Wait + Clock>(
+fn is_answered<C: Ledger, A: Ledger, R: Wait + Clock, N: Recorder>(
     rt: &R,
-    shared: &Shared<C, A>,
+    shared: &Shared<C, A, N>,
     number: u64,
     wait: u64,
 ) -> bool {

@@ -14,13 +14,14 @@ use crate::answer::Answer;
 use crate::book::Book;
 use crate::job::Job;
 use crate::pass::Pass;
+use crate::recorder::Recorder;
 use ocpp_scalars::{Instant, Refusal};
 use profile::Unit;
 use site_core::{PointId, Reply, Step, Take};
 use std::sync::ledger::Ledger;
 use sweep_compiler::Compiled;
 
-impl<C: Ledger, A: Ledger> Book<C, A> {
+impl<C: Ledger, A: Ledger, N: Recorder> Book<C, A, N> {
     /// Keeps a request for the composite schedule (chapter 5.7) of a connector of a point.
     /// Connector 0 is the whole point. The schedule is from a start on for this many seconds, in a
     /// unit where one is given. The job is what is to be compiled and posted.
@@ -70,6 +71,7 @@ impl<C: Ledger, A: Ledger> Book<C, A> {
         ensures back { IfErr result (λ refused. refused.1 ≡ compiled) }
     {
         self.history.post(number, compiled)?;
+        self.recorder.leave_requests_out();
         Ok(())
     }
 
@@ -108,7 +110,10 @@ impl<C: Ledger, A: Ledger> Book<C, A> {
     pub fn finish(&mut self)
         ensures { Makes self.old steps.Finish Reply.Finished self.new }
     {
-        self.history.finish();
+        if !self.is_stopped() {
+            self.history.finish();
+            self.recorder.record(self.history.present());
+        }
     }
 
     /// The reply to who asks for the answer to the request of a number.
@@ -122,6 +127,7 @@ impl<C: Ledger, A: Ledger> Book<C, A> {
         ensures kept { IfErr result (λ refusal. (self.new ≡ self.old) × (pass.new ≡ pass.old)) }
     {
         let reply = self.history.hand_out(number)?;
+        self.recorder.leave_requests_out();
         let version = self.history.present().version();
         self.ledgers
             .count(pass, &reply, self.history.made(), version);

@@ -1,0 +1,124 @@
+-- What entries lead to, one after another.
+use Rattle.std.proofs.Common.{◌≡◌, ℕ, List, [], ◌∷◌, ◌++◌, Result, Ok, Err, refl, sym, ap, ◌∙◌, subst}
+use Rattle.std.specs.Prelude.{flat_map}
+use Rattle.std.proofs.lemmas.Grind.{flat_map-append}
+use Rattle.ocpp_scalars.specs.ResultSteps.{◌>>=◌}
+use Rattle.site_core.specs.State.{MachineState}
+use Rattle.site_journal.specs.declared.restore_fault.RestoreFault.{RestoreFault}
+use Rattle.site_journal.specs.Entry.{entry_text, numbered}
+use Rattle.site_journal.specs.Forgetting.{forget}
+use Rattle.site_journal.specs.Line.{LineState, line_text}
+use Rattle.site_journal.specs.NotedRun.{begins, notes, NotedRunsAreRestored}
+use Rattle.site_journal.specs.RecordedStates.{EndsAt}
+use Rattle.site_journal.specs.Restore.{restored, restored_lines}
+use Rattle.journal_writer.specs.declared.numbered_entry.NumberedEntry.{NumberedEntry}
+use Rattle.journal_writer.specs.Account.{AccountsFor, nothing, more, AreRestored, EntriesAreRestored, LeadsOn, texts_of}
+
+-- ---- lists
+
+-- two ends of one list are one
+same_end : {A : Type 0} (before behind : List A) (x y : A) → before ++ x ∷ [] ≡ behind ++ y ∷ []
+    → x ≡ y
+same_end [] [] x y same = cc same
+same_end [] (b ∷ []) x y same = absurd (cc same)
+same_end [] (b ∷ c ∷ behind) x y same = absurd (cc same)
+same_end (a ∷ []) [] x y same = absurd (cc same)
+same_end (a ∷ b ∷ before) [] x y same = absurd (cc same)
+same_end (a ∷ before) (b ∷ behind) x y same =
+    let rest : before ++ x ∷ [] ≡ behind ++ y ∷ [] = cc same in
+    same_end before behind x y rest
+
+last_is_one : (states : List MachineState) (old new : MachineState) → EndsAt states old
+    → EndsAt states new → forget old ≡ forget new
+last_is_one states old new was is =
+    same_end was.0 is.0 (forget old) (forget new) (sym was.1 ∙ is.1)
+
+-- nothing is noted between the first states and the last ones
+pub none_between : (first last : List MachineState) (entries : List NumberedEntry)
+    → AccountsFor first entries last → entries ≡ [] → first ≡ last
+none_between _ _ _ (nothing states) none = refl
+none_between _ _ _ (more first states later entries entry accounts leads) none = absurd (go entries none)
+  where
+    go : (entries : List NumberedEntry) → entries ++ entry ∷ [] ≡ [] → ⊥
+    go [] none = absurd (cc none)
+    go (e ∷ entries) none = absurd (cc none)
+
+-- one account goes on with another
+pub goes_on : (first middle last : List MachineState) (entries others : List NumberedEntry)
+    → AccountsFor first entries middle → AccountsFor middle others last
+    → AccountsFor first (entries ++ others) last
+goes_on first _ _ entries _ accounts (nothing states) =
+    subst (λ (es : List NumberedEntry). AccountsFor first es states) (sym (no_more entries)) accounts
+  where
+    no_more : (es : List NumberedEntry) → es ++ [] ≡ es
+    no_more [] = refl
+    no_more (e ∷ es) = ap (λ (rest : List NumberedEntry). e ∷ rest) (no_more es)
+goes_on first _ _ entries _ accounts (more middle states later others entry behind leads) =
+    subst (λ (es : List NumberedEntry). AccountsFor first es later) (moved entries)
+    (more first states later (entries ++ others) entry
+    (goes_on first middle states entries others accounts behind) leads)
+  where
+    moved : (es : List NumberedEntry) → (es ++ others) ++ entry ∷ [] ≡ es ++ others ++ entry ∷ []
+    moved [] = refl
+    moved (e ∷ es) = ap (λ (rest : List NumberedEntry). e ∷ rest) (moved es)
+
+-- the texts of both
+pub texts_of_both : (entries others : List NumberedEntry)
+    → texts_of (entries ++ others) ≡ texts_of entries ++ texts_of others
+texts_of_both entries others =
+    flat_map-append (λ (e : NumberedEntry). entry_text e.entry e.number) entries others
+
+-- ---- lines
+
+bind_ok : (result : Result MachineState RestoreFault) (state : MachineState)
+    → (result >>= (λ (next : MachineState). Ok next)) ≡ Ok state → result ≡ Ok state
+bind_ok (Ok one) state is = is
+bind_ok (Err fault) state is = absurd (cc is)
+
+-- a line leads to the same where requests are forgotten
+line_forgets : NotedRunsAreRestored → (old new : MachineState) (line : LineState)
+    → restored old line ≡ Ok new → restored (forget old) line ≡ Ok (forget new)
+line_forgets law old new line is =
+    bind_ok (restored (forget old) line) (forget new)
+    (law old new (line ∷ []) (notes old old new [] line (begins old) is))
+
+-- one line more
+line_behind : (old middle new : MachineState) (lines : List LineState) (line : LineState)
+    → restored_lines old lines ≡ Ok middle → restored middle line ≡ Ok new
+    → restored_lines old (lines ++ line ∷ []) ≡ Ok new
+line_behind old middle new [] line is last =
+    let same : old ≡ middle = cc is in
+    ap (λ (s : MachineState). restored s line >>= (λ (next : MachineState). Ok next)) same
+    ∙ ap (λ (r : Result MachineState RestoreFault). r >>= (λ (next : MachineState). Ok next)) last
+line_behind old middle new (first ∷ rest) line is last =
+    go (restored old first) is
+  where
+    go : (result : Result MachineState RestoreFault)
+        → (result >>= (λ (next : MachineState). restored_lines next rest)) ≡ Ok middle
+        → (result >>= (λ (next : MachineState). restored_lines next (rest ++ line ∷ []))) ≡ Ok new
+    go (Ok next) is = line_behind next middle new rest line is last
+    go (Err fault) is = absurd (cc is)
+
+-- ---- accounts
+
+pub led : NotedRunsAreRestored → EntriesAreRestored
+led law _ _ _ old new (nothing states) was is = record {
+  lines = [];
+  texts_are = refl;
+  leads = ap (λ (s : MachineState). Ok s) (last_is_one states old new was is);
+}
+led law _ _ _ old new (more first states later entries entry accounts leads) was is =
+    let before = led law first states entries old leads.old accounts was leads.was in
+    let line = numbered leads.line entry.number in
+    let end = last_is_one later leads.new new leads.is is in record {
+      lines = before.lines ++ line ∷ [];
+      texts_are =
+          texts_of_both entries (entry ∷ [])
+          ∙ ap (λ t. t ++ texts_of (entry ∷ [])) before.texts_are
+          ∙ ap (λ t. flat_map line_text before.lines ++ t ++ []) (leads.entry_is entry.number)
+          ∙ sym (flat_map-append line_text before.lines (line ∷ []));
+      leads =
+          line_behind (forget old) (forget leads.old) (forget new) before.lines line before.leads
+          (line_forgets law leads.old leads.new line leads.leads
+          ∙ ap (λ (s : MachineState). Ok s) end);
+    }

@@ -1,0 +1,13 @@
+//! What entries mean to a restart.
+
+ghost use Rattle.journal_writer.specs.Account.{EntriesAreRestored};
+
+use site_journal::noted_runs_are_restored;
+
+/// The law of all that is noted: entries that account for states are lines which a restart
+/// restores, from the first state to the last one, but for requests.
+pub fn entries_are_restored()
+    ensures { EntriesAreRestored }
+{
+    noted_runs_are_restored();
+}
