@@ -68,12 +68,7 @@ pub fn restore_shared<
 /// points. A journal that is new, or was written with another site file, gets a line that names this
 /// one. A last line that is torn is cut: nothing that it says was answered. Returns the journal, and
 /// the lines that are to be added to it.
-fn restore_book<
-    C: Ledger,
-    A: Ledger,
-    R: Files<File = File> + AllocGlobal + Eprint,
-    N: Recorder,
->(
+fn restore_book<C: Ledger, A: Ledger, R: Files<File = File> + AllocGlobal + Eprint, N: Recorder>(
     rt: &R,
     opened: OpenJournal,
     digest: &[u8; 32],

@@ -24,8 +24,13 @@ pub(crate) struct StatusService<'a, C: Ledger, A: Ledger, R, M, J: Journal> {
     pub(crate) port: &'a StatusPort<C, A, R, M, J>,
 }
 
-impl<C: Ledger, A: Ledger, R: Wait + Drop, M: Moments + Drop, J: Journal + WatchedJournal + Drop> Service
-    for StatusService<'_, C, A, R, M, J> {
+impl<
+    C: Ledger,
+    A: Ledger,
+    R: Wait + Drop,
+    M: Moments + Drop,
+    J: Journal + WatchedJournal + Drop,
+> Service for StatusService<'_, C, A, R, M, J> {
     ghost answers = { λ _ _ _ _. Unit {0} };
 
     fn call(

@@ -7,8 +7,8 @@ use crate::program::key_file::read_key_file;
 use crate::program::program_fault::ProgramFault;
 use crate::program::site_file::read_digested_site;
 use crate::program::watched_file::WatchedFile;
-use command_line::{MAX_SEATS, MAX_WORKERS, Running};
 use chronicle::{ChronicleName, Unnamed};
+use command_line::{MAX_SEATS, MAX_WORKERS, Running};
 use data_folder::{
     FolderFault, JournalFile, OpenJournal, Resumed, SystemClock, open_journal, or_stop,
     restore_shared,
@@ -179,12 +179,7 @@ fn run_counted<
         + Sync
         + Drop
         + 'static,
->(
-    rt: &R,
-    plan: Plan<'_>,
-    blanks: (Blank, Blank),
-    unnamed: Unnamed,
-) -> Result<(), ProgramFault>
+>(rt: &R, plan: Plan<'_>, blanks: (Blank, Blank), unnamed: Unnamed) -> Result<(), ProgramFault>
     requires workers { 1 ≤ plan.workers }
     requires changes { (blanks.0.name ≡ C.name) × (blanks.0.parts ≡ C.parts)
         × (blanks.0.parts ≡ plan.seats + 1) }

@@ -17,7 +17,8 @@ pub struct WatchedFile<R, J: ChronicleName> {
     pub file: JournalFile<R, J>,
 }
 
-impl<R: Wait + Clock + Eprint + AllocGlobal + Drop, J: ChronicleName> Journal for WatchedFile<R, J> {
+impl<R: Wait + Clock + Eprint + AllocGlobal + Drop, J: ChronicleName> Journal
+    for WatchedFile<R, J> {
     type States = StateRecorder<J>;
 
     fn prepare(

@@ -217,14 +217,7 @@ fn perform_noted<C: Ledger, A: Ledger, R: Wait, M: Moments, J: Journal>(
     };
     let before = book.recorded();
     let performed = perform(&mut book, pass, step);
-    note_performed(
-        context.journal,
-        &book,
-        before,
-        entry,
-        confirms,
-        &performed,
-    );
+    note_performed(context.journal, &book, before, entry, confirms, &performed);
     drop(book);
     Ok((performed, audit))
 }

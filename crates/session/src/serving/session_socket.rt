@@ -46,7 +46,11 @@ impl<S, K> Waiting for WebSocket<S, K> {
         }
     }
 
-    fn wait<C: Ledger, A: Ledger, N: Recorder>(&mut self, _shared: &Shared<C, A, N>, _number: u64) -> bool {
+    fn wait<C: Ledger, A: Ledger, N: Recorder>(
+        &mut self,
+        _shared: &Shared<C, A, N>,
+        _number: u64,
+    ) -> bool {
         true
     }
 }

@@ -22,5 +22,9 @@ pub trait Waiting {
 
     /// Waits until the request of a number has its answer, or leaves that to whoever collects it.
     /// False where the client is gone before.
-    fn wait<C: Ledger, A: Ledger, N: Recorder>(&mut self, shared: &Shared<C, A, N>, number: u64) -> bool;
+    fn wait<C: Ledger, A: Ledger, N: Recorder>(
+        &mut self,
+        shared: &Shared<C, A, N>,
+        number: u64,
+    ) -> bool;
 }

@@ -176,7 +176,11 @@ impl<S: Read + Write + Watched + Drop, K: MaskKeys + Drop, R: Wait + Clock> Wait
         }
     }
 
-    fn wait<C: Ledger, A: Ledger, N: Recorder>(&mut self, shared: &Shared<C, A, N>, number: u64) -> bool {
+    fn wait<C: Ledger, A: Ledger, N: Recorder>(
+        &mut self,
+        shared: &Shared<C, A, N>,
+        number: u64,
+    ) -> bool {
         let mut wait = FIRST_WAIT;
         for _turn in self.rt.forever() {
             if is_answered(self.rt, shared, number, wait) {
