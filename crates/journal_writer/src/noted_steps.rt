@@ -2,13 +2,12 @@
 
 ghost use Rattle.std.specs.Prelude.{◌≡◌, ◌∷◌, ◌++◌, [], false, true, string_bytes, IfOk, IsTrue, OnOk};
 ghost use Rattle.journal_writer.specs.Account.{NotedState, texts_of};
-ghost use Rattle.session.specs.Noting.{IsOfMadeStep};
+ghost use Rattle.site_journal.specs.MadeStep.{IsOfMadeStep};
 ghost use Rattle.site_journal.specs.RecordedStates.{EndsAt};
 
 use crate::numbered_entry::NumberedEntry;
 use chronicle::ChronicleName;
-use session::MadeStep;
-use site_journal::{RecordedStates, StateRecorder};
+use site_journal::{MadeStep, RecordedStates, StateRecorder};
 use std::alloc::{AllocError, Global};
 use std::marker::Model;
 use std::mem;

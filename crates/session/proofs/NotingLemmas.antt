@@ -22,6 +22,7 @@ use Rattle.site_journal.specs.Entry.{EntryState, IsEntryOf}
 use Rattle.site_journal.specs.Line.{NotedState, noted_state}
 use Rattle.site_journal.specs.Line as kinds
 use Rattle.site_journal.specs.declared.line.Noted.{Noted}
+use Rattle.site_journal.specs.MadeStep.{IsOfMadeStep}
 use Rattle.site_journal.specs.NotedStep.{ChangesAreRestored, ConfirmsAreRestored, VerdictsAreRestored, LinksAreRestored, SendsAreRestored, LossesAreRestored, IsStep, LeadsTo, line_at, noted_by}
 use Rattle.site_journal.specs.Restore.{is_change, number_drawn}
 use Rattle.texts.specs.declared.asked.Asked.TheVariants as asked
@@ -33,7 +34,7 @@ use Rattle.session.specs.declared.outcome.Outcome.TheVariants as outcomes
 use Rattle.session.specs.declared.outcome.Performed.{Performed}
 use Rattle.session.specs.declared.outcome.Performed.TheVariants.{Outcome}
 use Rattle.session.specs.Audit.{IsVerdictNoted, reply_noted}
-use Rattle.session.specs.Noting.{IsOfMadeStep, IsEntryAt, IsEntryFor, IsEntryToNote, AsksFor, IsNotable, is_confirm}
+use Rattle.session.specs.Noting.{IsEntryAt, IsEntryFor, IsEntryToNote, AsksFor, IsNotable, is_confirm}
 use Rattle.session.specs.Perform.{Performs}
 use Rattle.session.proofs.UnreadReply.{is_unread}
 use Rattle.session.proofs.VerdictLemmas.{AreComputed, verdict_leads}

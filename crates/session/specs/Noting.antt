@@ -4,40 +4,19 @@ use Rattle.messages.specs.declared.action_kind.ActionKind.{ActionKind}
 use Rattle.messages.specs.declared.side.Side.TheVariants.{Point}
 use Rattle.site_core.specs.declared.step.Step.{Step}
 use Rattle.site_core.specs.declared.step.Step.TheVariants as steps
-use Rattle.site_core.specs.declared.reply.Reply.{Reply}
 use Rattle.site_core.specs.State.{MachineState}
-use Rattle.site_core.specs.Step.{Made}
 use Rattle.version_store.specs.Passes.{PassState}
 use Rattle.version_store.specs.Store.{StoreState, IsStore}
-use Rattle.version_store.specs.Calls.{Makes}
-use Rattle.site_journal.specs.Entry.{EntryState, IsEntryOf, numbered}
-use Rattle.site_journal.specs.Line.{NotedState, LineState}
-use Rattle.site_journal.specs.NotedStep.{LeadsTo, line_at, noted_by}
+use Rattle.site_journal.specs.Entry.{EntryState, IsEntryOf}
+use Rattle.site_journal.specs.Line.{NotedState}
+use Rattle.site_journal.specs.NotedStep.{line_at, noted_by}
 use Rattle.texts.specs.declared.asked.Asked.TheVariants as asked
 use Rattle.texts.specs.Asked.{asked_of}
 use Rattle.texts.specs.SentText.{Sent}
 use Rattle.session.specs.declared.outcome.Performed.{Performed}
 use Rattle.session.specs.Perform.{Performs}
 
--- ---- a line of a step that was made
-
--- A step was made on the book while the session had it, and the entry with this number is a line that
--- leads where the step led. What is recorded of the book ended with the state before the step, and
--- with the one after it.
-pub record IsOfMadeStep (entry : EntryState) (number : ℕ) (before after : MachineState → Type 0)
-    : Type 0 where
-  pub line : LineState
-  pub entry_is : IsEntryOf entry line
-  pub old : StoreState
-  pub new : StoreState
-  pub step : Step
-  pub told : Reply
-  pub store : IsStore old
-  pub makes : Makes old step told new
-  pub leads : LeadsTo old.present (numbered line number)
-      (record { reply = told; after = new.present })
-  pub was_before : before old.present
-  pub is_after : after new.present
+-- ---- what is noted of a link
 
 -- the state that a book has
 abbrev pub IsPresent : StoreState → MachineState → Type 0

@@ -3,25 +3,14 @@
 ghost use Rattle.std.specs.Prelude.{◌≡◌, Bool, true, IfOk, IfSome, OnOk};
 ghost use Rattle.site_journal.specs.Entry.{IsEntryOf};
 ghost use Rattle.site_journal.specs.Line.{noted_state};
+ghost use Rattle.site_journal.specs.MadeStep.{IsOfMadeStep};
 ghost use Rattle.site_journal.specs.NotedStep.{line_at};
-ghost use Rattle.session.specs.Noting.{IsOfMadeStep};
 
 use ocpp_scalars::Instant;
-use site_journal::{Entry, Noted};
+use site_journal::{Entry, MadeStep, Noted};
 use std::alloc::AllocError;
 use std::marker::{Send, Sync};
 use version_store::{NoRecorder, Recorder};
-
-/// A step that was made and changed something.
-#[derive(Drop)]
-pub struct MadeStep<N: Recorder> {
-    /// Its entry, and the number that it drew.
-    pub entry: Entry,
-    pub number: u64,
-    /// What was recorded of the book before it, and with it.
-    pub before: N::Front,
-    pub after: N::Front,
-}
 
 /// Takes down the steps that change something, in the order in which they are made, and sees to it
 /// that they are kept before any message leaves that depends on them.
@@ -87,7 +76,9 @@ impl Journal for NoJournal {
         Ok(None)
     }
 
-    fn note(&self, _step: MadeStep<NoRecorder>) {}
+    fn note(&self, _step: MadeStep<NoRecorder>)
+        requires { IsOfMadeStep _step.entry _step.number (λ _. Unit {0}) (λ _. Unit {0}) }
+    {}
 
     fn write_out(&self) -> Result<(), JournalFault> {
         Ok(())

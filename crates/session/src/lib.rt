@@ -12,7 +12,7 @@ mod step;
 mod todo;
 
 pub use context::Context;
-pub use journal::{Journal, JournalFault, MadeStep, NoJournal};
+pub use journal::{Journal, JournalFault, NoJournal};
 pub use outcome::{Outcome, Performed};
 pub use serving::{
     Ended, Heard, MAX_REJECTION_BYTES, SentCall, Served, Told, Watched, WatchedSocket,
@@ -20,7 +20,7 @@ pub use serving::{
     serve_session, serve_socket,
 };
 pub use session_core::{Peer, SessionCore};
-pub use site_journal::{Entry, Noted};
+pub use site_journal::{Entry, MadeStep, Noted};
 pub use step::perform;
 pub use texts::{Asked, SentText, Unread, asked_of, hold_of, number_of, response_of};
 pub use todo::{Owed, Todo};

@@ -10,4 +10,5 @@ pub mod LostLinks
 pub mod Forgetting
 pub mod NotedRun
 pub mod RecordedStates
+pub mod MadeStep
 pub mod ByCases

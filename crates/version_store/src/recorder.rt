@@ -10,12 +10,13 @@ ghost use Rattle.version_store.specs.Store.{may_fold};
 
 use crate::history::History;
 use site_core::{Machine, Refused, Reply, Step};
+use std::marker::{Send, Sync};
 
 /// Records the states that the changes of a book lead to, under the lock of the book. Requests for
 /// schedules aren't recorded.
 pub trait Recorder {
     /// What was recorded by some moment.
-    type Front: Drop;
+    type Front: Drop + Send + Sync;
 
     /// Whether the last state that was recorded is this one, but for its requests.
     ghost is_at: { Self → MachineState → Type 0 };

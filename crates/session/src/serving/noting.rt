@@ -2,16 +2,17 @@
 
 ghost use Rattle.std.specs.Prelude.{◌≡◌, IfOk, IfSome};
 ghost use Rattle.site_journal.specs.Line.{noted_state};
+ghost use Rattle.site_journal.specs.MadeStep.{IsOfMadeStep};
 ghost use Rattle.session.specs.declared.outcome.Outcome.{Outcome};
 ghost use Rattle.session.specs.declared.outcome.Performed.{Performed};
-ghost use Rattle.session.specs.Noting.{AsksFor, IsEntryAt, IsEntryFor, IsNotable, IsOfMadeStep, IsPresent};
+ghost use Rattle.session.specs.Noting.{AsksFor, IsEntryAt, IsEntryFor, IsNotable, IsPresent};
 
 use crate::context::Context;
-use crate::journal::{Journal, JournalFault, MadeStep};
+use crate::journal::{Journal, JournalFault};
 use crate::outcome::{Outcome, Performed};
 use ocpp_scalars::{Instant, Moments};
 use site_core::{Reply, Step};
-use site_journal::{Entry, Noted, noted_by, noted_steps_are_restored, number_drawn};
+use site_journal::{Entry, MadeStep, Noted, noted_by, noted_steps_are_restored, number_drawn};
 use std::sync::Wait;
 use std::sync::ledger::Ledger;
 use texts::SentText;
