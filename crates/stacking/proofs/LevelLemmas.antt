@@ -67,6 +67,40 @@ is_place rates level place within before from = record {
   not_below = from_place place level rates from;
 }
 
+-- where the level stands is its place
+
+below_one : (place low level : ℕ) (rates : List (ℕ × ℕ)) → AreAbove low rates → stands_there rates level place ≡ true → low < level
+below_one zero low level [] above there = absurd (grind (arith, there))
+below_one zero low level (entry ∷ rates) above there =
+    let same : entry.0 ≡ level = grind (arith, nat_tests, there) in
+    let less : low < entry.0 = above.0 in
+    omega (arith, same, less)
+below_one (suc place) low level [] above there = absurd (grind (arith, there))
+below_one (suc place) low level (entry ∷ rates) above there = below_one place low level rates above.1 there
+
+not_below_it : (level : ℕ) (rates : List (ℕ × ℕ)) → AreAbove level rates → AreNotBelow level rates
+not_below_it level [] above = tt
+not_below_it level (entry ∷ rates) above = let less : level < entry.0 = above.0 in (omega (arith, less), not_below_it level rates above.1)
+
+pub place_of_one : (place level : ℕ) (rates : List (ℕ × ℕ)) → AreRising rates → stands_there rates level place ≡ true → IsPlaceOf rates level place
+place_of_one zero level [] rising there = absurd (grind (arith, there))
+place_of_one zero level (entry ∷ rates) rising there =
+    let same : entry.0 ≡ level = grind (arith, nat_tests, there) in
+    record {
+      within = omega arith;
+      below = tt;
+      not_below = (omega (arith, same), not_below_it level rates (above_more level entry.0 rates (omega (arith, same)) rising.0));
+    }
+place_of_one (suc place) level [] rising there = absurd (grind (arith, there))
+place_of_one (suc place) level (entry ∷ rates) rising there =
+    let rest = place_of_one place level rates rising.1 there in
+    let inside = rest.within in
+    record {
+      within = omega (arith, inside);
+      below = (below_one place entry.0 level rates rising.0 there, rest.below);
+      not_below = rest.not_below;
+    }
+
 -- where the level doesn't stand at its place, those from there on are above it
 above_place : (place level : ℕ) (rates : List (ℕ × ℕ)) → AreRising rates → AreNotBelow level (drop place rates) → stands_there rates level place ≡ false → AreAbove level (drop place rates)
 above_place zero level [] rising from apart = tt

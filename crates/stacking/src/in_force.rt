@@ -101,7 +101,19 @@ fn place_of(rates: &[(u32, u32)], level: u32) -> usize
     requires rising { AreRising rates.now }
     ensures { IsPlaceOf rates.now level result }
 {
+    let likely = likely_place(rates, level);
+    if stands_there(rates, level, likely) {
+        return likely;
+    }
     rates.partition_point(|entry| entry.0 < level)
+}
+
+/// Where a level stands if each from the lowest up to it has a rate, which spares the search.
+fn likely_place(rates: &[(u32, u32)], level: u32) -> usize {
+    match rates.first() {
+        Some(lowest) => level.saturating_sub(lowest.0) as usize,
+        None => 0,
+    }
 }
 
 /// Whether a level stands at a place.

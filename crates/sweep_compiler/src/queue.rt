@@ -1,11 +1,15 @@
 //! The rows that wait for their next places.
 
-ghost use Rattle.std.specs.Prelude.{◌≡◌, ◌≤◌, ◌<◌, [], ◌∷◌, drop, length, IfOk, IfSome, IfNone, IsPermutation};
+ghost use Rattle.std.specs.Prelude.{◌≡◌, ◌≤◌, ◌<◌, [], ◌∷◌, drop, length, nat_eq, IfOk, IfSome, IfNone, IsPermutation};
 ghost use Rattle.std.specs.List.{AllByRecursion};
+ghost use Rattle.std.specs.Ordering.{nat_cmp, on, as_partial_cmp};
+ghost use Rattle.std.specs.Cmp.{partial_order_from_own_ties};
+ghost use Rattle.std.specs.Cmp.Rules.{comparing};
+ghost use Rattle.std.proofs.Common.{rules, refl};
 
 use ocpp_scalars::Instant;
 use std::alloc::{AllocError, Global};
-use std::cmp::Reverse;
+use std::cmp::Ordering;
 use std::collections::BinaryHeap;
 use std::collections::binary_heap::PeekMut;
 use std::marker::Model;
@@ -18,28 +22,65 @@ pub(crate) struct Due {
     pub row: usize,
 }
 
+// The instants alone decide, the soonest being the greatest, since the heap compares at each turn. In
+// which order the rows pass that are due at one instant makes no difference.
+impl PartialEq for Due {
+    ghost eq = { on (λ due. due.instant) nat_eq };
+
+    ghost laws = { Prim.search (comparing, rules) };
+
+    fn eq(&self, other: &Due) -> bool {
+        self.instant == other.instant
+    }
+}
+
+impl Eq for Due {
+    ghost laws = { Prim.search (comparing, rules) };
+}
+
+impl PartialOrd for Due {
+    ghost partial_cmp = { as_partial_cmp (λ x y. nat_cmp y.instant x.instant) };
+
+    ghost laws = { partial_order_from_own_ties
+        (Prim.search (comparing, rules)) (Prim.search (comparing, rules)) };
+
+    fn partial_cmp(&self, other: &Due) -> Option<Ordering> {
+        Some(self.cmp(other))
+    }
+}
+
+impl Ord for Due {
+    ghost cmp = { λ x y. nat_cmp y.instant x.instant };
+
+    ghost total = { Prim.search (comparing, rules) };
+
+    ghost matches_partial_cmp = { λ x y. refl };
+
+    ghost matches_eq = { Prim.search (comparing, rules) };
+
+    fn cmp(&self, other: &Due) -> Ordering {
+        other.instant.cmp(&self.instant)
+    }
+}
+
 /// Rows of bounds, each with the instant at which it is due: the soonest comes first.
 #[derive(Drop)]
 pub(crate) struct Queue {
-    heap: BinaryHeap<Reverse<(Instant, (usize, usize))>>,
+    heap: BinaryHeap<Due>,
 }
 
 impl Model for Queue {
-    ghost use Rattle.std.specs.Prelude.{ℕ, List, map};
-    ghost use Rattle.std.specs.Ordering.{nat_cmp, ordering_then};
+    ghost use Rattle.std.specs.Prelude.{List};
+    ghost use Rattle.std.specs.Ordering.{nat_cmp};
     ghost use Rattle.std.specs.BinaryHeap.{IsHeap, heap_items};
     ghost use Rattle.sweep_compiler.specs.ByCases.Queue.{Due};
 
     ghost Value = { List Due };
 
-    ghost view = { λ q. map
-        (λ r. record { instant = r.0.0; bound = r.0.1.0; row = r.0.1.1 })
-        (heap_items q.heap) };
+    ghost view = { λ q. heap_items q.heap };
 
     ghost invariant = { λ q. IsHeap
-        (λ x y. ordering_then (nat_cmp y.0.0 x.0.0)
-        (ordering_then (nat_cmp y.0.1.0 x.0.1.0) (nat_cmp y.0.1.1 x.0.1.1)))
-        (heap_items q.heap) };
+        (λ x y. nat_cmp y.instant x.instant) (heap_items q.heap) };
 }
 
 impl Queue {
@@ -58,8 +99,7 @@ impl Queue {
     pub(crate) fn push(&mut self, due: Due) -> Result<(), AllocError>
         ensures { IfOk result (λ _. IsPermutation (due ∷ self.old) self.new) }
     {
-        self.heap
-            .push(Reverse((due.instant, (due.bound, due.row))))?;
+        self.heap.push(due)?;
         Ok(())
     }
 
@@ -68,7 +108,7 @@ impl Queue {
         ensures { IsSoonest self.now result }
     {
         match self.heap.peek() {
-            Some(first) => Some(first.0.0),
+            Some(first) => Some(first.instant),
             None => None,
         }
     }
@@ -81,11 +121,7 @@ impl Queue {
             AllByRecursion (λ (other : Due). due.instant ≤ other.instant) self.now) }
     {
         match self.heap.peek() {
-            Some(first) => Some(Due {
-                instant: first.0.0,
-                bound: first.0.1.0,
-                row: first.0.1.1,
-            }),
+            Some(first) => Some(*first),
             None => None,
         }
     }
@@ -96,7 +132,7 @@ impl Queue {
         ensures { IsPermutation (due ∷ drop 1 self.old) self.new }
     {
         let mut first = self.heap.peek_mut().unwrap();
-        *first = Reverse((due.instant, (due.bound, due.row)));
+        *first = due;
     }
 
     /// Takes the first out.

@@ -4,4 +4,4 @@ use Rattle.sweep_compiler.proofs.queue.Queue.push.Goals as goal
 
 pub returns : goal.returns
 returns c =
-    pushed (record { 0 = (c.args.due.instant, (c.args.due.bound, c.args.due.row)) }) c.self.inside.heap.data.items c.push.new.self.data.items c.args.self.now c.self.view_is c.in_ok-push.ensures.permutation
+    pushed c.args.due c.self.inside.heap.data.items c.push.new.self.data.items c.args.self.now c.self.view_is c.in_ok-push.ensures.permutation

@@ -8,5 +8,5 @@ pub returns : goal.returns
 returns c =
     let first = c.unwrap-first.result in
     let rest = MatchOption-at_some _ _ first c.unwrap-first.ensures c.peek_mut.ensures.rest in
-    let t = replaced (record { 0 = (c.args.due.instant, (c.args.due.bound, c.args.due.row)) }) c.self.inside.heap.data.items _ _ c.args.self.now c.self.view_is rest (c.drop-first.ensures.permutation (search rules)) in
+    let t = replaced c.args.due c.self.inside.heap.data.items _ _ c.args.self.now c.self.view_is rest (c.drop-first.ensures.permutation (search rules)) in
     search rules
