@@ -1,12 +1,16 @@
 //! The journal of a site that is run: what sessions note, written to a file and synced.
 
+ghost use Rattle.std.specs.Prelude.{IfOk, IfSome};
+ghost use Rattle.journal_writer.specs.Account.{Covers};
+ghost use Rattle.site_journal.specs.RecordedStates.{EndsAt};
+
 use crate::reserve_file::ReserveFile;
 use crate::restored_journal::RestoredJournal;
 use crate::said_lines::SaidLines;
 use crate::system_clock::SystemClock;
 use append_log::{LogFault, SystemFile};
 use chronicle::ChronicleName;
-use journal_writer::{NotedSteps, WrittenSteps};
+use journal_writer::{NotedSteps, Receipt, WrittenSteps};
 use ocpp_scalars::{Instant as Moment, Moments, write_instant};
 use session::{Entry, Journal, JournalFault, MadeStep, Noted};
 use site_journal::{Line, RecordedStates, StateRecorder};
@@ -52,9 +56,8 @@ pub struct JournalFile<R, J: ChronicleName> {
 #[derive(Drop)]
 struct NotedEntries<J: ChronicleName> {
     steps: NotedSteps<J>,
-    /// How many entries were noted in all, and how many of these are on the disk.
-    noted: u64,
-    kept: u64,
+    /// What shows which lines are on the disk.
+    receipt: Option<Receipt<J>>,
     /// Whether a session writes and syncs for all that wait.
     has_writer: bool,
     state: JournalState,
@@ -69,18 +72,15 @@ struct NotedEntries<J: ChronicleName> {
 struct WrittenLines<J: ChronicleName> {
     steps: WrittenSteps<SystemFile, J>,
     reserve: ReserveFile,
-    /// How many entries were taken in all.
-    taken_count: u64,
 }
 
-/// What came of an attempt to keep all that was noted.
+/// What else came of an attempt that put all on the disk that was noted.
 #[derive(Drop)]
 enum Kept {
-    /// It is on the disk.
     All,
-    /// It is on the disk, and the device has room again.
+    /// The device has room again.
     AllAndRoom,
-    /// It is on the disk, in the place of the reserve: the device is full.
+    /// It stands in the place of the reserve: the device is full.
     AllButFull(io::Error),
 }
 
@@ -126,8 +126,7 @@ impl<R: Wait + Clock + Eprint + AllocGlobal + Drop, J: ChronicleName> JournalFil
         log.add(lines.as_bytes())?;
         let noted = NotedEntries {
             steps: NotedSteps::new(alloc, states.copy(), FREE_ENTRIES)?,
-            noted: 0,
-            kept: 0,
+            receipt: None,
             has_writer: false,
             state: JournalState::Open,
             bytes: log.file().synced_bytes(),
@@ -137,7 +136,6 @@ impl<R: Wait + Clock + Eprint + AllocGlobal + Drop, J: ChronicleName> JournalFil
         let written = WrittenLines {
             steps: WrittenSteps::new(alloc, log, states, FREE_ENTRIES)?,
             reserve,
-            taken_count: 0,
         };
         Ok(JournalFile {
             rt,
@@ -157,15 +155,18 @@ impl<R: Wait + Clock + Eprint + AllocGlobal + Drop, J: ChronicleName> JournalFil
         self.keep_with(&mut self.written.lock(&self.rt))
     }
 
-    /// Waits until so many entries are on the disk. One session writes and syncs for all that wait:
-    /// when it is done, those whose entries it wrote go on, and one of the others writes.
-    fn keep_up_to(&self, wanted: u64) -> Result<(), JournalFault> {
+    /// Waits until all lines are on the disk that lead to these states. One session writes and syncs
+    /// for all that wait: when it is done, those whose entries it wrote go on, and one of the others
+    /// writes.
+    fn keep_up_to(&self, recorded: &RecordedStates<J>) -> Result<Receipt<J>, JournalFault>
+        ensures { IfOk result (λ receipt. Covers receipt (EndsAt recorded.now)) }
+    {
         let noted = self.noted.lock(&self.rt);
         let mut noted = self.writer_done.wait_while(&self.rt, noted, |noted| {
-            noted.has_writer && noted.kept < wanted
+            noted.has_writer && !noted.has_kept(recorded)
         });
-        if noted.kept >= wanted {
-            return Ok(());
+        if let Some(receipt) = noted.receipt_for(recorded) {
+            return Ok(receipt);
         }
         if noted.state == JournalState::Broken {
             return Err(JournalFault::Unwritable);
@@ -173,9 +174,13 @@ impl<R: Wait + Clock + Eprint + AllocGlobal + Drop, J: ChronicleName> JournalFil
         noted.has_writer = true;
         drop(noted);
         let kept = self.keep_all();
-        self.noted.lock(&self.rt).has_writer = false;
+        let mut noted = self.noted.lock(&self.rt);
+        noted.has_writer = false;
+        let receipt = noted.receipt_for(recorded);
+        drop(noted);
         self.writer_done.notify_all();
-        kept
+        kept?;
+        receipt.ok_or(JournalFault::Unwritable)
     }
 
     /// Returns once the journal is broken. Until then it is tried again now and then to write where
@@ -241,13 +246,13 @@ impl<R: Wait + Clock + Eprint + AllocGlobal + Drop, J: ChronicleName> JournalFil
         self.take_noted(written)?;
         written.steps.add_lines(FREE_ENTRIES)?;
         let before = (written.synced(), Instant::now(&self.rt).ok());
-        let kept = written.write_and_sync()?;
+        let (receipt, kept) = written.write_and_sync()?;
         let synced = written.synced();
         let mut noted = self.noted.lock(&self.rt);
-        noted.kept = written.taken_count;
-        if noted.kept == noted.noted && noted.state != JournalState::Broken {
+        if receipt.covers(noted.steps.last()) && noted.state != JournalState::Broken {
             self.is_kept.store(true, Ordering::SeqCst);
         }
+        noted.receipt = Some(receipt);
         if synced != before.0 {
             noted.count_sync(synced, self.time_since(before.1));
         }
@@ -271,11 +276,11 @@ impl<R: Wait + Clock + Eprint + AllocGlobal + Drop, J: ChronicleName> JournalFil
     /// Takes what was noted by now. What was taken before has its lines.
     fn take_noted(&self, written: &mut WrittenLines<J>) -> Result<(), KeepFault> {
         let mut noted = self.noted.lock(&self.rt);
-        if !written.steps.take(&mut noted.steps) {
-            return Err(KeepFault::StepMissing);
+        if written.steps.take(&mut noted.steps) {
+            Ok(())
+        } else {
+            Err(KeepFault::StepMissing)
         }
-        written.taken_count = noted.noted;
-        Ok(())
     }
 
     /// From now on this may be noted, or nothing more, for a reason that is said if it is news.
@@ -323,6 +328,24 @@ impl<R: Wait + Clock + Eprint + AllocGlobal + Drop, J: ChronicleName> JournalFil
 }
 
 impl<J: ChronicleName> NotedEntries<J> {
+    /// Whether all lines are on the disk that lead to these states.
+    fn has_kept(&self, recorded: &RecordedStates<J>) -> bool {
+        match &self.receipt {
+            Some(receipt) => receipt.covers(recorded),
+            None => false,
+        }
+    }
+
+    /// What shows that they are, if they are.
+    fn receipt_for(&self, recorded: &RecordedStates<J>) -> Option<Receipt<J>>
+        ensures { IfSome result (λ receipt. Covers receipt (EndsAt recorded.now)) }
+    {
+        match &self.receipt {
+            Some(receipt) if receipt.covers(recorded) => Some(receipt.copy()),
+            _ => None,
+        }
+    }
+
     /// The file was written and synced, which took this time. So many of its bytes are on the disk.
     fn count_sync(&mut self, bytes: u64, time: Duration) {
         self.bytes = bytes;
@@ -339,12 +362,12 @@ impl<J: ChronicleName> WrittenLines<J> {
 
     /// Writes the lines that aren't in the file, and syncs it. Where the device is full the reserve
     /// is given up for them.
-    fn write_and_sync(&mut self) -> Result<Kept, KeepFault> {
+    fn write_and_sync(&mut self) -> Result<(Receipt<J>, Kept), KeepFault> {
         match self.steps.write_and_sync() {
-            Ok(()) => Ok(Kept::All),
+            Ok(receipt) => Ok((receipt, Kept::All)),
             Err(LogFault::Full(error)) if self.reserve.give_up() => {
-                self.steps.write_and_sync()?;
-                Ok(Kept::AllButFull(error))
+                let receipt = self.steps.write_and_sync()?;
+                Ok((receipt, Kept::AllButFull(error)))
             }
             Err(fault) => Err(KeepFault::Log(fault)),
         }
@@ -354,6 +377,10 @@ impl<J: ChronicleName> WrittenLines<J> {
 impl<R: Wait + Clock + Eprint + AllocGlobal + Drop, J: ChronicleName> Journal
     for JournalFile<R, J> {
     type States = StateRecorder<J>;
+
+    type Receipt = Receipt<J>;
+
+    ghost covers = { Covers };
 
     fn prepare(
         &self,
@@ -381,23 +408,27 @@ impl<R: Wait + Clock + Eprint + AllocGlobal + Drop, J: ChronicleName> Journal
         if !noted.steps.note(step) {
             self.turn_noted(&mut noted, JournalState::Broken, &STEP_MISSING);
         }
-        noted.noted = noted.noted.saturating_add(1);
+    }
+
+    fn receipt(&self, recorded: &RecordedStates<J>) -> Result<Receipt<J>, JournalFault> {
+        let noted = self.noted.lock(&self.rt);
+        if noted.state == JournalState::Broken {
+            return Err(JournalFault::Unwritable);
+        }
+        if let Some(receipt) = noted.receipt_for(recorded) {
+            return Ok(receipt);
+        }
+        drop(noted);
+        self.keep_up_to(recorded)
     }
 
     fn write_out(&self) -> Result<(), JournalFault> {
         if self.is_kept.load(Ordering::SeqCst) {
             return Ok(());
         }
-        let noted = self.noted.lock(&self.rt);
-        let (wanted, kept, state) = (noted.noted, noted.kept, noted.state);
-        drop(noted);
-        if state == JournalState::Broken {
-            return Err(JournalFault::Unwritable);
-        }
-        if kept >= wanted {
-            return Ok(());
-        }
-        self.keep_up_to(wanted)
+        let recorded = self.noted.lock(&self.rt).steps.last().copy();
+        self.receipt(&recorded)?;
+        Ok(())
     }
 }
 

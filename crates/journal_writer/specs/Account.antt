@@ -5,7 +5,7 @@ use Rattle.site_core.specs.State.{MachineState}
 use Rattle.site_journal.specs.Entry.{IsEntryOf, entry_text, numbered}
 use Rattle.site_journal.specs.Forgetting.{forget}
 use Rattle.site_journal.specs.Line.{LineState, line_text}
-use Rattle.site_journal.specs.RecordedStates.{EndsAt}
+use Rattle.site_journal.specs.RecordedStates.{EndsAt, HasState}
 use Rattle.site_journal.specs.Restore.{restored, restored_lines}
 use Rattle.journal_writer.specs.declared.numbered_entry.NumberedEntry.{NumberedEntry}
 
@@ -50,6 +50,10 @@ pub record HasLinesUpTo (states : List MachineState) (bytes : List ℕ) : Type 0
   pub entries : List NumberedEntry
   pub bytes_are : bytes ≡ begun ++ texts_of entries
   pub accounts : AccountsFor first entries states
+
+-- these states have among them each state that is this
+abbrev pub Covers : List MachineState → (MachineState → Type 0) → Type 0
+Covers states is_it = (state : MachineState) → is_it state → HasState states state
 
 -- ---- what that means
 

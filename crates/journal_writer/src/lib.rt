@@ -5,9 +5,11 @@
 mod laws;
 mod noted_steps;
 mod numbered_entry;
+mod receipt;
 mod written_steps;
 
 pub use laws::entries_are_restored;
 pub use noted_steps::NotedSteps;
 pub use numbered_entry::NumberedEntry;
+pub use receipt::Receipt;
 pub use written_steps::WrittenSteps;

@@ -5,6 +5,7 @@ ghost use Rattle.append_log.specs.Log.{after_trial, contents};
 ghost use Rattle.journal_writer.specs.Account.{HasLinesUpTo};
 
 use crate::noted_steps::NotedSteps;
+use crate::receipt::Receipt;
 use append_log::{AppendedFile, Log, LogFault};
 use chronicle::ChronicleName;
 use site_journal::RecordedStates;
@@ -92,14 +93,17 @@ impl<F: AppendedFile, J: ChronicleName> WrittenSteps<F, J> {
     }
 
     /// Writes the lines that aren't in the file, and syncs it. Then all lines up to the states are
-    /// on the disk.
-    pub fn write_and_sync(&mut self) -> Result<(), LogFault>
+    /// on the disk, as the receipt shows.
+    pub fn write_and_sync(&mut self) -> Result<Receipt<J>, LogFault>
         ensures contents { self.new ≡ record self.old {
           contents = after_trial self.old.contents result;
         } }
-        ensures synced { OnOk result (HasLinesUpTo self.new.states self.new.contents.synced) }
+        ensures states { IfOk result (λ receipt. receipt ≡ self.new.states) }
+        ensures synced { IfOk result
+            (λ receipt. HasLinesUpTo receipt self.new.contents.synced) }
     {
-        self.log.write_and_sync()
+        self.log.write_and_sync()?;
+        Ok(Receipt::new(self.states.copy()))
     }
 
     /// What was recorded by the last line.

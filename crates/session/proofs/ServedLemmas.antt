@@ -1,5 +1,5 @@
 -- The answer to a request, from what was compared, and to a message whose step can't be noted.
-use Rattle.std.proofs.Common.{◌≡◌, ℕ, List, Option, None, Result, Ok, Err, IfOk, option_map, string_bytes, inl, inr, subst, sym, ap, ◌∙◌}
+use Rattle.std.proofs.Common.{◌≡◌, ℕ, List, Option, None, Result, Ok, Err, IfOk, inl, inr, subst, sym, ap, ◌∙◌}
 use Rattle.meaning.specs.declared.ask.Ask.{Ask}
 use Rattle.site_core.specs.Right.{IsRight}
 use Rattle.site_core.specs.State.{MachineState}
@@ -10,7 +10,6 @@ use Rattle.messages.specs.declared.side.Side.{Side}
 use Rattle.site_core.specs.declared.step.Step.{Step}
 use Rattle.session.specs.declared.outcome.Outcome.{Outcome}
 use Rattle.session.specs.declared.serving.ended.Ended.{Ended}
-use Rattle.session.specs.declared.serving.served_text.Served.{Served}
 use Rattle.session.specs.declared.todo.Owed.{Owed}
 use Rattle.session.specs.declared.todo.Owed.TheVariants as owed
 use Rattle.session.specs.Served.{HasOutcome, IsAnswerTo, IsServed, IsUnmade}
@@ -64,16 +63,16 @@ unmade_served session was seen moment frame first left answer asked left_is it =
       answer_is = it.answer_is;
     }
 
-pub unmade_if : (session : SessionState) (was : PassState) (moment : ℕ) (frame : List ℕ)
-    (first left : TodoState) (result : Result Served Ended)
+pub unmade_if : {X : Type 0} (answer_of : X → Option (List ℕ)) (seen_of : X → MachineState → Type 0)
+    (session : SessionState) (was : PassState) (moment : ℕ) (frame : List ℕ)
+    (first left : TodoState) (result : Result X Ended)
     → IsTodo session moment frame first → left ≡ record first { step = None }
-    → IfOk result (λ (served : Served). IsUnmade session left.owed (option_map string_bytes served.answer))
-    → IfOk result (λ (served : Served). IsServed session was seen (sent_by session moment frame)
-    (option_map string_bytes served.answer))
-unmade_if session was moment frame first left (Ok served) asked left_is it =
-    unmade_served session was seen moment frame first left (option_map string_bytes served.answer)
-    asked left_is it
-unmade_if session was moment frame first left (Err ended) asked left_is it = tt
+    → IfOk result (λ (x : X). IsUnmade session left.owed (answer_of x))
+    → IfOk result (λ (x : X). IsServed session was (seen_of x) (sent_by session moment frame)
+    (answer_of x))
+unmade_if answer_of seen_of session was moment frame first left (Ok x) asked left_is it =
+    unmade_served session was (seen_of x) moment frame first left (answer_of x) asked left_is it
+unmade_if answer_of seen_of session was moment frame first left (Err ended) asked left_is it = tt
 
 -- ---- a step that was made, or none
 

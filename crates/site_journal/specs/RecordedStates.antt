@@ -8,6 +8,11 @@ use Rattle.site_journal.specs.Forgetting.{forget}
 abbrev pub EndsAt : List MachineState → MachineState → Type 0
 EndsAt states state = (before : List MachineState) × (states ≡ before ++ forget state ∷ [])
 
+-- one of them is this state
+abbrev pub HasState : List MachineState → MachineState → Type 0
+HasState states state =
+    (before behind : List MachineState) × (states ≡ before ++ forget state ∷ behind)
+
 -- before any change
 abbrev pub opening_states : SiteState → List MachineState
 opening_states site = forget (opening site) ∷ []

@@ -1,6 +1,7 @@
 //! The states that a book had, as its journal has to account for them.
 
 ghost use Rattle.std.specs.Prelude.{◌≡◌, ◌∷◌, ◌++◌, [], IsTrue};
+ghost use mathlib.Core.List.{IsPrefix};
 ghost use Rattle.site_core.specs.State.{MachineState, opening};
 ghost use Rattle.site_journal.specs.Forgetting.{forget};
 ghost use Rattle.site_journal.specs.RecordedStates.{EndsAt, opening_states};
@@ -111,6 +112,14 @@ impl<J: ChronicleName> RecordedStates<J> {
             states: self.states.copy(),
             count: self.count,
         }
+    }
+
+    /// Whether these are the other states, and perhaps more.
+    pub fn is_at_least(&self, other: &RecordedStates<J>) -> bool
+        ensures { IsTrue result → IsPrefix other.now self.now }
+    {
+        self.states.compare(&other.states);
+        other.count <= self.count && self.count < u64::MAX
     }
 
     /// Whether these are the same states: as many, as far as a number counts.

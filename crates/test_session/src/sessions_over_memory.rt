@@ -679,6 +679,10 @@ impl<'a, R: Abort + Wait> Lines<'a, R> {
 impl<R: Abort + Wait> Journal for Lines<'_, R> {
     type States = NoRecorder;
 
+    type Receipt = ();
+
+    ghost covers = { λ _ _. Unit {0} };
+
     fn prepare(
         &self,
         moment: Instant,
@@ -702,6 +706,10 @@ impl<R: Abort + Wait> Journal for Lines<'_, R> {
         let mut noted = self.noted.lock(self.rt);
         let MadeStep { entry, number, .. } = step;
         entry.push(&mut noted, number).expect(self.rt, "error");
+    }
+
+    fn receipt(&self, _recorded: &()) -> Result<(), JournalFault> {
+        self.write_out()
     }
 
     fn write_out(&self) -> Result<(), JournalFault> {

@@ -1,11 +1,14 @@
 //! The journal of a site that is run, of which the server tells how it is.
 
+ghost use Rattle.journal_writer.specs.Account.{Covers};
+
 use chronicle::ChronicleName;
 use data_folder::JournalFile;
+use journal_writer::Receipt;
 use ocpp_scalars::Instant;
 use server::WatchedJournal;
 use session::{Entry, Journal, JournalFault, MadeStep, Noted};
-use site_journal::StateRecorder;
+use site_journal::{RecordedStates, StateRecorder};
 use site_status::JournalReport;
 use std::alloc::AllocGlobal;
 use std::rt::Clock;
@@ -21,6 +24,10 @@ impl<R: Wait + Clock + Eprint + AllocGlobal + Drop, J: ChronicleName> Journal
     for WatchedFile<R, J> {
     type States = StateRecorder<J>;
 
+    type Receipt = Receipt<J>;
+
+    ghost covers = { Covers };
+
     fn prepare(
         &self,
         moment: Instant,
@@ -32,6 +39,10 @@ impl<R: Wait + Clock + Eprint + AllocGlobal + Drop, J: ChronicleName> Journal
 
     fn note(&self, step: MadeStep<StateRecorder<J>>) {
         self.file.note(step)
+    }
+
+    fn receipt(&self, recorded: &RecordedStates<J>) -> Result<Receipt<J>, JournalFault> {
+        self.file.receipt(recorded)
     }
 
     fn write_out(&self) -> Result<(), JournalFault> {
