@@ -58,7 +58,7 @@ goes_on first _ _ entries _ accounts (more middle states later others entry behi
     (more first states later (entries ++ others) entry
     (goes_on first middle states entries others accounts behind) leads)
   where
-    moved : (es : List NumberedEntry) → (es ++ others) ++ entry ∷ [] ≡ es ++ others ++ entry ∷ []
+    moved : (es : List NumberedEntry) → (es ++ others) ++ entry ∷ [] ≡ es ++ (others ++ entry ∷ [])
     moved [] = refl
     moved (e ∷ es) = ap (λ (rest : List NumberedEntry). e ∷ rest) (moved es)
 
@@ -82,6 +82,13 @@ line_forgets law old new line is =
     bind_ok (restored (forget old) line) (forget new)
     (law old new (line ∷ []) (notes old old new [] line (begins old) is))
 
+bind_goes : (result : Result MachineState RestoreFault)
+    (first second : MachineState → Result MachineState RestoreFault) (middle new : MachineState)
+    → ((next : MachineState) → first next ≡ Ok middle → second next ≡ Ok new)
+    → (result >>= first) ≡ Ok middle → (result >>= second) ≡ Ok new
+bind_goes (Ok next) first second middle new goes is = goes next is
+bind_goes (Err fault) first second middle new goes is = absurd (cc is)
+
 -- one line more
 line_behind : (old middle new : MachineState) (lines : List LineState) (line : LineState)
     → restored_lines old lines ≡ Ok middle → restored middle line ≡ Ok new
@@ -91,13 +98,9 @@ line_behind old middle new [] line is last =
     ap (λ (s : MachineState). restored s line >>= (λ (next : MachineState). Ok next)) same
     ∙ ap (λ (r : Result MachineState RestoreFault). r >>= (λ (next : MachineState). Ok next)) last
 line_behind old middle new (first ∷ rest) line is last =
-    go (restored old first) is
-  where
-    go : (result : Result MachineState RestoreFault)
-        → (result >>= (λ (next : MachineState). restored_lines next rest)) ≡ Ok middle
-        → (result >>= (λ (next : MachineState). restored_lines next (rest ++ line ∷ []))) ≡ Ok new
-    go (Ok next) is = line_behind next middle new rest line is last
-    go (Err fault) is = absurd (cc is)
+    bind_goes (restored old first) (λ (next : MachineState). restored_lines next rest)
+    (λ (next : MachineState). restored_lines next (rest ++ line ∷ [])) middle new
+    (λ next goes. line_behind next middle new rest line goes last) is
 
 -- ---- accounts
 
@@ -115,7 +118,7 @@ led law _ _ _ old new (more first states later entries entry accounts leads) was
       texts_are =
           texts_of_both entries (entry ∷ [])
           ∙ ap (λ t. t ++ texts_of (entry ∷ [])) before.texts_are
-          ∙ ap (λ t. flat_map line_text before.lines ++ t ++ []) (leads.entry_is entry.number)
+          ∙ ap (λ t. flat_map line_text before.lines ++ (t ++ [])) (leads.entry_is entry.number)
           ∙ sym (flat_map-append line_text before.lines (line ∷ []));
       leads =
           line_behind (forget old) (forget leads.old) (forget new) before.lines line before.leads

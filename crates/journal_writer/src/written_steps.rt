@@ -34,7 +34,7 @@ impl<F: AppendedFile, J: ChronicleName> Model for WrittenSteps<F, J> {
         (record { contents = contents w.log; states = w.states; taken = w.taken }) };
 }
 
-impl<F: AppendedFile, J: ChronicleName> WrittenSteps<F, J> {
+impl<F: AppendedFile + Drop, J: ChronicleName> WrittenSteps<F, J> {
     /// A log that has its lines up to these states. There is room for so many steps.
     pub fn new(
         alloc: Global,

@@ -1,5 +1,5 @@
 -- The answer to a request, from what was compared, and to a message whose step can't be noted.
-use Rattle.std.proofs.Common.{◌≡◌, ℕ, List, Option, None, Result, Ok, Err, IfOk, inl, inr, subst, sym, ap, ◌∙◌}
+use Rattle.std.proofs.Common.{◌≡◌, ℕ, List, Option, None, Result, Ok, Err, IfOk, IfSome, inl, inr, subst, sym, ap, ◌∙◌}
 use Rattle.meaning.specs.declared.ask.Ask.{Ask}
 use Rattle.site_core.specs.Right.{IsRight}
 use Rattle.site_core.specs.State.{MachineState}
@@ -12,9 +12,11 @@ use Rattle.session.specs.declared.outcome.Outcome.{Outcome}
 use Rattle.session.specs.declared.serving.ended.Ended.{Ended}
 use Rattle.session.specs.declared.todo.Owed.{Owed}
 use Rattle.session.specs.declared.todo.Owed.TheVariants as owed
+use Rattle.session.specs.Noting.{AsksFor}
 use Rattle.session.specs.Served.{HasOutcome, IsAnswerTo, IsServed, IsUnmade}
 use Rattle.session.specs.Session.{SessionState, side_of, sent_by}
 use Rattle.session.specs.Todo.{TodoState, IsTodo, IsUnnoted, todo_of, answer_text}
+use Rattle.session.proofs.AskedLemmas.{asks_for}
 
 -- the answer that was compared with its request
 pub answered : (job : RequestedJob) (handed : HandedAnswer) → handed.number ≡ job.number
@@ -82,6 +84,19 @@ same_sent : (session : SessionState) (moment : ℕ) (sender : Side) (point frame
 same_sent session moment sender point frame text text_is sender_is point_is =
     text_is ∙ (ap (λ (s : Side). sent moment s point frame) sender_is
     ∙ ap (λ p. sent moment (side_of session.peer) p frame) point_is)
+
+-- the step of a message is one that the message asks for
+pub asks_taken : (session : SessionState) (moment : ℕ) (sender : Side) (point frame : List ℕ)
+    (text : Sent) (first : TodoState) (step : Option Step)
+    → IsTodo session moment frame first → step ≡ first.step
+    → text ≡ sent moment sender point frame → sender ≡ side_of session.peer
+    → point ≡ session.point → IfSome step (AsksFor text)
+asks_taken session moment sender point frame text first step asked step_is text_is sender_is
+    point_is =
+    subst (λ (t : Sent). IfSome step (AsksFor t))
+    (sym (same_sent session moment sender point frame text text_is sender_is point_is))
+    (subst (λ (s : Option Step). IfSome s (AsksFor (sent_by session moment frame))) (sym step_is)
+    (asks_for session moment frame first asked))
 
 -- the answer to a message whose step has its outcome
 pub text_served : (session : SessionState) (was : PassState)

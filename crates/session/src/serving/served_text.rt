@@ -94,7 +94,6 @@ pub struct Served<N: Recorder> {
 /// point had when this very request was taken, and for what was asked. The answer to another request
 /// is never handed on: it ends the session. A step that couldn't be noted isn't made: the message is
 /// answered as one that memory ran out for.
-#[tactic(auto, using(crate::proofs::AskedLemmas::asks_for))]
 pub fn serve_sent_text<C: Ledger, A: Ledger, R: Wait, M: Moments, J: Journal, W: Waiting>(
     context: &Context<'_, C, A, R, M, J>,
     waiting: &mut W,

@@ -1,12 +1,11 @@
 //! Messages from a socket and to it.
 
-ghost use Rattle.session.specs.Leaving.{IsCovered};
-
 use crate::journal::Journal;
 use crate::serving::ended::{Ended, ended_by, ended_unsaved};
 use crate::serving::heard::Incoming;
 use std::alloc::{AllocError, Global};
 use std::io::{ErrorKind, Read, Write};
+use std::marker::Model;
 use tungstenite::{Error, MaskKeys, Message, WebSocket};
 use version_store::Recorder;
 
@@ -50,7 +49,16 @@ pub(crate) struct Cleared<'a, J: Journal> {
     text: &'a str,
     seen: &'a Seen<J>,
     receipt: Option<J::Receipt>,
-    ghost covered: { IsCovered (λ r f. J.covers r (J.States.was_at f)) receipt seen.now },
+}
+
+impl<J: Journal> Model for Cleared<'_, J> {
+    ghost use Rattle.std.specs.Prelude.{ℕ, List};
+
+    ghost Value = { List ℕ };
+
+    ghost view = { λ c. c.text.now };
+
+    ghost invariant = { λ c. IsCovered (λ r f. J.covers r (J.States.was_at f)) c.receipt c.seen.now };
 }
 
 /// Waits until all is kept that a message depends on: its own step, and what others did before.

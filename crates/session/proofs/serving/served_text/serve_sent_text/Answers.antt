@@ -1,5 +1,5 @@
 -- The answer to a message whose step was made, and to one whose step can't be noted.
-use Rattle.session.proofs.ServedLemmas.{text_served, unmade_if}
+use Rattle.session.proofs.ServedLemmas.{asks_taken, text_served, unmade_if}
 use Rattle.session.proofs.serving.served_text.serve_sent_text.Goals as goal
 
 pub returns-in-Err-clause-served : goal.returns-in-Err-clause-served
@@ -16,3 +16,10 @@ returns-clause-served g c =
     c.take_step-step.ensures.step c.new-sent.ensures c.side.ensures
     (cc (c.as_str.ensures, c.point_id.ensures)) c.in_ok-outcome.ensures.outcome
     c.in-Ok-answer.ensures.text
+
+pub prepare_message-requires-after_bounds : goal.prepare_message-requires-after_bounds
+prepare_message-requires-after_bounds g c =
+    asks_taken c.args.core.now c.args.moment c.side.result c.as_str.result.now c.args.frame.now
+    c.new-sent.result c.in-Ok.todo c.take_step-step.result c.in-Ok.ensures.todo
+    c.take_step-step.ensures.step c.new-sent.ensures c.side.ensures
+    (cc (c.as_str.ensures, c.point_id.ensures))
